@@ -1,17 +1,20 @@
 # `make run` shows what the program does, in a minute or two; `make dcmbox` proves and builds it; `make quick` runs the
-# tests without proof; `make test` is the whole gate.
+# tests of the tree and of the crates without proof; `make test` is the whole gate.
 PROGRAM := crates/cli/out/cli
 
-# The tests that try the program from outside, as many side by side as there are processors.
+# The tests that look at the tree, and those that try the program from outside: as many side by side as there are
+# processors. Of the tree, those of a group, which look at one run of a tool, stay together.
 WORKERS ?= $(shell nproc)
-OUTSIDE := PYTHONDONTWRITEBYTECODE=1 /usr/bin/python3 -m pytest -c tests/pytest.ini --program=$(PROGRAM) -n $(WORKERS)
+PYTEST := PYTHONDONTWRITEBYTECODE=1 /usr/bin/python3 -m pytest -c tests/pytest.ini -n $(WORKERS)
+TREE := $(PYTEST) --dist loadgroup
+OUTSIDE := $(PYTEST) --program=$(PROGRAM)
 
 # Where `make install` puts the program, its manual page, its completion and its systemd units. Their options,
 # /etc/default/dcmbox, it leaves as they are where they are there; `make uninstall` leaves them too.
 PREFIX ?= /usr/local
 DESTDIR ?=
 
-.PHONY: run quick packages test outside bench probe docs check wrong-bodies fmt gate-table clean install uninstall deb
+.PHONY: run quick packages test steps tree outside bench probe docs check wrong-bodies fmt gate-table clean install uninstall deb
 
 run:
 	@tools/run
@@ -28,16 +31,10 @@ dcmbox: FORCE
 .PHONY: FORCE
 FORCE:
 
-# Every test of the crates, compiled with checks and without proof, and the scripts that look at the tree: some minutes.
+# The tests of the tree, and every test of the crates, compiled with checks and without proof: some minutes. The former use
+# what `make packages` installs.
 quick:
-	tests/layers.sh
-	tests/definitions.py
-	tests/booklet.py
-	tests/tables.py
-	tests/names.py
-	tests/claims.py
-	tests/links.py
-	tests/scripts.py
+	$(TREE) tests/tree
 	tools/quick
 
 # Installs what the tests use of Debian (tests/packages.txt) where some of it is missing.
@@ -47,47 +44,48 @@ packages:
 		apt-get update && DEBIAN_FRONTEND=noninteractive apt-get install -y --no-install-recommends $$wanted; \
 	fi
 
-# Looks at what the crates cite of each other, whether the documents that scripts make are fresh and whether what claims
-# and links name is there, tries the scripts that look, proves every crate and its tests from nothing, runs the tests and
-# the program, tries the wrong bodies, and then tries the program from outside: with invalid arguments and missing files,
-# along docs/TOUR.md, under strace, with the tools of DCMTK, also on compressed images, by what its log tells, with several
-# peers at once, as a Debian package, and as docs/DEPLOY.md has it. It says of the long steps what they took.
+# Looks at the tree: what the crates cite of each other, whether what tools write is fresh, whether what claims and links
+# name is there, and that each of these checks can fail. Proves every crate and its tests from nothing, runs the tests and
+# the program, computes the examples of DEFINITIONS, tries the wrong bodies, and then tries the program from outside: with
+# invalid arguments and missing files, along docs/TOUR.md, under strace, with the tools of DCMTK, also on compressed images,
+# by what its log tells, with several peers at once, as a Debian package, and as docs/DEPLOY.md has it. It says of the long
+# steps what they took, and at the end what each crate cost.
 test: packages
-	tests/layers.sh
-	tests/definitions.py
-	tests/booklet.py
-	tests/tables.py
-	tools/storage-classes --check
-	tools/transfer-syntaxes --check
-	tools/keywords --check
-	tests/names.py
-	tests/claims.py
-	tests/links.py
-	tools/timed tests/scripts.py
+	tools/gate-table $(MAKE) --no-print-directory steps
+
+steps:
+	tools/timed env $(TREE) tests/tree
 	tools/timed rt ci
+	tools/timed tools/examples
 	tools/timed tools/wrong-bodies
 	tools/timed env $(OUTSIDE) tests/program
+
+# The tests of the tree alone: all, those of one file as FILE=layers, or those whose name has words, as TEST='stale index'.
+tree:
+	$(TREE) $(if $(TEST),-k '$(TEST)') tests/tree$(if $(FILE),/test_$(FILE).py)
 
 # The tests from outside alone: all, those of one file as FILE=log, or those whose name has words, as TEST='log and calling title'.
 outside:
 	$(OUTSIDE) $(if $(TEST),-k '$(TEST)') tests/program$(if $(FILE),/test_$(FILE).py)
 
-# The program beside DCMTK's storescp and a floor that checks nothing: prints tables of ratios.
+# The program beside DCMTK's storescp and a floor that checks nothing: prints tables of ratios, and draws the figures of
+# docs/PERFORMANCE.md (Debian's python3-matplotlib).
 bench: dcmbox
-	bench/bench.py ./dcmbox
+	/usr/bin/python3 bench/bench.py ./dcmbox --draw docs/figures
 
 # The program beside DCMTK's storescp (and Orthanc, with ORTHANC=its program), asked from outside: prints the table of
 # docs/COMPARISON.md.
 probe: dcmbox
 	bench/probe.py ./dcmbox $(if $(ORTHANC),--orthanc $(ORTHANC))
 
-# Makes anew what scripts make of the documents: the index of definitions, the booklet, the tables of options, limits,
-# statuses and faults, and the list of names that mean two things.
+# Writes anew what tools write of the documents: the index of definitions, the booklet, the tables of options, limits,
+# statuses and faults, the list of names that mean two things, and the diagram of crates.
 docs:
-	tests/definitions.py --write
-	tests/tables.py --write
-	tests/booklet.py --write
-	tests/names.py --write
+	tools/definitions
+	tools/tables
+	tools/booklet
+	tools/names
+	tools/diagram
 
 # One crate, with what earlier checks left: make check CRATE=pdu
 check:
@@ -101,9 +99,9 @@ wrong-bodies:
 fmt:
 	set -e; for crate in crates/*/; do (cd $$crate && rt fmt); done
 
-# Runs the gate and prints what each crate cost; docs/GATE.md has the seconds of the proofs.
+# Proves every crate and its tests from nothing, tries the wrong bodies, and prints what each crate cost; docs/GATE.md has it.
 gate-table:
-	tools/gate-table
+	tools/gate-table sh -c 'rt ci && tools/wrong-bodies'
 
 # Installs what `make dcmbox` proved and built. A package sets DESTDIR to the folder that it packs.
 install:

@@ -1,7 +1,7 @@
 #!/usr/bin/env python3
 """Measures `dcmbox serve` beside DCMTK's storescp and beside the floor, a sink that checks nothing.
 
-bench.py PROGRAM [--rounds N] [--part PART]
+bench.py PROGRAM [--rounds N] [--part PART] [--beside PROGRAM]
 
 Each round sends each corpus to each server, one after the other, so that what the machine does meanwhile falls on all of
 them. The table has the medians of the rounds as ratios to the sink's: wall time by the client's clock, processor time
@@ -112,7 +112,18 @@ def measured(work, words_of, sender, log):
 def send(work, *words):
     def sender(_folder):
         client = subprocess.run([f"{work}/client", str(PORT), *words], stdout=subprocess.PIPE, check=True)
-        return float(client.stdout)
+        return float(client.stdout.split()[0])
+
+    return sender
+
+
+def last_replies(work, waits):
+    """Sends one object of 160 MB, and notes the seconds from its last byte to its reply."""
+    def sender(_folder):
+        client = subprocess.run([f"{work}/client", str(PORT), "large"], stdout=subprocess.PIPE, check=True)
+        seconds, waited = map(float, client.stdout.split())
+        waits.append(waited)
+        return seconds
 
     return sender
 
@@ -162,7 +173,14 @@ def compare(program, work, rounds, log):
         for title, sender in senders.items():
             for name, words_of in (compressed(program, work) if title == FRAMES[1] else starts).items():
                 runs[title, name].append(measured(work, words_of, sender, log))
-    table(list(senders), starts, {key: medians(got) for key, got in runs.items()})
+    results = {key: medians(got) for key, got in runs.items()}
+    table(list(senders), starts, results)
+    servers_drawn = [name for name in starts if name != "sink"]
+
+    def ratio_of(title, name, which):
+        return results[title, name][which] / (results[title, "sink"][which] or 1)
+
+    return lambda draw, folder: draw.ratios(f"{folder}/ratios.svg", list(senders), servers_drawn, ratio_of)
 
 
 def fragments(program, work, rounds, log):
@@ -180,17 +198,21 @@ def fragments(program, work, rounds, log):
 
 
 def growth(program, work, rounds, log):
-    """Cost by the bytes of an object, and by the number of stores."""
+    """Cost by the bytes of an object, and by the number of stores. It returns what draws it."""
     words_of = servers(program, work)["dcmbox --no-sync"]
     print("\nGrowth of `dcmbox serve --no-sync`: processor seconds for each 100 MB of one object, and for each 1,000 stores\n")
     print("| What | Processor time |")
     print("|---|---|")
+    sizes, counts = [], []
     for size in (40_000_000, 160_000_000, 640_000_000):
         runs = [measured(work, words_of, send(work, "large", "1", str(size)), log) for _ in range(rounds)]
+        sizes.append((size / 1e6, medians(runs)[1]))
         print(f"| one object of {size // 1_000_000} MB | {medians(runs)[1] / (size / 1e8):.3f} s |")
     for count in (1000, 2000, 4000):
         runs = [measured(work, words_of, send(work, "tiny", str(count)), log) for _ in range(rounds)]
+        counts.append((count, medians(runs)[1]))
         print(f"| {count} stores of 1 KiB | {medians(runs)[1] / (count / 1e3):.3f} s |")
+    return lambda draw, folder: draw.growth(f"{folder}/growth.svg", sizes, counts)
 
 
 def together(work, corpus, count, at_once):
@@ -240,6 +262,26 @@ def several(program, work, rounds, log):
                     got.append(measured(work, boxes[box], send(work, corpus), log))
             one, other = medians(runs[f"{name} --at-once 16"]), medians(runs[name])
             print(f"| `{name} --at-once 16` | {title} | {ratio(one[0], other[0])} | {ratio(one[1], other[1])} | {one[2] / 1024:.1f} MiB |")
+
+
+def replies(program, work, rounds, log, beside=None):
+    """From the last byte of an object of 160 MB to its reply, and the whole, where it is synced; in turns with another program."""
+    programs = [program] if beside is None else [program, beside]
+    waits, runs = {name: [] for name in programs}, {name: [] for name in programs}
+    for _ in range(rounds):
+        for name in programs:
+            words_of = servers(name, work)["dcmbox"]
+            runs[name].append(measured(work, words_of, last_replies(work, waits[name]), log))
+    waited = {name: statistics.median(waits[name]) for name in programs}
+    whole = {name: medians(runs[name]) for name in programs}
+    kind = subprocess.run(["df", "--output=fstype", work], stdout=subprocess.PIPE, check=True, text=True).stdout.split()[-1]
+    print(f"\nFrom the last byte of 160 MB to its reply, synced, on {kind}: {waited[program] * 1000:.1f} ms "
+          f"({min(waits[program]) * 1000:.1f} to {max(waits[program]) * 1000:.1f}, {rounds} rounds).")
+    if beside is not None:
+        print(f"Beside {beside}: {ratio(waited[program], waited[beside])} of its {waited[beside] * 1000:.1f} ms "
+              f"({min(waits[beside]) * 1000:.1f} to {max(waits[beside]) * 1000:.1f}); the whole in "
+              f"{ratio(whole[program][0], whole[beside][0])} of its time, with {ratio(whole[program][1], whole[beside][1])} "
+              f"of its processor time.")
 
 
 def filled(program, work, rounds, log):
@@ -365,6 +407,7 @@ PARTS = {
     "compare": compare,
     "fragments": fragments,
     "growth": growth,
+    "replies": replies,
     "several": several,
     "filled": filled,
     "indexing": indexing,
@@ -378,13 +421,21 @@ def main():
     words.add_argument("program")
     words.add_argument("--rounds", type=int, default=5)
     words.add_argument("--part", choices=list(PARTS))
+    words.add_argument("--beside", metavar="PROGRAM", help="another build, for the part replies")
+    words.add_argument("--draw", metavar="FOLDER")
     given = words.parse_args()
+    if given.draw:
+        # (Debian's python3-matplotlib, which nothing else here needs)
+        import draw
     program = os.path.abspath(given.program)
     with tempfile.TemporaryDirectory() as work, open(os.devnull, "w") as log:
         compiled(work)
         for name, part in PARTS.items():
             if given.part in (None, name):
-                part(program, work, given.rounds, log)
+                others = [given.beside] if part is replies else []
+                drawn = part(program, work, given.rounds, log, *others)
+                if given.draw and drawn:
+                    drawn(draw, given.draw)
 
 
 if __name__ == "__main__":

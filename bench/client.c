@@ -1,4 +1,5 @@
-/* Sends a corpus to a storage SCP on one association, and prints the seconds that it took.
+/* Sends a corpus to a storage SCP on one association, and prints the seconds that it took, and how many of them went by
+   between the last byte of each object and its reply.
    client PORT CORPUS [COUNT [PIXELS]]  sends; the next store goes out after the reply to the last.
    client --file FILE CORPUS N         writes object N as a file instead. */
 #define _GNU_SOURCE
@@ -229,6 +230,10 @@ static int write_file(const char *name, struct object *o, const char *syntax) {
   return fclose(file) == 0 ? 0 : 1;
 }
 
+static double seconds(const struct timespec *from, const struct timespec *to) {
+  return (double)(to->tv_sec - from->tv_sec) + (double)(to->tv_nsec - from->tv_nsec) / 1e9;
+}
+
 int main(int argc, char **argv) {
   static struct object o;
   make_pattern();
@@ -254,11 +259,16 @@ int main(int argc, char **argv) {
   errno = 0;
   if (connect(fd, (struct sockaddr *)&to, sizeof to) != 0) die("connect");
   size_t most = associate(fd, c->syntax);
+  double waited = 0;
   for (unsigned n = 0; n < count; n++) {
     make_object(&o, n, pixels, c->kind);
     send_command(fd, o.instance, n & 0xffff);
     send_data(fd, &o, most);
+    struct timespec sent, answered;
+    clock_gettime(CLOCK_MONOTONIC, &sent);
     read_reply(fd);
+    clock_gettime(CLOCK_MONOTONIC, &answered);
+    waited += seconds(&sent, &answered);
   }
   unsigned char release[10] = {5, 0, 0, 0, 0, 4}, kind, body[64];
   struct iovec part = {release, 10};
@@ -267,6 +277,6 @@ int main(int argc, char **argv) {
   if (kind != 6) die("no release");
   close(fd);
   clock_gettime(CLOCK_MONOTONIC, &end);
-  printf("%.6f\n", (double)(end.tv_sec - start.tv_sec) + (double)(end.tv_nsec - start.tv_nsec) / 1e9);
+  printf("%.6f %.6f\n", seconds(&start, &end), waited);
   return 0;
 }

@@ -1,13 +1,13 @@
-# Completion of dcmbox in bash. Made by tests/tables.py from docs/tables.json.
+# Completion of dcmbox in bash. Made by tools/tables from docs/tables.json.
 _dcmbox() {
   local current=${COMP_WORDS[COMP_CWORD]} previous=${COMP_WORDS[COMP_CWORD - 1]} options
   COMPREPLY=()
   if [ "$COMP_CWORD" -eq 1 ]; then
-    mapfile -t COMPREPLY < <(compgen -W 'serve replay show check index checkdir help --help --version' -- "$current")
+    mapfile -t COMPREPLY < <(compgen -W 'serve replay show check index checkdir list arrange help --help --version' -- "$current")
     return
   fi
   case $previous in
-    --out)
+    --out | --to)
       compopt -o filenames
       mapfile -t COMPREPLY < <(compgen -d -- "$current")
       return
@@ -28,10 +28,12 @@ _dcmbox() {
     serve) options='--port --out --bind --ae --caller --timeout --idle --max-pdu --max-data --verbose --quiet --log --per --numbers --no-sync --once --at-once --per-peer --longest --stop-file --grace --all-storage --storage-class --all-syntaxes --transfer-syntax --help' ;;
     replay) options='--out --ae --cut --per --all-storage --storage-class --all-syntaxes --transfer-syntax --help' ;;
     show) options='--recursive --values --tag --json --all-syntaxes --help' ;;
-    check) options='--recursive --strict --json --all-syntaxes --help' ;;
+    check) options='--recursive --strict --values --json --all-syntaxes --help' ;;
     index) options='--uid --new-uid --descriptions --all-syntaxes --keep --replace --help' ;;
     checkdir) options='--help' ;;
-    help) options='serve replay show check index checkdir' ;;
+    list) options='--series --instances --json --help' ;;
+    arrange) options='--to --copy --dry-run --help' ;;
+    help) options='serve replay show check index checkdir list arrange' ;;
     *) return ;;
   esac
   if [[ $current == -* || ${COMP_WORDS[1]} == help ]]; then
@@ -39,7 +41,7 @@ _dcmbox() {
     return
   fi
   case ${COMP_WORDS[1]} in
-    index)
+    index | list | arrange)
       compopt -o filenames
       mapfile -t COMPREPLY < <(compgen -d -- "$current")
       ;;

@@ -1,9 +1,5 @@
-"""What the tests of the program share: see the fixtures.
-
-A test installs nothing; `make packages` does.
-"""
+"""What the tests of the program share: see the fixtures."""
 import functools
-import os
 import pathlib
 import re
 import subprocess
@@ -24,23 +20,8 @@ def pytest_addoption(parser):
 
 
 def pytest_configure(config):
-    """Takes `log and calling title` as -k does: `log and calling_title`.
-
-    The program's path holds in every folder.
-    """
+    """The program's path holds in every folder."""
     config.option.program = str(pathlib.Path(config.option.program).resolve())
-    separate = r"(?<!\band)(?<!\bor)(?<!\bnot) (?!and\b|or\b|not\b)"
-    config.option.keyword = re.sub(separate, "_", config.option.keyword)
-
-
-def pytest_sessionfinish(session):
-    """Fails where more is skipped than MAY_SKIP says."""
-    reporter = session.config.pluginmanager.get_plugin("terminalreporter")
-    skipped = len(reporter.stats.get("skipped", [])) if reporter else 0
-    allowed = int(os.environ.get("MAY_SKIP", 0))
-    if session.exitstatus == 0 and skipped > allowed:
-        reporter.write_line(f"{skipped} skipped, and MAY_SKIP allows {allowed}")
-        session.exitstatus = pytest.ExitCode.TESTS_FAILED
 
 
 @pytest.fixture(scope="session")
@@ -49,13 +30,6 @@ def program(pytestconfig):
     path = pathlib.Path(pytestconfig.getoption("--program"))
     assert path.is_file(), f"there is no program {path}"
     return path
-
-
-@pytest.fixture
-def work():
-    """A folder, which goes with all that is in it after the test."""
-    with tempfile.TemporaryDirectory(prefix="dcmbox-") as folder:
-        yield pathlib.Path(folder)
 
 
 @pytest.fixture(scope="session")

@@ -1,6 +1,6 @@
-// Refuses memory; the scripts of the tests load it before the program. With REFUSED=N, the call of malloc or realloc of
-// this number, counted from 1, is refused; with REFUSED=signals, each call from SIGUSR1 on, until SIGUSR2 comes. It tells
-// of each by a byte on descriptor 9.
+// Refuses memory; the tests load it before the program. With REFUSED=N, the call of malloc or realloc of this number,
+// counted from 1, is refused; with REFUSED=signals, each call from SIGUSR1 on, until SIGUSR2 comes. It tells of each by a
+// byte on descriptor 9.
 #define _GNU_SOURCE
 #include <dlfcn.h>
 #include <errno.h>

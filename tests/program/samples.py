@@ -1,11 +1,6 @@
 """Small files and recordings that the tests give to the program, and what it lists of them."""
-import pytest
+from cases import cases as cases  # (tests import it from here)
 from peer import CT, ECHO, RELEASE, STORES, element, from_hex, values
-
-
-def cases(*rows):
-    """Rows of a table for parametrize, each named by its first column."""
-    return [pytest.param(*row[1:], id=row[0].replace(" ", "_")) for row in rows]
 
 
 def changed(data, place, new):

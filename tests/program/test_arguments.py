@@ -104,7 +104,7 @@ REPLAY = "replay empty.bin --out ."
         ),
         (
             "a tag that is none",
-            "error: --tag takes a tag as 0010,0020, not '0010'",
+            "error: --tag takes a tag as 0010,0020 or its keyword as PatientID, not '0010'",
             "show --tag 0010 ct.dcm",
         ),
     ),

@@ -30,7 +30,9 @@ def test_the_recorded_echo(serve, port):
         f"{INFO}127\\.0\\.0\\.1:[0-9]+ Ended held 0 files 0 dropped 0 received 260 in [0-9]+ s "
         'calling "SCANNER1" called "DCMBOX" released contexts 1 of 1 stored 0 refused 0 failed 0'
     )
-    whole = f"{INFO}listening on 127\\.0\\.0\\.1:{port}\n{line}\n{INFO}stopped\n"
+    started = f"{INFO}dcmbox [0-9.]+ title .DCMBOX. folder received limits .* removed drafts 0"
+    listening = f"{INFO}listening on 127\\.0\\.0\\.1:{port}"
+    whole = f"{started}\n{listening}\n{line}\n{INFO}stopped\n"
     assert re.fullmatch(whole, box.log), box.log
     assert box.printed == ""
 

@@ -1,4 +1,4 @@
-"""Recorded stores of a report, with each setting of the storage classes."""
+"""Recorded stores of a report, and of a retired class, with each setting of the storage classes."""
 import re
 
 import pytest
@@ -15,35 +15,36 @@ from peer import (
 from samples import cases
 
 REPORT = "1.2.840.10008.5.1.4.1.1.88.33"
-DATA_SET = (
-    element((0x0008, 0x0016), "UI", REPORT.encode() + b"\0")
-    + element((0x0008, 0x0018), "UI", b"1.2.3\0")
-    + element((0x0008, 0x0060), "CS", b"SR")
-    + element((0x0040, 0xA040), "CS", b"CONTAINER ")
-)
+# Ultrasound Image Storage in its first form, which is retired.
+ULTRASOUND = "1.2.840.10008.5.1.4.1.1.6"
 STORED = "[0-9a-f]*00000009020000000000[0-9a-f]*06000000000400000000Ended held 0 files 1"
 ABORTED = "[0-9a-f]*07000000000400000206Ended held 0 files 0"
 
 
-def standard_classes():
-    """The storage classes of the standard, in the order of its table."""
+def classes_marked(mark):
+    """The storage classes of the standard's table with this mark, in its order."""
     statement = (ROOT / "docs/CONFORMANCE.md").read_text()
     table = statement.split("made by tools/storage-classes")[1]
-    return re.findall(r"^    ([0-9.]+) ", table, re.M)
+    return re.findall(rf"^    ([0-9.]+) +\w+{mark}$", table, re.M)
 
 
-def recording(count):
-    """A report is stored in the last of so many contexts.
+def data_set(sop_class):
+    return (
+        element((0x0008, 0x0016), "UI", sop_class.encode() + b"\0")
+        + element((0x0008, 0x0018), "UI", b"1.2.3\0")
+        + element((0x0008, 0x0060), "CS", b"SR")
+        + element((0x0040, 0xA040), "CS", b"CONTAINER ")
+    )
 
-    The others are for the first classes of the standard's table.
-    """
-    classes = [*standard_classes()[: count - 1], REPORT]
-    last = 2 * count - 1
+
+def recording(classes):
+    """An instance is stored in the last of these contexts."""
+    last = 2 * len(classes) - 1
     return b"".join(
         [
             request([(sop_class, EXPLICIT) for sop_class in classes]),
-            store_command(last, REPORT, "1.2.3", number=7),
-            *data_set_pdus(last, DATA_SET),
+            store_command(last, classes[-1], "1.2.3", number=7),
+            *data_set_pdus(last, data_set(classes[-1])),
             pdu(RELEASE_RQ, bytes(4)),
         ]
     )
@@ -70,7 +71,16 @@ def two_and_two(second, last):
 @pytest.fixture
 def replay(run, put):
     """What a replay prints in one line."""
-    put({"one.bin": recording(1), "all.bin": recording(128)})
+    others = classes_marked(r"(?: \*)?")
+    retired = classes_marked(r" \(retired\)")
+    retired.remove(ULTRASOUND)
+    put(
+        {
+            "one.bin": recording([REPORT]),
+            "all.bin": recording([*others[:127], REPORT]),
+            "retired.bin": recording([*retired, ULTRASOUND]),
+        }
+    )
 
     def done(*arguments):
         return run("replay", *arguments).stdout.replace("\n", "")
@@ -117,9 +127,27 @@ def replay(run, put):
             "all.bin",
             [],
         ),
+        (
+            "of a retired class, where every class is taken",
+            f"[0-9a-f]*{''.join(accepted(2 * n + 1) for n in range(20))}{STORED}",
+            "retired.bin --all-storage",
+            ["I0000001"],
+        ),
+        (
+            "of a retired class that is named",
+            "[0-9a-f]*" + "".join(rejected(2 * n + 1) for n in range(19)) + accepted(39) + STORED,
+            f"retired.bin --storage-class {ULTRASOUND}",
+            ["I0000001"],
+        ),
+        (
+            "of a retired class, where eleven classes are taken",
+            f"[0-9a-f]*{''.join(rejected(2 * n + 1) for n in range(20))}{ABORTED}",
+            "retired.bin",
+            [],
+        ),
     ),
 )
-def test_a_report(replay, work, answer, arguments, files):
+def test_a_store(replay, work, answer, arguments, files):
     (work / "reports").mkdir()
     assert re.fullmatch(f"02[0-9a-f]*{answer}", replay(*arguments.split(), "--out", "reports"))
     assert sorted(path.name for path in (work / "reports").iterdir()) == files
@@ -132,7 +160,7 @@ def test_a_filed_report(replay, expect, work):
     assert (work / "I0000001").read_bytes() == (work / "I0000002").read_bytes()
     expect(0, "good [0-9]*", "", "check", "I0000001")
     expect(0, f"class {REPORT}\n.*end [0-9]*", "", "show", "I0000001")
-    assert (work / "I0000001").read_bytes().endswith(DATA_SET)
+    assert (work / "I0000001").read_bytes().endswith(data_set(REPORT))
 
 
 SIXTEEN = [word for n in range(1, 17) for word in ("--storage-class", f"2.25.{n}")]

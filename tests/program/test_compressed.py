@@ -124,7 +124,7 @@ class TestFiled:
             assert data_set(work / "decoded.dcm").endswith(raw)
 
     def test_checked(self, path, run):
-        """With the option it is good, without notes 15 to 18 on its tables; without it is refused."""
+        """With the option it is good, without notes 15 to 18 on its tables, and else refused."""
         strict = run("check", "--strict", "--all-syntaxes", path)
         assert re.search("^good ", strict.stdout, re.M)
         assert not re.search(" 1[5-8] [A-Za-z]+$", strict.stdout, re.M)

@@ -3,13 +3,16 @@
 The systemd units' commands, HAProxy in front of several boxes, the importer of an archive, and TLS
 by stunnel. Of each text ports, names of hosts and folders alone are replaced.
 """
+import os
+import pathlib
 import re
 import shutil
+import signal
 
 import pytest
 from box import PATIENCE, listeners, wait_for
 from images import call, dumped, filed, identity, need
-from peer import ROOT, Archive
+from peer import ROOT, STORES, STORES_ANSWER, Archive
 from ports import free_port
 
 # Classes that a sender's defaults leave out.
@@ -185,6 +188,27 @@ class TestImporter:
         tool("storescu", *to_box, images[0][0])
         with Archive(archive_port, status):
             assert imports() == count
+
+
+def test_the_signal_that_ends_a_container(serve):
+    """The one of the image ends a box with the process number 1, and SIGTERM does not.
+
+    Each success is on the disk.
+    """
+    if os.getuid() != 0:
+        pytest.skip("no process number 1 can be had here")
+    need("unshare")
+    image = (ROOT / "packaging/Dockerfile").read_text()
+    named = re.findall(r"^STOPSIGNAL (\w+)$", image, re.M) or ["SIGTERM"]
+    box = serve("--timeout", "30", before=("unshare", "--pid", "--fork"))
+    assert box.answers(STORES, STORES_ANSWER)
+    children = pathlib.Path(f"/proc/{box.pid}/task/{box.pid}/children")
+    first = int(children.read_text())
+    os.kill(first, signal.SIGTERM)
+    assert box.answers(STORES, STORES_ANSWER)
+    os.kill(first, getattr(signal, named[0]))
+    box.process.wait(PATIENCE)
+    assert box.files() == ["I0000001", "I0000002", "I0000003", "I0000004"]
 
 
 def test_tls(single, spawn, port, work):

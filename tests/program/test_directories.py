@@ -39,6 +39,10 @@ def test_checkdir(expect, put, status, output, directory):
     expect(status, output, "", "checkdir", "listed.bin")
 
 
+NAMES = ("CT1", "ECG1", "PDF1", "SR1")
+KINDS = (("ECG1", "WAVEFORM"), ("PDF1", "ENCAP DOC"), ("SR1", "SR DOCUMENT"))
+
+
 class TestIndex:
     """Directories of images."""
 
@@ -64,12 +68,71 @@ class TestIndex:
             }
         )
         told = "skipped I0000005 missing 0020,0010\ndouble I0000004\nrecords 7"
-        expect(0, told, "images 3 left out 2", "index", "five", "--uid", "2.25.1")
+        errors = "dcmbox: five/I0000004: a double of I0000001, with the same bytes\nimages 3 left out 2"
+        expect(0, told, errors, "index", "five", "--uid", "2.25.1")
         listed = run("checkdir", "five/DICOMDIR").stdout
         assert re.sub(r"^\d* *", "", listed, flags=re.M).splitlines() == [
             *("PATIENT", "STUDY", "SERIES", "IMAGE I0000001", "IMAGE I0000002"),
             *("SERIES", "IMAGE I0000003", "records 7"),
         ]
+
+
+    def test_of_doubles(self, expect, put):
+        """One with other bytes, one that is longer, and one with the same."""
+        put(
+            {
+                "doubles/I0000001": IMAGE,
+                "doubles/I0000002": IMAGE[:-1] + bytes([IMAGE[-1] ^ 1]),
+                "doubles/S0000001/I0000001": IMAGE + b"\xfc\xff\xfc\xffOB\0\0\0\0\0\0",
+                "doubles/S0000001/I0000002": IMAGE,
+            }
+        )
+        told = "double I0000002\ndouble S0000001/I0000001\ndouble S0000001/I0000002\nrecords 4"
+        errors = (
+            "dcmbox: doubles/I0000002: a double of I0000001, with other bytes\n"
+            "dcmbox: doubles/S0000001/I0000001: a double of I0000001, with other bytes\n"
+            "dcmbox: doubles/S0000001/I0000002: a double of I0000001, with the same bytes\n"
+            "images 1 left out 3"
+        )
+        expect(0, told, errors, "index", "doubles", "--uid", "2.25.1")
+
+
+class TestKeptRecords:
+    """A directory of DCMTK's dcmmkdir, of an image and of files that are none."""
+
+    @pytest.fixture
+    def made(self, work, tool):
+        """The folder with the directory."""
+        pytest.importorskip("pydicom")
+        from pydicom.data import get_testdata_file
+
+        folder = work / "made"
+        folder.mkdir()
+        for name, source in {
+            "CT1": "CT_small.dcm",
+            "ECG1": "waveform_ecg.dcm",
+            "SR1": "test-SR.dcm",
+        }.items():
+            (folder / name).write_bytes(open(get_testdata_file(source), "rb").read())
+        (work / "some.pdf").write_bytes(b"%PDF-1.4\n1 0 obj<<>>endobj\ntrailer<</Root 1 0 R>>\n%%EOF\n")
+        tool("pdf2dcm", "-q", "some.pdf", "made/PDF1")
+        tool("dcmmkdir", "-q", "+I", "-Nxc", "-Pgp", "+D", "made/DICOMDIR", "+id", "made", *NAMES)
+        return folder
+
+    def test_are_told(self, expect, made, run):
+        told = "".join(
+            f"dcmbox: made/{name}: left out: its record is of type {kind}, not IMAGE\n"
+            for name, kind in KINDS
+        )
+        expect(
+            0, "records 4", f"{told}images 1 left out 3", *"index made --uid 2.25.1 --keep".split()
+        )
+        assert run("checkdir", "made/DICOMDIR").stdout.count("IMAGE CT1") == 1
+
+    def test_with_a_series_of_an_image(self, expect, made):
+        """The directory that was written has images alone, so none is left out of it again."""
+        for errors in (".*images 1 left out 3", "images 1 left out 0"):
+            expect(0, "records 4", errors, "index", "made", "--uid", "2.25.1", "--keep")
 
 
 class TestDescriptions:

@@ -11,7 +11,7 @@ from peer import ROOT
 
 MANUAL = ROOT / "man/dcmbox.1"
 TABLES = json.loads((ROOT / "docs/tables.json").read_text())
-COMMANDS = ["serve", "replay", "show", "check", "index", "checkdir"]
+COMMANDS = ["serve", "replay", "show", "check", "index", "checkdir", "list", "arrange"]
 OPTION = r"--[a-z-]+"
 COMPLETION = '. "$0"; COMP_WORDS=(dcmbox "$1" --); COMP_CWORD=2; _dcmbox; echo "${COMPREPLY[@]}"'
 
@@ -67,7 +67,8 @@ def test_the_names_of_the_values_in_the_manual(text, command):
 def test_help_is_what_the_documents_have(run, row):
     told = " ".join(run("help", row["name"]).stdout.split())
     for name in row["options"]:
-        assert f"--{name}" in told and TABLES["options"][name]["help"] in told
+        option = row.get("own", {}).get(name) or TABLES["options"][name]
+        assert f"--{name}" in told and option["help"] in told
 
 
 def test_the_manual_page_has_no_warnings():

@@ -6,12 +6,14 @@ import subprocess
 import pytest
 from box import LITTLE, PATIENCE
 from images import need
-from samples import CT_FILE, CUT_FAULT, ELEMENTS, SAMPLES, SHOWN, cases
+from peer import element
+from samples import CT_FILE, CUT_FAULT, ELEMENTS, HEADER, SAMPLES, SHOWN, cases
 
 pytestmark = pytest.mark.usefixtures("samples")
 LISTING = SHOWN + ELEMENTS
 NOTE = "note 0000000288 0008,0060 CS 1 BadCharacter\n"
 CHECKED = f"file ct\\.dcm\ngood 336\nfile control\\.dcm\n{NOTE}good 312\n"
+MODALITY = "0000000288 0008,0060 CS 4 Modality"
 BELOW = (
     f"file many/I0000001\ngood 336\nfile many/I0000002\n{NOTE}good 312\n"
     f"file many/deeper/I0000001\n{CUT_FAULT}\n"
@@ -196,6 +198,10 @@ class TestStandardInput:
             "--values --tag 0008,0018 ct.dcm",
         ),
         ("two elements", 0, ELEMENTS.strip(), "--tag 0008,0018 --tag 0008,0016 ct.dcm"),
+        ("a tag without comma", 0, MODALITY, "--tag 00080060 control.dcm"),
+        ("a tag in parentheses", 0, MODALITY, "--tag (0008,0060) control.dcm"),
+        ("a keyword", 0, MODALITY, "--tag Modality control.dcm"),
+        ("a keyword and a tag", 0, ELEMENTS.strip(), "--tag SOPInstanceUID --tag 00080016 ct.dcm"),
         ("an element of a cut file", 1, CUT_FAULT, "--tag 0010,0010 cut.dcm"),
     ),
 )
@@ -203,9 +209,111 @@ def test_values(expect, status, output, arguments):
     expect(status, output, "", "show", *arguments.split())
 
 
+@pytest.mark.parametrize(
+    "text", ["10", "0010;0020", "(0010,0020", "patientname", "Patient", "OverlayData", "0010,002"]
+)
+def test_no_tag(expect, text):
+    wanted = "a tag as 0010,0020 or its keyword as PatientID"
+    errors = f"error: --tag takes {wanted}, not '{re.escape(text)}'.*"
+    expect(2, "", errors, "show", "--tag", text, "ct.dcm")
+
+
+def test_keywords_of_the_standard(run, put):
+    """Every tenth keyword of PS3.6, as pydicom has it, shows its element alone."""
+    pydicom = pytest.importorskip("pydicom")
+    rows = [(row[4], tag) for tag, row in sorted(pydicom._dicom_dict.DicomDictionary.items())]
+    rows = [(keyword, tag) for keyword, tag in rows if keyword and 2 < tag >> 16 < 0xFFFE]
+    assert len({keyword for keyword, _ in rows}) == len(rows) > 4000
+    rows = rows[::10]
+    for start in range(0, len(rows), 50):
+        part = rows[start : start + 50]
+        data = b"".join(element((tag >> 16, tag & 0xFFFF), "UN", b"") for _, tag in part)
+        put({"part.dcm": HEADER + data})
+        half = part[::2]
+        done = run("show", *(word for row in half for word in ("--tag", row[0])), "part.dcm")
+        found = [line.split()[1].replace(",", "") for line in done.stdout.splitlines()]
+        assert found == [f"{tag:08x}" for _, tag in half], done.stderr
+
+
+class TestNotedValues:
+    """Keywords and values beside notes and faults."""
+
+    def test_of_a_note(self, expect):
+        value = r"           Modality = c%1b\[m\n"
+        expect(0, f"{NOTE}{value}good 312", "", "check", "--values", "control.dcm")
+
+    def test_of_a_fault(self, expect):
+        keyword = "           SOPInstanceUID"
+        expect(1, f"{CUT_FAULT}\n{keyword}", "", "check", "--values", "cut.dcm")
+
+    def test_of_several_files(self, expect):
+        value = r"           Modality = c%1b\[m\n"
+        output = CHECKED.replace(NOTE, NOTE + value) + counts(2, good=2, notes=1)
+        expect(0, output, "", "check", "--values", "ct.dcm", "control.dcm")
+
+    def test_as_json(self, run):
+        found = json.loads(run("check", "--json", "--values", "control.dcm").stdout)
+        assert (found["notes"][0]["keyword"], found["notes"][0]["value"]) == ("Modality", "c%1b[m")
+        fault = json.loads(run("check", "--json", "cut.dcm").stdout)
+        assert fault["keyword"] == "SOPInstanceUID"
+
+
+META = ["check", "show"]
+
+
+class TestFileMetaInformation:
+    """Which rule of the file meta information a file breaks is told on standard error."""
+
+    @pytest.mark.parametrize("command", META)
+    @pytest.mark.parametrize(
+        "place, data, rule",
+        cases(
+            ("no length", 134, b"\1", "group 0002 does not begin with its length"),
+            ("a length too short", 140, b"\x8f", "the length of group 0002 ends inside an element"),
+            ("a length too long", 140, b"\xa2", "0008,0016 SOPClassUID stands within the length .*"),
+            ("a VR in lower case", 148, b"o", "an element of group 0002 has no VR"),
+            ("an odd length", 152, b"\3", "0002,0001 FileMetaInformationVersion has an odd .*"),
+            ("no class", 166, b"x", "0002,0002 MediaStorageSOPClassUID is missing or no UID"),
+            ("tags that don't rise", 160, b"\1", "0002,0001 .* does not rise above the tag before it"),
+        ),
+    )
+    def test_broken(self, expect, put, command, place, data, rule):
+        put({"broken.dcm": CT_FILE[:place] + data + CT_FILE[place + len(data) :]})
+        errors = f"dcmbox: broken.dcm: its file meta information is wrong: {rule}"
+        expect(1, "fault 51 BadMeta at 132", errors, command, "broken.dcm")
+
+    def test_cut(self, expect, put):
+        put({"broken.dcm": CT_FILE[:200]})
+        errors = ".* wrong: the file ends inside group 0002"
+        expect(1, "fault 51 BadMeta at 132", errors, "check", "broken.dcm")
+
+    @pytest.mark.parametrize(
+        "name, rule",
+        [
+            ("meta_missing_tsyntax.dcm", "0002,0002 MediaStorageSOPClassUID is missing or no UID"),
+            ("no_meta_group_length.dcm", "group 0002 does not begin with its length"),
+        ],
+    )
+    def test_of_pydicom(self, expect, name, rule):
+        pytest.importorskip("pydicom")
+        from pydicom.data import get_testdata_file
+
+        path = get_testdata_file(name)
+        errors = f"dcmbox: .*{name}: its file meta information is wrong: {rule}"
+        expect(1, "fault 51 BadMeta at 132", errors, "check", path)
+
+    def test_as_json(self, run, put):
+        put({"broken.dcm": CT_FILE[:200]})
+        done = run("check", "--json", "broken.dcm")
+        assert json.loads(done.stdout)["number"] == 51 and "ends inside" in done.stderr
+
+
 def test_a_check_as_json(run):
     done = run("check", "--json", "control.dcm")
-    note = '{"place":288,"tag":"0008,0060","vr":"CS","number":1,"name":"BadCharacter"}'
+    note = (
+        '{"place":288,"tag":"0008,0060","vr":"CS","number":1,"name":"BadCharacter",'
+        '"keyword":"Modality"}'
+    )
     said = f'{{"file":"control.dcm","notes":[{note}],"result":"good","length":312}}\n'
     assert (done.returncode, done.stdout, done.stderr) == (0, said, "")
 

@@ -1,4 +1,4 @@
-"""What the log tells of twenty causes of an administrator's questions."""
+"""What the log tells of clients, folders and files, and the forms of its lines."""
 import json
 import re
 
@@ -8,6 +8,7 @@ from peer import ABORT, RELEASE, STORES, STORES_REQUEST
 from samples import cases, changed
 
 TITLES = 'calling "SCANNER1" called "DCMBOX"'
+CALLING = ' calling "SCANNER1"'
 NOBODY = 'calling "" called ""'
 NONE = "stored 0 refused 0 failed 0"
 CT = "class CTImageStorage instance 2.25.1.1"
@@ -43,9 +44,9 @@ def image(work):
 
 
 def lines_of(box):
-    """The log without its first line, and without times, ports, numbers of bytes and of seconds."""
+    """The log after its first two lines, without times, ports, numbers of bytes and of seconds."""
     stamp = r"^\[([A-Z]+) +cli::serve\] 20\d\d-\d\d-\d\dT\d\d:\d\d:\d\d\.\d{3}Z 127\.0\.0\.1:\d+ "
-    lines = [re.sub(stamp, r"\1 ", line) for line in box.lines[1:]]
+    lines = [re.sub(stamp, r"\1 ", line) for line in box.lines[2:]]
     return [re.sub(r" received \d+ in \d+ s ", " .. ", line) for line in lines]
 
 
@@ -98,35 +99,44 @@ class TestContexts:
     """Presentation contexts that are refused."""
 
     @pytest.mark.parametrize(
-        "syntax, name",
+        "syntax, name, option",
         cases(
-            ("no acceptable context", "1.2.840.10008.1.2.2", "ExplicitVRBigEndian"),
-            ("a compressed syntax alone", "1.2.840.10008.1.2.4.70", "JPEGLosslessSV1"),
+            ("no acceptable context", "1.2.840.10008.1.2.2", "ExplicitVRBigEndian", ""),
+            (
+                "a compressed syntax alone",
+                "1.2.840.10008.1.2.4.70",
+                "JPEGLosslessSV1",
+                " (--all-syntaxes)",
+            ),
         ),
     )
-    def test_for_their_transfer_syntax(self, serve, tool, to_box, image, work, syntax, name):
+    def test_for_their_transfer_syntax(
+        self, serve, tool, to_box, image, work, syntax, name, option
+    ):
         image()
         tool("dcmcjpeg", "image.dcm", "jpeg.dcm")
         (work / "profile.txt").write_text(PROFILE.format(syntax))
         sent = "jpeg.dcm" if name.startswith("JPEG") else "image.dcm"
-        box = serve("--verbose")
+        box = serve("-vv")
         tool("storescu", "-xf", "profile.txt", "One", *to_box, sent, check=False)
         refused = "context 1 refused: transfer syntaxes not supported"
         tells(
             box,
-            f"DEBUG {refused} class CTImageStorage syntaxes {name}",
+            f"TRACE {refused} class CTImageStorage syntaxes {name}",
+            f"WARN classes refused: CTImageStorage{option}{CALLING}",
             ended(TITLES, "closed by the peer", "0 of 1"),
         )
 
     def test_of_an_unknown_class(self, serve, tool, to_box, image):
         report = image("BasicTextSRStorage")
-        box = serve("--verbose")
+        box = serve("--verbose", "--verbose")
         tool("storescu", "-R", *to_box, report, check=False)
         refused = "refused: abstract syntax not supported class BasicTextSRStorage syntaxes"
         tells(
             box,
-            f"DEBUG context 1 {refused} ExplicitVRLittleEndian",
-            f"DEBUG context 3 {refused} ExplicitVRBigEndian ImplicitVRLittleEndian",
+            f"TRACE context 1 {refused} ExplicitVRLittleEndian",
+            f"TRACE context 3 {refused} ExplicitVRBigEndian ImplicitVRLittleEndian",
+            f"WARN classes refused: BasicTextSRStorage (--all-storage){CALLING}",
             ended(TITLES, "closed by the peer", "0 of 2"),
         )
 
@@ -149,7 +159,7 @@ class TestNoAssociation:
     def test_another_protocol(self, serve, port, tool, kind, command):
         box = serve()
         tool(*command.format(port).split(), check=False)
-        why = f"aborted: by the service user (PDU type {kind})"
+        why = f"aborted by dcmbox, its user (PDU type {kind})"
         tells(box, f"WARN {why}", ended(NOBODY, why, "0 of 0"))
 
     def test_a_request_that_is_never_finished(self, serve):
@@ -163,7 +173,7 @@ class TestNoAssociation:
         with box.connect() as peer:
             peer.send(STORES_REQUEST)
             why = "aborted: the peer was idle"
-            tells(box, f"WARN {why}", ended(TITLES, why, "1 of 1"))
+            tells(box, f"WARN {why}{CALLING}", ended(TITLES, why, "1 of 1"))
 
 
 class TestUnfinished:
@@ -175,7 +185,7 @@ class TestUnfinished:
     @pytest.mark.parametrize(
         "end, place, sent, size",
         cases(
-            ("an abort", "aborted by the peer", 292, ABORT, 0),
+            ("an abort", "aborted by the peer, its user (source 0 reason 0)", 292, ABORT, 0),
             ("a close", "closed by the peer", 320, b"", 0),
             ("a release", "released", 292, RELEASE, 10),
         ),
@@ -188,7 +198,7 @@ class TestUnfinished:
             assert len(peer.exchange(STORES[180:place] + sent, size)) == size
         tells(
             box,
-            f"WARN not stored: no reply, {end} {RECORDED} stores 1",
+            f"WARN not stored: no reply, {end} {RECORDED} stores 1{CALLING}",
             ended(TITLES, end, "1 of 1", dropped=1),
         )
 
@@ -212,7 +222,7 @@ def test_a_data_set_with_a_fault(serve, why, place, new):
         peer.until_released(changed(STORES[:352] + RELEASE, place, new))
     tells(
         box,
-        f"WARN not stored: {why} {RECORDED}",
+        f"WARN not stored: {why} {RECORDED}{CALLING}",
         ended(TITLES, "released", "1 of 1", "stored 0 refused 0 failed 1", dropped=1),
     )
 
@@ -230,7 +240,7 @@ class TestFolder:
             tells(
                 box,
                 f"ERROR a file could not be written: {error}",
-                f"WARN not stored: status A700 {CT}",
+                f"WARN not stored: status A700 the folder: {error} {CT}{CALLING}",
                 ended(TITLES, "released", "2 of 2", counts, dropped=1),
             )
 
@@ -259,8 +269,11 @@ class TestLines:
         box = serve("--log", "json", "--verbose")
         tool("storescu", "-R", *to_box, image())
         box.until_logged('"event":"association"')
-        listening, store, association = lines = [json.loads(line) for line in box.lines]
-        assert [line["event"] for line in lines] == ["listening", "store", "association"]
+        started, listening, store, association = lines = [json.loads(line) for line in box.lines]
+        events = ["started", "listening", "store", "association"]
+        assert [line["event"] for line in lines] == events
+        said = {"title": "DCMBOX", "folder": "received", "max-pdu": 16384, "drafts": 0}
+        assert said.items() <= started.items()
         assert listening["address"].startswith("127.0.0.1:")
         told = {"class": "CTImageStorage", "instance": "2.25.1.1", "status": "0000"}
         assert {**told, "file": "I0000001"}.items() <= store.items()
@@ -285,9 +298,34 @@ class TestLines:
                 peer.send(forged + RELEASE)
                 peer.receive_pdu()
         box.until_logged("Ended held", count=3)
-        assert len(box.lines) == 7
+        assert len(box.lines) == 8
         assert re.fullmatch(r"[ -~\n]*", box.log)
         assert max(map(len, box.lines)) <= 1000
+
+    def test_the_first_one(self, serve, work):
+        """It says what the box is, and how many drafts of a box that was killed it has removed."""
+        (work / "received").mkdir()
+        for name in ("DRAFT", "DRAFT2", "DRAFTS", "I0000007"):
+            (work / "received" / name).write_bytes(b"")
+        box = serve("--ae", "BOX 1", "--max-pdu", "2000", "--at-once", "3")
+        box.until_logged("listening")
+        limits = "limits max-pdu 2000 max-data 1099511627776 at-once 3"
+        told = rf'dcmbox \d+\.\d+\.\d+ title "BOX 1" folder received {limits} removed drafts 2'
+        assert re.search(rf"^\[INFO  cli::serve\] \S+Z {told}$", box.lines[0])
+        assert box.files() == ["DRAFTS", "I0000007"]
+
+    @pytest.mark.parametrize(
+        "form, begins", (("text", r"\[[A-Z]+ +cli::serve\] "), ("json", r"\{"))
+    )
+    def test_under_systemd_each_has_its_priority(self, serve, tool, to_box, form, begins):
+        box = serve("--log", form, "-v", env={"JOURNAL_STREAM": "8:1"})
+        tool("echoscu", *to_box)
+        tool("echoscu", "-aec", "OTHER", *to_box[-2:], check=False)
+        box.until_logged("OTHER.*rejected|rejected.*OTHER", count=2)
+        numbers = {"INFO": "6", "WARN": "4"}
+        for line in box.lines:
+            level = next(level for level in numbers if level in line)
+            assert re.match(rf"<{numbers[level]}>{begins}", line)
 
     def test_the_port_and_the_end(self, serve, tool, to_box, port):
         box = serve("--once")

@@ -1,4 +1,4 @@
-"""Extended offset tables of encapsulated Pixel Data, as pydicom writes them, and with a fault each."""
+"""Extended offset tables of encapsulated Pixel Data, as pydicom writes them, and with a fault."""
 import re
 import struct
 

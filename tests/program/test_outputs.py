@@ -16,6 +16,9 @@ COMMANDS = [
     "checkdir directory.bin",
     "checkdir cut_directory.bin",
     "index one --uid 2.25.1",
+    "list one",
+    "list one --json --instances",
+    "arrange one --to tree",
     REPLAY,
     "--help",
 ]

@@ -262,6 +262,7 @@ def test_a_port_that_the_system_keeps(program, work):
         extra_groups=[],
     )
     refused = (
+        r"\[INFO [^\n]* removed drafts 0\n"
         "dcmbox: 104: can't be listened on: Permission denied "
         "[^;]*; choose a port from 1024 on.*CAP_NET_BIND_SERVICE\n"
     )

@@ -2,10 +2,12 @@
 import re
 
 import pytest
-from peer import ECHO, ECHO_ANSWER, STORES, STORES_ANSWER
-from samples import ELEMENTS, SHOWN
+from peer import ECHO, ECHO_ANSWER, FIRST_REPLY, RELEASED, STORES, STORES_ANSWER
+from samples import ELEMENTS, SHOWN, LargeStore
 
 LISTING = SHOWN + ELEMENTS
+# How much of a draft comes before its writeback is started.
+STEP = 4 << 20
 
 
 def read(*options):
@@ -42,8 +44,8 @@ def test_a_replay_syncs_its_files(run, samples, trace, calls, work):
 def traced(serve, trace, form):
     """A box that serves one association under strace."""
 
-    def started(*options):
-        words = ("--once", "--timeout", "30", "--idle", "60", *form)
+    def started(*options, words=()):
+        words = ("--once", "--timeout", "30", "--idle", "60", *form, *words)
         return serve(*words, before=trace(*options))
 
     return started
@@ -109,3 +111,59 @@ def test_each_success_is_sent_after_its_file_is_filed(serve, trace, calls, form,
     assert box.files() == ["I0000001", "I0000002"]
     sent = ["sendto", *filed, "sendto", *filed, "sendto", "sendto"]
     assert [shown(call) for call in calls()] == sent
+
+
+@pytest.fixture(scope="module")
+def store():
+    """A store of 18 MiB."""
+    return LargeStore(18 << 20)
+
+
+@pytest.fixture
+def stores(traced):
+    """Stores an object in a box of which the advices and the syncs are traced."""
+
+    def stored(store, *options, before=()):
+        box = traced("-y", "-e", "trace=fadvise64,fsync", *before, words=options)
+        answer = box.exchange(store.opening + store.middle + store.last, 293)
+        assert (answer, box.ended()) == (FIRST_REPLY + RELEASED, 0)
+        assert (box.folder / "I0000001").read_bytes() == store.file
+
+    return stored
+
+
+def advised(call):
+    """The place and the number of the bytes of a draft whose writeback is to start, and the result."""
+    advice = r"fadvise64\(\d+<.*/DRAFT\d*>, (\d+), (\d+), POSIX_FADV_DONTNEED\) = (-?\d+)( .*)?"
+    return [int(number) for number in re.fullmatch(advice, call).groups()[:3]]
+
+
+@pytest.mark.parametrize(
+    "before, result",
+    [((), 0), (("-e", "inject=fadvise64:error=EIO"), -1)],
+    ids=["taken", "refused"],
+)
+def test_the_writeback_of_a_large_store_starts_early(stores, store, calls, before, result):
+    """The system is advised to write each 4 MiB once they have come.
+
+    The sync writes the rest, and all of it where the advice is refused.
+    """
+    stores(store, before=before)
+    *advices, draft, folder = calls()
+    assert [shown(draft), shown(folder)] == ["fsync DRAFT", "fsync received"]
+    at = 0
+    for call in advices:
+        start, count, given = advised(call)
+        assert (start, given) == (at, result) and count >= STEP
+        at += count
+    assert len(advices) == len(store.file) // STEP and at <= len(store.file) < at + STEP
+
+
+def test_the_writeback_of_a_small_store_is_left_to_its_sync(stores, calls):
+    stores(LargeStore(STEP - 348 - 2))
+    assert [shown(call) for call in calls()] == ["fsync DRAFT", "fsync received"]
+
+
+def test_no_writeback_is_started_where_nothing_is_synced(stores, store, calls):
+    stores(store, "--no-sync")
+    assert calls() == []

@@ -1,5 +1,5 @@
--- Each event leaves the state as it is and starts no timer, or leads into a later state, where it starts the timer if it
--- runs there.
+-- Each event leaves the state as it is and starts no timer, or leads into a later state, where it starts the timer if it runs
+-- there (`entry`); two looks at the state show each start (`seen`). Stands on the definitions alone.
 use Rattle.std.proofs.Common.{◌≡◌, ◌≢◌, ◌⊎◌, inl, inr, ◌↔◌, ℕ, ◌<◌, ◌≤◌, Bool, true, false, ◌||◌, List, [], ◌∷◌, refl, sym, ap, subst, ◌∙◌, arith}
 use Rattle.acceptor.specs.declared.state.State.{State}
 use Rattle.acceptor.specs.declared.state.State.TheVariants.{Sta1, Sta2, Sta3, Sta6, Sta8, Sta13}

@@ -9,7 +9,7 @@ use Rattle.acceptor.specs.declared.effect.Sending.TheVariants.{Nothing, Answer, 
 use Rattle.acceptor.specs.declared.effect.Timer.{Timer}
 use Rattle.acceptor.specs.declared.effect.Timer.TheVariants.{Starts, Stops, GoesOn}
 
--- what the action sends when this is the next state; the reason is that of a service provider's abort
+-- what the action sends if it leads to this state; `reason` is the reason field of an A-ABORT of the service provider
 abbrev pub sending : Action → State → ℕ → Sending
 sending Ae6 Sta13 reason = Answer
 sending Ae7 next reason = Answer
@@ -20,14 +20,15 @@ sending Aa7 next reason = Abort 2 reason
 sending Aa8 next reason = Abort 2 reason
 sending action next reason = Nothing
 
--- the bytes that are sent, given those of the answer, of an A-RELEASE-RP, and of an A-ABORT with its source and reason
+-- the bytes that are sent, given those of the A-ASSOCIATE-AC or A-ASSOCIATE-RJ, of an A-RELEASE-RP, and of an A-ABORT
+-- with its source and reason
 abbrev pub bytes_sent : (answer release : List ℕ) → (abort : ℕ → ℕ → List ℕ) → Sending → List ℕ
 bytes_sent answer release abort Nothing = []
 bytes_sent answer release abort Answer = answer
 bytes_sent answer release abort ReleaseResponse = release
 bytes_sent answer release abort (Abort source reason) = abort source reason
 
--- what the action does to the timer when this is the next state
+-- what the action does to the ARTIM timer if it leads to this state
 abbrev pub timer : Action → State → Timer
 timer Ae5 next = Starts
 timer Ae6 Sta13 = Starts
@@ -41,13 +42,13 @@ timer Aa5 next = Stops
 timer Aa8 next = Starts
 timer action next = GoesOn
 
--- whether the timer runs afterwards
+-- whether the ARTIM timer runs afterwards, given whether it was running before
 abbrev pub runs_after : Timer → (running : Bool) → Bool
 runs_after Starts running = true
 runs_after Stops running = false
 runs_after GoesOn running = running
 
--- whether the timer runs in this state (PS3.8 section 9.1.5)
+-- whether the ARTIM timer runs in this state (PS3.8 section 9.1.5)
 abbrev pub timer_runs : State → Bool
 timer_runs Sta2 = true
 timer_runs Sta13 = true

@@ -7,8 +7,9 @@ use Rattle.acceptor.specs.declared.event.Event.TheVariants.{Connected, Request, 
 use Rattle.acceptor.specs.declared.action.Action.{Action}
 use Rattle.acceptor.specs.declared.action.Action.TheVariants.{Nothing, Ae5, Ae6, Ae7, Ae8, Ar2, Ar4, Ar5, Aa1, Aa2, Aa3, Aa4, Aa5, Aa6, Aa7, Aa8, Dt2}
 
--- the action and the next state. That a pair outside the acceptor's part has no action and keeps the state is this
--- product's own profile: in Sta3 and Sta8 the local user responds within the same input, so no PDU comes there.
+-- The action and the next state for an event in a state. That a pair outside the acceptor's part has no action and
+-- keeps the state is this product's own profile. In Sta3 and Sta8 the local user responds before the next input is
+-- read, so no PDU is received in them.
 abbrev pub table : State → Event → Action × State
 table Sta1 Connected = (Ae5, Sta2)
 table Sta2 (Request true) = (Ae6, Sta3)

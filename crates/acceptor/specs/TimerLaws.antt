@@ -1,4 +1,5 @@
--- Where the ARTIM timer was started is seen by the states alone (PS3.8 sections 9.1.5 and 9.2.3, Table 9-10).
+-- The states before and after some events tell whether the ARTIM timer was started in them (PS3.8 sections 9.1.5 and
+-- 9.2.3, Table 9-10).
 use Rattle.std.specs.Prelude.{◌≡◌, ◌≢◌, ◌↔◌, ◌||◌, Bool, true, false, List, [], ◌∷◌}
 use Rattle.std.specs.List.{AllByRecursion}
 use Rattle.acceptor.specs.declared.state.State.{State}
@@ -19,19 +20,19 @@ is_start Starts = true
 is_start Stops = false
 is_start GoesOn = false
 
--- whether the timer was started in one of these events
+-- whether the ARTIM timer is started by one of these events
 abbrev pub has_start : State → List Event → Bool
 has_start state [] = false
 has_start state (event ∷ events) = is_start (timer (table state event).0 (table state event).1) || has_start (table state event).1 events
 
--- they belong to one transport connection: none of them opens it
+-- the events belong to one transport connection: none of them opens another
 abbrev pub BelongTogether : List Event → Type 0
 BelongTogether events = AllByRecursion (λ event. event ≢ Connected) events
 
--- an action starts the timer exactly where it leads into another state, in which the timer runs
+-- an action starts the ARTIM timer exactly if it leads to another state, in which the timer runs
 abbrev pub AStartIsAnEntry : Type 0
 AStartIsAnEntry = (state : State) (event : Event) → (timer (table state event).0 (table state event).1 ≡ Starts) ↔ (((table state event).1 ≢ state) × (timer_runs (table state event).1 ≡ true))
 
--- where the timer runs after events of one connection, it was started in them exactly where the state is another one
+-- if the ARTIM timer runs after events of one connection, they started it exactly if the state changed
 abbrev pub StartsAreSeen : Type 0
 StartsAreSeen = (state : State) (events : List Event) → BelongTogether events → timer_runs (state_after state events) ≡ true → (has_start state events ≡ true) ↔ (state_after state events ≢ state)

@@ -1,4 +1,4 @@
-//! Actions.
+//! The actions of the upper layer's state machine.
 ghost use Rattle.std.specs.Prelude.{◌≡◌};
 ghost use Rattle.acceptor.specs.Effect as spelling;
 
@@ -47,8 +47,9 @@ pub enum Action {
 }
 
 impl Action {
-    /// Returns what this action sends when the next state is `next`. `reason` is the reason of an
-    /// A-ABORT of the service provider (PS3.8 section 9.3.8); the other actions ignore it.
+    /// Returns what this action sends if it leads to the state `next`, on which AE-6 depends. `reason`
+    /// is the reason field of an A-ABORT of the service provider (AA-7 and AA-8, PS3.8 section 9.3.8);
+    /// other actions ignore it.
     pub fn sends(self, next: State, reason: u8) -> Sending
         ensures { result ≡ spelling.sending self next reason }
     {
@@ -62,7 +63,8 @@ impl Action {
         }
     }
 
-    /// Returns what this action does to the ARTIM timer when the next state is `next`.
+    /// Returns what this action does to the ARTIM timer if it leads to the state `next`, on which AE-6
+    /// depends.
     pub fn timer(self, next: State) -> Timer
         ensures { result ≡ spelling.timer self next }
     {

@@ -1,11 +1,11 @@
-//! The effects of actions.
+//! The effects of an action: what it sends and what it does to the ARTIM timer.
 ghost use Rattle.std.specs.Prelude.{◌≡◌};
 ghost use Rattle.acceptor.specs.Effect as spelling;
 
-/// What an action sends (PS3.8 section 9.2); PS3.8 section 9.3 has the layouts.
+/// The PDU that an action sends (PS3.8 section 9.2).
 #[derive(Clone, Copy, Debug, PartialEq, Eq)]
 pub enum Sending {
-    /// No bytes.
+    /// No PDU.
     Nothing,
     /// The answer to the association request: an A-ASSOCIATE-AC or an A-ASSOCIATE-RJ.
     Answer,
@@ -18,11 +18,11 @@ pub enum Sending {
 /// What an action does to the ARTIM timer (PS3.8 section 9.2).
 #[derive(Clone, Copy, Debug, PartialEq, Eq)]
 pub enum Timer {
-    /// It starts, or restarts if it is running.
+    /// The timer starts, or restarts if it is running.
     Starts,
-    /// It stops if it is running.
+    /// The timer stops if it is running.
     Stops,
-    /// It stays as it is, running or stopped.
+    /// The timer stays as it is, running or stopped.
     GoesOn,
 }
 

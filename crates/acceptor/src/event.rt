@@ -1,11 +1,12 @@
-//! Events.
+//! The events of the upper layer's state machine.
 
-/// An event of an association: the rows of PS3.8 Table 9-10 that an acceptor can meet.
+/// An event of an association: one of the rows of PS3.8 Table 9-10 that concern an acceptor.
 #[derive(Clone, Copy, Debug, PartialEq, Eq)]
 pub enum Event {
-    /// Transport connection indication.
+    /// Transport connection indication: the transport connection is open.
     Connected,
-    /// An A-ASSOCIATE-RQ PDU was received; whether it is acceptable to the service provider.
+    /// An A-ASSOCIATE-RQ PDU was received: `true` if it is acceptable to the service provider, `false`
+    /// if the provider rejects it. These are the two outcomes of action AE-6.
     Request(bool),
     /// An A-ASSOCIATE-AC PDU was received.
     Ac,
@@ -21,7 +22,7 @@ pub enum Event {
     Abort,
     /// An unrecognized or invalid PDU was received.
     Invalid,
-    /// Transport connection closed indication.
+    /// Transport connection closed indication: the peer closed it, or it broke.
     Closed,
     /// The ARTIM timer expired.
     Expired,

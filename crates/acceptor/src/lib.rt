@@ -1,6 +1,6 @@
-//! The acceptor of an association: the part of the upper layer's state machine that a receiver
-//! needs (PS3.8 section 9.2). It handles no bytes: it returns which action an event calls for, what
-//! that action sends and what it does to the ARTIM timer.
+//! The acceptor of an association: the part of the upper layer's state machine that a receiver needs
+//! (PS3.8 section 9.2). It handles no bytes: [`act`] returns the action and the next state for an
+//! event, [`Action`] says what is sent and what happens to the ARTIM timer.
 #![tactic(auto)]
 
 mod action;

@@ -1,4 +1,4 @@
-//! States.
+//! The states of the upper layer's state machine.
 ghost use Rattle.std.specs.Prelude.{◌≡◌};
 ghost use Rattle.acceptor.specs.Effect as spelling;
 
@@ -6,7 +6,7 @@ ghost use Rattle.acceptor.specs.Effect as spelling;
 /// the requestor or to a release collision.
 #[derive(Clone, Copy, Debug, PartialEq, Eq)]
 pub enum State {
-    /// Idle: there is no association. Also the end of one.
+    /// Idle: there is no transport connection, not yet or no longer.
     Sta1,
     /// The transport connection is open; awaiting an A-ASSOCIATE-RQ PDU.
     Sta2,

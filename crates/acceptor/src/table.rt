@@ -7,9 +7,10 @@ use crate::action::Action;
 use crate::event::Event;
 use crate::state::State;
 
-/// Returns the action and the next state for an event in this state: the acceptor's part of PS3.8
-/// Table 9-10. Every other pair has no action and keeps the state. Each action leaves the ARTIM timer
-/// running exactly when it runs in the next state.
+/// Returns the action and the next state for an event in this state: the acceptor's part of PS3.8 Table
+/// 9-10. A pair that the table does not have, or that concerns a requestor, gives `Action::Nothing` and
+/// the same state. After each action the ARTIM timer runs exactly if it runs in the next state (see
+/// [`State::timer_runs`]).
 pub fn act(state: State, event: Event) -> (Action, State)
     ensures table { result ≡ table state event }
     ensures timer { runs_after (timer result.0 result.1) (timer_runs state) ≡ timer_runs result.1 }

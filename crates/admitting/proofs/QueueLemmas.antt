@@ -1,4 +1,5 @@
--- Who is left after one was taken out of a queue.
+-- Where those before it get none, the next waiter that is admitted gets the place, and the others stay in the queue in their
+-- order (`gets`). Stands on the definitions alone.
 use Rattle.std.proofs.Common.{◌≡◌, ℕ, zero, suc, ◌<◌, List, [], ◌∷◌, ◌++◌, length, take, drop, get_or, refl, sym, ap, subst, ◌∙◌, arith}
 use Rattle.std.specs.List.{remove}
 use Rattle.admitting.specs.declared.places.Admission.TheVariants as admission

@@ -1,4 +1,5 @@
--- How many places a peer has after one place is given or freed.
+-- A place that is given or freed leaves each peer with no more places than one may have (`admitted`, `never_more`, `freed`,
+-- `free_within`). Stands on the definitions alone.
 use Rattle.std.proofs.Common.{◌≡◌, ℕ, zero, suc, ◌+◌, ◌≤◌, ◌<◌, Bool, List, [], ◌∷◌, Option, Some, None, set, replicate, refl, arith, nat_eq, true, false, if◌then◌else◌, ap, ◌∙◌, sym, subst}
 use Rattle.std.proofs.lemmas.Bool.{eqb-true}
 use Rattle.admitting.specs.Seats.{places_of, first_vacancy}

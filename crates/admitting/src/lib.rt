@@ -1,6 +1,9 @@
-//! Which peer gets a place and who waits for one, and what is told of again only after a while.
+//! Limits the number of connections: how many are served at a time and how many of one peer
+//! ([`Places`]), who waits ([`Queue`]), how often a repeated message is logged ([`Notice`]), and what there was,
+//! for contracts ([`History`]).
 #![tactic(auto)]
 
+mod history;
 mod notice;
 mod peer;
 mod places;
@@ -8,6 +11,7 @@ mod queue;
 #[cfg(test)]
 mod rows;
 
+pub use history::History;
 pub use notice::Notice;
 pub use peer::peer_number;
 pub use places::{Admission, Places};

@@ -1,4 +1,4 @@
-//! What is told of again only after a while.
+//! Rate limit of repeated log messages.
 ghost use Rattle.std.specs.Prelude.{◌≡◌, ◌↔◌, IsTrue, None, Some, true, false};
 ghost use Rattle.std.specs.Time.{instant_nanos};
 ghost use Rattle.admitting.specs.Notices.{IsToldAgain};
@@ -6,10 +6,10 @@ ghost use Rattle.admitting.specs.Notices.{IsToldAgain};
 use std::marker::Model;
 use std::time::{Duration, Instant};
 
-/// How long nothing is told of again, in seconds.
+/// The shortest time in seconds between two messages of the same kind.
 const QUIET_SECONDS: u64 = 60;
 
-/// When something was told of last.
+/// The rate limit of one kind of log message: at most one a minute. It has the time of the last one.
 #[derive(Drop)]
 pub struct Notice {
     told: Option<Instant>,
@@ -25,15 +25,15 @@ impl Model for Notice {
 }
 
 impl Notice {
-    /// Returns the notice of something that was never told of.
+    /// Creates the limit before the first message.
     pub fn new() -> Notice
         ensures { result ≡ None }
     {
         Notice { told: None }
     }
 
-    /// Returns whether it is to be told of now: it never was, or a minute ago or more. Then it is taken as
-    /// told.
+    /// Returns whether a message may be logged now: there was none before, or the last was a minute ago
+    /// or more. If so, `now` is recorded as the time of the last message.
     pub fn is_due(&mut self, now: Instant) -> bool
         ensures due { IsTrue result ↔ IsToldAgain self.old (instant_nanos now) }
         ensures told { result ≡ true → self.new ≡ Some (instant_nanos now) }

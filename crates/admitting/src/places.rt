@@ -1,24 +1,26 @@
-//! Which peers have a place at a server.
+//! Limits how many connections are served at a time, in all and of one peer.
 ghost use Rattle.std.specs.Prelude.{◌≡◌, ◌<◌, ◌≤◌, ℕ, IfOk, IfSome, None, get_or, length, replicate, set};
 ghost use Rattle.admitting.specs.Seats.{Admits, places_of, first_vacancy};
 
 use std::alloc::{AllocError, Allocator};
 use std::marker::Model;
 
-/// What a peer that asks for a place gets.
+/// The answer to a new connection.
 #[derive(Clone, Copy, Debug, PartialEq, Eq)]
 pub enum Admission {
-    /// The place of this number, which was free.
+    /// It is served, in the place with this index, which was free.
     Place(usize),
-    /// None: each place has a peer.
+    /// It is not served now: all places are in use.
     Full,
-    /// None: the peer has as many places as one peer may have.
+    /// It is not served now: its peer has as many places as one peer may have.
     PeerFull,
 }
 
-/// So many places, each of which is free or has a peer; and one peer has at most so many of them.
+/// The places of a server: one for each connection that can be served at a time. Each is free or
+/// belongs to a peer, and a peer may have only so many of them.
 ///
-/// A peer is the number of its address, so that connections of one machine count together.
+/// A peer is identified by the number of its address (see [`peer_number`](crate::peer_number)), so that
+/// the connections of one machine count together.
 #[derive(Drop)]
 pub struct Places<A: Allocator> {
     peers: Vec<Option<u128>, A>,
@@ -38,7 +40,7 @@ impl<A: Allocator> Model for Places<A> {
 }
 
 impl<A: Allocator> Places<A> {
-    /// Returns so many places, all of them free, of which one peer may have `per_peer`.
+    /// Creates `count` free places, of which one peer may have at most `per_peer`.
     ///
     /// Fails if memory runs out.
     pub fn new(alloc: A, count: usize, per_peer: usize) -> Result<Places<A>, AllocError>
@@ -64,7 +66,7 @@ impl<A: Allocator> Places<A> {
         count
     }
 
-    /// Returns the first place that is free.
+    /// Returns the index of the first free place.
     fn first_vacancy(&self) -> Option<usize>
         ensures first { result ≡ first_vacancy 0 self.now.peers }
         ensures within { IfSome result (λ place. place < length self.now.peers) }
@@ -77,7 +79,7 @@ impl<A: Allocator> Places<A> {
         None
     }
 
-    /// Gives a peer the first place that is free, unless it has as many as it may have.
+    /// Gives a peer the first free place, unless it has as many as it may have.
     pub fn admit(&mut self, peer: u128) -> Admission
         ensures admits { Admits peer self.old self.new result }
         ensures same_limit { self.new.per_peer ≡ self.old.per_peer }
@@ -94,7 +96,7 @@ impl<A: Allocator> Places<A> {
         }
     }
 
-    /// Frees a place.
+    /// Frees the place with this index.
     pub fn leave(&mut self, place: usize)
         requires place { place < length self.old.peers }
         ensures left { self.new.peers ≡ set self.old.peers place None }
@@ -103,7 +105,7 @@ impl<A: Allocator> Places<A> {
         self.peers[place] = None;
     }
 
-    /// Returns the peer of a place, or `None` if the place is free.
+    /// Returns the peer of the place with this index, or `None` if it is free.
     pub fn peer(&self, place: usize) -> Option<u128>
         requires place { place < length self.now.peers }
         ensures { result ≡ get_or self.now.peers place None }
@@ -111,17 +113,19 @@ impl<A: Allocator> Places<A> {
         self.peers.as_slice()[place]
     }
 
-    /// Returns how many places there are.
+    /// Returns the number of places, free or not.
     pub fn len(&self) -> usize
         ensures { result ≡ length self.now.peers }
     {
         self.peers.len()
     }
 
-    /// Every peer has at most as many places as one may have.
+    /// Does nothing. Its contract states what the type guarantees: no peer has more places than one may
+    /// have.
     pub fn never_more(&self)
         ensures { (peer : ℕ) → places_of peer self.now.peers ≤ self.now.per_peer }
     {
+        // The prover looks up what the type guarantees where one of its fields is named.
         let _peers = &self.peers;
     }
 }

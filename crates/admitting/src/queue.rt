@@ -1,32 +1,32 @@
-//! Who waits until its peer gets a place.
+//! The queue of connections that wait for a place.
 ghost use Rattle.std.specs.Prelude.{◌≡◌, ◌≤◌, ◌<◌, ◌==◌, ◌↔◌, [], ◌∷◌, ◌++◌, IfOk, IsTrue, length, true, false};
 ghost use Rattle.std.specs.Vec.{vec_capacity};
 
 use crate::places::{Admission, Places};
 use std::alloc::{AllocError, Allocator};
 
-/// Who waits for a place.
+/// A connection that waits for a place.
 #[derive(Drop)]
 pub struct Waiter<T> {
     /// The number of its peer's address.
     pub peer: u128,
-    /// What is served once the peer gets a place.
+    /// The connection.
     pub waiting: T,
 }
 
-/// Those that wait for a place, in the order in which they came, and how many may.
+/// The connections that wait for a place, in the order of their arrival, at most `most`.
 #[derive(Drop)]
 pub struct Queue<T, A: Allocator> {
     waiters: Vec<Waiter<T>, A>,
     most: usize,
-    /// There is room for all that may wait, so a push takes no memory.
+    /// The vector has capacity for all that may wait, so that a push allocates nothing.
     ghost room: { most ≤ vec_capacity waiters },
 }
 
 impl<T: Drop, A: Allocator> Queue<T, A> {
     ghost use Rattle.admitting.specs.Queues.{AdmitsFirst, FindsFirst, most_in, waiting_in};
 
-    /// Returns a queue in which at most so many wait, and nobody yet.
+    /// Creates an empty queue of at most `most` connections.
     ///
     /// Fails if memory runs out.
     pub fn new(alloc: A, most: usize) -> Result<Queue<T, A>, AllocError>
@@ -39,7 +39,7 @@ impl<T: Drop, A: Allocator> Queue<T, A> {
         })
     }
 
-    /// Lets one more wait, after the others. Returns whether there is room for it; if not, it is dropped.
+    /// Appends a connection. Returns `false`, and drops it, if the queue is full.
     pub fn push(&mut self, waiter: Waiter<T>) -> bool
         ensures room { IsTrue result ↔ (length (waiting_in self.old) < most_in self.old) }
         ensures last { result ≡ true → waiting_in self.new ≡ waiting_in self.old ++ waiter ∷ [] }
@@ -49,8 +49,8 @@ impl<T: Drop, A: Allocator> Queue<T, A> {
         self.waiters.len() < self.most && self.waiters.push(waiter).is_ok()
     }
 
-    /// Gives the first place that is free to the first whose peer gets it. Returns where it waits, and the
-    /// place.
+    /// Gives the first free place to the first connection whose peer may have it. Returns the index of
+    /// the connection and that of the place.
     fn find(&self, places: &mut Places<A>) -> Option<(usize, usize)>
         ensures finds { FindsFirst (waiting_in self.now) places.old places.new result }
     {
@@ -64,8 +64,8 @@ impl<T: Drop, A: Allocator> Queue<T, A> {
         None
     }
 
-    /// Returns the first whose peer gets a place, which no longer waits, and the place; or `None` if nobody's
-    /// does.
+    /// Gives the first free place to the first connection whose peer may have it. Removes and returns
+    /// the connection, with the index of the place, or returns `None` if none gets a place.
     pub fn admit(&mut self, places: &mut Places<A>) -> Option<(Waiter<T>, usize)>
         ensures admits { AdmitsFirst (waiting_in self.old) (waiting_in self.new) places.old places.new result }
         ensures same_most { most_in self.new ≡ most_in self.old }
@@ -74,7 +74,7 @@ impl<T: Drop, A: Allocator> Queue<T, A> {
         Some((self.waiters.remove(at), place))
     }
 
-    /// Drops all that wait.
+    /// Drops all connections that wait.
     pub fn clear(&mut self)
         ensures empty { waiting_in self.new ≡ [] }
         ensures same_most { most_in self.new ≡ most_in self.old }
@@ -82,7 +82,7 @@ impl<T: Drop, A: Allocator> Queue<T, A> {
         self.waiters.clear();
     }
 
-    /// Returns whether nobody waits.
+    /// Returns whether no connection waits.
     pub fn is_empty(&self) -> bool
         ensures { result ≡ (length (waiting_in self.now) == 0) }
     {

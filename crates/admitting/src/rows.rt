@@ -1,11 +1,11 @@
-//! Peers that come, wait and go.
+//! Tests of places, queue, rate limit and peer numbers.
 
 use crate::{Admission, Notice, Places, Queue, Waiter, peer_number};
 use std::net::{IpAddr, Ipv4Addr, Ipv6Addr};
 use std::test::Fail;
 use std::time::{Duration, Instant};
 
-/// Whether these peers, one after the other, get this.
+/// Returns whether these peers, one after the other, get these answers.
 fn get(places: &mut Places<std::alloc::Global>, rows: &[(u128, Admission)]) -> bool {
     for (peer, admission) in rows {
         if places.admit(*peer) != *admission {
@@ -42,7 +42,7 @@ fn peers_come_and_go(rt: HostRuntime) -> Result<(), Fail> {
     Ok(())
 }
 
-/// The next that leaves the queue: what waited, and its place.
+/// Returns the next connection that leaves the queue, and the index of its place.
 fn next(
     queue: &mut Queue<char, std::alloc::Global>,
     places: &mut Places<std::alloc::Global>,
@@ -97,7 +97,7 @@ fn addresses_of_one_peer(rt: HostRuntime) {
     assert!(rt; four == mapped && four != six);
 }
 
-/// Returns the time so many seconds after another one.
+/// Returns the time `seconds` seconds after another one.
 fn after(time: Instant, seconds: u64) -> Instant {
     match time.checked_add(Duration::from_secs(seconds)) {
         Some(time) => time,

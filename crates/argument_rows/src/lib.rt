@@ -7,6 +7,8 @@ mod at_once_rows;
 #[cfg(test)]
 mod class_rows;
 #[cfg(test)]
+mod inspection_rows;
+#[cfg(test)]
 mod settings_rows;
 #[cfg(test)]
 mod transfer_rows;

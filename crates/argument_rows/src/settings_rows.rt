@@ -120,6 +120,39 @@ fn settings_of_serve_have_defaults(rt: HostRuntime) -> Result<(), Fail> {
     Ok(())
 }
 
+/// How much is logged with this last option.
+fn level_with(alloc: Global, option: &str) -> Result<Level, WordsError> {
+    let words = ["dcmbox", "serve", "--port", "1", "--out", "DIR", option];
+    Ok(serve_for(alloc, &words)?.level)
+}
+
+#[test]
+fn a_log_tells_more_with_each_letter(rt: HostRuntime) -> Result<(), Fail> {
+    let alloc = rt.alloc();
+    assert!(rt; matches!(level_with(alloc, "--once"), Ok(Level::Info)));
+    assert!(rt; matches!(level_with(alloc, "--verbose"), Ok(Level::Debug)));
+    assert!(rt; matches!(level_with(alloc, "-v"), Ok(Level::Debug)));
+    assert!(rt; matches!(level_with(alloc, "-vv"), Ok(Level::Trace)));
+    Ok(())
+}
+
+#[test]
+fn a_log_counts_words_of_its_option(rt: HostRuntime) -> Result<(), Fail> {
+    let words = [
+        "dcmbox",
+        "serve",
+        "--port",
+        "1",
+        "--out",
+        "DIR",
+        "-v",
+        "--verbose",
+        "-v",
+    ];
+    assert!(rt; matches!(serve_for(rt.alloc(), &words)?.level, Level::Trace));
+    Ok(())
+}
+
 #[test]
 fn a_log_is_quiet_where_it_is_asked_to_be(rt: HostRuntime) -> Result<(), Fail> {
     let words = [

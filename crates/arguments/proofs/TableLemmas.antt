@@ -11,7 +11,7 @@ use Rattle.clap.specs.declared.builder.command.Command.TheOpen.{Command-F}
 use Rattle.arguments.specs.CommandLine.{with_rules, with_subcommands}
 use Rattle.arguments.specs.machine.Tables.{rule_for, app_for}
 use Rattle.arguments.specs.declared.argument.Argument.{Argument}
-use Rattle.arguments.specs.declared.argument.Argument.TheVariants.{Positional, Several, Needed, Default, Free, Repeated, Flag, Letter}
+use Rattle.arguments.specs.declared.argument.Argument.TheVariants.{Positional, Several, Needed, Default, Free, Repeated, Flag, Letter, Counted}
 use Rattle.arguments.specs.declared.command.Subcommand.{Subcommand}
 
 -- a simple argument is not global, nor is a plain command
@@ -38,6 +38,7 @@ rule_simple (Free name value help) = refl
 rule_simple (Repeated name value help) = refl
 rule_simple (Flag name help) = refl
 rule_simple (Letter name letter help) = refl
+rule_simple (Counted name letter help) = refl
 
 argument_local : (a : Arg) (x : Argument) → rule_of a ≡ rule_for x → a.global ≡ false
 argument_local a x e = rule_local a (ap (λ (r : Rule). r.is_simple) e ∙ rule_simple x)

@@ -1,10 +1,10 @@
 -- What the settings of `serve`, `replay` and `index` are for their arguments (this product's own profile).
-use Rattle.std.specs.Prelude.{◌≡◌, ℕ, ◌*◌, ◌^◌, ◌≤◌, ⊤, Bool, not, true, false, List, [], ◌++◌, if◌then◌else◌, map, Option, Some, None, codes, option_map, unwrap_or}
+use Rattle.std.specs.Prelude.{◌≡◌, ℕ, ◌*◌, ◌^◌, ◌≤◌, ⊤, Bool, not, true, false, List, [], ◌++◌, if◌then◌else◌, nat_eq, map, Option, Some, None, codes, option_map, unwrap_or}
 use Rattle.std.specs.Duration.{as_nanos}
 use Rattle.std.specs.Str.Parse.{IsNumeral, digits_value, without_leading_plus}
 use Rattle.std.specs.declared.time.Duration.{Duration}
 use Rattle.log.specs.declared.level.Level.{Level}
-use Rattle.log.specs.declared.level.Level.TheVariants.{Warn, Info, Debug}
+use Rattle.log.specs.declared.level.Level.TheVariants.{Warn, Info, Debug, Trace}
 use Rattle.element.specs.Title.{title_of_text}
 use Rattle.element.specs.Uid.{uid_of}
 use Rattle.dictionary.specs.declared.transfer.Transfer.{Transfer}
@@ -32,12 +32,14 @@ pub record Spells (least most : ℕ) (text : List ℕ) (number : ℕ) : Type 0 w
 abbrev pub SpellsTime : List ℕ → Duration → Type 0
 SpellsTime text time = (seconds : ℕ) × Spells 1 86400 text seconds × (as_nanos time ≡ seconds * 1_000_000_000)
 
--- how much is logged: with -v more, with -q less, and never with both
-abbrev pub IsLevel : Bool → Bool → Level → Type 0
-IsLevel false false level = level ≡ Info
-IsLevel true false level = level ≡ Debug
-IsLevel false true level = level ≡ Warn
-IsLevel true true level = ⊥
+-- how much is logged with so many -v
+abbrev pub verbosity : ℕ → Level
+verbosity count = if nat_eq count 0 then Info else (if nat_eq count 1 then Debug else Trace)
+
+-- how much is logged: with -v more, with two still more, with -q less, and never with both
+abbrev pub IsLevel : ℕ → Bool → Level → Type 0
+IsLevel verbose false level = level ≡ verbosity verbose
+IsLevel verbose true level = (verbose ≡ 0) × (level ≡ Warn)
 
 -- how lines are written, by the name of the form
 abbrev pub IsForm : Form → List ℕ → Type 0

@@ -1,16 +1,18 @@
 -- The commands that the program knows, as clap defines a simple command, and what their arguments are.
 use Rattle.std.specs.Prelude.{◌≡◌, ℕ, Bool, true, false, List, [], ◌∷◌, map, Option, Some, None, codes, option_map, unwrap_or}
-use Rattle.clap.specs.Walk.{Row, Rule, Text, first_of, one_of, all_of}
+use Rattle.clap.specs.Walk.{Row, Rule, Text, first_of, one_of, all_of, count_of}
 use Rattle.clap.specs.Simple.{App, new_app, new_rule, with_rule, with_subcommand, on_top}
-use Rattle.clap.specs.declared.builder.action.ArgAction.TheVariants.{SetTrue, Append}
+use Rattle.clap.specs.declared.builder.action.ArgAction.TheVariants.{SetTrue, Append, Count}
+use Rattle.arguments.specs.declared.values.ArrangeArguments.{ArrangeArguments}
 use Rattle.arguments.specs.declared.values.CheckArguments.{CheckArguments}
 use Rattle.arguments.specs.declared.values.FileArguments.{FileArguments}
 use Rattle.arguments.specs.declared.values.IndexArguments.{IndexArguments}
+use Rattle.arguments.specs.declared.values.ListArguments.{ListArguments}
 use Rattle.arguments.specs.declared.values.ReplayArguments.{ReplayArguments}
 use Rattle.arguments.specs.declared.values.ServeArguments.{ServeArguments}
 use Rattle.arguments.specs.declared.values.ShowArguments.{ShowArguments}
 use Rattle.arguments.specs.declared.words.Job.{Job}
-use Rattle.arguments.specs.declared.words.Job.TheVariants.{Serve, Replay, Show, Check, Index, CheckDir}
+use Rattle.arguments.specs.declared.words.Job.TheVariants.{Serve, Replay, Show, Check, Index, CheckDir, List as ListJob, Arrange}
 
 -- ---- the commands
 
@@ -46,6 +48,10 @@ flag_rule id = record (new_rule id) { long = Some id; action = Some SetTrue }
 abbrev pub letter_rule : Text → ℕ → Rule
 letter_rule id letter = record (flag_rule id) { short = Some letter }
 
+-- an option without a value that has a letter, and whose uses are counted
+abbrev pub counted_rule : Text → ℕ → Rule
+counted_rule id letter = record (new_rule id) { long = Some id; short = Some letter; action = Some Count }
+
 abbrev pub with_rules : App → List Rule → App
 with_rules app [] = app
 with_rules app (rule ∷ rules) = with_rules (with_rule app rule) rules
@@ -67,9 +73,9 @@ limited_app = with_rules listening_app
     (optional (codes "timeout") (codes "30") ∷ optional (codes "idle") (codes "600")
     ∷ optional (codes "max-pdu") (codes "16384") ∷ optional (codes "max-data") (codes "1099511627776") ∷ [])
 
--- -v, -q
+-- -v, which may be given more than once, and -q
 abbrev pub logging_app : App
-logging_app = with_rules limited_app (letter_rule (codes "verbose") 118 ∷ letter_rule (codes "quiet") 113 ∷ free (codes "log") ∷ [])
+logging_app = with_rules limited_app (counted_rule (codes "verbose") 118 ∷ letter_rule (codes "quiet") 113 ∷ free (codes "log") ∷ [])
 
 abbrev pub filing_app : App
 filing_app = with_rules logging_app (free (codes "per") ∷ free (codes "numbers") ∷ flag_rule (codes "no-sync") ∷ flag_rule (codes "once") ∷ [])
@@ -92,11 +98,17 @@ abbrev pub show_app : App
 show_app = with_rules (files_app (codes "show")) (flag_rule (codes "values") ∷ repeated (codes "tag") ∷ flag_rule (codes "json") ∷ flag_rule (codes "all-syntaxes") ∷ [])
 
 abbrev pub check_app : App
-check_app = with_rules (files_app (codes "check")) (flag_rule (codes "strict") ∷ flag_rule (codes "json") ∷ flag_rule (codes "all-syntaxes") ∷ [])
+check_app = with_rules (files_app (codes "check")) (flag_rule (codes "strict") ∷ flag_rule (codes "values") ∷ flag_rule (codes "json") ∷ flag_rule (codes "all-syntaxes") ∷ [])
 
 abbrev pub index_app : App
 index_app = with_rules (new_app (codes "index"))
     (positional (codes "DIR") ∷ free (codes "uid") ∷ flag_rule (codes "new-uid") ∷ flag_rule (codes "descriptions") ∷ flag_rule (codes "all-syntaxes") ∷ flag_rule (codes "keep") ∷ flag_rule (codes "replace") ∷ [])
+
+abbrev pub list_app : App
+list_app = with_rules (new_app (codes "list")) (positional (codes "DIR") ∷ flag_rule (codes "series") ∷ flag_rule (codes "instances") ∷ flag_rule (codes "json") ∷ [])
+
+abbrev pub arrange_app : App
+arrange_app = with_rules (new_app (codes "arrange")) (positional (codes "DIR") ∷ needed (codes "to") ∷ flag_rule (codes "copy") ∷ flag_rule (codes "dry-run") ∷ [])
 
 abbrev pub with_subcommands : App → List App → App
 with_subcommands app [] = app
@@ -104,7 +116,7 @@ with_subcommands app (sub ∷ subs) = with_subcommands (with_subcommand app sub.
 
 abbrev pub the_command : App
 the_command = with_subcommands (on_top (λ s. record s { has_version = true; subcommand_required = true }) (new_app (codes "dcmbox")))
-    (serve_app ∷ replay_app ∷ show_app ∷ check_app ∷ index_app ∷ file_app (codes "checkdir") ∷ [])
+    (serve_app ∷ replay_app ∷ show_app ∷ check_app ∷ index_app ∷ file_app (codes "checkdir") ∷ list_app ∷ arrange_app ∷ [])
 
 -- ---- the arguments
 
@@ -133,6 +145,7 @@ pub record IsCheck (a : CheckArguments) (rows : List Row) : Type 0 where
   pub files : map (λ w. w.now) a.files.items ≡ values_of rows (codes "FILE")
   pub recursive : IsFlag rows (codes "recursive") a.recursive
   pub strict : IsFlag rows (codes "strict") a.strict
+  pub values : IsFlag rows (codes "values") a.values
   pub json : IsFlag rows (codes "json") a.json
   pub all_syntaxes : IsFlag rows (codes "all-syntaxes") a.all_syntaxes
 
@@ -156,6 +169,18 @@ pub record IsIndex (a : IndexArguments) (rows : List Row) : Type 0 where
   pub keep : IsFlag rows (codes "keep") a.keep
   pub replace : IsFlag rows (codes "replace") a.replace
 
+pub record IsList (a : ListArguments) (rows : List Row) : Type 0 where
+  pub dir : first_of (codes "DIR") rows ≡ Some a.dir.now
+  pub series : IsFlag rows (codes "series") a.series
+  pub instances : IsFlag rows (codes "instances") a.instances
+  pub json : IsFlag rows (codes "json") a.json
+
+pub record IsArrange (a : ArrangeArguments) (rows : List Row) : Type 0 where
+  pub dir : first_of (codes "DIR") rows ≡ Some a.dir.now
+  pub to : first_of (codes "to") rows ≡ Some a.to.now
+  pub copy : IsFlag rows (codes "copy") a.copy
+  pub dry_run : IsFlag rows (codes "dry-run") a.dry_run
+
 pub record IsServe (a : ServeArguments) (rows : List Row) : Type 0 where
   pub port : first_of (codes "port") rows ≡ Some a.port.now
   pub out : first_of (codes "out") rows ≡ Some a.out.now
@@ -166,7 +191,7 @@ pub record IsServe (a : ServeArguments) (rows : List Row) : Type 0 where
   pub idle : first_of (codes "idle") rows ≡ Some a.idle.now
   pub max_pdu : first_of (codes "max-pdu") rows ≡ Some a.max_pdu.now
   pub max_data : first_of (codes "max-data") rows ≡ Some a.max_data.now
-  pub verbose : IsFlag rows (codes "verbose") a.verbose
+  pub verbose : a.verbose ≡ count_of (codes "verbose") rows
   pub quiet : IsFlag rows (codes "quiet") a.quiet
   pub log : first_of (codes "log") rows ≡ option_map (λ w. w.now) a.log
   pub per : first_of (codes "per") rows ≡ option_map (λ w. w.now) a.per
@@ -192,3 +217,5 @@ Names (Show a) (Some (name, rows)) = (name ≡ codes "show") × IsShow a rows
 Names (Check a) (Some (name, rows)) = (name ≡ codes "check") × IsCheck a rows
 Names (Index a) (Some (name, rows)) = (name ≡ codes "index") × IsIndex a rows
 Names (CheckDir a) (Some (name, rows)) = (name ≡ codes "checkdir") × IsFile a rows
+Names (ListJob a) (Some (name, rows)) = (name ≡ codes "list") × IsList a rows
+Names (Arrange a) (Some (name, rows)) = (name ≡ codes "arrange") × IsArrange a rows

@@ -2,7 +2,7 @@
 ghost use Rattle.std.specs.Prelude.{◌≡◌, IfOk, map};
 ghost use Rattle.clap.specs.Walk.{rule_of};
 ghost use Rattle.clap.specs.Simple.{app_of};
-ghost use Rattle.arguments.specs.CommandLine.{flag_rule, free, with_rules};
+ghost use Rattle.arguments.specs.CommandLine.{counted_rule, flag_rule, free, with_rules};
 ghost use Rattle.arguments.specs.machine.Tables.{rule_for};
 
 use clap::{Arg, ArgAction, Command};
@@ -27,6 +27,8 @@ pub enum Argument<'a> {
     Flag(&'a str, &'a str),
     /// An option without a value that has a letter, too.
     Letter(&'a str, char, &'a str),
+    /// An option without a value that has a letter, and whose uses are counted.
+    Counted(&'a str, char, &'a str),
 }
 
 /// Returns an option that may be left out.
@@ -46,6 +48,17 @@ fn flag<'a>(alloc: Global, name: &'a str, help: &'a str) -> Arg<'a>
     Arg::new(alloc, name)
         .long(name)
         .action(ArgAction::SetTrue)
+        .help(help)
+}
+
+/// Returns an option without a value whose uses are counted.
+fn counted<'a>(alloc: Global, name: &'a str, letter: char, help: &'a str) -> Arg<'a>
+    ensures { rule_of result ≡ counted_rule name.entry.now letter }
+{
+    Arg::new(alloc, name)
+        .long(name)
+        .short(letter)
+        .action(ArgAction::Count)
         .help(help)
 }
 
@@ -71,6 +84,7 @@ fn argument_for<'a>(alloc: Global, argument: Argument<'a>) -> Arg<'a>
         }
         Argument::Flag(name, help) => flag(alloc, name, help),
         Argument::Letter(name, letter, help) => flag(alloc, name, help).short(letter),
+        Argument::Counted(name, letter, help) => counted(alloc, name, letter, help),
     }
 }
 

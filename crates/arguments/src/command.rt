@@ -8,6 +8,9 @@ use crate::argument::{Argument, add_arguments};
 use clap::Command;
 use std::alloc::{AllocError, Global};
 
+/// The version of the program.
+pub const VERSION: &str = "1.0.0";
+
 /// A command of the program: its name, what it does, an example for its help, and its arguments.
 #[derive(Clone, Copy)]
 struct Subcommand<'a> {
@@ -60,7 +63,11 @@ const SERVE: Subcommand<'static> = Subcommand {
             "1099511627776",
             "The longest data set that is taken, from 1024 to 2^48",
         ),
-        Argument::Letter("verbose", 'v', "Logs a line for each store, too"),
+        Argument::Counted(
+            "verbose",
+            'v',
+            "Logs a line for each store, too; -vv also each refused context",
+        ),
         Argument::Letter("quiet", 'q', "Logs warnings and errors alone"),
         Argument::Free(
             "log",
@@ -174,7 +181,7 @@ const SHOW: Subcommand<'static> = Subcommand {
         Argument::Repeated(
             "tag",
             "TAG",
-            "An element that is shown, as 0010,0020, and no other is but those of further --tag",
+            "An element that is shown, as 0010,0020 or PatientID, and no other is but those of further --tag",
         ),
         Argument::Flag("json", "Writes a JSON object for each file"),
         Argument::Flag("all-syntaxes", "Takes compressed transfer syntaxes, too"),
@@ -191,6 +198,10 @@ const CHECK: Subcommand<'static> = Subcommand {
         Argument::Flag(
             "strict",
             "Holds values to the whole table of VRs, and ends with status 1 after a note",
+        ),
+        Argument::Flag(
+            "values",
+            "Writes the keyword and the value after each note, and the keyword after a fault",
         ),
         Argument::Flag("json", "Writes a JSON object for each file"),
         Argument::Flag("all-syntaxes", "Takes compressed transfer syntaxes, too"),
@@ -228,7 +239,36 @@ const CHECKDIR: Subcommand<'static> = Subcommand {
     arguments: &[Argument::Positional("FILE", "A DICOMDIR")],
 };
 
-const SUBCOMMANDS: &[Subcommand<'static>] = &[SERVE, REPLAY, SHOW, CHECK, INDEX, CHECKDIR];
+const LIST: Subcommand<'static> = Subcommand {
+    name: "list",
+    about: "Lists the studies of the DICOM files in a folder",
+    example: "Example: dcmbox list received --series",
+    arguments: &[
+        Argument::Positional("DIR", "The folder; the files in its folders are taken, too"),
+        Argument::Flag("series", "Lists the series of each study, too"),
+        Argument::Flag(
+            "instances",
+            "Lists the series of each study and their files, too",
+        ),
+        Argument::Flag("json", "Writes one JSON object"),
+    ],
+};
+
+const ARRANGE: Subcommand<'static> = Subcommand {
+    name: "arrange",
+    about: "Links the DICOM files in a folder into a tree of patients, studies and series",
+    example: "Example: dcmbox arrange received --to tree",
+    arguments: &[
+        Argument::Positional("DIR", "The folder; the files in its folders are taken, too"),
+        Argument::Needed("to", "TREE", "The folder that the tree stands in"),
+        Argument::Flag("copy", "Copies the files in place of linking them"),
+        Argument::Flag("dry-run", "Prints what is to be done, and writes no file"),
+    ],
+};
+
+const SUBCOMMANDS: &[Subcommand<'static>] = &[
+    SERVE, REPLAY, SHOW, CHECK, INDEX, CHECKDIR, LIST, ARRANGE,
+];
 
 /// Returns clap's command.
 fn command_for<'a>(alloc: Global, subcommand: Subcommand<'a>) -> Result<Command<'a>, AllocError>
@@ -260,7 +300,7 @@ pub fn command<'a>(alloc: Global) -> Result<Command<'a>, AllocError>
     ensures { IfOk result (λ c. app_of c ≡ the_command) }
 {
     let command = Command::new(alloc, "dcmbox")
-        .version("1.0.0")
+        .version(VERSION)
         .about("A DICOM storage receiver whose behaviour is proved")
         .after_help("Help on a command, with an example: dcmbox help COMMAND")
         .subcommand_required(true);

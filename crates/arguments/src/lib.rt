@@ -10,11 +10,12 @@ mod transfers;
 mod values;
 mod words;
 
+pub use command::VERSION;
 pub use failures::WordsError;
 pub use options::{AtOnce, Index, Layout, Per, Replay, Serve};
 pub use settings::{index_settings, replay_settings, serve_settings};
 pub use values::{
-    CheckArguments, FileArguments, IndexArguments, MOST_VALUES, ReplayArguments, ServeArguments,
-    ShowArguments,
+    ArrangeArguments, CheckArguments, FileArguments, IndexArguments, ListArguments, MOST_VALUES,
+    ReplayArguments, ServeArguments, ShowArguments,
 };
 pub use words::{Job, read_words};

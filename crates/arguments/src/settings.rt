@@ -239,10 +239,11 @@ fn level_of(alloc: Global, arguments: &ServeArguments) -> Result<Level, WordsErr
     ensures { IfOk result (λ l. IsLevel arguments.now.verbose arguments.now.quiet l) }
 {
     match (arguments.verbose, arguments.quiet) {
-        (false, false) => Ok(Level::Info),
-        (true, false) => Ok(Level::Debug),
-        (false, true) => Ok(Level::Warn),
-        (true, true) => {
+        (0, false) => Ok(Level::Info),
+        (1, false) => Ok(Level::Debug),
+        (_, false) => Ok(Level::Trace),
+        (0, true) => Ok(Level::Warn),
+        (_, true) => {
             let refused = format!(in alloc; "error: --verbose and --quiet exclude each other\n")?;
             Err(WordsError::Refused(refused))
         }

@@ -2,8 +2,8 @@
 ghost use Rattle.std.specs.Prelude.{◌≡◌, ◌<◌, ◌≤◌, ◌&&◌, IfSome, IfNone, IfOk, Some, false, length, map, take};
 ghost use Rattle.clap.specs.Matches.{found_of};
 ghost use Rattle.clap.specs.Walk.{rows_of, first_of};
-ghost use Rattle.arguments.specs.CommandLine.{IsFile, IsShow, IsCheck, IsReplay, IsIndex, IsServe, values_of};
-ghost use Rattle.arguments.specs.machine.Needs.{have_values, file_needs, replay_needs, index_needs, serve_needs, callers_fit, classes_fit, transfers_fit};
+ghost use Rattle.arguments.specs.CommandLine.{IsFile, IsShow, IsCheck, IsReplay, IsIndex, IsList, IsArrange, IsServe, values_of};
+ghost use Rattle.arguments.specs.machine.Needs.{have_values, file_needs, replay_needs, index_needs, list_needs, arrange_needs, serve_needs, callers_fit, classes_fit, transfers_fit};
 
 use arrayvec::ArrayVec;
 use clap::ArgMatches;
@@ -35,6 +35,7 @@ pub struct CheckArguments<'a> {
     pub files: Vec<&'a str>,
     pub recursive: bool,
     pub strict: bool,
+    pub values: bool,
     pub json: bool,
     pub all_syntaxes: bool,
 }
@@ -67,6 +68,24 @@ pub struct IndexArguments<'a> {
     pub replace: bool,
 }
 
+/// The arguments of `list`.
+#[derive(Debug, Drop)]
+pub struct ListArguments<'a> {
+    pub dir: &'a str,
+    pub series: bool,
+    pub instances: bool,
+    pub json: bool,
+}
+
+/// The arguments of `arrange`.
+#[derive(Debug, Drop)]
+pub struct ArrangeArguments<'a> {
+    pub dir: &'a str,
+    pub to: &'a str,
+    pub copy: bool,
+    pub dry_run: bool,
+}
+
 /// The arguments of `serve`.
 #[derive(Debug, Drop)]
 pub struct ServeArguments<'a> {
@@ -80,7 +99,8 @@ pub struct ServeArguments<'a> {
     pub idle: &'a str,
     pub max_pdu: &'a str,
     pub max_data: &'a str,
-    pub verbose: bool,
+    /// How often it was given.
+    pub verbose: u8,
     pub quiet: bool,
     pub log: Option<&'a str>,
     pub per: Option<&'a str>,
@@ -171,6 +191,7 @@ pub fn check_arguments<'a>(
 {
     let recursive = matches.get_flag("recursive");
     let strict = matches.get_flag("strict");
+    let with_values = matches.get_flag("values");
     let json = matches.get_flag("json");
     let all_syntaxes = matches.get_flag("all-syntaxes");
     let files = all_values(alloc, matches, "FILE")?;
@@ -178,6 +199,7 @@ pub fn check_arguments<'a>(
         files,
         recursive,
         strict,
+        values: with_values,
         json,
         all_syntaxes,
     })
@@ -221,6 +243,40 @@ pub fn index_arguments<'a>(matches: &ArgMatches<'a>) -> Option<IndexArguments<'a
         all_syntaxes,
         keep: matches.get_flag("keep"),
         replace: matches.get_flag("replace"),
+    })
+}
+
+/// Returns the arguments of `list`, where each has its value.
+pub fn list_arguments<'a>(matches: &ArgMatches<'a>) -> Option<ListArguments<'a>>
+    ensures some { IfSome result (λ a. IsList a (rows_of (found_of matches.now))) }
+    ensures none { IfNone result (have_values (rows_of (found_of matches.now)) list_needs ≡ false) }
+{
+    let dir = matches.get_str("DIR")?;
+    let series = matches.get_flag("series");
+    let instances = matches.get_flag("instances");
+    let json = matches.get_flag("json");
+    Some(ListArguments {
+        dir,
+        series,
+        instances,
+        json,
+    })
+}
+
+/// Returns the arguments of `arrange`, where each has its value.
+pub fn arrange_arguments<'a>(matches: &ArgMatches<'a>) -> Option<ArrangeArguments<'a>>
+    ensures some { IfSome result (λ a. IsArrange a (rows_of (found_of matches.now))) }
+    ensures none { IfNone result (have_values (rows_of (found_of matches.now)) arrange_needs ≡ false) }
+{
+    let dir = matches.get_str("DIR")?;
+    let to = matches.get_str("to")?;
+    let copy = matches.get_flag("copy");
+    let dry_run = matches.get_flag("dry-run");
+    Some(ArrangeArguments {
+        dir,
+        to,
+        copy,
+        dry_run,
     })
 }
 
@@ -272,7 +328,7 @@ pub fn serve_arguments<'a>(matches: &ArgMatches<'a>) -> Option<ServeArguments<'a
     let callers = values(matches, "caller")?;
     let storage_classes = values(matches, "storage-class")?;
     let transfer_syntaxes = values(matches, "transfer-syntax")?;
-    let verbose = matches.get_flag("verbose");
+    let verbose = matches.get_count("verbose");
     let quiet = matches.get_flag("quiet");
     let log = matches.get_str("log");
     let numbers = matches.get_str("numbers");

@@ -8,9 +8,10 @@ ghost use Rattle.arguments.specs.CommandLine.{the_command, Names};
 
 use crate::command::command;
 use crate::values::{
-    CheckArguments, FileArguments, IndexArguments, MOST_VALUES, ReplayArguments, ServeArguments,
-    ShowArguments, check_arguments, file_arguments, index_arguments, replay_arguments,
-    serve_arguments, show_arguments, values,
+    ArrangeArguments, CheckArguments, FileArguments, IndexArguments, ListArguments, MOST_VALUES,
+    ReplayArguments, ServeArguments, ShowArguments, arrange_arguments, check_arguments,
+    file_arguments, index_arguments, list_arguments, replay_arguments, serve_arguments,
+    show_arguments, values,
 };
 use clap::error::ErrorKind;
 use clap::{ArgMatches, Error};
@@ -32,6 +33,10 @@ pub enum Job<'a> {
     Index(IndexArguments<'a>),
     /// Check a directory and list its records.
     CheckDir(FileArguments<'a>),
+    /// List the studies of a folder.
+    List(ListArguments<'a>),
+    /// Link the files of a folder into a tree.
+    Arrange(ArrangeArguments<'a>),
 }
 
 /// Returns clap's error as this program reports it: help and the version are shown, the others are
@@ -72,6 +77,8 @@ fn job_without_files<'a>(name: &str, matches: &ArgMatches<'a>) -> Option<Job<'a>
         "replay" => Job::Replay(replay_arguments(matches)?),
         "index" => Job::Index(index_arguments(matches)?),
         "checkdir" => Job::CheckDir(file_arguments(matches)?),
+        "list" => Job::List(list_arguments(matches)?),
+        "arrange" => Job::Arrange(arrange_arguments(matches)?),
         _ => return None,
     };
     Some(job)

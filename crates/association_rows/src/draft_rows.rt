@@ -5,7 +5,7 @@ use dimse::status;
 use fixtures::bytes::{after_first, back, front};
 use fixtures::folders::{are_in, count};
 use fixtures::stores::{ACCEPT, CT_SET, EXPLICIT, INSTANCE};
-use harness::{Shown, Step, over_memory};
+use fixtures::{Shown, Step, over_memory};
 use part10::FolderFiling;
 use pdu::MemoryWire;
 use std::alloc::{AllocError, Global};

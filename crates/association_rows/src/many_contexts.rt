@@ -4,7 +4,7 @@ use crate::pieces::{Outcome, is_answered, is_answered_at_each};
 use acceptor::State;
 use fixtures::bytes::{back, front, joined, within};
 use fixtures::echo::{ACCEPT, ECHO, REPLY, REQUEST, USER_ABORT};
-use harness::{Step, holds_at_each, over_memory};
+use fixtures::{Step, holds_at_each, over_memory};
 use part10::MemoryFiling;
 use pdu::MemoryWire;
 use std::alloc::{AllocError, Global};

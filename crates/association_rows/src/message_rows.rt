@@ -4,7 +4,7 @@ use crate::pieces::{Outcome, Row, are_answered, is_answered, is_answered_at_each
 use acceptor::State;
 use fixtures::bytes::{back, front, joined, within};
 use fixtures::echo::{ACCEPT, ECHO, RELEASE, RELEASED, REPLY, REQUEST, USER_ABORT};
-use harness::{Step, over_memory};
+use fixtures::{Step, over_memory};
 use std::alloc::{AllocError, Global};
 
 /// The A-ABORT of the service provider: an unexpected PDU, and an invalid parameter.

@@ -2,7 +2,7 @@
 
 use acceptor::State;
 use fixtures::bytes::{back, joined, within};
-use harness::{OverMemory, Step, over_memory};
+use fixtures::{OverMemory, Step, over_memory};
 use std::alloc::{AllocError, Global};
 use std::ops::Range;
 

@@ -5,7 +5,7 @@ use dimse::status;
 use fixtures::bytes::{after_first, joined};
 use fixtures::folders::{are_in, fresh};
 use fixtures::stores::{Cause, EXPLICIT, INSTANCE, file, reply, request, whole_store};
-use harness::{OverMemory, Shown, Step, drive, over_memory};
+use fixtures::{OverMemory, Shown, Step, drive, over_memory};
 use part10::{FolderFiling, MemoryFiling};
 use pdu::MemoryWire;
 use std::alloc::{AllocError, Global};

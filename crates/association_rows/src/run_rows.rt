@@ -4,7 +4,7 @@ use acceptor::State;
 use engine::{ListSource, ListedInput, Report, Standing, run};
 use fixtures::bytes::joined;
 use fixtures::echo::{ACCEPT, ECHO, RELEASE, RELEASED, REPLY, REQUEST, USER_ABORT};
-use harness::{Step, config, over_memory};
+use fixtures::{Step, config, over_memory};
 use part10::MemoryFiling;
 use pdu::MemoryWire;
 use std::alloc::{AllocError, Global};

@@ -6,7 +6,7 @@ use std::test::Fail;
 
 /// Bytes with a name.
 #[derive(Drop)]
-struct Part<'a> {
+struct NamedBytes<'a> {
     name: &'a str,
     bytes: Vec<u8>,
 }
@@ -15,7 +15,7 @@ struct Part<'a> {
 #[derive(Drop)]
 pub struct Parts<'a> {
     alloc: Global,
-    parts: Vec<Part<'a>>,
+    parts: Vec<NamedBytes<'a>>,
 }
 
 fn digit_of(byte: u8) -> Option<u8> {
@@ -54,7 +54,7 @@ impl<'a> Parts<'a> {
 
     /// Names these bytes.
     pub fn add(&mut self, name: &'a str, bytes: Vec<u8>) -> Result<(), Fail> {
-        self.parts.push(Part { name, bytes })?;
+        self.parts.push(NamedBytes { name, bytes })?;
         Ok(())
     }
 

@@ -1,4 +1,4 @@
-//! `dcmbox checkdir`: the records of a directory, or its first fault.
+//! `dcmbox checkdir`: lists the records of a DICOMDIR, or its first fault.
 use crate::faults::write_dir_fault;
 use crate::texts::PathText;
 use dicomdir::{DirFault, Tree, TreeRecord, check};
@@ -8,7 +8,8 @@ use std::alloc::{AllocError, Allocator};
 use std::io;
 use std::io::{Read, Write};
 
-/// Writes the line of a record.
+/// Writes the line of a record: its position in the file, its type, indented by level, and the path of
+/// its file, if it has one.
 fn write_record<O: Write>(record: &TreeRecord<'_>, out: &mut O) -> io::Result<()> {
     let (place, kind) = (record.place(), Printable(record.kind()));
     let indent = Indent(usize::from(record.level().saturating_sub(1)));
@@ -21,7 +22,7 @@ fn write_record<O: Write>(record: &TreeRecord<'_>, out: &mut O) -> io::Result<()
     }
 }
 
-/// Writes a line for each record, and then how many records there are.
+/// Writes a line for each record, and a last one with the number of records.
 fn write_tree<A: Allocator + Copy, O: Write>(tree: &Tree<'_, A>, out: &mut O) -> io::Result<()> {
     for record in tree.records() {
         write_record(record, out)?;
@@ -30,7 +31,8 @@ fn write_tree<A: Allocator + Copy, O: Write>(tree: &Tree<'_, A>, out: &mut O) ->
     writeln!(out, "records {count}")
 }
 
-/// Writes the line of a fault; fails where it is that memory ran out.
+/// Writes the line of a fault and returns `Outcome::Faulty`. Fails if the fault is 67, that memory ran
+/// out, or the output cannot be written.
 pub fn tell_fault<O: Write>(fault: DirFault, out: &mut O) -> Result<Outcome, ProgramError> {
     if fault.number == DirFault::OUT_OF_MEMORY {
         return Err(ProgramError::Memory(AllocError));
@@ -41,7 +43,7 @@ pub fn tell_fault<O: Write>(fault: DirFault, out: &mut O) -> Result<Outcome, Pro
     }
 }
 
-/// Lists the records of a directory, or writes its first fault.
+/// Checks a directory file, and writes a line for each record, or its first fault.
 fn list_records<A: Allocator + Copy, O: Write>(
     alloc: A,
     bytes: &[u8],
@@ -56,10 +58,11 @@ fn list_records<A: Allocator + Copy, O: Write>(
     }
 }
 
-/// Checks the directory that the reader gives: lists its records depth first, each with its place,
-/// its type and the file that it names, and counts them; or writes its first fault.
+/// Checks the directory file in the input. Writes a line for each record, depth first, with its
+/// position in the file, its type and the path of its file, and a last line with their number; or the
+/// line of the first fault.
 ///
-/// Fails if the directory can't be read, the output can't be written, or memory runs out.
+/// Fails if the input cannot be read, the output cannot be written, or memory runs out.
 pub fn checkdir_over<A: Allocator + Copy, R: Read, O: Write>(
     alloc: A,
     input: &mut R,

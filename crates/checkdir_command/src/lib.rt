@@ -1,4 +1,4 @@
-//! `dcmbox checkdir`, and how the records, the file IDs and the faults of a directory are printed.
+//! `dcmbox checkdir`, and the printed form of the file IDs and the faults of a directory.
 #![tactic(auto)]
 
 mod checkdir;

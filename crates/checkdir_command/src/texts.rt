@@ -1,8 +1,8 @@
-//! Texts as they are printed.
+//! The printed form of file IDs.
 use dicomdir::FileId;
 use std::fmt;
 
-/// A file ID with `/` between its components, as in a path.
+/// A file ID that is printed as a path, with `/` between its components.
 #[derive(Clone, Copy)]
 pub struct PathText(pub FileId);
 

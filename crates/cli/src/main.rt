@@ -1,4 +1,4 @@
-//! DCMBOX, a DICOM storage receiver: the program.
+//! DCMBOX, a DICOM storage receiver: the `main` of the program `dcmbox`.
 #![tactic(auto)]
 
 use commands::run_program;

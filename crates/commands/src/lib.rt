@@ -1,4 +1,5 @@
-//! The commands of DCMBOX: what the program does, prints and returns for its arguments.
+//! The program without its `main`: runs the command that its arguments name, and returns the exit
+//! status.
 #![tactic(auto)]
 
 mod perform;

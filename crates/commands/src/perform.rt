@@ -1,13 +1,15 @@
-//! Each command of the program.
+//! Runs the commands of the program.
 use arguments::{
-    CheckArguments, IndexArguments, Job, ReplayArguments, ServeArguments, ShowArguments,
-    index_settings, replay_settings, serve_settings,
+    ArrangeArguments, CheckArguments, IndexArguments, Job, ListArguments, ReplayArguments,
+    ServeArguments, ShowArguments, index_settings, replay_settings, serve_settings,
 };
+use arrange_command::{ArrangeOptions, arrange};
 use element::{Tag, Uid, Vr, check_value};
 use failures::{ProgramError, WordsError};
 use file_commands::{Files, Inspection, inspect, inspect_files};
 use index_command::index;
 use inspection::{CheckOptions, Outcome, OutputForm, ShowOptions, Syntaxes, tag_named};
+use list_command::{ListOptions, list};
 use replay_command::replay;
 use serve_command::serve_into;
 use std::alloc::Global;
@@ -24,7 +26,8 @@ fn perform_replay(rt: &HostRuntime, arguments: &ReplayArguments) -> Result<Outco
     Ok(Outcome::Good)
 }
 
-/// Tells of a UID that is taken though it breaks the rules of its components (PS3.5 section 9.1).
+/// Warns on standard error if a given UID breaks the rules of its components (PS3.5 section 9.1). It is
+/// used all the same.
 fn warn_of(rt: &HostRuntime, uid: &Uid) {
     if check_value(Vr::UI, uid.as_bytes()).is_err() {
         let _ = eprintln!(rt;
@@ -41,7 +44,7 @@ fn perform_index(rt: &HostRuntime, arguments: &IndexArguments) -> Result<Outcome
     index(rt, &settings)
 }
 
-/// Returns how findings are written.
+/// Returns the form of the output: JSON, or lines.
 fn form_of(json: bool) -> OutputForm {
     if json {
         OutputForm::Json
@@ -50,7 +53,7 @@ fn form_of(json: bool) -> OutputForm {
     }
 }
 
-/// Returns in which transfer syntaxes files may be.
+/// Returns the transfer syntaxes that are accepted: all of the dictionary, or the two native ones.
 fn syntaxes_of(all_syntaxes: bool) -> Syntaxes {
     if all_syntaxes {
         Syntaxes::All
@@ -59,13 +62,13 @@ fn syntaxes_of(all_syntaxes: bool) -> Syntaxes {
     }
 }
 
-/// Reads the tags that are named.
+/// Reads the tags of the options `--tag`. Fails with a text for the user if one is invalid.
 fn tags_named(alloc: Global, texts: &[&str]) -> Result<Vec<Tag>, WordsError> {
     let mut tags = Vec::new(alloc);
     for text in texts {
         let Some(tag) = tag_named(*text) else {
             let refused = format!(in alloc;
-                "error: --tag takes a tag as 0010,0020, not '{text}'\n"
+                "error: --tag takes a tag as 0010,0020 or its keyword as PatientID, not '{text}'\n"
             )?;
             return Err(WordsError::Refused(refused));
         };
@@ -96,13 +99,35 @@ fn perform_check(rt: &HostRuntime, arguments: &CheckArguments) -> Result<Outcome
     };
     let options = CheckOptions {
         strict: arguments.strict,
+        values: arguments.values,
         form: form_of(arguments.json),
         syntaxes: syntaxes_of(arguments.all_syntaxes),
     };
     inspect_files(rt, files, Inspection::Check(options))
 }
 
-/// Does what the arguments say.
+fn perform_list(rt: &HostRuntime, arguments: &ListArguments) -> Result<Outcome, ProgramError> {
+    let options = ListOptions {
+        series: arguments.series,
+        instances: arguments.instances,
+        form: form_of(arguments.json),
+    };
+    list(rt, arguments.dir, options)
+}
+
+fn perform_arrange(
+    rt: &HostRuntime,
+    arguments: &ArrangeArguments,
+) -> Result<Outcome, ProgramError> {
+    let options = ArrangeOptions {
+        tree: arguments.to,
+        copy: arguments.copy,
+        dry_run: arguments.dry_run,
+    };
+    arrange(rt, arguments.dir, options)
+}
+
+/// Runs the command that the arguments name.
 pub fn perform(rt: &HostRuntime, job: &Job) -> Result<Outcome, ProgramError> {
     match job {
         Job::Serve(arguments) => perform_serve(rt, arguments),
@@ -110,6 +135,8 @@ pub fn perform(rt: &HostRuntime, job: &Job) -> Result<Outcome, ProgramError> {
         Job::Show(arguments) => perform_show(rt, arguments),
         Job::Check(arguments) => perform_check(rt, arguments),
         Job::Index(arguments) => perform_index(rt, arguments),
+        Job::List(arguments) => perform_list(rt, arguments),
+        Job::Arrange(arguments) => perform_arrange(rt, arguments),
         Job::CheckDir(arguments) => inspect(rt, arguments.file, Inspection::Directory),
     }
 }

@@ -1,4 +1,4 @@
-//! The program: it reads its arguments, does what they say, and reports what went wrong.
+//! The program: reads its arguments, runs the command, and reports errors.
 use crate::perform::perform;
 use crate::standard::open_standard;
 use arguments::{Job, read_words};
@@ -9,16 +9,16 @@ use std::env;
 use std::io::ErrorKind;
 use std::process::ExitCode;
 
-/// The status where a fault was found.
+/// The exit status if a fault was found in a file.
 const FAULTY: u8 = 1;
 
-/// The status where the arguments are invalid.
+/// The exit status for invalid arguments.
 const REFUSED: u8 = 2;
 
-/// The status where a device failed or memory ran out.
+/// The exit status if the system failed or memory ran out.
 const FAILED: u8 = 3;
 
-/// Returns the only file, or nothing where there are several.
+/// Returns the only file, or an empty text if there are several.
 fn only<'a>(files: &[&'a str]) -> &'a str {
     match files {
         [file] => *file,
@@ -26,7 +26,8 @@ fn only<'a>(files: &[&'a str]) -> &'a str {
     }
 }
 
-/// Returns what an error is about: a file, a folder or a port.
+/// Returns what an error concerns, for its message: a file, a folder, an address or a port; an empty
+/// text if none.
 fn subject<'a>(job: &Job<'a>, error: &ProgramError) -> &'a str {
     match (job, error.failure()) {
         (Job::Serve(arguments), Some(Failure::Listen | Failure::KeptPort)) => arguments.port,
@@ -39,11 +40,14 @@ fn subject<'a>(job: &Job<'a>, error: &ProgramError) -> &'a str {
         (Job::Check(arguments), _) => only(arguments.files.as_slice()),
         (Job::Index(arguments), _) => arguments.dir,
         (Job::CheckDir(arguments), _) => arguments.file,
+        (Job::List(arguments), Some(failure)) if failure.is_of_folder() => arguments.dir,
+        (Job::Arrange(arguments), Some(failure)) if failure.is_of_tree() => arguments.to,
+        (Job::Arrange(arguments), Some(failure)) if failure.is_of_folder() => arguments.dir,
         _ => "",
     }
 }
 
-/// Tells that the program failed, unless the output was closed, and returns the status.
+/// Prints an error on standard error, unless it is that the output is closed. Returns exit status 3.
 fn fail(rt: &HostRuntime, subject: &str, error: &ProgramError) -> ExitCode {
     if !error.is_of_closed_output() {
         let _ = if subject.is_empty() {
@@ -55,7 +59,7 @@ fn fail(rt: &HostRuntime, subject: &str, error: &ProgramError) -> ExitCode {
     ExitCode::from(FAILED)
 }
 
-/// Prints help or the version, and returns the status.
+/// Prints help or the version. Returns exit status 0, or 3 if it cannot be printed.
 fn show(rt: &HostRuntime, text: &str) -> ExitCode {
     match print!(rt; "{text}") {
         Ok(()) => ExitCode::SUCCESS,
@@ -63,7 +67,7 @@ fn show(rt: &HostRuntime, text: &str) -> ExitCode {
     }
 }
 
-/// Tells of an error, and returns the status.
+/// Prints the text of an error, and returns the exit status.
 fn report(rt: &HostRuntime, subject: &str, error: &ProgramError) -> ExitCode {
     match error {
         ProgramError::Words(WordsError::Shown(text)) => show(rt, text.as_str()),
@@ -80,7 +84,7 @@ fn report(rt: &HostRuntime, subject: &str, error: &ProgramError) -> ExitCode {
     }
 }
 
-/// Returns the program's arguments.
+/// Returns the arguments of the program. Fails if one is not UTF-8, or memory runs out.
 fn owned_words(rt: &HostRuntime) -> Result<Vec<String, Global>, ProgramError> {
     let mut owned = Vec::new(rt.alloc());
     match env::args(rt) {
@@ -103,7 +107,7 @@ fn words_of<'a>(alloc: Global, owned: &'a [String]) -> Result<Vec<&'a str, Globa
     Ok(words)
 }
 
-/// Does what the arguments say, and returns the status.
+/// Runs the command, prints its error, if any, and returns the exit status.
 fn status_of(rt: &HostRuntime, job: &Job) -> ExitCode {
     match perform(rt, job) {
         Ok(Outcome::Good) => ExitCode::SUCCESS,
@@ -112,16 +116,17 @@ fn status_of(rt: &HostRuntime, job: &Job) -> ExitCode {
     }
 }
 
-/// Reads the arguments and does what they say.
+/// Reads the arguments, runs their command, and returns the exit status. Fails if the arguments are
+/// invalid or ask for help.
 fn run_words(rt: &HostRuntime, owned: &[String]) -> Result<ExitCode, ProgramError> {
     let words = words_of(rt.alloc(), owned)?;
     let job = read_words(rt.alloc(), words.as_slice())?;
     Ok(status_of(rt, &job))
 }
 
-/// Runs the program: does what its arguments say, tells of an error on standard error, and returns the
-/// status: 0, 1 where a fault was found, 2 for invalid arguments, 3 where a device failed or memory ran out.
-/// Before anything else it opens the standard descriptors that are closed.
+/// Runs the program: opens the standard descriptors that are closed, reads the arguments, runs the
+/// command, and prints an error on standard error. Returns the exit status: 0; 1 if a fault was found
+/// in a file; 2 for invalid arguments; 3 if the system failed or memory ran out.
 pub fn run_program(rt: &HostRuntime) -> ExitCode {
     open_standard(rt);
     let ran = match owned_words(rt) {

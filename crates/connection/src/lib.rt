@@ -1,4 +1,5 @@
-//! What each connection of the program is held to, and who is shown what goes over it.
+//! What all connections of the program share: the limits of an association, the timeouts, the interface
+//! of an observer, and a socket option.
 #![tactic(auto)]
 
 mod acknowledge;

@@ -1,34 +1,35 @@
-//! Who is shown what goes over a connection.
+//! The interface of an observer of connections, such as a log.
 use std::io;
 
-/// Why nothing more was read from a peer.
+/// Why reading from a peer ended.
 #[derive(Clone, Copy, Debug, PartialEq, Eq)]
 pub enum ReadEnd {
     /// The peer closed the connection.
     Closed,
-    /// A read, or the call that sets its timeout, failed.
+    /// A read failed, or setting its timeout did.
     Failed,
     /// The ARTIM timer expired (PS3.8 section 9.1.5).
     Timer,
-    /// The peer of an established association sent nothing for the idle time.
+    /// The peer of an established association sent nothing for [`Timeouts::idle`](crate::Timeouts).
     Idle,
-    /// The association lasted as long as it may.
+    /// The association reached its greatest duration.
     Longest,
-    /// The box stops.
+    /// The program is stopping.
     Stopped,
 }
 
-/// Is shown what goes over a connection, and can change none of it.
+/// An observer of a connection. It is told what is sent and received, and cannot change it.
 pub trait Observer {
-    /// These bytes were received; the association takes them next, or one portion after the other.
-    fn received(&self, bytes: &[u8]);
+    /// Called with bytes that the association took. The bytes of `ahead` were read after them and wait to be
+    /// taken. Those of `answer` are what it sends for them: they wait until the peer takes them.
+    fn took(&self, bytes: &[u8], ahead: &[u8], answer: &[u8]);
 
-    /// These bytes were sent.
+    /// Called with bytes that were sent.
     fn sent(&self, bytes: &[u8]);
 
-    /// Nothing more was read.
-    fn read_ended(&self, end: ReadEnd);
+    /// Called once reading has ended, with the reason, and with the A-ABORT that was written for it, if one was.
+    fn read_ended(&self, why: ReadEnd, abort: &[u8]);
 
-    /// A send failed.
+    /// Called with the error of a send that failed.
     fn send_failed(&self, error: &io::Error);
 }

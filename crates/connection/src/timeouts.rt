@@ -1,12 +1,12 @@
-//! How long the box waits for a peer.
+//! The timeouts of a connection.
 use std::time::Duration;
 
-/// How long a peer is waited for.
+/// The timeouts of a connection.
 #[derive(Clone, Copy, Debug)]
 pub struct Timeouts {
-    /// The ARTIM timer (PS3.8 section 9.1.5): from its start to its expiry, however often the peer
-    /// sends meanwhile.
+    /// The duration of the ARTIM timer (PS3.8 section 9.1.5). Bytes from the peer do not extend it.
     pub artim: Duration,
-    /// Without a byte from the peer in an established association, or while the peer takes none.
+    /// How long the peer of an established association may send nothing, and how long any peer may
+    /// accept none of the bytes that are to be sent.
     pub idle: Duration,
 }

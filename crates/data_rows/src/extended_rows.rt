@@ -231,7 +231,7 @@ fn notes_of_tables_come_with_strict_alone(rt: HostRuntime) -> Result<(), Fail> {
     let json = str::from_utf8(json.as_slice()).map_err(|_| Fail::from("no text"))?;
     assert!(rt;
         json.contains(
-            "{\"place\":300,\"tag\":\"7fe0,0001\",\"vr\":\"OV\",\"number\":15,\"name\":\"WrongOffset\"}"
+            "{\"place\":300,\"tag\":\"7fe0,0001\",\"vr\":\"OV\",\"number\":15,\"name\":\"WrongOffset\",\"keyword\":\"ExtendedOffsetTable\"}"
         )
     );
     Ok(())

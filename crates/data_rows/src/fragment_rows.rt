@@ -74,6 +74,7 @@ pub(crate) fn checked_in(
     let mut input = file.as_slice();
     let options = CheckOptions {
         strict,
+        values: false,
         form,
         syntaxes,
     };

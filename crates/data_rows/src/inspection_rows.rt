@@ -3,7 +3,7 @@ use dictionary::Transfer;
 use element::{AeTitle, Tag, Uid};
 use inspection::{
     CheckOptions, FileFront, OutputForm, ShowOptions, Syntaxes, check_with, other_syntax_of,
-    show_with, tag_named,
+    show_with,
 };
 use part10::{Meta, meta_bytes};
 use std::alloc::Global;
@@ -21,9 +21,12 @@ good 474
 ";
 
 const NOTES_JSON: &str = "\"notes\":[\
-{\"place\":306,\"tag\":\"0008,0020\",\"vr\":\"DA\",\"number\":7,\"name\":\"NoSuchDate\"},\
-{\"place\":322,\"tag\":\"0010,0010\",\"vr\":\"PN\",\"number\":12,\"name\":\"BadName\"},\
-{\"place\":336,\"tag\":\"0010,0020\",\"vr\":\"LO\",\"number\":5,\"name\":\"LongText\"}],\
+{\"place\":306,\"tag\":\"0008,0020\",\"vr\":\"DA\",\"number\":7,\"name\":\"NoSuchDate\",\
+\"keyword\":\"StudyDate\"},\
+{\"place\":322,\"tag\":\"0010,0010\",\"vr\":\"PN\",\"number\":12,\"name\":\"BadName\",\
+\"keyword\":\"PatientName\"},\
+{\"place\":336,\"tag\":\"0010,0020\",\"vr\":\"LO\",\"number\":5,\"name\":\"LongText\",\
+\"keyword\":\"PatientID\"}],\
 \"result\":\"good\",\"length\":474}\n";
 
 /// A code with ESC, a tag, two numbers, two numbers with a fraction, and two words.
@@ -55,7 +58,7 @@ const ROWS_JSON: &str = "\"class\":\"1.2.840.10008.5.1.4.1.1.2\",\"instance\":\"
 \"result\":\"good\",\"length\":356}\n";
 
 /// Returns a file of a CT image `1.2.3` with this data set in Explicit VR Little Endian.
-fn file(alloc: Global, data: &[u8]) -> Result<Vec<u8>, Fail> {
+pub(crate) fn file(alloc: Global, data: &[u8]) -> Result<Vec<u8>, Fail> {
     let meta = Meta {
         class: Uid::read(b"1.2.840.10008.5.1.4.1.1.2").ok_or("no class")?,
         instance: Uid::read(b"1.2.3").ok_or("no instance")?,
@@ -68,7 +71,7 @@ fn file(alloc: Global, data: &[u8]) -> Result<Vec<u8>, Fail> {
 }
 
 /// Adds an element of VR LO with so many characters of two bytes.
-fn add_text(data: &mut Vec<u8>, tag: [u8; 4], count: u8) -> Result<(), Fail> {
+pub(crate) fn add_text(data: &mut Vec<u8>, tag: [u8; 4], count: u8) -> Result<(), Fail> {
     data.extend_from_slice(&tag)?;
     data.extend_from_slice(b"LO")?;
     data.extend_from_slice(&[count.wrapping_mul(2), 0])?;
@@ -118,6 +121,7 @@ fn strict_notes(rt: HostRuntime) -> Result<(), Fail> {
     ] {
         let options = CheckOptions {
             strict,
+            values: false,
             form,
             syntaxes: Syntaxes::Native,
         };
@@ -141,6 +145,7 @@ fn sets_of_items(rt: HostRuntime) -> Result<(), Fail> {
     let lines = "note 0000000478 0040,3001 LO 5 LongText\ngood 614\n";
     let options = CheckOptions {
         strict,
+        values: false,
         form,
         syntaxes: Syntaxes::Native,
     };
@@ -160,6 +165,7 @@ fn sizes_of_long_values(rt: HostRuntime) -> Result<(), Fail> {
     let lines = "note 0000000288 7fe0,0008 OF 2 WrongSize\ngood 65838\n";
     let options = CheckOptions {
         strict,
+        values: false,
         form,
         syntaxes: Syntaxes::Native,
     };
@@ -196,23 +202,6 @@ fn shown_values(rt: HostRuntime) -> Result<(), Fail> {
         assert!(rt; shows(rt.alloc(), options, wanted)?);
     }
     Ok(())
-}
-
-#[test]
-fn named_tags(rt: HostRuntime) {
-    assert!(rt; tag_named("0010,0020") == Some(Tag(0x0010, 0x0020)));
-    assert!(rt; tag_named("7FE0,00fF") == Some(Tag(0x7fe0, 0x00ff)));
-    for text in [
-        "",
-        "0010",
-        "0010,002",
-        "0010,00200",
-        "+010,0020",
-        "00100020",
-        "001g,0020",
-    ] {
-        assert!(rt; tag_named(text).is_none());
-    }
 }
 
 /// A transfer syntax that is not taken is named.

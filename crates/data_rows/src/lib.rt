@@ -38,17 +38,25 @@ mod images;
 #[cfg(test)]
 mod inspection_rows;
 #[cfg(test)]
+mod meta_rule_rows;
+#[cfg(test)]
+mod noted_values;
+#[cfg(test)]
 mod part10_folders;
 #[cfg(test)]
 mod part10_numbers;
 #[cfg(test)]
 mod part10_rows;
 #[cfg(test)]
+mod repertoire_rows;
+#[cfg(test)]
 mod sequence_faults;
 #[cfg(test)]
 mod sequence_fragments;
 #[cfg(test)]
 mod sequence_rows;
+#[cfg(test)]
+mod tag_rows;
 #[cfg(test)]
 mod value_rows;
 #[cfg(test)]

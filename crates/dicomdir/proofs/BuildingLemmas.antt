@@ -1,4 +1,5 @@
--- The file that is built and written has the size and the text of the definitions.
+-- The file that is built and written has the text of the definitions (`directory_text`, `file_text`) and their size
+-- (`sizes_are_true`), or is too large (`file_too_large`, `records_too_large`). Stands on LayingLemmas.
 use Rattle.std.proofs.lemmas.Bool.Decides.{nat_tests}
 use Rattle.std.proofs.Common.{◌≡◌, sym, ℕ, ◌+◌, [], ◌++◌, length, codes, refl, arith, ◌^◌, ◌<◌, ◌≤◌, true, false, List, ap, ◌∙◌, ◌-◌, Bool, take, get_or, Option, take-add, ltb-true, nat_lt}
 use Rattle.std.proofs.lemmas.List.{length-append, append-nil, take_all, take_at, drop_at, take-append-le}

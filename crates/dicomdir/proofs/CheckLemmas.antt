@@ -1,4 +1,6 @@
--- The faults of a directory, in the order in which they are looked for.
+-- The faults of a directory come in the order of the definitions: of the file (`file_fails`), its elements (`fails_first`,
+-- `fails_last`), its records (`fails_in_records`) and their links (`fails_in_links`); without one its nodes are those of the
+-- file (`file_nodes`). Stands on FaultFree, PathForests, RecordsLemmas and the laws of `sequence`.
 use Rattle.std.proofs.Common.{◌≡◌, ◌≢◌, ℕ, suc, List, [], length, map, Option, Some, None, length-append, ◌-◌, refl, sym, ap, subst, ◌∙◌, arith}
 use Rattle.std.proofs.lemmas.List.{append-nil}
 use Rattle.sequence.specs.declared.coding.Coding.{Coding}

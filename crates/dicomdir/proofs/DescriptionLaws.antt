@@ -1,4 +1,4 @@
--- Series Description costs no file its row.
+-- Series Description costs no file its row (`no_row_is_lost`). Stands on RowLaws and the laws of `sequence`.
 use Rattle.std.specs.Prelude.{IsOk, IfErr, ◌+◌, ◌%◌, option_map, nat_eq, nat_lt, nat_le, filter}
 use Rattle.std.proofs.Common.{◌≡◌, ℕ, Bool, true, false, cond, not, ◌&&◌, ◌||◌, List, [], ◌∷◌, ◌++◌, map, length, Some, None, Ok, Err, refl, ap, subst, sym, ◌∙◌, ◌<◌, ◌≤◌, arith, Option, Result, is_some, eqb-true, ltb-true, unwrap_or}
 use Rattle.std.specs.List.{list_all, find}

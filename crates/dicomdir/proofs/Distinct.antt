@@ -1,4 +1,5 @@
--- Lists of distinct places.
+-- Places that are distinct in two lists put together are so in each, and in one alone (`split_distinct`); tests of one place
+-- among some (`not_place`, `same_one`, `same_out`). Stands on the definitions alone.
 use Rattle.std.proofs.Common.{◌≡◌, ℕ, Bool, true, false, not, ◌||◌, List, [], ◌∷◌, ◌++◌, refl, sym, ◌∙◌, arith, eqb-true, nat_eq}
 use Rattle.std.proofs.lemmas.Bool.{and_parts, and_from, or_parts}
 use Rattle.std.proofs.lemmas.Bool.Decides.{nat_tests}

@@ -1,4 +1,6 @@
--- Worked directories: what is linked, the faults, the places and what is kept compute.
+-- Worked directories compute: what is linked (`one_image_is_linked`), the faults (`record_faults`, `header_faults`), the
+-- places (`places_are_assigned`) and what is kept (`inactive_records`). Stands on CheckLemmas, Laid, WrittenLinked and the
+-- laws of `part10`.
 use Rattle.std.proofs.Common.{◌≡◌, ℕ, false, List, [], ◌∷◌, ◌++◌, length, Option, Some, None, refl, subst, arith, codes, sym}
 use Rattle.element.specs.Vr.{is_short}
 use Rattle.part10.specs.File.{identity_elements, implementation_elements, title_element}

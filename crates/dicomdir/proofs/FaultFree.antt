@@ -1,4 +1,5 @@
--- A directory without a fault is linked to the forest that following its offsets goes through.
+-- A directory without a fault is linked to the forest that following its offsets goes through (`no_fault_is_linked`), which
+-- names records alone (`paths_name_records`). Stands on Distinct, NoFault and PathForests.
 use Rattle.std.proofs.Common.{◌≡◌, ℕ, zero, suc, ◌+◌, ◌≤◌, Bool, true, false, not, ◌||◌, List, ◌∷◌, ◌++◌, length, map, Option, Some, None, is_some, is_none, refl, sym, ap, subst, ◌∙◌, arith, eqb-true, nat_eq, ◌&&◌, []}
 use Rattle.std.specs.List.{list_all}
 use Rattle.std.proofs.lemmas.Bool.{and_parts, or_right, or_left, or_from, cond-true, cond-false, and_from, false_from_ne_true}

@@ -1,4 +1,5 @@
--- A file ID is read from its end, the room that it needs, and the one that is padded.
+-- A file ID is read from its end (`is_file_id_by_parts`), has 71 characters at most (`file_id_room`), and one that is padded
+-- is read back (`file_id_back`). Stands on Distinct.
 use Rattle.std.proofs.Common.{◌≡◌, ℕ, suc, ◌+◌, ◌*◌, ◌<◌, ◌≤◌, Bool, true, false, ◌&&◌, List, [], ◌∷◌, replicate, ◌-◌, length, get_or, take, drop, refl, sym, ap, ◌∙◌, add-one, drop-cons, arith, nat_eq, nat_le, not, ◌++◌, Some}
 use Rattle.std.specs.List.{list_all}
 use Rattle.std.proofs.lemmas.Bool.{and_parts, and_from}

@@ -1,4 +1,5 @@
--- Passing over what a header announces, and finding an element under its tag.
+-- Passing over what a header announces goes on with the next element (`next_elements`, `next_items`), and finds what stands
+-- under a tag (`stands_here`, `finds_value`, `finds_items`), or that nothing does (`missing_at_end`). Stands on TextLemmas.
 use Rattle.std.proofs.Common.{◌≡◌, ◌≢◌, ℕ, ◌%◌, true, false, List, ◌++◌, length, drop, Some, None, refl, sym, ap, subst, ◌∙◌, arith, append_assoc, ◌+◌, ◌-◌, ◌≤◌, ◌<◌, not, [], ◌⊎◌, length-append, eqb-true, eq-eqb, nat_eq, take, nat_le, le-leb, ne_eqb}
 use Rattle.std.proofs.Math.Seq.{drop-append_seam, take-append_seam}
 use Rattle.sequence.specs.declared.coding.Coding.{Coding}

@@ -1,4 +1,5 @@
--- One turn of following the links, and its ends.
+-- Following the links starts at the root (`starts`), goes on from turn to turn (`turn`), and ends with a fault (`stops`) or
+-- with all nodes (`nodes_of_all`). Stands on FaultFree, PathForests and Trails.
 use Rattle.std.proofs.Common.{◌≡◌, ℕ, suc, ◌<◌, ◌≤◌, ◌-◌, min, Bool, true, false, ◌&&◌, ◌||◌, List, [], ◌∷◌, ◌++◌, length, replicate, set, get_or, Option, Some, None, Result, IfErr, refl, sym, ap, subst, ◌∙◌, arith, nat_eq, if◌then◌else◌}
 use Rattle.std.proofs.lemmas.Bool.{cond-true, cond-false}
 use Rattle.std.specs.List.{flat_map}

@@ -1,4 +1,5 @@
--- Rows that are put one after the other into the groups of their keys, and the doubles that are left out.
+-- Rows that are put one after the other into the groups of their keys are grouped in first-seen order (`step`, `finished`),
+-- and the doubles are left out (`leaves_all`). Stands on Distinct.
 use Rattle.std.proofs.Common.{◌≡◌, ℕ, suc, ◌+◌, Bool, true, false, cond, not, ◌||◌, List, [], ◌∷◌, ◌++◌, map, get_or, set, refl, sym, ap, ap₂, ◌∙◌, arith, zero, ◌<◌, ◌≤◌, take, length, Vec, subst, drop, drop-cons}
 use Rattle.std.proofs.lemmas.Bool.{or_parts, or_from, or_right}
 use Rattle.std.specs.List.{list_any, position_or_len, AllByRecursion}

@@ -1,4 +1,5 @@
--- What the nodes of a tree keep.
+-- What is kept of the nodes of a file is what its tree keeps (`kept_of_nodes`), one node after another (`kept_one_more`,
+-- `kept_whole`). Stands on the definitions alone.
 use Rattle.std.proofs.Common.{◌≡◌, ℕ, suc, ◌+◌, ◌<◌, ◌≤◌, List, [], ◌∷◌, ◌++◌, length, drop, get_or, map, refl, sym, ap, ◌∙◌, arith}
 use Rattle.std.proofs.lemmas.List.{append_assoc, append-nil, drop_more, drop_all}
 use Rattle.dicomdir.specs.TreeOf.{Forest, no_nodes, node}

@@ -1,4 +1,5 @@
--- Elements that are laid down in Explicit, with defined lengths, spell themselves.
+-- Elements that are laid down in Explicit, with defined lengths, spell themselves (`laid_elements`, `laid_items`). Stands on
+-- Distinct and the laws of `element`.
 use Rattle.std.proofs.Common.{◌≡◌, ◌≢◌, ℕ, ◌%◌, Bool, true, false, not, ◌&&◌, List, length, get_or, Option, Some, None, sym, arith, eqb-true, ltb-true, false-eqb, nat_eq, nat_lt, ◌+◌, ◌≤◌, refl, codes}
 use Rattle.std.proofs.lemmas.Bool.{and_parts}
 use Rattle.element.specs.declared.header.Header.{Header}

@@ -1,4 +1,5 @@
--- The records of a row are laid down as the standard has it, with any offsets.
+-- The record of a row is laid down as the standard has it, with any offsets (`record_node`), which are read back
+-- (`number_back`). Stands on FileIds, Laid and RecordLemmas.
 use Rattle.std.proofs.Common.{◌≡◌, ℕ, ◌<◌, ◌≤◌, ◌^◌, Bool, true, false, not, cond, ◌&&◌, ◌||◌, List, [], ◌∷◌, nat_le, nat_lt, nat_eq, Option, Some, None, is_some, refl, sym, subst, ap, ◌∙◌, arith, codes, rules}
 use Rattle.std.specs.List.{list_all}
 use Rattle.std.specs.Str.{bytes_eq}

@@ -1,4 +1,5 @@
--- Records that are laid down last record first have the text, the places and the size of the tree.
+-- Records that are laid down last record first have the text, the places and the size of the tree (`whole_laid`,
+-- `image_laid`), or stop where they are too large (`image_stops`, `below_stops`). Stands on the definitions alone.
 use Rattle.std.proofs.Common.{◌≡◌, ℕ, zero, suc, ◌+◌, ◌-◌, ◌≤◌, ◌<◌, Bool, false, cond, List, [], ◌∷◌, ◌++◌, length, map, drop, get_or, nat_eq, refl, sym, ap, subst, slice_get, Some, None, Vec, ◌∙◌, append_assoc, arith}
 use Rattle.std.proofs.lemmas.List.{append-nil, length-append}
 use Rattle.std.proofs.lemmas.Bool.Decides.{nat_tests}

@@ -1,4 +1,5 @@
--- The nodes of a linked directory stand at records, its tree is the only one, and it has no fault.
+-- The tree of a linked directory is the only one (`one_tree_of_file`), its nodes stand at records (`paths_name_nodes`), and
+-- it has no fault (`linked_has_no_fault`). Stands on Distinct, PathForests and the laws of `part10` and `sequence`.
 use Rattle.std.proofs.Common.{◌≡◌, ℕ, suc, ◌+◌, ◌<◌, ◌≤◌, Bool, true, false, not, ◌||◌, List, [], ◌∷◌, ◌++◌, length, Some, refl, sym, ap, ◌∙◌, arith, nat_eq, if◌then◌else◌, subst, zero, Option, None}
 use Rattle.std.proofs.lemmas.Bool.{and_parts, or_right, or_left}
 use Rattle.std.proofs.lemmas.List.{length-append, append_cancel_left}

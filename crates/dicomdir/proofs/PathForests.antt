@@ -1,4 +1,5 @@
--- The forest that following the offsets goes through has just the nodes that paths name.
+-- The forest that following the offsets goes through has just the nodes that paths name, and paths without a fault are those
+-- that each name a record of their level (`are_free`, `free_paths`). Stands on Distinct.
 use Rattle.std.proofs.Common.{◌≡◌, ℕ, zero, suc, ◌<◌, Bool, true, false, ◌&&◌, List, [], ◌∷◌, ◌++◌, filter, refl, sym, ◌∙◌, arith, Option, Some, None, nat_eq, if◌then◌else◌, not}
 use Rattle.std.specs.List.{flat_map, list_all}
 use Rattle.std.proofs.lemmas.Bool.{or_parts, cond-false, and_parts, and_from, or_right, or_left, or_from, false_from_ne_true}

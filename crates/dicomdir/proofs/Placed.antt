@@ -1,4 +1,5 @@
--- The records of a forest with places: where they stand, what stands there, and how they are linked.
+-- The records of a forest with places stand there (`before_none`, `after_none`), are distinct (`distinct`), and linked
+-- (`linked`); those of rows are nodes (`tree_nodes`). Stands on Distinct and LaidRecords.
 use Rattle.std.proofs.Common.{◌≡◌, ℕ, suc, ◌+◌, ◌^◌, ◌<◌, ◌≤◌, Bool, true, false, not, ◌||◌, List, [], ◌∷◌, ◌++◌, map, Option, Some, None, refl, sym, ap, ◌∙◌, arith, nat_eq, nat_lt, ltb-true, if◌then◌else◌, filter}
 use Rattle.std.specs.List.{list_any, list_all, AllByRecursion}
 use Rattle.std.proofs.lemmas.Bool.{and_from, and_parts, ltb-false, or_right, or_left, or_from}

@@ -1,4 +1,5 @@
--- The bytes of a record are those of its elements, one after the other.
+-- The bytes of a record are those of its elements, one after the other (`record_fields`), and have room (`record_rooms`,
+-- `record_fits`). Stands on FileIds and the laws of `dictionary`.
 use Rattle.std.proofs.Common.{◌≡◌, ℕ, ◌≤◌, ◌<◌, ◌+◌, Bool, true, false, ◌&&◌, cond, if◌then◌else◌, nat_eq, nat_le, nat_lt, not, List, [], ◌∷◌, ◌++◌, length, get_or, drop, Option, Some, refl, ◌∙◌, arith, rules}
 use Rattle.std.proofs.lemmas.Bool.{and_parts, le-leb}
 use Rattle.std.proofs.lemmas.Bool.Decides.{nat_tests}

@@ -1,4 +1,5 @@
--- Reading one record after the other: what is read of a record is what its elements say.
+-- What is read of the records, one after the other, is what their elements say (`read_next`, `read_to_end`), or the first
+-- fault (`read_fails`). Stands on FindLemmas and TextLemmas.
 use Rattle.std.proofs.Common.{◌≡◌, ℕ, Bool, true, false, not, ◌&&◌, ◌||◌, List, [], ◌∷◌, length, Option, Some, None, is_some, refl, sym, ap, ◌∙◌, nat_eq, if◌then◌else◌, arith, ◌≢◌, suc, ◌+◌, ◌-◌, ◌≤◌, ◌++◌, drop, subst, append_assoc}
 use Rattle.std.specs.Str.{bytes_eq}
 use Rattle.sequence.specs.Tree.{Elements, Items, no_items, item, fragment}

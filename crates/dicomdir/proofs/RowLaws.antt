@@ -1,4 +1,5 @@
--- A file has one row, and its keys fit.
+-- A file has one row (`one_row`, `one_described_row`), whose keys fit (`keys_fit`), and a file that was filed has one
+-- (`filed_has_row`). Stands on TakenLemmas and the laws of `part10` and `sequence`.
 use Rattle.std.proofs.Common.{◌≡◌, ◌≤◌, ◌<◌, ◌+◌, get_or, ℕ, Bool, true, false, cond, List, [], ◌∷◌, map, Some, None, Ok, Err, refl, ap, subst, eqb-true, nat_eq, arith, rules, ◌&&◌, ◌++◌, length, take, drop, Option, unwrap_or, is_some, sym, ◌∙◌, append_assoc, codes, Result}
 use Rattle.std.specs.List.{list_all, find}
 use Rattle.std.specs.Prelude.{filter, nat_le, IfErr}

@@ -1,4 +1,5 @@
--- Walking the data set of a file for its row, piece by piece, and what that gives.
+-- Walking the data set of a file, piece by piece, gives its row (`whole_file`), or why there is none (`refused_header`,
+-- `refused_data_set`, `out_of_memory`). Stands on WalkLemmas and the laws of `sequence`.
 use Rattle.std.specs.Prelude.{IfErr}
 use Rattle.std.proofs.Common.{◌≡◌, ℕ, true, ◌-◌, ◌≤◌, List, [], ◌++◌, length, take, drop, Option, Some, None, IfSome, refl, sym, ap, subst, ◌∙◌, arith, append_assoc, suc, ◌∷◌, Result, Err, false}
 use Rattle.std.proofs.lemmas.List.{take_rest, append-nil}

@@ -1,4 +1,6 @@
--- A file header that names a transfer syntax that is taken, among those of any.
+-- A file header that names a transfer syntax that is not taken fails (`other_fails`), and so does each fault of any header
+-- (`still_fails`); the native ones are taken alone where none further is (`native_alone`). Stands on the laws of
+-- `dictionary`.
 use Rattle.std.proofs.Common.{◌≡◌, ◌≢◌, ℕ, true, false, List, [], Option, Some, None, refl, ap, sym, ◌∙◌}
 use Rattle.element.specs.declared.syntax.Syntax.{Syntax}
 use Rattle.element.specs.declared.syntax.Syntax.TheVariants as layout

@@ -1,4 +1,5 @@
--- What stands at the front of a text that spells elements or items.
+-- At the front of a text that spells elements or items stands the first of them (`element_here`, `item_here`), or none is
+-- left (`no_elements_here`, `no_items_here`). Stands on the laws of `element` and `sequence`.
 use Rattle.std.proofs.Common.{◌≡◌, ℕ, ◌≤◌, Bool, true, List, ◌++◌, length, Some, None, refl, arith, nat_le, if◌then◌else◌, ◌≢◌, ◌+◌, false, [], drop, sym, ap, ◌∙◌, append_assoc, length-append, eqb-true, eq-eqb, not, ◌&&◌, nat_eq, lit<, subst}
 use Rattle.std.proofs.lemmas.Bool.Decides.{nat_tests}
 use Rattle.element.specs.declared.syntax.Syntax.{Syntax}

@@ -1,4 +1,5 @@
--- The trail and the entries: what leads back, the paths to come as chains end, and the records that offsets lead to.
+-- What leads back along a trail is the path to come as a chain ends (`climbed`, `goes_next`), and an offset leads to the
+-- record whose entry is found (`place_found`, `at_offset`), or to none (`place_absent`). Stands on Distinct and PathForests.
 use Rattle.std.proofs.Common.{◌≡◌, ℕ, zero, suc, ◌<◌, Bool, true, false, List, [], ◌∷◌, get_or, set, arith, if◌then◌else◌, ◌≤◌, ◌-◌, ◌+◌, not, ◌&&◌, ◌||◌, ◌++◌, length, reverse, take, slice_get, Option, Some, ◌⊎◌, refl, sym, ap, subst, ◌∙◌, nat_eq, drop, replicate, None, Less, Equal, Greater, is_none}
 use Rattle.std.proofs.lemmas.Bool.Decides.{nat_tests}
 use Rattle.std.proofs.lemmas.List.{reverse-append, append-nil, take_all, take_more, length-reverse, get_or_default}

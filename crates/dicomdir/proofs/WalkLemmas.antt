@@ -1,4 +1,5 @@
--- What a file header and a walk over a whole text mean for a check.
+-- A fault of a file header (`header_check`), or of a walk over the whole text (`text_fails`, `data_set_check`), is the fault
+-- that a check returns. Stands on the laws of `dictionary` and `sequence`.
 use Rattle.std.proofs.Common.{◌≡◌, ℕ, ◌≤◌, Bool, Some, None, arith, if◌then◌else◌, List, ◌≢◌, ◌+◌, ◌-◌, length, refl, ap, subst, ◌∙◌, zero, suc, [], ◌∷◌, ◌++◌, take, drop, sym, not, ◌&&◌, nat_eq, nat_lt, nat_le, ◌%◌}
 use Rattle.element.specs.declared.size.Need.{Need}
 use Rattle.element.specs.declared.syntax.Syntax.{Syntax}

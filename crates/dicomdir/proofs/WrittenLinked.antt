@@ -1,4 +1,5 @@
--- The directory that is written of rows is linked to their tree, and has no fault.
+-- The directory that is written of rows is linked to their tree, and so has no fault (`written_is_linked`). Stands on
+-- BuildingLemmas, Laid, LaidRecords, NoFault, Placed and the laws of `part10`.
 use Rattle.element.specs.Header.{item_tag}
 use Rattle.std.proofs.Common.{◌≡◌, ℕ, suc, ◌+◌, ◌%◌, ◌^◌, ◌<◌, ◌≤◌, true, false, List, ◌∷◌, ◌++◌, length, Some, None, refl, sym, ap, ◌∙◌, append_assoc, arith, nat_eq}
 use Rattle.std.proofs.lemmas.Bool.Decides.{nat_tests}

@@ -1,5 +1,5 @@
--- What is first found wrong with the elements of a directory (this product's own profile): first in its root, then record
--- by record, and then along the paths from the root.
+-- The first fault of a directory file (this product's own profile): in its root, then record by record, and then
+-- along the offsets from the root.
 use Rattle.std.specs.Prelude.{ℕ, Bool, not, ◌||◌, List, [], ◌∷◌, length, Option, Some, None, is_none, nat_eq, if◌then◌else◌, ◌≡◌, ◌+◌, ◌^◌}
 use Rattle.sequence.specs.Tree.{Elements, DataSet}
 use Rattle.dicomdir.specs.FaultNumbers.{bad_offset, cycle, twice_reached, unreached, wrong_level, bad_file_id, bad_record, out_of_memory}
@@ -17,7 +17,7 @@ use Rattle.sequence.specs.FirstFault.{IsUnbroken, FirstFault, EndFault}
 use Rattle.sequence.specs.Ending.{IsWholeDataSet}
 use Rattle.dicomdir.specs.declared.fault.DirFault.{DirFault}
 
--- a fault's number, and its place in the file
+-- a fault: its number, and its position in the file
 pub record Fault : Type 0 where
   pub number : ℕ
   pub place : ℕ
@@ -30,7 +30,8 @@ abbrev pub ◌or_else◌ : Option Fault → Option Fault → Option Fault
 None or_else later = later
 (Some first) or_else later = Some first
 
--- the root: a missing element is told at the data set's first byte, one of the wrong size at its header
+-- the fault of an offset of the root: a missing element is reported at the first byte of the data set, one of the
+-- wrong size at its header
 
 abbrev pub offset_fault : ℕ → Found → Option Fault
 offset_fault start missing = fault bad_record start
@@ -48,7 +49,7 @@ root_fault start es =
     or_else offset_fault start (found 0x00041202 start es)
     or_else records_fault start (found 0x00041220 start es)
 
--- record by record: what it lacks, and then its file ID
+-- the fault of a record: a missing or wrong element, or else its file ID
 abbrev pub record_fault : Record → Option Fault
 record_fault r =
     if not (has_record r.elements) then fault bad_record r.place
@@ -59,17 +60,19 @@ abbrev pub each_fault : List Record → Option Fault
 each_fault [] = None
 each_fault (r ∷ records) = record_fault r or_else each_fault records
 
--- Then path by path: a fault is told where the offset stands that names the record, or, of a wrong level, at the record.
+-- Then path by path. The position of a fault is that of the record, or of the root's element, that has the offset;
+-- for a wrong level it is that of the record that the offset leads to.
 
--- an offset that is no record's place
+-- the offset at the end of this path is not the position of a record
 abbrev pub names_no_record : Links → List Turn → Bool
 names_no_record links path = is_none (record_at (named_by links path) links.records)
 
--- a record in use whose type does not fit its level
+-- the path leads to a record in use whose type does not fit its level
 abbrev pub names_wrong_level : Links → List Turn → Bool
 names_wrong_level links path = not (fits (level_of path) (carried_node (elements_at links.records (named_by links path))))
 
--- the first thing wrong with what a path names, where the paths before it name these records
+-- the fault of the offset at the end of a path, or of the record that it leads to; `reached` are the positions of the
+-- records that earlier paths lead to
 abbrev pub path_fault : Links → List ℕ → List Turn → Option Fault
 path_fault links reached path =
     if names_no_record links path then fault bad_offset (told_at links path)
@@ -77,37 +80,38 @@ path_fault links reached path =
     else (if names_wrong_level links path then fault wrong_level (named_by links path)
     else None))
 
--- of paths, the fault of the first that has one
+-- the fault of the first of these paths that has one
 abbrev pub first_fault : Links → List ℕ → List (List Turn) → Option Fault
 first_fault links reached [] = None
 first_fault links reached (path ∷ paths) = path_fault links reached path or_else first_fault links (named_by links path ∷ reached) paths
 
--- the place of what was found
+-- the position of what was found
 abbrev pub place_in : Found → ℕ
 place_in missing = 0
 place_in (value_at place v) = place
 place_in (items_at place h is) = place
 
--- the root's last offset names the last of its records
+-- the fault of the root's offset of its last record, which must be the last that the root's own offsets lead to
 abbrev pub last_fault : ℕ → Elements → Links → Option Fault
 last_fault start es links =
     if nat_eq (or_zero (last_offset start es)) (last_from 0 (root_records links (paths_of links))) then None
     else fault bad_offset (place_in (found 0x00041202 start es))
 
--- the first record in use that was not reached
+-- the fault of the first record in use that was not reached
 abbrev pub unreached_fault : List ℕ → List Record → Option Fault
 unreached_fault reached [] = None
 unreached_fault reached (r ∷ records) =
     if not (carried_node r.elements).in_use || is_one_of r.place reached then unreached_fault reached records else fault unreached r.place
 
--- the first fault of the paths; then that of the root's last offset; then the first record in use that no path names
+-- the first fault of the offsets: of the paths along them; then of the root's last offset; then the first record in
+-- use that no path leads to
 abbrev pub links_fault : ℕ → Elements → Links → Option Fault
 links_fault start es links =
     first_fault links [] (paths_of links)
     or_else (last_fault start es links
     or_else unreached_fault (reached_by links (paths_of links)) links.records)
 
--- what the paths of a directory with these elements and records follow
+-- the links of a directory with these elements and records: the root's first offset, its position, and the records
 abbrev pub links_of : ℕ → Elements → List Record → Links
 links_of start es records =
     record { place = place_in (found 0x00041200 start es); first = or_zero (first_offset start es); records = records }
@@ -116,17 +120,17 @@ abbrev pub records_then_links : ℕ → Elements → Option (List Record) → Op
 records_then_links start es None = None
 records_then_links start es (Some records) = each_fault records or_else links_fault start es (links_of start es records)
 
--- the first fault of a directory with these elements, of which the first stands at `start`
+-- the first fault of the elements of a directory, the first of which is at position `start`
 unfoldable pub directory_fault : ℕ → Elements → Option Fault
 directory_fault start es = root_fault start es or_else records_then_links start es (records_of start es)
 
 -- ---- what is first found wrong with a file that ought to be a directory (this product's own profile)
 
--- what the data set is held to: 64 open levels and 2^48 bytes; no value of it is kept
+-- the limits of the data set: 64 open levels and 2^48 bytes; no value of it is kept
 abbrev pub check_limits : Limits
 check_limits = record { wanted = []; depth = 64; bytes = 2 ^ 48 }
 
--- a file header that names Explicit stands before these bytes of the file
+-- the file is a file header in Explicit VR Little Endian, followed by the bytes `back`
 pub record HasHeader (file back : List ℕ) : Type 0 where
   pub front : List ℕ
   pub explicit : IsExplicitFile file front back
@@ -137,12 +141,14 @@ pub record HasDataSet (file : List ℕ) : Type 0 where
   pub header : HasHeader file back
   pub whole : IsWholeDataSet codings.Explicit check_limits back
 
--- where a fault of the file header is told: at its letters, and else behind them
+-- the position at which a fault of the file header is reported: 128, at the prefix DICM, for a missing prefix, else
+-- 132, after it
 abbrev pub place_of_meta_fault : ℕ → ℕ
 place_of_meta_fault number = if nat_eq number 50 then 128 else 132
 
--- the fault's number, its place in the file, and the tag where it is a fault of the data set: first those of the
--- file header, with Implicit as another syntax; then those of the data set; then those of the directory
+-- The fault of a file as a directory: its number, its position, and the tag of a fault of the data set. It is that of
+-- the file header, for which Implicit is an unaccepted transfer syntax; else that of the data set; else that of the
+-- directory.
 pub data CheckFault (file : List ℕ) : ℕ → ℕ → Tag → Type 0 where
   in_header : (fault : MetaFault) → MetaFaultOf file fault → CheckFault file (fault_number fault) (place_of_meta_fault (fault_number fault)) no_tag
   in_syntax : {said : Said} → HasMeta said file → said.syntax ≡ syntax_uid Implicit → CheckFault file 53 132 no_tag
@@ -154,6 +160,6 @@ pub data CheckFault (file : List ℕ) : ℕ → ℕ → Tag → Type 0 where
       → IsUnbroken codings.Explicit check_limits back → DataSet codings.Explicit 0 elements back
       → directory_fault (length front) elements ≡ Some f → CheckFault file f.number f.place no_tag
 
--- where memory ran out, no place and no tag are told
+-- the fault of memory that ran out has position 0 and no tag
 abbrev pub IsAtNone : DirFault → Type 0
 IsAtNone f = f.number ≡ out_of_memory → (f.place ≡ 0) × (f.tag ≡ no_tag)

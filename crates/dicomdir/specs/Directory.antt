@@ -1,5 +1,5 @@
--- A directory as it is read (PS3.3 sections F.3 and F.4): its root, its records with their places, and what a
--- record says. Offsets count from the file's first byte to the tag of a record's item.
+-- A directory as it is read (PS3.3 sections F.3 and F.4): its root, its records with their positions, and the
+-- contents of a record. Offsets count from the first byte of the file to the tag of a record's item.
 use Rattle.std.specs.Prelude.{◌≡◌, ℕ, ◌+◌, Bool, true, false, not, ◌&&◌, ◌||◌, List, [], ◌∷◌, ◌++◌, length, Option, Some, None, is_some, nat_eq, if◌then◌else◌}
 use Rattle.std.specs.Str.{bytes_eq}
 use Rattle.byteorder.specs.Endian.{little_number}
@@ -16,14 +16,14 @@ use Rattle.dicomdir.specs.Row.{key}
 use Rattle.dicomdir.specs.declared.level.Level.TheVariants.{Image}
 use Rattle.dicomdir.specs.Record.{kind_of}
 
--- the file is a file header that names Explicit, and what follows
+-- the file is a file header in Explicit VR Little Endian (`front`), followed by the bytes `back`
 pub record IsExplicitFile (file front back : List ℕ) : Type 0 where
   pub said : Said
   pub whole : file ≡ front ++ back
   pub header : SpellsMeta said front
   pub syntax : said.syntax ≡ syntax_uid Explicit
 
--- what follows is a data set of these elements, which begins at `start`
+-- the file is such a file header, followed by a data set of these elements at position `start`
 pub record IsDirectoryFile (file : List ℕ) (start : ℕ) (elements : Elements) : Type 0 where
   pub front : List ℕ
   pub back : List ℕ
@@ -31,14 +31,14 @@ pub record IsDirectoryFile (file : List ℕ) (start : ℕ) (elements : Elements)
   pub data_set : DataSet codings.Explicit 0 elements back
   pub begins : start ≡ length front
 
--- how many bytes a header takes, and the delimitation behind an undefined length
+-- the size of a header; that of the delimitation after an undefined length follows
 abbrev pub header_size : Header → ℕ
 header_size h = length (header_bytes h)
 
 abbrev pub end_size : ℕ → ℕ
 end_size n = if is_undefined n then 8 else 0
 
--- how many bytes spell these elements, and these items
+-- the size of these elements in bytes, and of these items
 abbrev mutual
   pub size_of : Elements → ℕ
   size_of no_elements = 0
@@ -50,13 +50,13 @@ abbrev mutual
   size_of_items (item h es is) = header_size h + size_of es + end_size h.length + size_of_items is
   size_of_items (fragment h v is) = header_size h + length v + size_of_items is
 
--- what stands under a tag: a value or items, behind a header at a place
+-- the element with a tag: none, a value, or items, with the position of its header
 pub data Found : Type 0 where
   missing : Found
   value_at : ℕ → List ℕ → Found
   items_at : ℕ → Header → Items → Found
 
--- among elements of which the first stands at `place`
+-- the element with this tag among elements, the first of which is at position `place`
 abbrev pub found : ℕ → ℕ → Elements → Found
 found tag place no_elements = missing
 found tag place (value h v es) =
@@ -65,18 +65,18 @@ found tag place (sequence h is es) =
     if nat_eq (number h.tag) tag then items_at place h is
     else found tag (place + header_size h + size_of_items is + end_size h.length) es
 
--- the number in a value of this many bytes
+-- the number in a value of `size` bytes; none for anything else
 abbrev pub number_in : ℕ → Found → Option ℕ
 number_in size missing = None
 number_in size (value_at place v) = if nat_eq (length v) size then Some (little_number size v) else None
 number_in size (items_at place h is) = None
 
--- a record: the place of its item, and its elements
+-- a record: the position of its item, and its elements
 pub record Record : Type 0 where
   pub place : ℕ
   pub elements : Elements
 
--- the records of which the first stands at `place`; a fragment is none
+-- the records in these items, the first of which is at position `place`; a fragment is no record
 abbrev pub records_at : ℕ → Items → List Record
 records_at place no_items = []
 records_at place (item h es is) =
@@ -88,7 +88,7 @@ records_in missing = None
 records_in (value_at place v) = None
 records_in (items_at place h is) = Some (records_at (place + header_size h) is)
 
--- the root: the offsets of the first and the last record of its level, and all records
+-- the root's offset of its first record (0004,1200); that of its last one and the records follow
 abbrev pub first_offset : ℕ → Elements → Option ℕ
 first_offset start es = number_in 4 (found 0x00041200 start es)
 
@@ -98,7 +98,7 @@ last_offset start es = number_in 4 (found 0x00041202 start es)
 abbrev pub records_of : ℕ → Elements → Option (List Record)
 records_of start es = records_in (found 0x00041220 start es)
 
--- a record's elements: its offsets, whether it is in use, its type and its file ID
+-- the offset of the next record at the same level (0004,1400); the other elements of a record follow
 
 abbrev pub next_offset : Elements → Option ℕ
 next_offset es = number_in 4 (found 0x00041400 0 es)
@@ -106,7 +106,7 @@ next_offset es = number_in 4 (found 0x00041400 0 es)
 abbrev pub lower_offset : Elements → Option ℕ
 lower_offset es = number_in 4 (found 0x00041420 0 es)
 
--- an offset that is missing counts as 0, which names no record
+-- the offset, or 0, which stands for no record, if it is missing
 abbrev pub or_zero : Option ℕ → ℕ
 or_zero None = 0
 or_zero (Some n) = n
@@ -115,12 +115,12 @@ abbrev pub is_in_use : Option ℕ → Bool
 is_in_use None = false
 is_in_use (Some flag) = nat_eq flag 0xffff
 
--- in use or inactive
+-- the value of Record In-use Flag is valid: FFFFH, in use, or 0000H, inactive
 abbrev pub is_use_flag : Option ℕ → Bool
 is_use_flag None = false
 is_use_flag (Some flag) = nat_eq flag 0xffff || nat_eq flag 0
 
--- spaces and 00H at the end of a type do not count
+-- the Directory Record Type, without spaces and zero bytes at its end
 abbrev pub kind_in : Found → List ℕ
 kind_in missing = []
 kind_in (value_at place v) = key v
@@ -136,13 +136,13 @@ is_missing missing = true
 is_missing (value_at place v) = false
 is_missing (items_at place h is) = false
 
--- what a node of the tree carries: whether it is in use, its type, and its file ID where there is one
+-- the contents of a node of the tree: whether it is in use, its type, and its file ID, if it has one
 pub record Node : Type 0 where
   pub in_use : Bool
   pub kind : List ℕ
   pub file_id : Option (List ℕ)
 
--- what the node of a record with these elements carries
+-- the contents of the node of a record with these elements
 abbrev pub carried_node : Elements → Node
 carried_node es = record {
   in_use = is_in_use (number_in 2 (found 0x00041410 0 es));
@@ -150,13 +150,13 @@ carried_node es = record {
   file_id = file_id_in (found 0x00041500 0 es);
 }
 
--- a record has its offsets, is in use or inactive, and has a type
+-- a record has its two offsets, a valid Record In-use Flag and a type
 abbrev pub has_record : Elements → Bool
 has_record es =
     (is_some (next_offset es) && is_use_flag (number_in 2 (found 0x00041410 0 es)))
     && (is_some (lower_offset es) && not (bytes_eq (carried_node es).kind []))
 
--- of a record in use, what it has for a file ID is one, and an image has one
+-- a record in use has a valid file ID, or none; an IMAGE record has one
 abbrev pub has_file_id : Elements → Bool
 has_file_id es =
     not (carried_node es).in_use

@@ -1,4 +1,4 @@
--- Worked directories: of one image (PS3.3 annex F), byte by byte, of more images, and of none.
+-- Example directories: of one image (PS3.3 annex F), byte by byte, of more images, and of none.
 use Rattle.std.specs.Prelude.{◌≡◌, ℕ, List, [], ◌∷◌, ◌++◌, length, replicate, None, codes, Some, ◌+◌}
 use Rattle.dictionary.specs.declared.transfer.Transfer.TheVariants.{Explicit}
 use Rattle.element.specs.Numbers.{le}
@@ -116,7 +116,8 @@ one_image_file =
     one_image_header
     ++ (one_image_root ++ one_image_patient ++ one_image_study ++ one_image_series ++ one_image_image)
 
--- its elements, with the offsets that the root and the records of patient, study and series have
+-- the elements of the directory of one image, with these offsets of the root and of the records of patient, study and
+-- series
 abbrev pub one_image_elements : ℕ → ℕ → ℕ → ℕ → ℕ → ℕ → Elements
 one_image_elements first last next study series image =
     root_elements first last
@@ -125,16 +126,17 @@ one_image_elements first last next study series image =
     (record_item 0 image (record_for Series one_image_row)
     (record_item 0 0 (record_for Image one_image_row) no_items))))
 
--- what has to be true of a directory that is laid down so: its offsets count from the file's first byte
+-- the directory of one image is linked to the tree of its row: its offsets count from the first byte of the file
 abbrev pub OneImageIsLinked : Type 0
 OneImageIsLinked = Linked one_image_file (carried_forest (TreeOf (one_image_row ∷ [])))
 
--- the same directory with offsets that count from behind the preamble
+-- the same directory with offsets that count from the end of the preamble
 abbrev pub preamble_left_out : Elements
 preamble_left_out = one_image_elements 192 192 0 276 406 498
 
--- the faults that are found where offsets are changed: none; the patient names itself, its study, no record, and
--- nothing below; the root's last record is none
+-- the faults of the directory of one image: unchanged, none; the patient's next offset leads to itself, and to its
+-- study; its offset of the lower level leads to no record, and is 0; the root's last offset leads to the study; and
+-- offsets that count from the end of the preamble
 abbrev pub OneImageFaults : Type 0
 OneImageFaults =
     (directory_fault 266 (one_image_elements 320 320 0 404 534 626) ≡ None)
@@ -145,13 +147,13 @@ OneImageFaults =
     × (directory_fault 266 (one_image_elements 320 404 0 404 534 626) ≡ fault 60 286)
     × (directory_fault 266 preamble_left_out ≡ fault 60 274)
 
--- its elements stand in a file as those of the other do, and they are linked to no tree
+-- that directory is a directory file, too, but linked to no tree
 abbrev pub PreambleCounts : Type 0
 PreambleCounts =
     IsDirectoryFile (one_image_header ++ spelled preamble_left_out) 266 preamble_left_out
     × ((tree : Forest Node) → ¬ LinkedElements 266 preamble_left_out tree)
 
--- with another row for its image
+-- the directory with another row for its image
 abbrev pub with_image : Row → Elements
 with_image row =
     root_elements 320 320
@@ -160,9 +162,9 @@ with_image row =
     (record_item 0 626 (record_for Series one_image_row)
     (record_item 0 0 (record_for Image row) no_items))))
 
--- a study at the root, a file ID in small letters, and a series that a patient names; in the root nothing behind a
--- first offset of two bytes, nothing behind a good one, and one of two bytes behind another element; a record without
--- offsets, and an image without a file ID
+-- the faults of: a study as the record of the root, a file ID in small letters, a series below a patient; a root with
+-- a first offset of two bytes alone, with a valid first offset alone, and with an offset of two bytes after another
+-- element; a record without offsets, and an image without a file ID
 abbrev pub RecordFaults : Type 0
 RecordFaults =
     (directory_fault 266 (root_elements 320 320 (record_item 0 0 (record_for Study one_image_row) no_items)) ≡ fault 64 320)
@@ -186,7 +188,7 @@ NoRowsAreLinked =
 
 -- ---- rows of five files by which grouping, doubles and file IDs are tried (PS3.3 section F.4)
 
--- a second image of the series; padding does not count in keys
+-- a second image of the series, with other padding of its keys
 abbrev pub second_row : Row
 second_row = record one_image_row {
   file_id = codes "I0000002";
@@ -206,7 +208,7 @@ third_row = record one_image_row {
   values = (0x0020000e, codes "1.2.3.2") ∷ one_image_row.values;
 }
 
--- the first instance once more
+-- the first instance again
 abbrev pub double_row : Row
 double_row = record one_image_row { file_id = codes "I0000004" }
 
@@ -222,8 +224,8 @@ fourth_row = record one_image_row {
       ∷ one_image_row.values;
 }
 
--- of the first four, seven records; of all, in another order, the tree with each level in first-seen order, each
--- group with the keys of its first row; of no rows, none
+-- the tree of the first four rows has seven records; that of all, in another order, has each level in the order in
+-- which keys are first seen, each record with the keys of its first row; that of no rows is empty
 abbrev pub RowsAreGrouped : Type 0
 RowsAreGrouped =
     (count_of (TreeOf (one_image_row ∷ second_row ∷ third_row ∷ double_row ∷ [])) ≡ 7)
@@ -242,8 +244,8 @@ RowsAreGrouped =
     no_nodes))
     × (TreeOf [] ≡ no_nodes)
 
--- two components, and spaces at the end; then a small letter, a space in front, nine characters, nothing between
--- two backslashes, nothing at all
+-- valid file IDs: of two components, and with spaces at the end; invalid ones: with a small letter, a space in front,
+-- nine characters in a component, an empty component, and the empty one
 abbrev pub FileIdsAreRead : Type 0
 FileIdsAreRead =
     (file_id_of (codes "S0000001" ++ 92 ∷ codes "I_1  ") ≡ Some (codes "S0000001" ++ 92 ∷ codes "I_1"))
@@ -253,10 +255,11 @@ FileIdsAreRead =
     × (file_id_of (codes "S1" ++ 92 ∷ 92 ∷ codes "I1") ≡ None)
     × (file_id_of [] ≡ None)
 
--- ---- places of records, sizes and doubles of rows whose directories are known byte by byte
+-- ---- positions and sizes of records, and doubles, of rows whose directories are known byte by byte
 
--- of one image the sizes of its four records, their places, the elements and the whole file; of two images of a series
--- the places and the size; of no rows the elements and the size; and the double among four rows
+-- of the directory of one image the sizes of its four records, their positions, the elements and the whole file; of
+-- two images of a series the positions and the size; of no rows the elements and the size; and the double among four
+-- rows
 abbrev pub PlacesAreAssigned : Type 0
 PlacesAreAssigned =
     (root_size ≡ 54)
@@ -274,7 +277,8 @@ PlacesAreAssigned =
     × (directory_size 266 [] ≡ 320)
     × (doubles_of (one_image_row ∷ second_row ∷ third_row ∷ double_row ∷ []) ≡ 3 ∷ [])
 
--- the directory of any rows has the size that the places count with, and as many records as the tree has nodes
+-- the directory of any rows has the size for which its offsets are computed, and as many records as the tree has
+-- nodes
 abbrev pub SizesAreTrue : Type 0
 SizesAreTrue =
     (front : List ℕ) (rows : List Row)
@@ -294,13 +298,13 @@ OneImageHasNodes =
 
 -- ---- two images of a series, of which a record is inactive
 
--- a record with another Record In-use Flag, which comes first
+-- the elements of a record with this Record In-use Flag, which is the first of them
 abbrev pub flagged : ℕ → Elements → Elements
 flagged flag no_elements = no_elements
 flagged flag (value h v es) = value h (le flag 2) es
 flagged flag (sequence h is es) = sequence h is es
 
--- with the flags of the series and of its first image
+-- the tree of two images, with these flags of the series and of its first image
 abbrev pub two_images : ℕ → ℕ → Forest Elements
 two_images series image =
     node (record_for Patient one_image_row)
@@ -312,7 +316,7 @@ two_images series image =
     no_nodes)
     no_nodes
 
--- one image, whose record has this flag and is named by no record
+-- the directory of one image, whose record has this flag and to which no offset leads
 abbrev pub unnamed_image : ℕ → Elements
 unnamed_image image =
     root_elements 320 320
@@ -321,8 +325,8 @@ unnamed_image image =
     (record_item 0 0 (record_for Series one_image_row)
     (record_item 0 0 (flagged image (record_for Image one_image_row)) no_items))))
 
--- all in use; the first image inactive; the series inactive; another flag; an image that no record names, in use and
--- inactive
+-- what a check finds: all records in use; the first image inactive; the series inactive; an invalid flag; an image to
+-- which no offset leads, in use and inactive
 abbrev pub InactiveRecords : Type 0
 InactiveRecords =
     (directory_fault 266 (directory_elements 266 (two_images 0xffff 0xffff)) ≡ None)
@@ -339,7 +343,7 @@ InactiveRecords =
 
 -- ---- faults of the file header, as a check of a directory tells them (this product's own profile)
 
--- an empty file, and files of JPEG Baseline and of Implicit
+-- the faults of an empty file, and of files in JPEG Baseline and in Implicit VR Little Endian
 abbrev pub HeaderFaults : Type 0
 HeaderFaults =
     CheckFault [] 50 128 no_tag

@@ -27,19 +27,19 @@ all_rules = BadOffset ∷ Cycle ∷ TwiceReached ∷ Unreached ∷ WrongLevel �
 abbrev pub has_number : ℕ → DirRule → Bool
 has_number n rule = nat_eq (rule_number rule) n
 
--- the rule with this number
+-- the rule with this number; none where there is no such rule
 abbrev pub rule_of : ℕ → Option DirRule
 rule_of n = find (has_number n) all_rules
 
--- an offset that is no record's place
+-- an offset that is not the position of a record
 abbrev pub bad_offset : ℕ
 bad_offset = rule_number BadOffset
 
--- an offset that leads back
+-- an offset that leads back to its own record, to an earlier sibling of that, or to a record above
 abbrev pub cycle : ℕ
 cycle = rule_number Cycle
 
--- a second way to a record
+-- an offset that leads to any other record that was reached before
 abbrev pub twice_reached : ℕ
 twice_reached = rule_number TwiceReached
 
@@ -51,7 +51,7 @@ unreached = rule_number Unreached
 abbrev pub wrong_level : ℕ
 wrong_level = rule_number WrongLevel
 
--- a file ID that is none
+-- an invalid file ID, or an IMAGE record without one
 abbrev pub bad_file_id : ℕ
 bad_file_id = rule_number BadFileId
 
@@ -63,7 +63,7 @@ too_large = rule_number TooLarge
 abbrev pub out_of_memory : ℕ
 out_of_memory = rule_number OutOfMemory
 
--- a record, or the root, that lacks something
+-- a missing or wrong element of the root or of a record
 abbrev pub bad_record : ℕ
 bad_record = rule_number BadRecord
 
@@ -81,12 +81,12 @@ text_of_rule TooLarge = codes "TooLarge"
 text_of_rule OutOfMemory = codes "OutOfMemory"
 text_of_rule BadRecord = codes "BadRecord"
 
--- the name of a rule of the links or records, and `other` where there is none
+-- the name of a rule of directories, or `other` if there is none
 abbrev pub text_or : List ℕ → Option DirRule → List ℕ
 text_or other None = other
 text_or other (Some rule) = text_of_rule rule
 
--- the name of the fault of the links or records with this number, and `other` where it is none
+-- the name of the rule of directories with this number, or `other` if there is none
 abbrev pub link_name : ℕ → List ℕ → List ℕ
 link_name n other = text_or other (rule_of n)
 

@@ -3,11 +3,11 @@ use Rattle.std.specs.Prelude.{ℕ, Bool, ◌-◌, ◌&&◌, ◌||◌, List, [], 
 use Rattle.std.specs.List.{list_all}
 use Rattle.element.specs.Padding.{is_space, without_trailing}
 
--- A to Z, 0 to 9 and the underscore
+-- a character of a file ID: A to Z, 0 to 9 and the underscore
 abbrev pub is_id_character : ℕ → Bool
 is_id_character c = (nat_le 65 c && nat_le c 90) || (nat_le 48 c && nat_le c 57) || nat_eq c 95
 
--- one to eight of them
+-- a component of a file ID: one to eight such characters
 abbrev pub is_file_id_component : List ℕ → Bool
 is_file_id_component text = nat_le 1 (length text) && nat_le (length text) 8 && list_all is_id_character text
 
@@ -20,22 +20,22 @@ abbrev pub parts_of : List ℕ → List (List ℕ)
 parts_of [] = [] ∷ []
 parts_of (c ∷ cs) = if nat_eq c 92 then [] ∷ parts_of cs else before_parts c (parts_of cs)
 
--- one to eight components
+-- a valid file ID: one to eight components
 abbrev pub is_file_id : List ℕ → Bool
 is_file_id text = nat_le (length (parts_of text)) 8 && list_all is_file_id_component (parts_of text)
 
--- a file ID in the room of the longest one, 71 bytes
+-- a file ID, with zero bytes up to 71, the length of the longest
 abbrev pub filled : List ℕ → List ℕ
 filled text = text ++ replicate (71 - length text) 0
 
 abbrev pub if_file_id : List ℕ → Option (List ℕ)
 if_file_id text = if is_file_id text then Some text else None
 
--- the file ID that a value holds; spaces at its end do not count
+-- the file ID in a value, without spaces at its end; none if it is invalid
 abbrev pub file_id_of : List ℕ → Option (List ℕ)
 file_id_of value = if_file_id (without_trailing is_space value)
 
--- ---- the room of a file ID: 71 bytes, which are zero after its text
+-- ---- the buffer of a file ID: 71 bytes, which are zero after its text
 
 pub record IsKept (bytes : List ℕ) (size : ℕ) : Type 0 where
   pub rest_is_zero : filled (take size bytes) ≡ bytes

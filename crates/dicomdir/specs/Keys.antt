@@ -1,5 +1,5 @@
--- What the keys of a row have to be (PS3.3 section F.5): no longer than the room that a reader has for them, and
--- some of them not empty. Both is this product's own profile.
+-- What the keys of a row have to be (PS3.3 section F.5): at most as long as the table allows, and those of type 1 not
+-- empty. Both is this product's own profile.
 use Rattle.std.specs.Prelude.{◌≡◌, ℕ, Bool, true, false, ◌&&◌, List, length, Option, Some, None, option_map, Result, Ok, Err, nat_le, if◌then◌else◌, map}
 use Rattle.std.specs.List.{list_all, find}
 use Rattle.element.specs.declared.tag.Tag.{Tag}
@@ -23,7 +23,7 @@ abbrev pub optional_size : Option (List ℕ) → ℕ
 optional_size None = 0
 optional_size (Some v) = length v
 
--- no key is longer than its room
+-- the value of this key is at most as long as the table allows
 
 abbrev pub fits_room : Values → RecordRule → Bool
 fits_room values rule = nat_le (optional_size (value_of values (number rule.tag))) rule.room
@@ -31,7 +31,7 @@ fits_room values rule = nat_le (optional_size (value_of values (number rule.tag)
 abbrev pub fits_rooms : Row → Bool
 fits_rooms row = list_all (fits_room row.values) key_table
 
--- whether nothing is left of a key without its padding
+-- the value of a key is empty without its padding
 abbrev pub is_empty_key : List ℕ → Bool
 is_empty_key value = is_empty (key value)
 
@@ -43,7 +43,7 @@ needs_value kind = false
 abbrev pub is_missing : Values → RecordRule → Bool
 is_missing values rule = needs_value rule.kind && is_empty_key (key_in values rule.tag)
 
--- of the keys that must not be empty, the first empty one, by rising tags
+-- the tag of the first key of type 1, in ascending order of tags, that is missing or empty
 abbrev pub first_empty : Row → Option Tag
 first_empty row = option_map (λ rule. rule.tag) (find (is_missing row.values) key_table)
 
@@ -51,11 +51,11 @@ abbrev pub row_unless : Row → Option Tag → Result Row Skip
 row_unless row None = Ok row
 row_unless row (Some t) = Err (Missing t)
 
--- the row of these values, if no key is too long (21) and none is missing
+-- the row of these values; or fault 21 if a key is too long, else the tag of the first key of type 1 that is missing
 abbrev pub checked_row : Row → Result Row Skip
 checked_row row = if fits_rooms row then row_unless row (first_empty row) else Err (Fault 21)
 
--- what is true of every row
+-- the invariant of a row
 pub record IsRow (row : Row) : Type 0 where
   pub file_id : is_file_id row.file_id ≡ true
   pub class : is_uid row.class ≡ true

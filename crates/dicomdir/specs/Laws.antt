@@ -1,4 +1,4 @@
--- What holds of the definitions.
+-- Statements that follow from the definitions; `src/laws.rt` has the functions whose contracts they are.
 use Rattle.std.specs.Prelude.{◌≡◌, ℕ, true, List, Result, Ok, IsOk, ◌≤◌, length, false, None, suc, ◌+◌, [], ◌∷◌, map, unwrap_or}
 use Rattle.dictionary.specs.declared.transfer.Transfer.{Transfer}
 use Rattle.sequence.specs.Transfer.{coding_in}
@@ -32,27 +32,27 @@ use Rattle.dicomdir.specs.Record.{record_item, root_elements, record_for}
 use Rattle.dicomdir.specs.Paths.{Links, level_of, paths_from, paths_of, reached_by}
 use Rattle.dicomdir.specs.Examples.{one_image_row, one_image_elements}
 
--- a file has one row with these keys at most, or one reason why it has none, whichever further transfer syntaxes are taken
+-- a file determines its row with these keys, or why it has none, for each choice of the accepted transfer syntaxes
 abbrev pub OneRow : Type 0
 OneRow =
     (further : List Transfer) (rules : List RecordRule) (file file_id : List ℕ) (result other : Result Row Skip)
     → RowOf further rules file file_id result → RowOf further rules file file_id other → result ≡ other
 
--- and so has it where Series Description is asked for
+-- a file determines its row with Series Description, too, or why it has none
 abbrev pub OneDescribedRow : Type 0
 OneDescribedRow = (further : List Transfer) (file file_id : List ℕ) (result other : Result Row Skip) → DescribedRow further file file_id result → DescribedRow further file file_id other → result ≡ other
 
--- Series Description costs no file its row: one that has a row without it has one where it is asked for
+-- a file that has a row without Series Description has one with it, too
 abbrev pub DescriptionsCostNoRow : Type 0
 DescriptionsCostNoRow =
     (further : List Transfer) (file file_id : List ℕ) (row : Row) (result : Result Row Skip)
     → RowOf further (keys_read Needed) file file_id (Ok row) → DescribedRow further file file_id result → IsOk result
 
--- where none is taken, a header has the faults that it has for the two native ones
+-- if no transfer syntax is accepted beside the two native ones, a file header has the faults that it has for those
 abbrev pub NativeAloneAreTaken : Type 0
 NativeAloneAreTaken = (file : List ℕ) (fault : MetaFault) → (HeaderFaultOf [] file fault → MetaFaultOf file fault) × (MetaFaultOf file fault → HeaderFaultOf [] file fault)
 
--- values that fit the rooms of the walk fit those of a row
+-- values that are within the limits with which a file is read are within those of a row
 abbrev pub KeysFit : Type 0
 KeysFit =
     (keys : RecordKeys) (file_id class instance : List ℕ) (s : Transfer) (elements : Elements)
@@ -61,8 +61,8 @@ KeysFit =
 
 -- ---- what a directory has of a file that was filed (PS3.10 section 7.1)
 
--- the file of an instance in a transfer syntax that is taken, whose data set is whole and within the limits of a row, gives the row of
--- that class, instance and transfer syntax and of the data set's values, or the first key that is missing there
+-- the file of an instance in an accepted transfer syntax, with a whole data set within the limits of a row, gives the
+-- row of that SOP class, SOP instance, transfer syntax and keys, or the first key of type 1 that is missing
 abbrev pub FiledHasRow : Type 0
 FiledHasRow =
     (further : List Transfer) (rules : List RecordRule) (meta : Meta) (file_id back : List ℕ) (elements : Elements)
@@ -72,7 +72,7 @@ FiledHasRow =
 
 -- ---- what a check finds is determined by the file
 
--- a directory whose records are linked, with none in use left out, has no fault
+-- a directory whose records are linked to a tree that contains each record in use has no fault
 abbrev pub AcceptedHasNoFault : Type 0
 AcceptedHasNoFault = (file : List ℕ) (nodes : List LevelNode) (number place : ℕ) (tag : Tag) → HasDataSet file → HasNodes file nodes → CheckFault file number place tag → ⊥
 
@@ -80,48 +80,48 @@ AcceptedHasNoFault = (file : List ℕ) (nodes : List LevelNode) (number place : 
 abbrev pub OneCheckFault : Type 0
 OneCheckFault = (file : List ℕ) (number number2 place place2 : ℕ) (tag tag2 : Tag) → CheckFault file number place tag → CheckFault file number2 place2 tag2 → (number ≡ number2) × (place ≡ place2) × (tag ≡ tag2)
 
--- and one list of records at most
+-- a file determines the list of its records in use
 abbrev pub OneListOfNodes : Type 0
 OneListOfNodes = (file : List ℕ) (nodes other : List LevelNode) → HasNodes file nodes → HasNodes file other → nodes ≡ other
 
 -- ---- what the faults of a directory have to do with its links (this product's own profile)
 
--- of a linked directory the nodes are no more than the records, and none is at place 0
+-- in a linked directory the tree has at most as many nodes as there are records, and no record is at position 0
 abbrev pub NodesAreRecords : Type 0
 NodesAreRecords =
     (start : ℕ) (elements : Elements) (tree : Forest Node) (linked : LinkedElements start elements tree)
     → (count_of linked.placed ≤ length linked.records) × (is_one_of 0 (places_of linked.placed) ≡ false)
 
--- a directory whose records are linked to a tree, which leaves none in use out, has no fault
+-- a directory with these elements, whose records are linked to a tree that contains each record in use, has no fault
 abbrev pub LinkedHasNoFault : Type 0
 LinkedHasNoFault =
     (start : ℕ) (elements : Elements) (tree : Forest Node) (linked : LinkedElements start elements tree)
     → IsAllReached linked
     → directory_fault start elements ≡ None
 
--- the records are linked to a tree, which leaves none in use out
+-- the records are linked to a tree that contains each record in use
 pub record IsSound (start : ℕ) (elements : Elements) : Type 0 where
   pub tree : Forest Node
   pub linked : LinkedElements start elements tree
   pub all_reached : IsAllReached linked
 
--- a directory without a fault has such a tree
+-- the records of a directory without a fault are linked to a tree that contains each record in use
 abbrev pub NoFaultIsLinked : Type 0
 NoFaultIsLinked = (start : ℕ) (elements : Elements) → directory_fault start elements ≡ None → IsSound start elements
 
--- a file is linked to one tree at most
+-- a file is linked to at most one tree
 abbrev pub OneTreeOfFile : Type 0
 OneTreeOfFile = (file : List ℕ) (tree other : Forest Node) → Linked file tree → Linked file other → tree ≡ other
 
 -- ---- what is true of each directory that this product writes
 
--- the file is linked to the tree of the rows, with no record left over, and has no fault
+-- the file is a directory that is linked to the tree of the rows, which contains each record, and has no fault
 pub record IsDirectoryOf (file : List ℕ) (rows : List Row) : Type 0 where
   pub linked : Linked file (carried_forest (TreeOf rows))
   pub all_reached : IsAllReached linked.linked
   pub no_fault : directory_fault linked.start linked.elements ≡ None
 
--- of rows with a valid instance UID the file is such a directory, if it is not too large
+-- the file that is written for rows, with a valid SOP Instance UID, is such a directory, if it is not too large
 abbrev pub WrittenIsLinked : Type 0
 WrittenIsLinked =
     (uid : List ℕ) (rows : List Row)
@@ -132,14 +132,15 @@ WrittenIsLinked =
 
 -- ---- longer paths change nothing, and what paths name
 
--- paths of however many records more have the same first fault, and are no others where they have none
+-- following paths longer than the number of records finds no other first fault, and no further paths if there is no
+-- fault
 abbrev pub LongerPathsChangeNothing : Type 0
 LongerPathsChangeNothing =
     (links : Links) (more : ℕ)
     → (first_fault links [] (paths_from (suc (length links.records) + more) links []) ≡ first_fault links [] (paths_of links))
     × (first_fault links [] (paths_of links) ≡ None → paths_from (suc (length links.records) + more) links [] ≡ paths_of links)
 
--- the paths of a directory that is linked to a tree name its nodes, depth first
+-- the paths along the offsets of a directory that is linked to a tree lead to its nodes, depth first
 abbrev pub PathsNameNodes : Type 0
 PathsNameNodes =
     (start : ℕ) (elements : Elements) (tree : Forest Node) (linked : LinkedElements start elements tree)
@@ -151,7 +152,7 @@ links_in start es = links_of start es (unwrap_or (records_of start es) [])
 abbrev pub one_image_links : Links
 one_image_links = links_in 266 (one_image_elements 320 320 0 404 534 626)
 
--- two patients at bytes 320 and 404, and a study of the second at byte 488 with this next offset
+-- a directory with two patients at bytes 320 and 404, and a study of the second at byte 488 with this next offset
 abbrev pub two_patients : ℕ → Elements
 two_patients next =
     root_elements 320 404
@@ -159,9 +160,9 @@ two_patients next =
     (record_item 0 488 (record_for Patient one_image_row)
     (record_item next 0 (record_for Study one_image_row) no_items)))
 
--- the paths of one image name its records, each a level below the one before it; the study of the second patient is the
--- last of its chain, or its next offset names the patient above it, the study itself, or the first patient, which is no
--- cycle
+-- the paths of the directory of one image lead to its records, each a level below the one before. With two patients
+-- the next offset of the study may be 0; a cycle is one that leads to the patient above it or to the study itself,
+-- and not one that leads to the first patient
 abbrev pub PathsNameRecords : Type 0
 PathsNameRecords =
     (reached_by one_image_links (paths_of one_image_links) ≡ 320 ∷ 404 ∷ 534 ∷ 626 ∷ [])

@@ -1,5 +1,5 @@
--- When a directory's records are linked to a tree (PS3.3 section F.4; that an image directory has just these
--- levels is this product's own profile).
+-- When the records of a directory are linked to a tree: their offsets form that tree, from the root down (PS3.3
+-- section F.4; that a directory has exactly these levels is this product's own profile).
 use Rattle.std.specs.Prelude.{◌≡◌, ℕ, suc, Bool, true, not, ◌&&◌, ◌||◌, List, [], ◌∷◌, ◌++◌, Option, Some, None, nat_eq, if◌then◌else◌}
 use Rattle.std.specs.List.{list_any, list_all}
 use Rattle.std.specs.Str.{bytes_eq}
@@ -9,7 +9,7 @@ use Rattle.dicomdir.specs.Directory.{IsDirectoryFile, Record, Node, carried_node
 use Rattle.dicomdir.specs.declared.level.Level.TheVariants.{Patient, Study, Series}
 use Rattle.dicomdir.specs.Record.{kind_of}
 
--- what the nodes carry whose elements are those of a forest
+-- the tree with the contents of its nodes in place of the elements of their records
 abbrev pub carried_forest : Forest Elements → Forest Node
 carried_forest no_nodes = no_nodes
 carried_forest (node es below next) = node (carried_node es) (carried_forest below) (carried_forest next)
@@ -17,7 +17,8 @@ carried_forest (node es below next) = node (carried_node es) (carried_forest bel
 abbrev pub is_upper_kind : List ℕ → Bool
 is_upper_kind kind = bytes_eq kind (kind_of Patient) || bytes_eq kind (kind_of Study) || bytes_eq kind (kind_of Series)
 
--- levels 1 to 3 are patients, studies and series; level 4 has any other type, and nothing stands below it
+-- the type of a record fits its level: PATIENT, STUDY and SERIES on levels 1 to 3, any other type on level 4, the
+-- lowest
 abbrev pub fits_level : ℕ → List ℕ → Bool
 fits_level level kind =
     if nat_eq level 1 then bytes_eq kind (kind_of Patient)
@@ -25,11 +26,11 @@ fits_level level kind =
     else (if nat_eq level 3 then bytes_eq kind (kind_of Series)
     else (nat_eq level 4 && not (is_upper_kind kind))))
 
--- an inactive record fits any level
+-- a node fits a level by its type; an inactive one fits any
 abbrev pub fits : ℕ → Node → Bool
 fits level n = not n.in_use || fits_level level n.kind
 
--- a node, and the place of its record
+-- the contents of a node, and the position of its record
 pub record PlacedNode : Type 0 where
   pub place : ℕ
   pub carries : Node
@@ -38,12 +39,12 @@ abbrev pub nodes_of : Forest PlacedNode → Forest Node
 nodes_of no_nodes = no_nodes
 nodes_of (node n below next) = node n.carries (nodes_of below) (nodes_of next)
 
--- depth first
+-- the positions of the records of a tree, depth first
 abbrev pub places_of : Forest PlacedNode → List ℕ
 places_of no_nodes = []
 places_of (node n below next) = n.place ∷ (places_of below ++ places_of next)
 
--- of siblings, the first and the last; 0 where there is none
+-- the position of the first of these siblings, 0 if there is none; that of the last follows
 abbrev pub first_place : Forest PlacedNode → ℕ
 first_place no_nodes = 0
 first_place (node n below next) = n.place
@@ -66,19 +67,20 @@ abbrev pub record_at : ℕ → List Record → Option Elements
 record_at place [] = None
 record_at place (r ∷ records) = if nat_eq r.place place then Some r.elements else record_at place records
 
--- the elements of the record at a place, none where no record stands there
+-- the elements of the record at this position; none if no record is there
 abbrev pub elements_at : List Record → ℕ → Elements
 elements_at records place = elim (record_at place records) [ None ↦ no_elements | Some es ↦ es ]
 
--- the lower offset of the record at a place
+-- the offset of the first record at the lower level, in the record at this position
 abbrev pub lower_at : List Record → ℕ → ℕ
 lower_at records place = or_zero (lower_offset (elements_at records place))
 
--- the next offset of the record at a place
+-- the offset of the next record at the same level, in the record at this position
 abbrev pub next_at : List Record → ℕ → ℕ
 next_at records place = or_zero (next_offset (elements_at records place))
 
--- one of the records stands at the node's place, is of its type and file ID, fits its level, and names these places
+-- one of the records is at the position of the node, has its type and file ID, fits the level, and has these two
+-- offsets
 pub record IsRecordOf (records : List Record) (level : ℕ) (n : PlacedNode) (lower next : ℕ) : Type 0 where
   pub elements : Elements
   pub stands : record_at n.place records ≡ Some elements
@@ -87,7 +89,7 @@ pub record IsRecordOf (records : List Record) (level : ℕ) (n : PlacedNode) (lo
   pub names_lower : lower_offset elements ≡ Some lower
   pub names_next : next_offset elements ≡ Some next
 
--- each record names the first record below it and its next sibling
+-- each record has the offsets of the first record below it and of its next sibling, or 0
 abbrev pub AreLinked : List Record → ℕ → Forest PlacedNode → Type 0
 AreLinked records level no_nodes = Unit {0}
 AreLinked records level (node n below next) =
@@ -98,7 +100,7 @@ AreLinked records level (node n below next) =
 abbrev pub are_records : List Record → Bool
 are_records records = list_all (λ r. has_record r.elements && has_file_id r.elements) records
 
--- of a directory with these elements, of which the first stands at `start`, the records are linked to the tree
+-- the records of a directory with these elements, the first of which is at position `start`, are linked to the tree
 pub record LinkedElements (start : ℕ) (elements : Elements) (tree : Forest Node) : Type 0 where
   pub records : List Record
   pub placed : Forest PlacedNode
@@ -117,6 +119,6 @@ pub record Linked (file : List ℕ) (tree : Forest Node) : Type 0 where
   pub is_file : IsDirectoryFile file start elements
   pub linked : LinkedElements start elements tree
 
--- each of its records in use is a node of the tree
+-- each record in use is a node of the tree
 abbrev pub IsAllReached : {start : ℕ} {elements : Elements} {tree : Forest Node} → LinkedElements start elements tree → Type 0
 IsAllReached linked = list_all (λ r. not (carried_node r.elements).in_use || is_one_of r.place (places_of linked.placed)) linked.records ≡ true

@@ -1,4 +1,5 @@
--- The records in use of a linked directory, depth first, each with its place and level, and the files that it keeps.
+-- The records in use of a linked directory, depth first, each with its position and level, and the files that the
+-- directory references.
 use Rattle.std.specs.Prelude.{◌≡◌, ℕ, suc, List, [], ◌∷◌, ◌++◌, if◌then◌else◌, Option, Some, None, true, map}
 use Rattle.sequence.specs.Tree.{Elements}
 use Rattle.dicomdir.specs.TreeOf.{Forest, no_nodes, node}
@@ -10,13 +11,13 @@ use Rattle.dicomdir.specs.declared.tree.Tree.{Tree}
 use Rattle.dicomdir.specs.declared.level.Level.TheVariants.{Image}
 use Rattle.dicomdir.specs.Record.{kind_of}
 
--- a record of the tree: 1 is a patient's level, and 4 an image's
+-- a record of the tree: its position, its level, from 1 for a patient to 4 for an image, and its contents
 pub record LevelNode : Type 0 where
   pub place : ℕ
   pub level : ℕ
   pub carries : Node
 
--- the records in use but for those below an inactive one
+-- the records in use, without those below an inactive one
 abbrev pub nodes_in_use : ℕ → Forest PlacedNode → List LevelNode
 nodes_in_use level no_nodes = []
 nodes_in_use level (node n below next) =
@@ -24,7 +25,8 @@ nodes_in_use level (node n below next) =
     then record { place = n.place; level = level; carries = n.carries } ∷ (nodes_in_use (suc level) below ++ nodes_in_use level next)
     else nodes_in_use level next
 
--- the file is a directory whose records are linked, with none in use left out, and these are its records
+-- the file is a directory whose records are linked to a tree that contains each record in use, and these are its
+-- records in use, without those below an inactive one
 pub record HasNodes (file : List ℕ) (nodes : List LevelNode) : Type 0 where
   pub start : ℕ
   pub elements : Elements
@@ -36,7 +38,7 @@ pub record HasNodes (file : List ℕ) (nodes : List LevelNode) : Type 0 where
 
 -- ---- what is left of a tree without its inactive records (PS3.3 section F.5.1), and the files that it keeps
 
--- the tree without inactive nodes and what is below them
+-- the tree without inactive nodes and those below them
 abbrev pub pruned : Forest Node → Forest Node
 pruned no_nodes = no_nodes
 pruned (node n below next) = if n.in_use then node n (pruned below) (pruned next) else pruned next
@@ -48,12 +50,12 @@ listed (Some file_id) = file_id ∷ []
 abbrev pub file_id_of_image : Node → List (List ℕ)
 file_id_of_image n = if bytes_eq n.kind (kind_of Image) then listed n.file_id else []
 
--- depth first
+-- the file IDs of the images of a tree, depth first
 abbrev pub images_of : Forest Node → List (List ℕ)
 images_of no_nodes = []
 images_of (node n below next) = file_id_of_image n ++ (images_of below ++ images_of next)
 
--- the file IDs of the images in use with no inactive record above
+-- the file IDs of the images in use that have no inactive record above them
 abbrev pub KeptOf : Forest Node → List (List ℕ)
 KeptOf tree = images_of (pruned tree)
 

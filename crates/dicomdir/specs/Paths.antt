@@ -1,16 +1,17 @@
--- Paths along the offsets of a directory (PS3.3 sections F.3 and F.4). An offset names the first record at the lower level
--- or the next record at the same level by its place, or none where it is 0.
+-- Paths along the offsets of a directory (PS3.3 sections F.3 and F.4). An offset is the position of the first record
+-- at the lower level or of the next record at the same level, or 0 for none.
 use Rattle.std.specs.Prelude.{ℕ, zero, suc, Bool, true, false, List, [], ◌∷◌, ◌++◌, length, map, filter, nat_eq, if◌then◌else◌}
 use Rattle.dicomdir.specs.Directory.{Record}
 use Rattle.dicomdir.specs.Linked.{is_one_of, lower_at, next_at}
 
--- what paths follow: where the root's first offset stands, that offset, and the records
+-- the links of a directory: the position of the root's first offset, that offset, and the records
 pub record Links : Type 0 where
   pub place : ℕ
   pub first : ℕ
   pub records : List Record
 
--- a record on a path, and whether the path goes on from it by its lower offset or by its next one
+-- a record on a path, and whether the path continues from it by the offset of the lower level or by that of the next
+-- record
 pub record Turn : Type 0 where
   pub place : ℕ
   pub lower : Bool
@@ -18,41 +19,44 @@ pub record Turn : Type 0 where
 -- A path from the root is a list of records, the last one first: the root names the first record, and each record names
 -- the one after it. The empty path is the root alone.
 
--- the offset at the end of a path: the root's first one, or one of its last record
+-- the offset at the end of a path: that of its last record by which it continues, or the root's first one for the
+-- empty path
 abbrev pub named_by : Links → List Turn → ℕ
 named_by links [] = links.first
 named_by links (t ∷ path) = if t.lower then lower_at links.records t.place else next_at links.records t.place
 
--- where that offset stands: in the root's element, or in the last record
+-- the position at which a fault of that offset is reported: the last record, or the element of the root
 abbrev pub told_at : Links → List Turn → ℕ
 told_at links [] = links.place
 told_at links (t ∷ path) = t.place
 
--- the level of the record that a path names: the root names one of level 1, and each lower offset one a level below
+-- the level of the record that a path leads to: 1 from the root, and one more for each offset of a lower level
 abbrev pub level_of : List Turn → ℕ
 level_of [] = 1
 level_of (t ∷ path) = if t.lower then suc (level_of path) else level_of path
 
--- the records above the one that a path names
+-- the positions of the records above the one that a path leads to
 abbrev pub above : List Turn → List ℕ
 above [] = []
 above (t ∷ path) = if t.lower then t.place ∷ above path else above path
 
--- the records before the one that a path names, at its level and below the same record
+-- the positions of the earlier siblings of the record that a path leads to
 abbrev pub before : List Turn → List ℕ
 before [] = []
 before (t ∷ path) = if t.lower then [] else t.place ∷ before path
 
--- the last record of a path, those before it and those above it; a record before one above it is none of these
+-- the line of a path: the positions of its last record, of the earlier siblings of that, and of the records above;
+-- not of the earlier siblings of those above
 abbrev pub line_of : List Turn → List ℕ
 line_of [] = []
 line_of (t ∷ path) = t.place ∷ (before path ++ above path)
 
--- a path makes a cycle where it names a record of its line once more
+-- a path makes a cycle if its offset leads to a record of its line
 abbrev pub makes_cycle : Links → List Turn → Bool
 makes_cycle links path = is_one_of (named_by links path) (line_of path)
 
--- a path and all that go on from it, the lower offset before the next one, by fewer records than the first number says
+-- a path and all that continue from it, by the offset of the lower level before that of the next record, with fewer
+-- further records than the first number
 abbrev pub paths_from : ℕ → Links → List Turn → List (List Turn)
 paths_from zero links path = []
 paths_from (suc most) links path =
@@ -61,19 +65,19 @@ paths_from (suc most) links path =
     ∷ (paths_from most links (record { place = named_by links path; lower = true } ∷ path)
     ++ paths_from most links (record { place = named_by links path; lower = false } ∷ path))
 
--- the paths from the root, in their order; any longer one has named a record twice
+-- the paths from the root, in order; any longer one has reached a record twice
 abbrev pub paths_of : Links → List (List Turn)
 paths_of links = paths_from (suc (length links.records)) links []
 
--- the places that paths name
+-- the positions that these paths lead to
 abbrev pub reached_by : Links → List (List Turn) → List ℕ
 reached_by links paths = map (named_by links) paths
 
--- the places of the root's own records among them
+-- the positions of the root's own records that these paths lead to
 abbrev pub root_records : Links → List (List Turn) → List ℕ
 root_records links paths = reached_by links (filter (λ path. nat_eq (level_of path) 1) paths)
 
--- the last of a list, or else the number
+-- the last number of a list, or `place` if it is empty
 abbrev pub last_from : ℕ → List ℕ → ℕ
 last_from place [] = place
 last_from place (p ∷ places) = last_from p places

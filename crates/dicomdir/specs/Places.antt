@@ -1,5 +1,5 @@
--- The directory that this product builds of rows: where each record of the tree stands, and what its offsets are
--- (PS3.3 sections F.3 and F.4). Records stand depth first, without gaps, which is this product's own profile.
+-- The directory that this product builds from rows: the position of each record and its offsets (PS3.3 sections F.3
+-- and F.4). Records are depth first, without gaps, which is this product's own profile.
 use Rattle.std.specs.Prelude.{ℕ, suc, ◌+◌, ◌-◌, ◌^◌, Bool, List, [], ◌∷◌, ◌++◌, length, nat_lt, if◌then◌else◌}
 use Rattle.std.specs.List.{list_any}
 use Rattle.std.specs.Str.{bytes_eq}
@@ -9,11 +9,11 @@ use Rattle.dicomdir.specs.TreeOf.{Forest, no_nodes, node, TreeOf}
 use Rattle.dicomdir.specs.Directory.{Record}
 use Rattle.dicomdir.specs.Record.{spelled, with_offsets, record_item, root_elements}
 
--- how many bytes a record takes, with its item's header and its two offsets
+-- the size of a record in bytes, with the header of its item and its two offsets
 abbrev pub record_size : Elements → ℕ
 record_size es = 8 + length (spelled (with_offsets 0 0 es))
 
--- how many bytes stand between the first of the data set and the first record
+-- the size of the elements before the first record, in bytes
 abbrev pub root_size : ℕ
 root_size = length (spelled (root_elements 0 0 no_items))
 
@@ -21,8 +21,8 @@ abbrev pub forest_size : Forest Elements → ℕ
 forest_size no_nodes = 0
 forest_size (node es below next) = record_size es + forest_size below + forest_size next
 
--- each node's record with its place, where the first one stands at `place`: those below a record follow it, and
--- then its next sibling
+-- the tree with the positions of its records, the first at `place`: after each record those below it, then its next
+-- sibling
 abbrev pub with_places : ℕ → Forest Elements → Forest Record
 with_places place no_nodes = no_nodes
 with_places place (node es below next) =
@@ -30,7 +30,7 @@ with_places place (node es below next) =
     (with_places (place + record_size es) below)
     (with_places (place + record_size es + forest_size below) next)
 
--- depth first
+-- the records of a tree, depth first
 abbrev pub flattened : Forest Record → List Record
 flattened no_nodes = []
 flattened (node r below next) = r ∷ (flattened below ++ flattened next)
@@ -39,7 +39,7 @@ abbrev pub place_each : List Record → List ℕ
 place_each [] = []
 place_each (r ∷ records) = r.place ∷ place_each records
 
--- of siblings, the place of the first and of the last; 0 where there is none
+-- the position of the first of these siblings, 0 if there is none; that of the last follows
 
 abbrev pub first_record_place : Forest Record → ℕ
 first_record_place no_nodes = 0
@@ -52,8 +52,8 @@ last_record_place_after place (node r below next) = last_record_place_after r.pl
 abbrev pub last_record_place : Forest Record → ℕ
 last_record_place records = last_record_place_after 0 records
 
--- the items of the records, depth first, and then the other items: a record names its next sibling and the first
--- record below it
+-- the items of the records, depth first, before the other items; each record has the offsets of its next sibling and
+-- of the first record below it
 abbrev pub record_items : Forest Record → Items → Items
 record_items no_nodes others = others
 record_items (node r below next) others =
@@ -62,11 +62,11 @@ record_items (node r below next) others =
 abbrev pub elements_with_places : Forest Record → Elements
 elements_with_places records = root_elements (first_record_place records) (last_record_place records) (record_items records no_items)
 
--- the elements of the directory of a tree, of which the first stands at `start`
+-- the elements of the directory of a tree, the first at position `start`
 unfoldable pub directory_elements : ℕ → Forest Elements → Elements
 directory_elements start tree = elements_with_places (with_places (start + root_size) tree)
 
--- the directory of rows after a file header, and how many bytes it has
+-- the bytes of the directory of rows after this file header; their number follows
 abbrev pub directory_of : List ℕ → List Row → List ℕ
 directory_of front rows = front ++ spelled (directory_elements (length front) (TreeOf rows))
 
@@ -77,11 +77,11 @@ directory_size start rows = start + root_size + forest_size (TreeOf rows)
 abbrev pub greatest_size : ℕ
 greatest_size = 2 ^ 32 - 1
 
--- a directory that has more than so many bytes is not built
+-- the directory of these rows has more than `most` bytes, and is not built
 abbrev pub is_too_large : ℕ → ℕ → List Row → Bool
 is_too_large most start rows = nat_lt most (directory_size start rows)
 
--- of rows that follow `at` others, the numbers of those that are left out as doubles
+-- the indices of the rows that are left out as doubles, where the first of these rows has index `at`
 abbrev pub doubles_after : ℕ → List (List ℕ) → List Row → List ℕ
 doubles_after at before [] = []
 doubles_after at before (row ∷ rows) =

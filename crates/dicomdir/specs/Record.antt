@@ -20,20 +20,20 @@ use Rattle.element.specs.declared.header.Header.{Header}
 abbrev pub tag : ℕ → ℕ → Tag
 tag group element = record { 0 = group; 1 = element }
 
--- an element in Explicit and those behind it
+-- an element in Explicit VR, before others
 abbrev pub field : Tag → List ℕ → List ℕ → Elements → Elements
 field t vr v behind = value (record { tag = t; vr = Some vr; length = length v }) v behind
 
--- an identifier is padded by 00H, text by a space
+-- the byte that pads a value of this VR: 00H for UI, a space for any other
 abbrev pub padding_for : List ℕ → ℕ
 padding_for vr = if pointwise nat_eq vr (codes "UI") then 0 else 32
 
--- an element, with its padding, and those behind it, if the record has it
+-- an element, padded, before others, if the record has it
 abbrev pub field_of : RecordRule → Option (List ℕ) → Elements → Elements
 field_of rule None behind = behind
 field_of rule (Some v) behind = field rule.tag rule.vr (padded (padding_for rule.vr) v) behind
 
--- what a record has of an element: nothing, or the value, which may be empty
+-- the value with which a record has an element of this type: none if it does not have it; it may be empty
 abbrev pub written : ElementType → Option (List ℕ) → Option (List ℕ)
 written Unique v = Some (unwrap_or v [])
 written Type1 v = Some (unwrap_or v [])
@@ -41,7 +41,7 @@ written Type1C v = v
 written Type2 v = Some (unwrap_or v [])
 written Type3 v = v
 
--- those of these elements that a record at a level has, with what it says under each tag
+-- the elements of these rules that a record of this level has, with the values of `says`
 abbrev pub fields : Level → List RecordRule → (ℕ → Option (List ℕ)) → Elements
 fields level [] says = no_elements
 fields level (rule ∷ rules) says =
@@ -54,7 +54,7 @@ kind_of Study = codes "STUDY"
 kind_of Series = codes "SERIES"
 kind_of Image = codes "IMAGE"
 
--- what the record of a row says of itself and of its file; in use it is FFFFH
+-- the values of group 0004 of the record of a row, of itself and of its file; Record In-use Flag is FFFFH, in use
 abbrev pub own_values : Level → Row → Values
 own_values level row =
     (0x00041410, le 0xffff 2)
@@ -65,16 +65,16 @@ own_values level row =
     ∷ (0x00041512, transfer_uid row.syntax)
     ∷ []
 
--- under a tag of group 0004 it says these, under any above it a key without the padding that it came with
+-- the value of an element of a record: of group 0004 one of `own`, of any other a key, without padding
 abbrev pub says : Values → Values → ℕ → Option (List ℕ)
 says own keys t = if nat_lt t 0x00050000 then value_of own t else option_map key (value_of keys t)
 
--- the elements of the record of a row at a level, but for the two offsets
+-- the elements of the record of a row at a level, without the two offsets
 abbrev pub record_for : Level → Row → Elements
 record_for level row = fields level record_table (says (own_values level row) row.values)
 
--- ---- how this product lays a directory down (PS3.3 section F.3): sequence and items have defined lengths (PS3.5
--- section 7.5.1), which is this product's own profile.
+-- ---- the layout of a directory that this product writes (PS3.3 section F.3): sequence and items have defined
+-- lengths (PS3.5 section 7.5.1), which is this product's own profile.
 
 -- the bytes of elements and items, one after the other
 abbrev mutual
@@ -88,7 +88,7 @@ abbrev mutual
   spelled_items (item h es is) = header_bytes h ++ (spelled es ++ spelled_items is)
   spelled_items (fragment h v is) = header_bytes h ++ (v ++ spelled_items is)
 
--- a record's elements with its offsets, round Record In-use Flag, which comes first without them
+-- the elements of a record with its two offsets, before and after Record In-use Flag, which is the first without them
 abbrev pub with_offsets : ℕ → ℕ → Elements → Elements
 with_offsets next lower no_elements = no_elements
 with_offsets next lower (value in_use flag es) =
@@ -99,15 +99,15 @@ with_offsets next lower (sequence h is es) = sequence h is es
 abbrev pub item_of : Elements → Items → Items
 item_of es is = item (record { tag = item_tag; vr = None; length = length (spelled es) }) es is
 
--- a record with its next and its lower offset, and the records behind it
+-- the item of a record with its next and its lower offset, before other items
 abbrev pub record_item : ℕ → ℕ → Elements → Items → Items
 record_item next lower es is = item_of (with_offsets next lower es) is
 
--- the header of the records, which take this many bytes
+-- the header of Directory Record Sequence, whose items have `size` bytes
 abbrev pub records_header : ℕ → Header
 records_header size = record { tag = tag 0x0004 0x1220; vr = Some (codes "SQ"); length = size }
 
--- an empty File-set ID, the offsets of the first and the last record of the root, and the consistency flag
+-- an empty File-set ID, the offsets of the first and the last record of the root, and File-set Consistency Flag
 abbrev pub root_fields : ℕ → ℕ → Elements → Elements
 root_fields first last behind =
     field (tag 0x0004 0x1130) (codes "CS") []
@@ -124,6 +124,6 @@ root_elements first last is = root_fields first last (sequence (records_header (
 unfoldable pub element_text : Tag → List ℕ → List ℕ → List ℕ
 element_text t vr v = header_bytes (record { tag = t; vr = Some vr; length = length v }) ++ v
 
--- a record with its offsets
+-- the bytes of the record of a row at a level, with its two offsets
 unfoldable pub record_text : Level → Row → ℕ → ℕ → List ℕ
 record_text level row next lower = spelled_items (record_item next lower (record_for level row) no_items)

@@ -29,8 +29,8 @@ record_rule group element vr room kind levels = record {
   levels = levels;
 }
 
--- of each key of a data set the tag, the VR, the greatest size of its value, its type (PS3.5 section 7.4) and the records
--- that have it
+-- the keys from the data set: tag, VR, greatest size of the value in bytes, type (PS3.5 section 7.4), and the level
+-- of the records that have it
 abbrev pub key_table : List RecordRule
 key_table =
     record_rule 0x0008 0x0005 (codes "CS") 64 Type1C Each
@@ -49,7 +49,8 @@ key_table =
     ∷ record_rule 0x0020 0x0013 (codes "IS") 32 Type1 (Only Image)
     ∷ []
 
--- whether keys of a type are read of a data set, and so are in records: those of type 3 where they are asked for alone
+-- whether keys of this type are read from data sets, and so are in records: those of type 3 only if they are asked
+-- for
 abbrev pub reads_type : RecordKeys → ElementType → Bool
 reads_type Needed Type3 = false
 reads_type keys kind = true
@@ -62,8 +63,8 @@ is_read keys rule = reads_type keys rule.kind
 abbrev pub keys_read : RecordKeys → List RecordRule
 keys_read keys = filter (is_read keys) key_table
 
--- all elements of records: the offsets of the next and of the first lower record, between them Record In-use Flag,
--- Directory Record Type, the file ID, what the file header says of the file, and then the keys
+-- all elements of records: the offsets of the next record and of the lower level, between them Record In-use Flag,
+-- then Directory Record Type, the file ID, SOP class, SOP instance and transfer syntax of the file, and the keys
 abbrev pub record_table : List RecordRule
 record_table =
     record_rule 0x0004 0x1400 (codes "UL") 4 Type1C Each
@@ -76,15 +77,15 @@ record_table =
     ∷ record_rule 0x0004 0x1512 (codes "UI") 64 Type1C (Only Image)
     ∷ key_table
 
--- by a unique key, which is of type 1, too, the records of its level are told apart
+-- whether a type is that of a unique key, in which the records of its level differ; it is of type 1, too
 abbrev pub is_unique : ElementType → Bool
 is_unique Unique = true
 is_unique kind = false
 
--- whether rows are grouped by a key at a level
+-- whether this is the unique key of a level, by which rows are grouped
 abbrev pub groups : Level → RecordRule → Bool
 groups level rule = is_unique rule.kind && has_level rule.levels level
 
--- what a walk keeps for a key
+-- the tag of a key and the greatest size of its value, for a walker
 abbrev pub want_of : RecordRule → Want
 want_of rule = record { tag = rule.tag; room = rule.room }

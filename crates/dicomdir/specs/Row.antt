@@ -1,5 +1,5 @@
--- What a directory is built from: a row for each file. Which keys a record has is that of PS3.3 section F.5;
--- which of them must not be empty is this product's own profile.
+-- What a directory is built from: a row for each file. The keys are those of PS3.3 section F.5; which of them must
+-- not be empty is this product's own profile.
 use Rattle.std.specs.Prelude.{ℕ, List, [], ◌∷◌, ◌++◌, unwrap_or, if◌then◌else◌}
 use Rattle.std.specs.List.{list_any}
 use Rattle.std.specs.Str.{bytes_eq}
@@ -9,24 +9,24 @@ use Rattle.element.specs.Header.{number}
 use Rattle.element.specs.Padding.{is_padding, without_trailing}
 use Rattle.sequence.specs.Wanted.{Values, value_of}
 
--- the class, the instance and the transfer syntax are those of the file header
+-- the row of a file: its file ID; the SOP class, SOP instance and transfer syntax of its file header; and its keys
 pub record Row : Type 0 where
   pub file_id : List ℕ
   pub class : List ℕ
   pub instance : List ℕ
   pub syntax : Transfer
-  -- those of the data set that records have, each after its tag's number
+  -- the keys: values of the data set that records have, each with the number of its tag
   pub values : Values
 
--- the value with this tag; empty where there is none
+-- the value with this tag, or the empty one if there is none
 abbrev pub key_in : Values → Tag → List ℕ
 key_in values t = unwrap_or (value_of values (number t)) []
 
--- of a key's value, what is compared and written: spaces and 00H at its end do not count
+-- the value of a key as it is compared and written: without spaces and zero bytes at its end
 abbrev pub key : List ℕ → List ℕ
 key value = without_trailing is_padding value
 
--- the rows but for doubles, whose instance is one of `before` or of an earlier row
+-- the rows without doubles: rows whose SOP Instance UID is one of `before` or that of an earlier row
 abbrev pub without_doubles : List (List ℕ) → List Row → List Row
 without_doubles before [] = []
 without_doubles before (row ∷ rows) =

@@ -1,5 +1,5 @@
--- The row of a file, or why it has none (this product's own profile; which values the records of a directory have is
--- that of PS3.3 section F.5).
+-- The row of a file, or why it has none (this product's own profile; the values that records have are those of PS3.3
+-- section F.5).
 use Rattle.std.specs.Prelude.{◌≡◌, ◌≢◌, ℕ, ◌^◌, Bool, true, false, not, ◌||◌, List, [], ◌∷◌, ◌++◌, Option, Some, None, Result, Err, IfErr, map, nat_eq}
 use Rattle.std.specs.List.{list_any}
 use Rattle.element.specs.Header.{number}
@@ -24,15 +24,15 @@ use Rattle.dicomdir.specs.RecordTable.{keys_read, want_of}
 use Rattle.dicomdir.specs.Row.{Row}
 use Rattle.dicomdir.specs.Keys.{checked_row}
 
--- the elements that a row with these keys has of the data set, each with the greatest size of its value
+-- the tags of these keys, each with the greatest size of its value, for a walker
 abbrev pub row_wants : List RecordRule → List Want
 row_wants rules = map want_of rules
 
--- what the data set is held to: these rooms, 64 open levels and 2^48 bytes
+-- the limits of the data set: the greatest sizes of these keys, 64 open levels and 2^48 bytes
 abbrev pub row_limits : List RecordRule → Limits
 row_limits rules = record { wanted = row_wants rules; depth = 64; bytes = 2 ^ 48 }
 
--- the values of these keys
+-- the value with this tag, if there is one, before others
 abbrev pub with_value : ℕ → Option (List ℕ) → Values → Values
 with_value n None others = others
 with_value n (Some v) others = (n, v) ∷ others
@@ -51,18 +51,19 @@ row_from rules file_id class instance syntax values = record {
   values = values_for rules values;
 }
 
--- whether files in a transfer syntax are taken: in a native one, or in one of the further ones
+-- whether files in this transfer syntax are accepted: in a native one, or in one of `further`
 abbrev pub is_taken : List Transfer → Transfer → Bool
 is_taken further transfer = not (is_encapsulated transfer) || list_any (is_text_of (transfer_uid transfer)) further
 
--- the first fault of a file header, where these further transfer syntaxes are taken: `OtherSyntax` is to name none that is
+-- the fault of a file header, if the native transfer syntaxes and these further ones are accepted; `OtherSyntax` is
+-- that of any other
 abbrev pub HeaderFaultOf : List Transfer → List ℕ → MetaFault → Type 0
 HeaderFaultOf further file NotPart10 = MetaFaultOf file NotPart10
 HeaderFaultOf further file BadMeta = MetaFaultOf file BadMeta
 HeaderFaultOf further file OtherSyntax = (said : Said) × HasMeta said file × ((t : Transfer) → is_taken further t ≡ true → said.syntax ≢ transfer_uid t)
 HeaderFaultOf further file ReadFailed = ⊥
 
--- the file is a file header that names a transfer syntax that is taken, and what follows
+-- the file is a file header with an accepted transfer syntax, followed by the bytes `back`
 pub record IsInstance (further : List Transfer) (file : List ℕ) : Type 0 where
   pub class : List ℕ
   pub instance : List ℕ
@@ -73,18 +74,20 @@ pub record IsInstance (further : List Transfer) (file : List ℕ) : Type 0 where
   pub whole : file ≡ front ++ back
   pub header : SpellsMeta (record { class = class; instance = instance; syntax = transfer_uid syntax }) front
 
--- what the file gives under this file ID: its row with these keys, its first fault, or the first key that is missing
+-- the result of a file with this file ID: its row with these keys, its first fault, or the first key of type 1 that
+-- is missing
 pub data RowOf (further : List Transfer) (rules : List RecordRule) (file file_id : List ℕ) (result : Result Row Skip) : Type 0 where
-  -- the first fault of the file header
+  -- the fault of the file header
   in_header : (fault : MetaFault) → HeaderFaultOf further file fault → result ≡ Err (skip.Fault (fault_number fault)) → RowOf further rules file file_id result
-  -- the first fault of the whole data set, before any key is looked at
+  -- else the first fault of the whole data set
   in_data_set : (is : IsInstance further file) (fault : Fault) → Fails (coding_in is.syntax) (row_limits rules) is.back fault → result ≡ Err (skip.Fault fault.number)
       → RowOf further rules file file_id result
-  -- the row of the header's class, instance and transfer syntax and the data set's values, if none that must be there is missing
+  -- else the row of the file header's SOP class, SOP instance and transfer syntax and the keys of the data set, or
+  -- the first key of type 1 that is missing
   of_values : (is : IsInstance further file) (elements : Elements) → DataSet (coding_in is.syntax) 0 elements is.back → Within (coding_in is.syntax) (row_limits rules) elements is.back
       → result ≡ checked_row (row_from rules file_id is.class is.instance is.syntax (kept_of (row_wants rules) elements)) → RowOf further rules file file_id result
 
--- what reading the file gives: a growth was refused, a read failed, or what the file gives
+-- the result of reading a file: memory ran out, a read failed, or that of the file
 pub data RowIsRead (Gives : Result Row Skip → Type 0) (result : Result Row Skip) : Type 0 where
   no_memory : result ≡ Err skip.OutOfMemory → RowIsRead Gives result
   read_failed : result ≡ Err (skip.Fault 54) → RowIsRead Gives result
@@ -92,12 +95,12 @@ pub data RowIsRead (Gives : Result Row Skip → Type 0) (result : Result Row Ski
 
 -- ---- the row where Series Description is asked for
 
--- whether a value is too long for its room
+-- whether a file has no row because a key is too long
 abbrev pub is_too_long : Skip → Bool
 is_too_long (skip.Fault number) = nat_eq number 21
 is_too_long reason = false
 
--- what the file gives with all keys; but where a value is too long then, what it gives with those alone that are needed
+-- the result of a file with all keys; or, if a key is too long then, with those alone that are not of type 3
 pub data DescribedRow (further : List Transfer) (file file_id : List ℕ) (result : Result Row Skip) : Type 0 where
   described : RowOf further (keys_read Described) file file_id result → IfErr result (λ reason. is_too_long reason ≡ false) → DescribedRow further file file_id result
   undescribed : (reason : Skip) → RowOf further (keys_read Described) file file_id (Err reason) → is_too_long reason ≡ true → RowOf further (keys_read Needed) file file_id result

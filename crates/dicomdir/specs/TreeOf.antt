@@ -11,12 +11,12 @@ use Rattle.dicomdir.specs.RecordTable.{groups, key_table}
 use Rattle.dicomdir.specs.Record.{record_for}
 use Rattle.std.specs.Borrow.{Bor}
 
--- siblings: each node carries something, and has nodes below it
+-- a list of siblings: each node has contents, and nodes below it
 pub data Forest (N : Type 0) : Type 0 where
   no_nodes : Forest N
   node : N → Forest N → Forest N → Forest N
 
--- how many nodes there are
+-- the number of nodes
 abbrev pub count_of : {N : Type 0} → Forest N → ℕ
 count_of no_nodes = 0
 count_of (node n below next) = suc (count_of below + count_of next)
@@ -24,7 +24,7 @@ count_of (node n below next) = suc (count_of below + count_of next)
 abbrev pub with_key : List ℕ → List (List ℕ) → List (List ℕ)
 with_key k keys = if list_any (bytes_eq k) keys then keys else (keys ++ k ∷ [])
 
--- the keys, and then the new ones of a list, in first-seen order
+-- these keys, followed by the new ones of a list, in the order in which they are first seen
 abbrev pub seen_after : List (List ℕ) → List (List ℕ) → List (List ℕ)
 seen_after keys [] = keys
 seen_after keys (k ∷ ks) = seen_after (with_key k keys) ks
@@ -32,7 +32,7 @@ seen_after keys (k ∷ ks) = seen_after (with_key k keys) ks
 abbrev pub rows_with : (Row → List ℕ) → List ℕ → List Row → List Row
 rows_with key_of k rows = filter (λ row. bytes_eq k (key_of row)) rows
 
--- the node of a group of rows: it carries what its first row says
+-- the node of a group of rows, with the elements of its first row, before its next siblings
 abbrev pub group_node : (Row → Elements) → (List Row → Forest Elements) → List Row → Forest Elements → Forest Elements
 group_node record_for below [] next = next
 group_node record_for below (row ∷ rows) next = node (record_for row) (below (row ∷ rows)) next
@@ -42,16 +42,17 @@ group_nodes key_of record_for below rows [] = no_nodes
 group_nodes key_of record_for below rows (k ∷ keys) =
     group_node record_for below (rows_with key_of k rows) (group_nodes key_of record_for below rows keys)
 
--- a node for each group of rows that have the same key, in first-seen order
+-- a node for each group of rows with the same key, in the order in which the keys are first seen
 abbrev pub grouped : (Row → List ℕ) → (Row → Elements) → (List Row → Forest Elements) → List Row → Forest Elements
 grouped key_of record_for below rows = group_nodes key_of record_for below rows (seen_after [] (map key_of rows))
 
--- what a row has of a key, and its instance where there is no key
+-- the value of this key in a row, or its SOP Instance UID if there is no key
 abbrev pub key_or_instance : Row → Option RecordRule → List ℕ
 key_or_instance row None = row.instance
 key_or_instance row (Some rule) = key_in row.values rule.tag
 
--- by what rows are grouped: Patient ID, Study Instance UID, Series Instance UID, SOP Instance UID
+-- the value by which rows are grouped at a level: Patient ID, Study Instance UID, Series Instance UID, SOP Instance
+-- UID
 abbrev pub key_for : Level → Row → List ℕ
 key_for level row = key (key_or_instance row (find (groups level) key_table))
 
@@ -68,7 +69,7 @@ studies rows = grouped (key_for Study) (record_for Study) series rows
 abbrev pub patients : List Row → Forest Elements
 patients rows = grouped (key_for Patient) (record_for Patient) studies rows
 
--- the tree of these rows; a node is its record's elements but for the two offsets
+-- the tree of these rows; a node has the elements of its record, without the two offsets
 unfoldable pub TreeOf : List Row → Forest Elements
 TreeOf rows = patients (without_doubles [] rows)
 
@@ -93,7 +94,7 @@ is_image Study = false
 is_image Series = false
 is_image Image = true
 
--- how many levels are below
+-- the number of levels below this one
 abbrev pub depth : Level → ℕ
 depth Patient = 3
 depth Study = 2
@@ -105,7 +106,7 @@ depth Image = 0
 abbrev pub groups_of : (Row → List ℕ) → List Row → List (List Row)
 groups_of key_of rows = map (λ k. rows_with key_of k rows) (seen_after [] (map key_of rows))
 
--- the rows behind references
+-- the rows that these references lead to
 abbrev pub rows_at : List (Bor Row) → List Row
 rows_at rows = map (λ row. row.now) rows
 

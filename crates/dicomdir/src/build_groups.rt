@@ -1,4 +1,4 @@
-//! Groups rows by their keys.
+//! Groups rows by patient, study or series.
 ghost use Rattle.std.specs.Prelude.{◌≡◌, ◌<◌, ◌++◌, ◌∷◌, [], IfOk, OnOk, if◌then◌else◌, length, get_or, set};
 ghost use Rattle.dicomdir.specs.TreeOf.{groups_of, row_groups, rows_at, key_for};
 ghost use Rattle.dicomdir.specs.machine.FirstSeen.{Puts, texts};
@@ -13,15 +13,16 @@ use element::unpadded;
 use indexmap::IndexSet;
 use std::alloc::{AllocError, Allocator};
 
-/// Returns the first of these keys by which rows are grouped at a level.
+/// Returns the first of these keys that is the unique key of a level: Patient ID, Study Instance UID or
+/// Series Instance UID. There is none for images.
 fn grouping_key(rules: &[RecordRule], level: Level) -> Option<RecordRule>
     ensures { result ≡ find (table.groups level) rules.now }
 {
     rules.iter().copied().find(|rule| rule.groups(level))
 }
 
-/// Returns the value by which rows are grouped at a level, without its padding: that of the level's unique key, or
-/// the SOP instance.
+/// Returns the value by which rows are grouped at a level, without its padding: that of the level's
+/// unique key, or for images the SOP Instance UID.
 fn key_of<A: Allocator>(row: &Row<A>, level: Level) -> &[u8]
     ensures { result.now ≡ key_for level row.now }
 {
@@ -31,7 +32,7 @@ fn key_of<A: Allocator>(row: &Row<A>, level: Level) -> &[u8]
     })
 }
 
-/// Opens a group without rows if the key is new.
+/// Appends an empty group if the key is new. Fails if memory runs out.
 fn open_group<'r, A: Allocator + Copy>(
     alloc: A,
     groups: &mut Vec<Vec<&'r Row<A>, A>, A>,
@@ -59,7 +60,7 @@ fn put_row<'r, A: Allocator>(
     Ok(())
 }
 
-/// Puts a row into the group of its key, which it opens if the key is new.
+/// Appends a row to the group of its key, which is created if the key is new. Fails if memory runs out.
 fn put_by_key<'r, A: Allocator + Copy>(
     alloc: A,
     seen: &mut SeenKeys<A>,
@@ -75,7 +76,8 @@ fn put_by_key<'r, A: Allocator + Copy>(
     put_row(groups, number, row)
 }
 
-/// Returns the rows of each group with the same key, groups in first-seen order.
+/// Groups the rows by their key at this level: groups in the order in which their keys are first seen,
+/// rows in their order. Fails if memory runs out.
 pub(crate) fn groups<'r, A: Allocator + Copy>(
     alloc: A,
     rows: &[&'r Row<A>],

@@ -1,4 +1,4 @@
-//! Lays the records of a directory down, last record first.
+//! Plans the records of a directory and their offsets, last record first.
 ghost use Rattle.std.specs.Prelude.{◌≡◌, ◌<◌, ◌≤◌, ◌+◌, [], IfOk, IfErr, IfSome, IfNone, if◌then◌else◌, nat_eq};
 ghost use Rattle.dicomdir.specs.TreeOf.{rows_at, images, forest_for};
 ghost use Rattle.dicomdir.specs.machine.Building.{StopsFor, stop_fault, Adds, Lays};
@@ -12,17 +12,17 @@ use crate::level::Level;
 use crate::record_bytes::record_bytes;
 use std::alloc::Allocator;
 
-/// Why no directory is laid down.
+/// Why a directory cannot be planned.
 #[derive(Clone, Copy)]
 pub(crate) enum Stop {
-    /// There would be more bytes than there may be.
+    /// It would have more bytes than the limit.
     TooLarge,
-    /// An allocation was refused.
+    /// Memory ran out.
     OutOfMemory,
 }
 
 impl Stop {
-    /// Returns the fault of the directory that is not built.
+    /// Returns the fault that [`build`](crate::build) returns for it: 66 or 67.
     pub(crate) fn fault(self) -> DirFault
         ensures { result ≡ stop_fault self }
     {
@@ -45,8 +45,9 @@ pub(crate) fn sum_up_to(most: u32, size: u32, more: u32) -> Option<u32>
     Some(sum)
 }
 
-/// A record. Its offsets are counted from the end of the file, since that alone is known while the
-/// records are laid down; 0 means none.
+/// A planned record: its level and the row whose keys it has. Its offsets, to the next record of the
+/// level (`next`) and to the first of the lower level (`lower`), are counted back from the end of the
+/// file, which is all that is known while planning; 0 stands for no record.
 #[derive(Drop)]
 pub(crate) struct LaidRecord<'r, A: Allocator> {
     pub(crate) level: Level,
@@ -55,7 +56,8 @@ pub(crate) struct LaidRecord<'r, A: Allocator> {
     pub(crate) lower: u32,
 }
 
-/// The first and the last record of a chain, from the end of the file; 0 means none.
+/// The first and the last of some sibling records, as offsets counted back from the end of the file; 0
+/// stands for no record.
 #[derive(Clone, Copy)]
 pub(crate) struct Chain {
     pub(crate) first: u32,
@@ -63,7 +65,7 @@ pub(crate) struct Chain {
 }
 
 impl Chain {
-    /// Returns the chain with one more record before it.
+    /// Returns the chain with one more record in front, at offset `start`.
     fn after(self, start: u32) -> Chain
         ensures first { result.first ≡ start }
         ensures last { result.last ≡ (if nat_eq self.first 0 then start else self.last) }
@@ -75,7 +77,7 @@ impl Chain {
     }
 }
 
-/// The records that are laid down, the last of the file first, and how many bytes they have.
+/// The records planned so far, the last of the file first, and their size in bytes.
 #[derive(Drop)]
 pub(crate) struct Plan<'r, A: Allocator> {
     pub(crate) entries: Vec<LaidRecord<'r, A>, A>,
@@ -93,7 +95,8 @@ impl<'r, A: Allocator> Plan<'r, A> {
         }
     }
 
-    /// Puts a record before those that are laid down, and returns where it starts; there may be `most` bytes.
+    /// Plans a record in front of the others, and returns its offset, counted back from the end of the
+    /// file. Fails if there would be more than `most` bytes of records, or memory runs out.
     #[tactic(auto, using(crate::proofs::LayingLemmas::record_length))]
     fn add(&mut self, most: u32, entry: LaidRecord<'r, A>) -> Result<u32, Stop>
         ensures added { IfOk result (λ start. Adds entry.entry.level entry.entry.row.now entry.entry.next entry.entry.lower self.old.entries.items self.new.entries.items) }
@@ -113,7 +116,7 @@ impl<'r, A: Allocator> Plan<'r, A> {
     }
 }
 
-/// Lays down a record for each row, as images.
+/// Plans an IMAGE record for each row.
 fn lay_images<'r, A: Allocator>(
     plan: &mut Plan<'r, A>,
     rows: &[&'r Row<A>],
@@ -138,8 +141,8 @@ fn lay_images<'r, A: Allocator>(
     Ok(chain)
 }
 
-/// Lays down the records of rows at a level and below it: a record for each group, with the keys of
-/// its first row. There may be `most` bytes of records.
+/// Plans the records of rows at a level and below it: one for each group, with the keys of its first
+/// row. Fails if there would be more than `most` bytes of records, or memory runs out.
 pub(crate) fn lay<'r, A: Allocator + Copy>(
     alloc: A,
     plan: &mut Plan<'r, A>,

@@ -1,4 +1,4 @@
-//! Builds the directory of rows.
+//! Builds a DICOMDIR from rows.
 ghost use Rattle.std.specs.Prelude.{◌≡◌, true, false, IfOk, OnOk, IfErr, OnErr, IsErrAnd};
 ghost use Rattle.std.specs.Io.KnownBytes.{Appends};
 ghost use Rattle.dicomdir.specs.Built.{file_is_too_large, IsNotBuilt, FailsAsTooLarge, directory_file, AppendsFront};
@@ -20,8 +20,9 @@ use std::io;
 use std::io::Write;
 use std::marker::Model;
 
-/// A directory that is built of rows, record by record; it has no bytes of the file. Contracts see
-/// it as the instance UID of its file and the rows.
+/// A directory that was planned from rows and can be written by [`write_dir`]. It has the records and
+/// their offsets, not the bytes of the file. Contracts see the SOP Instance UID of the file and the
+/// rows.
 #[derive(Drop)]
 pub struct Built<'r, A: Allocator> {
     uid: Uid,
@@ -44,22 +45,23 @@ impl<'r, A: Allocator> Model for Built<'r, A> {
 }
 
 impl<'r, A: Allocator> Built<'r, A> {
-    /// Returns the rows that it is built from, doubles among them.
+    /// Returns all rows that the directory was built from, with those that are left out because an
+    /// earlier row has the same SOP Instance UID.
     pub fn rows(&self) -> &'r [Row<A>]
         ensures { result.now ≡ self.now.rows }
     {
         self.rows
     }
 
-    /// Returns the places of the rows that are left out because an earlier row has the same
-    /// instance, rising.
+    /// Returns the indices, in ascending order, of the rows that are left out because an earlier row
+    /// has the same SOP Instance UID.
     pub fn doubles(&self) -> &[usize]
         ensures { result.now ≡ doubles_of self.now.rows }
     {
         self.doubles.as_slice()
     }
 
-    /// Returns the number of its records.
+    /// Returns the number of directory records.
     pub fn records(&self) -> usize
         ensures { result ≡ count_of (TreeOf self.now.rows) }
     {
@@ -67,12 +69,13 @@ impl<'r, A: Allocator> Built<'r, A> {
     }
 }
 
-/// Builds the directory of rows: a record for each patient, study, series and image, in the order in
-/// which their keys are first seen, each with the keys of its first row (PS3.3 section F.4). A row
-/// whose instance an earlier row has gets no record.
+/// Builds the directory of these rows: a record for each patient, study, series and image, in the order
+/// in which their keys are first seen, each with the keys of its first row (PS3.3 section F.4). A row
+/// with the SOP Instance UID of an earlier row gets no record. `uid` is the SOP Instance UID of the
+/// directory file.
 ///
-/// Fails with 66 if the file would have 2^32 bytes or more, and with 67 if the allocator refuses a
-/// growth.
+/// Fails with 66 (`TooLarge`) if the file would have 2^32 bytes or more, and with 67 (`OutOfMemory`) if
+/// memory runs out.
 pub fn build<'r, A: Allocator + Copy>(
     alloc: A,
     rows: &'r [Row<A>],
@@ -88,9 +91,10 @@ pub fn build<'r, A: Allocator + Copy>(
     build_within(alloc, rows, uid, u32::MAX)
 }
 
-/// Builds the directory of rows as `build` does, of at most `most` bytes.
+/// Builds the directory of these rows as [`build`] does, with a limit of `most` bytes for the file.
 ///
-/// Fails with 66 if the file would have more, and with 67 if the allocator refuses a growth.
+/// Fails with 66 (`TooLarge`) if the file would have more, and with 67 (`OutOfMemory`) if memory runs
+/// out.
 pub fn build_within<'r, A: Allocator + Copy>(
     alloc: A,
     rows: &'r [Row<A>],
@@ -126,12 +130,12 @@ pub fn build_within<'r, A: Allocator + Copy>(
     })
 }
 
-/// Writes a directory: the file header (PS3.10 section 7.1), the elements of the root, and one record
-/// after the other, depth first (PS3.3 section F.3). Sequence and items have defined lengths, and
-/// offsets count from the first byte of the file.
+/// Writes the directory file: the File Meta Information (PS3.10 section 7.1), the elements before the
+/// records, and the records, depth first (PS3.3 section F.3). Sequence and items have defined lengths,
+/// and offsets count from the first byte of the file.
 ///
-/// If a write fails, its error is returned, and the writer has a beginning of the file; a writer that
-/// takes nothing fails with `WriteZero`. A write that a signal interrupted is tried again.
+/// Fails as the writer does, or with `WriteZero` if it takes no byte; the first bytes of the file may
+/// have been written then. A write that a signal interrupts is repeated.
 pub fn write_dir<A: Allocator, W: Write>(built: &Built<'_, A>, writer: &mut W) -> io::Result<()>
     ensures all { OnOk result (Appends (W.contents writer.old) (W.contents writer.new) (directory_file built.now)) }
     ensures front { OnErr result (AppendsFront (W.contents writer.old) (W.contents writer.new) (directory_file built.now)) }

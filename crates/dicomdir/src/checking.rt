@@ -1,4 +1,4 @@
-//! Checks directories.
+//! Checks a DICOMDIR.
 ghost use Rattle.std.specs.Prelude.{◌≡◌, ◌≤◌, ◌<◌, ◌+◌, ◌^◌, ℕ, List, ◌≢◌, length, IsOk, IfOk, IfErr};
 ghost use Rattle.sequence.specs.declared.coding.Coding.TheVariants.{Explicit};
 ghost use Rattle.sequence.specs.Ending.{IsWholeDataSet, Fails};
@@ -21,7 +21,8 @@ use part10::{MetaFault, read_meta};
 use sequence::{Coding, Fault, Walker, Wanted};
 use std::alloc::Allocator;
 
-/// Returns the fault of a file header. No read of a slice fails, so `ReadFailed` does not come.
+/// Returns the fault of a directory file with this fault in its File Meta Information. `ReadFailed`
+/// does not occur, as no read of a slice fails.
 fn header_fault(fault: MetaFault) -> DirFault
     ensures { result ≡ header_fault_of fault }
 {
@@ -33,7 +34,8 @@ fn header_fault(fault: MetaFault) -> DirFault
     }
 }
 
-/// Reads the file header of a file in Explicit VR Little Endian, and returns what follows it.
+/// Reads the File Meta Information, and returns the bytes after it. Fails with 50, 51 or 53; any
+/// transfer syntax but Explicit VR Little Endian is 53.
 #[tactic(auto, using(crate::proofs::WalkLemmas::header_check, crate::proofs::WalkLemmas::header_at_none, crate::proofs::WalkLemmas::implicit_check, crate::proofs::WalkLemmas::explicit_check))]
 fn after_header(bytes: &[u8]) -> Result<&[u8], DirFault>
     ensures read { IfOk result (λ rest. HasHeader bytes.now rest.now) }
@@ -50,7 +52,8 @@ fn after_header(bytes: &[u8]) -> Result<&[u8], DirFault>
     }
 }
 
-/// Walks a data set in Explicit VR Little Endian.
+/// Checks that the bytes are a whole data set in Explicit VR Little Endian, with at most 64 open
+/// levels.
 fn walk(text: &[u8]) -> Result<(), Fault>
     ensures good { IsOk result → IsWholeDataSet Explicit check_limits text.now }
     ensures fails { IfErr result (λ fault. Fails Explicit check_limits text.now fault) }
@@ -62,7 +65,8 @@ fn walk(text: &[u8]) -> Result<(), Fault>
     walker.finish()
 }
 
-/// Reads an offset of the root.
+/// Returns the position and the value of an element with an offset, which must have four bytes. Fails
+/// with 68 (`BadRecord`).
 fn root_offset(element: &Element, start: u64) -> Result<(u64, u32), DirFault>
     ensures read { IfOk result (λ r. (f : Found) → Finds element.now f → IsRootOffset start f r.0 r.1) }
     ensures fails { IfErr result (λ fault. (f : Found) → Finds element.now f → FailsAs (offset_fault start f) fault) }
@@ -77,7 +81,7 @@ fn root_offset(element: &Element, start: u64) -> Result<(u64, u32), DirFault>
     }
 }
 
-/// Checks the elements of a directory, of which the first stands at `start`.
+/// Checks the elements of a directory. `start` is the position of the first in the file.
 fn check_elements<'a, A: Allocator + Copy>(
     alloc: A,
     start: u64,
@@ -119,16 +123,19 @@ fn check_elements<'a, A: Allocator + Copy>(
     }
 }
 
-/// Checks a directory (PS3.3 annex F) in Explicit VR Little Endian, with defined or undefined lengths, and returns its
-/// tree: the records in use with no inactive record above them.
+/// Checks a directory file (PS3.3 annex F) in Explicit VR Little Endian, with defined or undefined
+/// lengths. Returns its tree: the records in use that have no inactive record above them.
 ///
-/// The faults of the file header come first (50, 51, 53), then those of the data set (10 to 20), at 64 open levels and
-/// 2^48 bytes. Then the root and each record must have their elements (68), and a record in use a valid file ID where it
-/// needs one (65). Then the offsets are followed from the root, the lower one before the next one: each must be the
-/// place of a record (60) that was not reached before (61, 62) and fits its level (64); the root's last record must be
-/// the named one (60), and no record in use may be left over (63). An inactive record is followed as any other, and need
-/// not fit its level. 67 comes where the allocator refuses a growth, with place 0 and no tag; any other fault is the
-/// first one in this order, whatever was allocated.
+/// The error is the first fault in this order: of the File Meta Information (50, 51, 53); of the data
+/// set (10 to 20), with at most 64 open levels and 2^48 bytes; a missing or wrong element of the root
+/// or of a record (68), and an invalid or missing file ID of a record in use that needs one (65),
+/// record by record. Then the offsets are followed from the root, that of the lower level before that
+/// of the next record: each must be the position of a record (60) that was not reached before (61, 62)
+/// and whose type fits its level (64). At last the root's offset of its last record must be right (60),
+/// and every record in use must have been reached (63). Inactive records are followed like others, but
+/// need not fit their level.
+///
+/// If memory runs out, the error is 67, with position 0 and no tag.
 #[tactic(auto, using(crate::proofs::WalkLemmas::data_set_check, crate::proofs::WalkLemmas::header_before, crate::proofs::WalkLemmas::fault_within, crate::proofs::WalkLemmas::fault_at_none))]
 pub fn check<'a, A: Allocator + Copy>(alloc: A, bytes: &'a [u8]) -> Result<Tree<'a, A>, DirFault>
     ensures whole { IsOk result → HasDataSet bytes.now }

@@ -1,4 +1,4 @@
-//! Leaves out the rows whose instance an earlier row has.
+//! Leaves out rows with the SOP Instance UID of an earlier row.
 ghost use Rattle.std.specs.Prelude.{◌≡◌, [], IfOk, OnOk};
 ghost use Rattle.std.specs.List.{AllByRecursion};
 ghost use Rattle.dicomdir.specs.Keys.{IsRow};
@@ -12,14 +12,16 @@ use crate::first_seen::{SeenKeys, see};
 use indexmap::IndexSet;
 use std::alloc::{AllocError, Allocator};
 
-/// The rows but for doubles, and the places of the doubles in the slice.
+/// The rows of a list without doubles, and the indices of the doubles in it. A double is a row with the
+/// SOP Instance UID of an earlier row.
 #[derive(Drop)]
 pub(crate) struct Kept<'r, A: Allocator> {
     pub(crate) rows: Vec<&'r Row<A>, A>,
     pub(crate) doubles: Vec<usize, A>,
 }
 
-/// Keeps the row at a place, or adds the place to the doubles if an earlier row has its instance.
+/// Appends the row with index `at` to the rows, or its index to the doubles if an earlier row has its
+/// SOP Instance UID. Fails if memory runs out.
 fn take_row<'r, A: Allocator + Copy>(
     alloc: A,
     seen: &mut SeenKeys<A>,
@@ -38,7 +40,8 @@ fn take_row<'r, A: Allocator + Copy>(
     Ok(())
 }
 
-/// Returns the rows without doubles. Of the rows with the same instance the first one is kept.
+/// Separates the rows from the doubles: of the rows with the same SOP Instance UID, all but the first.
+/// Fails if memory runs out.
 pub(crate) fn leave_out_doubles<'r, A: Allocator + Copy>(
     alloc: A,
     rows: &'r [Row<A>],

@@ -1,4 +1,4 @@
-//! What is wrong with a directory.
+//! The fault of a directory.
 ghost use Rattle.std.specs.Prelude.{◌≡◌};
 ghost use Rattle.sequence.specs.Rules.{no_tag};
 ghost use Rattle.dicomdir.specs.FaultNumbers as names;
@@ -10,15 +10,16 @@ use sequence::Fault;
 use std::fmt;
 use std::fmt::{Display, Formatter};
 
-/// Why a directory is not accepted, or not built.
+/// Why a directory file is invalid, or cannot be built.
 #[derive(Clone, Copy, Debug, PartialEq, Eq)]
 pub struct DirFault {
-    /// Which rule: 10 to 20 are those of a data set (`sequence::Fault`), 50, 51 and 53 those of a file header
-    /// (`part10::MetaFault`), and 60 to 68 those of links and records (`DirRule`).
+    /// The number of the rule: 10 to 20 are rules of a data set (`sequence::Rule`), 50, 51 and 53
+    /// faults of File Meta Information (`part10::MetaFault`), and 60 to 68 rules of directories
+    /// ([`DirRule`]).
     pub number: u8,
-    /// The byte that it concerns, counted from the file's first byte; 0 for 66 and 67.
+    /// The position of the fault in bytes from the start of the file; 0 for 66 and 67.
     pub place: u64,
-    /// The tag that a fault of the data set concerns; (0000,0000) for all others.
+    /// The tag of a fault of the data set (10 to 20); (0000,0000) for all others.
     pub tag: Tag,
 }
 
@@ -50,7 +51,7 @@ impl DirFault {
     /// The number of `DirRule::BadRecord`.
     pub const BAD_RECORD: u8 = DirRule::BadRecord as u8;
 
-    /// Returns a fault of the links or records at a place of the file.
+    /// Returns the fault with this number at this position of the file, without a tag.
     pub(crate) fn at(number: u8, place: u64) -> DirFault
         ensures { result ≡ record { number = number; place = place; tag = no_tag } }
     {
@@ -61,21 +62,21 @@ impl DirFault {
         }
     }
 
-    /// Returns the fault that the file would be too large.
+    /// Returns the fault of a file that would be too large, 66.
     pub(crate) fn too_large() -> DirFault
         ensures { result ≡ record { number = 66; place = 0; tag = no_tag } }
     {
         DirFault::at(DirFault::TOO_LARGE, 0)
     }
 
-    /// Returns the fault that the allocator refused a growth.
+    /// Returns the fault of memory that ran out, 67.
     pub(crate) fn out_of_memory() -> DirFault
         ensures { result ≡ record { number = 67; place = 0; tag = no_tag } }
     {
         DirFault::at(DirFault::OUT_OF_MEMORY, 0)
     }
 
-    /// Returns it as a fault of the data set.
+    /// Returns the fault of a data set with the same number, position and tag.
     fn of_data_set(self) -> Fault
         ensures { result ≡ record { number = self.number; place = self.place; tag = self.tag } }
     {
@@ -102,8 +103,8 @@ impl DirFault {
     }
 }
 
-/// The number and the name of the rule and the place; a fault of the data set has its tag, too, as
-/// `17 Overrun at 346 tag 0008,0060`.
+/// Prints the number and the name of the rule and the position, as `60 BadOffset at 320`; of a fault of
+/// the data set also the tag, as `17 Overrun at 346 tag 0008,0060`.
 impl Display for DirFault {
     fn fmt<W: fmt::Write>(&self, f: &mut Formatter<W>) -> fmt::Result {
         if 10 <= self.number && self.number <= 21 {

@@ -10,7 +10,7 @@ use std::marker::Model;
 /// a backslash between them (PS3.10 section 8.2).
 #[derive(Clone, Copy, Debug)]
 pub struct FileId {
-    // zero from `size` on
+    // The text in its first `size` bytes, then zeros.
     bytes: [u8; 71],
     size: usize,
 }
@@ -67,7 +67,7 @@ fn is_file_id(text: &[u8]) -> bool
     good && parts <= 8
 }
 
-// the text, and zeros
+/// Returns the text, followed by zeros.
 #[tactic(auto, using(crate::proofs::FileIds::zeros_after))]
 fn filled(text: &[u8]) -> [u8; 71]
     requires room { length text.now ≤ 71 }
@@ -79,8 +79,8 @@ fn filled(text: &[u8]) -> [u8; 71]
 }
 
 impl FileId {
-    /// Reads a file ID from the value of an element: drops the spaces at its end, and returns `None`
-    /// if the rest is no file ID.
+    /// Reads a file ID from the value of an element, without the spaces at its end. Returns `None` if
+    /// the rest is not a valid file ID.
     #[tactic(auto, using(crate::proofs::FileIds::file_id_room, crate::proofs::FileIds::kept_filled, crate::proofs::FileIds::shown_filled))]
     pub fn read(value: &[u8]) -> Option<FileId>
         ensures { result ≡ file_id_of value.now }
@@ -95,7 +95,7 @@ impl FileId {
         })
     }
 
-    /// Returns its components, with a backslash between them.
+    /// Returns the components, with a backslash between them: at most 71 bytes.
     pub fn text(&self) -> &[u8]
         ensures value { result.now ≡ self.now }
         ensures known { spelling.is_file_id self.now ≡ true }

@@ -1,4 +1,4 @@
-//! Keys in first-seen order.
+//! A set of keys in the order in which they are first seen.
 ghost use Rattle.std.specs.Prelude.{◌<◌, IfOk, length};
 ghost use Rattle.dicomdir.specs.machine.FirstSeen.{Sees, texts};
 
@@ -6,10 +6,10 @@ use indexmap::IndexSet;
 use std::alloc::{AllocError, Allocator};
 use std::hash::{BuildHasherDefault, FoldHasher};
 
-/// The keys that were seen so far.
+/// The keys seen so far, in order.
 pub(crate) type SeenKeys<A> = IndexSet<Vec<u8, A>, BuildHasherDefault<FoldHasher>, A>;
 
-/// Adds a key to those that were seen, and returns its number and whether it is new.
+/// Adds a key to the set. Returns its index, and whether it is new. Fails if memory runs out.
 pub(crate) fn see<A: Allocator + Copy>(
     alloc: A,
     seen: &mut SeenKeys<A>,

@@ -1,4 +1,4 @@
-//! Elements and items in the text of a data set that is known to be good.
+//! Finds elements and items in the bytes of a data set that was checked before.
 ghost use Rattle.std.specs.Prelude.{◌≡◌, ◌≤◌, ◌<◌, ◌+◌, ◌^◌, ℕ, List, ◌++◌, length, drop, IfSome, Some, option_map};
 ghost use Rattle.element.specs.Header.{number, IsTag, item_end_tag, sequence_end_tag};
 ghost use Rattle.sequence.specs.Tree.{Elements, Items, delimitation};
@@ -12,14 +12,14 @@ use sequence::{Coding, Shape, shape_of};
 
 const UNDEFINED: u32 = 0xffff_ffff;
 
-/// A header, and how many bytes spell it.
+/// A header, and its size in bytes.
 #[derive(Clone, Copy)]
 pub(crate) struct Head {
     pub header: Header,
     pub size: usize,
 }
 
-/// Returns the bytes after so many.
+/// Returns the bytes after the first `count`, none if there are fewer.
 pub(crate) fn after(text: &[u8], count: usize) -> &[u8]
     ensures { result.now ≡ drop count text.now }
 {
@@ -30,7 +30,7 @@ pub(crate) fn after(text: &[u8], count: usize) -> &[u8]
     }
 }
 
-/// Reads the header at the front of the bytes.
+/// Reads the header at the front of the bytes. Returns `None` if it is unfinished or has no valid VR.
 #[tactic(auto, using(crate::proofs::TextLemmas::head_whole, crate::proofs::TextLemmas::head_some))]
 pub(crate) fn head_of(syntax: Coding, text: &[u8]) -> Option<Head>
     ensures value { result ≡ head_at syntax text.now }
@@ -52,7 +52,7 @@ pub(crate) fn head_of(syntax: Coding, text: &[u8]) -> Option<Head>
     }
 }
 
-/// Returns the bytes after what an element's header announces.
+/// Returns the bytes after the value or the items of an element. `text` begins after its header.
 #[cycle(levels)]
 pub(crate) fn after_content(syntax: Coding, header: Header, text: &[u8]) -> &[u8]
     ensures within { length result.now ≤ length text.now }
@@ -67,7 +67,8 @@ pub(crate) fn after_content(syntax: Coding, header: Header, text: &[u8]) -> &[u8
     }
 }
 
-/// Returns the bytes after items and the delimitation after them.
+/// Returns the bytes after the items of a sequence and its delimitation. `text` begins with the first
+/// item.
 #[cycle(levels)]
 fn after_items(syntax: Coding, text: &[u8]) -> &[u8]
     ensures within { length result.now ≤ length text.now }
@@ -84,7 +85,7 @@ fn after_items(syntax: Coding, text: &[u8]) -> &[u8]
     &[]
 }
 
-/// Returns the bytes after what an item's header announces.
+/// Returns the bytes after the elements of an item. `text` begins after its header.
 #[cycle(levels)]
 pub(crate) fn after_item(syntax: Coding, header: Header, text: &[u8]) -> &[u8]
     ensures within { length result.now ≤ length text.now }
@@ -96,7 +97,8 @@ pub(crate) fn after_item(syntax: Coding, header: Header, text: &[u8]) -> &[u8]
     after_elements(syntax, text)
 }
 
-/// Returns the bytes after elements and the delimitation after them.
+/// Returns the bytes after the elements of an item and its delimitation. `text` begins with the first
+/// element.
 #[cycle(levels)]
 fn after_elements(syntax: Coding, text: &[u8]) -> &[u8]
     ensures within { length result.now ≤ length text.now }
@@ -113,7 +115,8 @@ fn after_elements(syntax: Coding, text: &[u8]) -> &[u8]
     &[]
 }
 
-/// The first bytes that a header announces: all up to the end of the text where its length is undefined.
+/// Returns the value or the items of an element, or the elements of an item: as many bytes as the
+/// header says, or all if the length is undefined. `text` begins after the header.
 pub(crate) fn content_of(header: Header, text: &[u8]) -> &[u8]
     ensures within { length result.now ≤ length text.now }
     ensures value { result.now ≡ content_at header text.now }
@@ -126,7 +129,8 @@ pub(crate) fn content_of(header: Header, text: &[u8]) -> &[u8]
     }
 }
 
-/// What stands under a tag.
+/// The element with a tag: its position in the file and its value; or the encoding and the bytes of its
+/// items, of which `first` is the position of the first.
 #[derive(Clone, Copy)]
 pub(crate) enum Element<'a> {
     Missing,
@@ -160,7 +164,8 @@ fn element_at<'a>(syntax: Coding, head: Head, place: u64, text: &'a [u8]) -> Ele
     }
 }
 
-/// Finds the element with a tag among elements of which the first stands at `place`.
+/// Finds the element with this tag among the elements in `text`. `place` is the position of the first
+/// in the file.
 pub(crate) fn find<'a>(syntax: Coding, tag: Tag, place: u64, text: &'a [u8]) -> Element<'a>
     requires room { place + length text.now < 2 ^ 64 }
     requires is_tag { IsTag tag }
@@ -183,7 +188,7 @@ pub(crate) fn find<'a>(syntax: Coding, tag: Tag, place: u64, text: &'a [u8]) -> 
 }
 
 impl<'a> Element<'a> {
-    /// Returns the number in a value of four bytes.
+    /// Returns the number in a value of four bytes, or `None` for anything else.
     pub fn long(&self) -> Option<u32>
         ensures { result ≡ number_in 4 (texts.shown self.now) }
     {
@@ -193,7 +198,7 @@ impl<'a> Element<'a> {
         }
     }
 
-    /// Returns the number in a value of two bytes.
+    /// Returns the number in a value of two bytes, or `None` for anything else.
     pub fn short(&self) -> Option<u16>
         ensures { result ≡ number_in 2 (texts.shown self.now) }
     {
@@ -203,7 +208,7 @@ impl<'a> Element<'a> {
         }
     }
 
-    /// Returns the value, if there is one.
+    /// Returns the value, or `None` if the element is missing or has items.
     pub fn value(&self) -> Option<&'a [u8]>
         ensures { option_map (λ v. v.now) result ≡ texts.got_value self.now }
     {
@@ -213,7 +218,7 @@ impl<'a> Element<'a> {
         }
     }
 
-    /// Returns whether no element has the tag.
+    /// Returns whether there is no element with the tag.
     pub fn is_missing(&self) -> bool
         ensures { result ≡ texts.got_none self.now }
     {

@@ -1,5 +1,5 @@
-//! The files that a directory keeps.
-ghost use Rattle.std.specs.Prelude.{◌≡◌, ℕ, List, map, IfOk, IfErr};
+//! The files that a directory references.
+ghost use Rattle.std.specs.Prelude.{◌≡◌, ℕ, List, ◌++◌, map, IfOk, IfErr};
 ghost use Rattle.sequence.specs.Rules.{no_tag};
 ghost use Rattle.dicomdir.specs.NodesInUse.{listed, file_id_of_image, KeptOf, HasNodes, node_of, tree_nodes, kept_in};
 
@@ -10,7 +10,7 @@ use crate::records::is_text;
 use crate::tree::{Tree, TreeRecord};
 use std::alloc::Allocator;
 
-/// Returns the file ID of a record whose type is IMAGE.
+/// Returns the file ID of a record of type IMAGE, or `None` for any other type.
 fn image_id(node: &TreeRecord) -> Option<FileId>
     ensures { listed result ≡ file_id_of_image (node_of node.now).carries }
 {
@@ -21,7 +21,18 @@ fn image_id(node: &TreeRecord) -> Option<FileId>
     }
 }
 
-/// Returns the file IDs of the records whose type is IMAGE.
+/// Returns the file ID of a record that has one and is left out of the files that are kept, since its type is not IMAGE.
+pub fn left_out(node: &TreeRecord) -> Option<FileId>
+    ensures { file_id_of_image (node_of node.now).carries ++ listed result ≡ listed (node_of node.now).carries.file_id }
+{
+    if !is_text(node.kind(), Level::Image.kind()) {
+        node.file_id()
+    } else {
+        None
+    }
+}
+
+/// Returns the file IDs of the records of type IMAGE, in their order.
 fn images<A: Allocator + Copy>(alloc: A, records: &[TreeRecord]) -> Result<Vec<FileId, A>, DirFault>
     ensures kept { IfOk result (λ kept. kept.items ≡ kept_in (map node_of records.now)) }
     ensures fault { IfErr result (λ f. f ≡ record { number = 67; place = 0; tag = no_tag }) }
@@ -37,8 +48,9 @@ fn images<A: Allocator + Copy>(alloc: A, records: &[TreeRecord]) -> Result<Vec<F
     Ok(kept)
 }
 
-/// Returns the file IDs of a tree's records of type IMAGE, in the tree's order. Of a file whose tree it is, these are
-/// the images in use with no inactive record above them; 67 where the allocator refuses a growth.
+/// Returns the file IDs of the records of type IMAGE in the tree of a directory, depth first. These are
+/// the images in use that have no inactive record above them. Fails with 67 (`OutOfMemory`) if memory
+/// runs out.
 pub fn kept_of<'a, A: Allocator + Copy>(
     alloc: A,
     tree: &Tree<'a, A>,

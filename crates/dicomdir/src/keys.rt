@@ -1,4 +1,4 @@
-//! Keys of directory records.
+//! The keys of directory records.
 ghost use Rattle.std.specs.Prelude.{◌≡◌, ◌++◌, ◌∷◌, [], option_map, OnOk, OnErr};
 ghost use Rattle.element.specs.Header.{number};
 ghost use Rattle.sequence.specs.Wanted.{value_of};
@@ -6,14 +6,15 @@ ghost use Rattle.sequence.specs.Wanted.{value_of};
 use element::Tag;
 use std::alloc::{AllocError, Allocator};
 
-/// A value of a data set, with its tag.
+/// A key: a tag and its value.
 #[derive(Drop)]
 struct Entry<A: Allocator> {
     tag: Tag,
     value: Vec<u8, A>,
 }
 
-/// Values of a data set, each with its tag, and with any padding that it came with.
+/// The keys of a file for its directory records: values of its data set, each with its tag, and with
+/// the padding that it has there.
 #[derive(Drop)]
 pub struct Keys<A: Allocator> {
     entries: Vec<Entry<A>, A>,
@@ -22,7 +23,7 @@ pub struct Keys<A: Allocator> {
 impl<A: Allocator> Keys<A> {
     ghost use Rattle.dicomdir.specs.Keys.{key_values};
 
-    /// Returns no values.
+    /// Creates an empty list of keys. Allocates nothing.
     pub fn new(alloc: A) -> Keys<A>
         ensures { key_values result ≡ [] }
     {
@@ -31,8 +32,8 @@ impl<A: Allocator> Keys<A> {
         }
     }
 
-    /// Adds the value with this tag. Of several with one tag the first counts. Where there is no memory, the values
-    /// are as they were.
+    /// Appends a value with its tag. Of several with the same tag the first counts. Fails if memory
+    /// runs out; the list stays as it was.
     pub fn push(&mut self, tag: Tag, value: Vec<u8, A>) -> Result<(), AllocError>
         ensures added { OnOk result (key_values self.new ≡ key_values self.old ++ (number tag, value.items) ∷ []) }
         ensures kept { OnErr result (key_values self.new ≡ key_values self.old) }
@@ -41,7 +42,7 @@ impl<A: Allocator> Keys<A> {
         Ok(())
     }
 
-    /// Returns the value with this tag, if there is one.
+    /// Returns the first value with this tag, or `None` if there is none.
     pub fn value(&self, tag: Tag) -> Option<&[u8]>
         ensures { option_map (λ v. v.now) result ≡ value_of (key_values self.now) (number tag) }
     {

@@ -1,10 +1,10 @@
-//! The levels of a directory's tree.
+//! The levels of a directory.
 ghost use Rattle.std.specs.Prelude.{◌≡◌};
 ghost use Rattle.dicomdir.specs.TreeOf.{lower_level};
 ghost use Rattle.dicomdir.specs.TreeOf as levels;
 ghost use Rattle.dicomdir.specs.Record.{kind_of};
 
-/// The level of a record: of a patient, of a study, of a series or of an image (PS3.3 section F.4).
+/// The level of a directory record (PS3.3 section F.4).
 #[derive(Clone, Copy)]
 pub(crate) enum Level {
     Patient,
@@ -14,14 +14,14 @@ pub(crate) enum Level {
 }
 
 impl Level {
-    /// Returns whether it is the level of images, the lowest.
+    /// Returns whether this is the level of images, the lowest.
     pub(crate) fn is_image(self) -> bool
         ensures { result ≡ levels.is_image self }
     {
         matches!(self, Level::Image)
     }
 
-    /// Returns the level below; there is none below images.
+    /// Returns the next lower level; for images, the lowest, the same.
     pub(crate) fn below(self) -> Level
         ensures { result ≡ lower_level self }
     {
@@ -32,7 +32,7 @@ impl Level {
         }
     }
 
-    /// Returns the type of its records (PS3.3 section F.5).
+    /// Returns the Directory Record Type of records at this level (PS3.3 section F.5).
     pub(crate) fn kind(self) -> &'static [u8]
         ensures { result.now ≡ kind_of self }
     {

@@ -1,5 +1,5 @@
-//! Directories of DICOM files (PS3.3 annex F, PS3.10 section 8): what they say of the files that they index,
-//! and when their records are linked as they have to be.
+//! DICOMDIR files, directories of DICOM files (PS3.3 annex F, PS3.10 section 8): [`check`] reads and
+//! checks one; [`rows_of`] and [`build`] make one from files, and [`write_dir`] writes it.
 #![tactic(auto)]
 
 mod build_groups;
@@ -35,7 +35,7 @@ pub use built::{Built, build, build_within, write_dir};
 pub use checking::check;
 pub use fault::DirFault;
 pub use file_id::FileId;
-pub use kept_files::kept_of;
+pub use kept_files::{kept_of, left_out};
 pub use keys::Keys;
 pub use row::Row;
 pub use row_reading::{described_row_of, rows_of};

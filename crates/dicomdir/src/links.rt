@@ -1,4 +1,4 @@
-//! Follows the offsets of a directory's records.
+//! Follows the offsets between the records of a directory.
 ghost use Rattle.std.specs.Prelude.{◌≡◌, ◌≤◌, ◌<◌, ◌+◌, ◌++◌, ◌∷◌, [], min, ◌&&◌, not, nat_eq, if◌then◌else◌, ℕ, List, length, map, reverse, replicate, IsOk, IfOk, IfErr, IfSome, IfNone, get_or, slice_index_or, true, false};
 ghost use Rattle.sequence.specs.Rules.{no_tag};
 ghost use Rattle.dicomdir.specs.Linked as linked;
@@ -13,7 +13,8 @@ use crate::records::{ReadRecord, is_text};
 use crate::tree::TreeRecord;
 use std::alloc::Allocator;
 
-/// The offsets of the root, and where its two elements stand.
+/// The offsets of the root, to its first and its last record, and the positions of the two elements
+/// that have them, in the file.
 #[derive(Clone, Copy)]
 pub(crate) struct Root {
     pub first: u32,
@@ -22,19 +23,21 @@ pub(crate) struct Root {
     pub last_place: u64,
 }
 
-/// A record that was reached, in a chain that has not ended.
+/// A record that was reached, in a chain that has not ended. A chain is a list of sibling records, each
+/// with the offset of the next.
 #[derive(Clone, Copy)]
 struct Mark {
     place: u64,
     next: u32,
-    /// Whether it is the first of its chain.
+    /// Whether it is the first record of its chain.
     begins: bool,
     level: u8,
-    /// Whether no inactive record is above it.
+    /// Whether no record above it is inactive.
     shown: bool,
 }
 
-/// An offset that comes next.
+/// An offset that is to be followed next: whether it starts a chain, the level of the record that it
+/// leads to, and whether no record above that is inactive.
 #[derive(Clone, Copy)]
 struct Step {
     offset: u32,
@@ -65,21 +68,23 @@ fn fits_level(level: u8, kind: &[u8]) -> bool
     }
 }
 
-/// Returns whether a record may stand on a level; an inactive one may stand on any.
+/// Returns whether the type of a record fits a level, from 1 for patients to 4 for images. An inactive
+/// record fits any.
 fn fits(level: u8, entry: &ReadRecord) -> bool
     ensures { result ≡ linked.fits level (carried_by entry.now) }
 {
     !entry.in_use || fits_level(level, entry.kind)
 }
 
-/// Returns the level below; those below an image's are alike.
+/// Returns the next lower level: 5 stands for all levels below images.
 fn below(level: u8) -> u8
     ensures { result ≡ min (level + 1) 5 }
 {
     if level < 5 { level + 1 } else { 5 }
 }
 
-/// Returns the index of the record at a place, by a binary search, since the places rise.
+/// Returns the index of the record at a position of the file, by binary search, or `None` if no record
+/// is there.
 fn index_of(entries: &[ReadRecord], place: u32) -> Option<usize>
     ensures within { IfSome result (λ at. at < length entries.now) }
     ensures found { IfSome result (λ at. (d : ReadRecord) → (slice_index_or entries.now at d).place ≡ place) }
@@ -92,7 +97,8 @@ fn index_of(entries: &[ReadRecord], place: u32) -> Option<usize>
     }
 }
 
-/// Returns whether an offset leads back along the trail: to a record of its last chain, or to one above that.
+/// Returns whether an offset leads back to a record of the last chain of the trail, or to one above
+/// that. The trail has the records whose chains have not ended, the last one last.
 fn leads_back(trail: &[Mark], offset: u32) -> bool
     ensures { result ≡ is_one_of offset (line_of (path_along true (reverse trail.now))) }
 {
@@ -111,7 +117,7 @@ fn leads_back(trail: &[Mark], offset: u32) -> bool
     false
 }
 
-/// Drops the last chain of the trail.
+/// Removes the last chain from the trail.
 fn leave_chain<A: Allocator + Copy>(trail: &mut Vec<Mark, A>)
     ensures left { reverse trail.new.items ≡ left_of (reverse trail.old.items) }
     ensures fewer { 0 < length trail.old.items → length trail.new.items < length trail.old.items }
@@ -123,7 +129,8 @@ fn leave_chain<A: Allocator + Copy>(trail: &mut Vec<Mark, A>)
     }
 }
 
-/// Returns the next offset of the trail, and drops the chains that are at their end.
+/// Returns the next offset to follow after a record with nothing below it, and removes the chains that
+/// have ended. Returns `None` at the end of all.
 fn climb<A: Allocator + Copy>(trail: &mut Vec<Mark, A>) -> Option<Step>
     ensures climbs { Climbs (reverse trail.old.items) (reverse trail.new.items) result }
 {
@@ -151,7 +158,8 @@ fn none_reached<A: Allocator + Copy>(alloc: A, count: usize) -> Result<Vec<bool,
     }
 }
 
-/// Returns where a fault of the next offset is reported.
+/// Returns the position at which a fault of the next offset is reported: the record that has it, or the
+/// element of the root.
 fn told_of(trail: &[Mark], root: &Root) -> u64
     ensures { result ≡ told_along root.now.first_place (reverse trail.now) }
 {
@@ -161,7 +169,8 @@ fn told_of(trail: &[Mark], root: &Root) -> u64
     }
 }
 
-/// Returns the index of the record that an offset leads to, or what is wrong with the offset.
+/// Returns the index of the record that an offset leads to. Fails with 60 (no record there), 61
+/// (cycle), 62 (reached before) or 64 (its type does not fit the level).
 fn target(
     entries: &[ReadRecord],
     reached: &[bool],
@@ -192,7 +201,8 @@ fn target(
     Ok(at)
 }
 
-/// Adds a record that is reached to the trail and, where it is in use with no inactive record above it, to the tree.
+/// Appends a record to the trail and, if it is in use and no record above it is inactive, to the tree.
+/// Fails with 67 if memory runs out.
 fn reach<'a, A: Allocator + Copy>(
     entry: &ReadRecord<'a>,
     step: &Step,
@@ -222,7 +232,8 @@ fn reach<'a, A: Allocator + Copy>(
     Ok(())
 }
 
-/// Returns the offset that comes after a record that was reached: its lower one, or else the next one of the trail.
+/// Returns the offset to follow after a record: that of its lower level, or else the next one of the
+/// trail.
 fn step_after<A: Allocator + Copy>(
     entry: &ReadRecord,
     step: &Step,
@@ -241,7 +252,7 @@ fn step_after<A: Allocator + Copy>(
     climb(trail)
 }
 
-/// Returns the last record of the root's chain, where this one was reached.
+/// Returns the position of the last record of the root's chain so far, once this record was reached.
 fn last_of_root(entry: &ReadRecord, step: &Step, last: u64) -> u64
     ensures { result ≡ (if nat_eq step.now.level 1 then entry.now.place else last) }
 {
@@ -262,8 +273,9 @@ fn first_step(root: &Root) -> Option<Step>
     })
 }
 
-/// Follows the offsets from the root, depth first, the lower one before the next one, and adds the records of the tree.
-/// Fails with the first fault of the links (60 to 64), or with 67 where the allocator refuses a growth.
+/// Follows the offsets from the root, depth first, that of the lower level before that of the next
+/// record, and appends the records in use to the tree. Fails with the first fault of an offset (60 to
+/// 64), or with 67 if memory runs out.
 #[tactic(auto, using(crate::proofs::Trails::left_fewer))]
 pub(crate) fn follow<'a, A: Allocator + Copy>(
     alloc: A,
@@ -292,7 +304,7 @@ pub(crate) fn follow<'a, A: Allocator + Copy>(
     all_reached(entries, reached.as_slice())
 }
 
-/// Refuses the first record in use that was not reached.
+/// Fails with 63 (`Unreached`) at the first record in use that was not reached.
 fn all_reached(entries: &[ReadRecord], reached: &[bool]) -> Result<(), DirFault>
     requires { length reached.now ≡ length entries.now }
     ensures good { IsOk result → AreAllReached entries.now reached.now }

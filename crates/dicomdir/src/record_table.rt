@@ -1,31 +1,32 @@
-//! The elements of directory records.
+//! The table of the elements of directory records.
 ghost use Rattle.std.specs.Prelude.{◌≡◌};
 ghost use Rattle.dicomdir.specs.RecordTable as table;
 
 use crate::level::Level;
 use element::Tag;
 
-/// When a record has an element, and whether it has a value (PS3.5 section 7.4).
+/// The type of an element of a record: when the record has it, and whether it must have a value (PS3.5
+/// section 7.4).
 #[derive(Clone, Copy)]
 pub(crate) enum ElementType {
-    /// Always, with a value, by which the records of its level are told apart.
+    /// Type 1, and the unique key of its level: the records of that level differ in it.
     Unique,
-    /// Always, with a value.
+    /// Type 1: always there, with a value.
     Type1,
-    /// Where there is a value.
+    /// Type 1C: there if there is a value.
     Type1C,
-    /// Always; the value may be empty.
+    /// Type 2: always there; the value may be empty.
     Type2,
-    /// Where it is asked for and there is a value; no record needs it.
+    /// Type 3: there if it is asked for and there is a value.
     Type3,
 }
 
-/// Which keys of a data set the records of a directory have.
+/// Which keys the records of a directory have.
 #[derive(Clone, Copy)]
 pub(crate) enum RecordKeys {
-    /// All but those of type 3.
+    /// All except those of type 3.
     Needed,
-    /// All, Series Description among them.
+    /// All, including Series Description, of type 3.
     Described,
 }
 
@@ -34,12 +35,12 @@ pub(crate) enum RecordKeys {
 pub(crate) enum Levels {
     /// All four.
     Each,
-    /// This one.
+    /// This level alone.
     Only(Level),
 }
 
 impl Levels {
-    /// Returns whether the level is one of them.
+    /// Returns whether records of this level have the element.
     pub(crate) fn has(self, level: Level) -> bool
         ensures { result ≡ table.has_level self level }
     {
@@ -54,7 +55,8 @@ impl Levels {
     }
 }
 
-/// An element of records: its tag, its VR, the greatest size of its value, and which records have it.
+/// A row of the table: the tag and the VR of an element, the greatest size of its value in bytes
+/// (`room`), its type, and the levels of the records that have it.
 #[derive(Clone, Copy)]
 pub(crate) struct RecordRule {
     pub(crate) tag: Tag,
@@ -65,7 +67,7 @@ pub(crate) struct RecordRule {
 }
 
 impl RecordKeys {
-    /// Returns whether the value of a key is read.
+    /// Returns whether the value of this key is read from data sets.
     pub(crate) fn has(self, rule: &RecordRule) -> bool
         ensures { result ≡ table.is_read self rule.now }
     {
@@ -77,7 +79,7 @@ impl RecordKeys {
 }
 
 impl RecordRule {
-    /// Returns whether rows are grouped by the key at a level.
+    /// Returns whether this is the unique key of a level, by which rows are grouped.
     pub(crate) fn groups(&self, level: Level) -> bool
         ensures { result ≡ table.groups level self.now }
     {
@@ -94,8 +96,8 @@ macro_rules! levels {
     };
 }
 
-/// A row of the table: the group and the element of a tag, its VR, the greatest size of its value, its type, and the
-/// level of the records that have it.
+/// A row of the table: group and element number, VR, greatest size of the value in bytes, type, and
+/// level (or `Each`).
 macro_rules! rule {
     ($group:literal, $element:literal, $vr:literal, $room:literal, $kind:ident, $levels:ident) => {
         RecordRule {
@@ -108,8 +110,8 @@ macro_rules! rule {
     };
 }
 
-/// The elements of all records, in the order of their tags: those that tell of the record and of its file (PS3.3 table
-/// F.3-3), and then the keys of its data set (PS3.3 section F.5).
+/// The elements of all records, in the order of their tags: those of the record itself and of its file
+/// (PS3.3 table F.3-3), then the keys from the data set (PS3.3 section F.5).
 const RECORD_TABLE: &[RecordRule] = &[
     rule!(0x0004, 0x1400, b"UL", 4, Type1C, Each),
     rule!(0x0004, 0x1410, b"US", 2, Type1C, Each),
@@ -135,7 +137,7 @@ const RECORD_TABLE: &[RecordRule] = &[
     rule!(0x0020, 0x0013, b"IS", 32, Type1, Image),
 ];
 
-/// Where the keys of the data set begin.
+/// The index in the table of the first key from the data set.
 const FIRST_KEY: usize = 8;
 
 /// Returns the elements of all records, in the order of their tags.
@@ -145,7 +147,7 @@ pub(crate) fn record_table() -> &'static [RecordRule]
     RECORD_TABLE
 }
 
-/// Returns those that are keys of the data set.
+/// Returns the part of the table with the keys from the data set.
 pub(crate) fn key_table() -> &'static [RecordRule]
     ensures { result.now ≡ table.key_table }
 {

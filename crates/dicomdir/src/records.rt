@@ -1,4 +1,4 @@
-//! The records of a directory, with what a check needs of them.
+//! Reads the records of a directory.
 ghost use Rattle.std.specs.Prelude.{◌≡◌, ◌≤◌, ◌<◌, ◌+◌, ◌^◌, ◌++◌, List, length, false, IsOk, IfOk, IfErr, IfSome, IsNone};
 ghost use Rattle.sequence.specs.Tree.{Elements, Items};
 ghost use Rattle.dicomdir.specs.Directory.{Record, records_at, has_record, kind_in, file_id_in};
@@ -15,7 +15,8 @@ use element::{Tag, unpadded};
 use sequence::Coding;
 use std::alloc::Allocator;
 
-/// A record: its place, its offsets, and what it says.
+/// A record of a directory: the position of its item in the file, its two offsets, Record In-use Flag,
+/// Directory Record Type without padding, and file ID.
 #[derive(Clone, Copy)]
 pub(crate) struct ReadRecord<'a> {
     pub place: u64,
@@ -26,14 +27,15 @@ pub(crate) struct ReadRecord<'a> {
     pub file_id: Option<FileId>,
 }
 
-/// Returns whether the bytes are this text.
+/// Returns whether the bytes equal this text.
 pub(crate) fn is_text(bytes: &[u8], text: &[u8]) -> bool
     ensures { result ≡ bytes_eq bytes.now text.now }
 {
     bytes == text
 }
 
-/// Returns whether a record is in use; `None` where the flag is neither that nor inactive.
+/// Returns whether a record with this Record In-use Flag (0004,1410) is in use, FFFFH, or inactive,
+/// 0000H. Returns `None` for any other value.
 fn use_of(flag: Option<u16>) -> Option<bool>
     ensures { result ≡ use_flag flag }
 {
@@ -62,7 +64,8 @@ fn file_id_of<'a>(element: &Element<'a>) -> Option<FileId>
     }
 }
 
-/// Reads the record of an item with these elements; `None` where it lacks something.
+/// Reads the record of an item at `place` with the elements in `text`. Returns `None` if an element is
+/// missing or wrong: an offset, Record In-use Flag or Directory Record Type.
 fn entry_of<'a>(syntax: Coding, place: u64, text: &'a [u8]) -> Option<ReadRecord<'a>>
     ensures read { IfSome result (λ e. (es : Elements) → HasElements syntax es text.now → EntrySays e (record { place = place; elements = es })) }
     ensures lacks { IsNone result → (es : Elements) → HasElements syntax es text.now → has_record es ≡ false }
@@ -85,7 +88,8 @@ fn entry_of<'a>(syntax: Coding, place: u64, text: &'a [u8]) -> Option<ReadRecord
     })
 }
 
-/// Returns whether the record has the file ID that it needs.
+/// Returns whether the record has a valid file ID if it needs one. `element` is its Referenced File ID:
+/// a record in use must have a valid one, except that it may be missing outside IMAGE records.
 fn has_file_id(entry: &ReadRecord, element: &Element) -> bool
     ensures { result ≡ entry_has_file_id entry.now element.now }
 {
@@ -94,7 +98,7 @@ fn has_file_id(entry: &ReadRecord, element: &Element) -> bool
         || (element.is_missing() && !is_text(entry.kind, Level::Image.kind()))
 }
 
-/// Reads the record at a place.
+/// Reads the record of an item at `place`. Fails with 68 (`BadRecord`) or 65 (`BadFileId`).
 fn read_record<'a>(syntax: Coding, place: u64, text: &'a [u8]) -> Result<ReadRecord<'a>, DirFault>
     ensures read { IfOk result (λ e. (es : Elements) → HasElements syntax es text.now → IsEntry e (record { place = place; elements = es })) }
     ensures fails { IfErr result (λ f. (es : Elements) → HasElements syntax es text.now → FailsAs (record_fault (record { place = place; elements = es })) f) }
@@ -108,7 +112,8 @@ fn read_record<'a>(syntax: Coding, place: u64, text: &'a [u8]) -> Result<ReadRec
     Ok(entry)
 }
 
-/// Reads the records of items of which the first stands at `first`, and adds them.
+/// Reads the records of the items in `text`, and appends them to `records`. `first` is the position of
+/// the first item in the file. Fails with the first fault of a record, or with 67 if memory runs out.
 pub(crate) fn read_records<'a, A: Allocator + Copy>(
     syntax: Coding,
     first: u64,

@@ -1,4 +1,4 @@
-//! Lays down what stands before the records of a directory.
+//! Encodes the part of a directory file before its records.
 ghost use Rattle.std.specs.Prelude.{◌≡◌, true};
 ghost use Rattle.element.specs.Uid.{is_uid};
 ghost use Rattle.dicomdir.specs.Built.{directory_header};
@@ -10,13 +10,14 @@ use dictionary::Transfer;
 use element::{AeTitle, Header, Syntax, Tag, Uid, Vr};
 use part10::{Meta, meta_bytes};
 
-/// Media Storage Directory Storage (PS3.6 annex A).
+/// The UID of the SOP class Media Storage Directory Storage (PS3.6 annex A).
 const DIRECTORY_CLASS: &[u8] = b"1.2.840.10008.1.3.10";
 
-/// How many bytes the elements of the root take up to the first record.
+/// The size in bytes of the elements before the first record, with the header of the record sequence.
 pub(crate) const ROOT_SIZE: u32 = 54;
 
-/// Returns the file header (PS3.10 section 7.1) of a directory with this instance UID.
+/// Returns the preamble, prefix and File Meta Information (PS3.10 section 7.1) of a directory with this
+/// SOP Instance UID.
 #[tactic(auto, unfolding(crate::specs::Built::directory_header))]
 pub(crate) fn file_header(uid: &Uid) -> ArrayVec<u8, 512>
     ensures bytes { result.items ≡ directory_header uid.now }
@@ -33,9 +34,9 @@ pub(crate) fn file_header(uid: &Uid) -> ArrayVec<u8, 512>
     meta_bytes(&meta)
 }
 
-/// Returns the elements of the root up to the first record (PS3.3 section F.3): an empty File-set
-/// ID, the offsets of the first and the last record of the root, the consistency flag, and the header
-/// of the records, which take `size` bytes.
+/// Returns the elements before the first record (PS3.3 section F.3): an empty File-set ID, the offsets
+/// of the first and the last record of the root, File-set Consistency Flag, and the header of Directory
+/// Record Sequence, whose items have `size` bytes.
 #[tactic(auto, using(crate::proofs::RecordLemmas::four_fields), unfolding(element::specs::Vr::is_short, crate::specs::machine::Building::root_text))]
 pub(crate) fn root_bytes(first: u32, last: u32, size: u32) -> RecordBytes
     ensures { result.items ≡ root_text first last size }

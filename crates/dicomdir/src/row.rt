@@ -1,4 +1,4 @@
-//! What a directory is built from.
+//! The rows that a directory is built from.
 ghost use Rattle.std.specs.Prelude.{◌≡◌, ◌≤◌, ℕ, true, Some, option_map};
 ghost use Rattle.std.specs.List.{list_all, find};
 ghost use Rattle.element.specs.Header.{number};
@@ -17,9 +17,9 @@ use element::{Tag, Uid, unpadded};
 use std::alloc::Allocator;
 use std::marker::Model;
 
-/// A row of a directory: a file, and what the directory says of it. No key is longer than the room
-/// for its VR (UI, SH and CS 64 bytes, DA, TM and IS 32, LO 256, PN 512), and none of the keys that
-/// must not be empty is.
+/// A row of a directory: the file ID of a file, and what the directory records of it. No key is longer
+/// than its VR allows (UI, SH and CS 64 bytes, DA, TM and IS 32, LO 256, PN 512), and no key of type 1
+/// is empty.
 #[derive(Drop)]
 pub struct Row<A: Allocator> {
     file_id: FileId,
@@ -45,7 +45,7 @@ fn is_empty_key(value: &[u8]) -> bool
     unpadded(value).is_empty()
 }
 
-/// Returns whether the value of a key is no longer than its room.
+/// Returns whether the value of a key is at most as long as the table allows.
 fn fits_room<A: Allocator>(rule: &RecordRule, keys: &Keys<A>) -> bool
     ensures { result ≡ spelling.fits_room (key_values keys.now) rule.now }
 {
@@ -61,7 +61,7 @@ fn fit_rooms<A: Allocator>(rules: &[RecordRule], keys: &Keys<A>) -> bool
     rules.iter().all(|rule| fits_room(rule, keys))
 }
 
-/// Returns whether a key that must have a value has none.
+/// Returns whether this is a key of type 1 without a value.
 fn is_missing<A: Allocator>(rule: &RecordRule, keys: &Keys<A>) -> bool
     ensures { result ≡ spelling.is_missing (key_values keys.now) rule.now }
 {
@@ -72,7 +72,7 @@ fn is_missing<A: Allocator>(rule: &RecordRule, keys: &Keys<A>) -> bool
     }
 }
 
-/// Returns the first of these keys that must have a value and has none.
+/// Returns the first of these keys that is of type 1 and has no value.
 fn first_empty<A: Allocator>(rules: &[RecordRule], keys: &Keys<A>) -> Option<RecordRule>
     ensures { result ≡ find (spelling.is_missing (key_values keys.now)) rules.now }
 {
@@ -80,9 +80,8 @@ fn first_empty<A: Allocator>(rules: &[RecordRule], keys: &Keys<A>) -> Option<Rec
 }
 
 impl<A: Allocator> Row<A> {
-    /// Makes a row of these values. The first that holds is returned: `Fault(21)` if a key is longer
-    /// than its room; `Missing` with the first of the keys that must not be empty, by rising tags, of
-    /// which nothing remains without padding; else the row.
+    /// Creates a row of these values. Fails with `Fault(21)` if a key is longer than allowed, else with
+    /// `Missing` and the tag of the first key of type 1 that is absent or empty apart from padding.
     #[tactic(auto, using(crate::proofs::RowLaws::too_long, crate::proofs::RowLaws::one_empty, crate::proofs::RowLaws::none_empty))]
     pub fn new(
         file_id: FileId,
@@ -111,15 +110,16 @@ impl<A: Allocator> Row<A> {
         })
     }
 
-    /// Does nothing; its contract is what the type guarantees: no key is longer than its room, and
-    /// none of the keys that must not be empty is.
+    /// Does nothing. Its contract states what the type guarantees: no key is longer than allowed, and
+    /// no key of type 1 is empty.
     pub fn keeps(&self)
         ensures { IsRow self.now }
     {
+        // The prover looks up what the type guarantees where one of its fields is named.
         let _ = &self.file_id;
     }
 
-    /// Returns the SOP class.
+    /// Returns the SOP Class UID of the file.
     pub fn class(&self) -> &[u8]
         ensures value { result.now ≡ self.now.class }
         ensures known { is_uid self.now.class ≡ true }
@@ -128,7 +128,7 @@ impl<A: Allocator> Row<A> {
         self.class.as_bytes()
     }
 
-    /// Returns the SOP instance.
+    /// Returns the SOP Instance UID of the file.
     pub fn instance(&self) -> &[u8]
         ensures value { result.now ≡ self.now.instance }
         ensures known { is_uid self.now.instance ≡ true }
@@ -137,28 +137,29 @@ impl<A: Allocator> Row<A> {
         self.instance.as_bytes()
     }
 
-    /// Returns the transfer syntax of its data set.
+    /// Returns the transfer syntax of the file.
     pub fn syntax(&self) -> Transfer
         ensures { result ≡ self.now.syntax }
     {
         self.syntax
     }
 
-    /// Returns its file ID.
+    /// Returns the file ID of the file.
     pub fn file_id(&self) -> FileId
         ensures { result ≡ self.now.file_id }
     {
         self.file_id
     }
 
-    /// Returns the components of its file ID, with a backslash between them.
+    /// Returns the components of the file ID, with a backslash between them.
     pub(crate) fn file_id_text(&self) -> &[u8]
         ensures { result.now ≡ self.now.file_id }
     {
         self.file_id.text()
     }
 
-    /// Returns the value of a key, if the data set has it; it is no longer than its room.
+    /// Returns the value of a key, or `None` if the data set has none. It is at most as long as the
+    /// table allows.
     #[tactic(auto, using(crate::proofs::RowLaws::room_kept))]
     pub fn value(&self, tag: Tag) -> Option<&[u8]>
         ensures value { option_map (λ v. v.now) result ≡ value_of self.now.values (number tag) }
@@ -167,7 +168,7 @@ impl<A: Allocator> Row<A> {
         self.keys.value(tag)
     }
 
-    /// Returns the value of a key; it is empty if the data set has none.
+    /// Returns the value of a key, or an empty slice if the data set has none.
     pub(crate) fn key(&self, tag: Tag) -> &[u8]
         ensures { result.now ≡ key_in self.now.values tag }
     {

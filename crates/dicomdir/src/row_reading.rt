@@ -1,4 +1,4 @@
-//! Reads the row of a directory from a file.
+//! Reads the row of a file.
 ghost use Rattle.std.specs.Prelude.{◌≡◌, ◌<◌, ◌≤◌, ℕ, List, [], ◌++◌, length, filter, take, option_map, Some, OnOk, IfOk, IfErr, IfSome};
 ghost use Rattle.std.specs.Io.KnownBytes.{Consumes, IsAtEnd};
 ghost use Rattle.element.specs.Numbers.{IsBytes};
@@ -30,13 +30,13 @@ use sequence::{Walker, Want, Wanted};
 use std::alloc::Allocator;
 use std::io::Read;
 
-/// The bytes that one read takes at most.
+/// The greatest number of bytes that one read takes.
 const PIECE: usize = 4096;
 
-/// A walker that keeps what a row has of a data set of at most 64 open levels.
+/// A walker with room for the keys of a row, for data sets of at most 64 open levels.
 type RowWalker = Walker<2048, 64>;
 
-/// Returns what a walk keeps for those of these keys that are read.
+/// Returns the tags of these keys that are read, with the greatest sizes of their values, for a walker.
 fn wants_of(rules: &[RecordRule], keys: RecordKeys) -> ArrayVec<Want, 16>
     requires { length rules.now ≤ 16 }
     ensures { result.items ≡ row_wants (filter (is_read keys) rules.now) }
@@ -53,7 +53,7 @@ fn wants_of(rules: &[RecordRule], keys: RecordKeys) -> ArrayVec<Want, 16>
     wants
 }
 
-/// Returns the elements of the data set that a row has, each with the greatest size of its value.
+/// Returns the tags whose values a walker keeps for a row, each with the greatest size of its value.
 #[tactic(auto, using(crate::proofs::RowLaws::wants_are_few, crate::proofs::RowLaws::wants_rise))]
 fn wanted(keys: RecordKeys) -> Wanted
     ensures { wanted_tags result ≡ row_wants (keys_read keys) }
@@ -64,8 +64,8 @@ fn wanted(keys: RecordKeys) -> Wanted
     }
 }
 
-/// Walks the data set that the reader goes on with; fails with the number of its first fault, or of a
-/// failed read.
+/// Walks the data set in the rest of the input. Fails with the number of its first fault (10 to 21), or
+/// with 54 if a read fails.
 fn walk<R: Read>(walker: &mut RowWalker, reader: &mut R) -> Result<(), Skip>
     requires start { StandsAt walker.old [] }
     ensures whole { OnOk result (TookWhole walker.new (R.remaining reader.old)) }
@@ -73,7 +73,7 @@ fn walk<R: Read>(walker: &mut RowWalker, reader: &mut R) -> Result<(), Skip>
     ensures fails { IfErr result (WalkFails walker.old (R.remaining reader.old)) }
 {
     let mut room = [0; PIECE];
-    // The walker refuses what passes its limit of bytes, so there are never so many pieces.
+    // The walker stops at its limit of bytes, so there are never so many pieces.
     for _ in 0..u64::MAX {
         let Ok(count) = read_again(reader, &mut room) else {
             return Err(Skip::Fault(MetaFault::ReadFailed.number()));
@@ -92,7 +92,7 @@ fn walk<R: Read>(walker: &mut RowWalker, reader: &mut R) -> Result<(), Skip>
     Err(Skip::Fault(MetaFault::ReadFailed.number()))
 }
 
-/// Adds a copy of the value with this tag, if the walker has one.
+/// Appends a copy of the value with this tag, if the walker has one. Fails if memory runs out.
 fn copy_key<A: Allocator + Copy>(
     alloc: A,
     walker: &RowWalker,
@@ -114,7 +114,8 @@ fn copy_key<A: Allocator + Copy>(
     }
 }
 
-/// Copies the values of those of these keys that are read of the data set that the walker took.
+/// Returns copies of the values that the walker has for these keys, as far as they are read. Fails if
+/// memory runs out.
 fn keys_of<A: Allocator + Copy>(
     alloc: A,
     walker: &RowWalker,
@@ -133,7 +134,7 @@ fn keys_of<A: Allocator + Copy>(
     Ok(copied)
 }
 
-/// Reads the row of a file with these keys, as `rows_of` does.
+/// Reads the row of a file with these keys, as [`rows_of`] does.
 #[tactic(auto, using(crate::proofs::RowLaws::wants_have_room))]
 fn row_with<A: Allocator + Copy, R: Read>(
     alloc: A,
@@ -154,20 +155,20 @@ fn row_with<A: Allocator + Copy, R: Read>(
     Row::new(*file_id, meta.class, meta.instance, meta.syntax, keys)
 }
 
-/// Reads the file that the reader gives from its first byte to its end, and returns its row: the class,
-/// the instance and the transfer syntax of the file header (PS3.10 section 7.1), and the values of the
-/// data set that the records of a directory have (PS3.3 section F.5), but for those of type 3.
+/// Reads a whole file and returns its row: SOP class, SOP instance and transfer syntax of the File Meta
+/// Information (PS3.10 section 7.1), and the values of the data set that directory records have (PS3.3
+/// section F.5), except those of type 3.
 ///
-/// Files in the two native transfer syntaxes are taken, and in the further ones that are named; any other
-/// file has fault 53.
+/// Files in the two native transfer syntaxes are accepted, and in those of `further`.
 ///
-/// The first fault is returned as `Fault`: of the file header (50, 51, 53), else of the whole data set
-/// (10 to 21), at 64 open levels, 2^48 bytes and the rooms that `Row` has for the values. Only then
-/// the keys are looked at: `Missing` has the first that must not be empty and is, by rising tags. A
-/// failed read is `Fault(54)` wherever it comes; an interrupted one is tried again. Memory is taken
-/// for the keys alone, and where the allocator refuses it the result is `OutOfMemory`.
+/// Fails with the first of these: `Fault` with the number of a fault of the File Meta Information (50,
+/// 51; 53 for another transfer syntax); `Fault` with that of a fault of the data set (10 to 21), which
+/// may have at most 64 open levels, 2^48 bytes and the greatest sizes of keys; `Missing` with the tag
+/// of the first key of type 1 that is absent or empty. A failed read is `Fault(54)` wherever it
+/// happens; a read that a signal interrupts is repeated. Memory is allocated for the keys alone; if it
+/// runs out, the error is `OutOfMemory`.
 ///
-/// After an error the reader's position is not determined.
+/// After an error the position of the reader is unspecified.
 pub fn rows_of<A: Allocator + Copy, R: Read>(
     alloc: A,
     reader: &mut R,
@@ -179,16 +180,16 @@ pub fn rows_of<A: Allocator + Copy, R: Read>(
     row_with(alloc, reader, file_id, further, RecordKeys::Needed)
 }
 
-/// Returns whether a value is too long for its room.
+/// Returns whether a file has no row because a key is too long.
 fn is_too_long(reason: Skip) -> bool
     ensures { result ≡ spelling.is_too_long reason }
 {
     matches!(reason, Skip::Fault(21))
 }
 
-/// Reads the row of a file as `rows_of` does, with Series Description (0008,103E), of type 3, where the
-/// data set has one that is no longer than its room. Both readers give the file from its first byte; the
-/// second is read where a value is too long for its room.
+/// Reads the row of a file as [`rows_of`] does, with Series Description (0008,103E), of type 3, if the
+/// data set has one of at most 256 bytes. Both readers must be at the start of the file; the second is
+/// read only if a value is too long, to read the row without Series Description.
 pub fn described_row_of<A: Allocator + Copy, R: Read>(
     alloc: A,
     reader: &mut R,

@@ -1,4 +1,4 @@
-//! What the record of a row says.
+//! The values of the elements of a directory record.
 ghost use Rattle.std.specs.Prelude.{◌≡◌, option_map};
 ghost use Rattle.element.specs.Header.{number};
 ghost use Rattle.sequence.specs.Wanted.{value_of};
@@ -9,7 +9,8 @@ use crate::level::Level;
 use element::{Tag, unpadded};
 use std::alloc::Allocator;
 
-/// The record of a row at a level, with the bytes of its offsets.
+/// The record of a row at a level, with its offsets, to the next record and to the lower level, as the
+/// bytes of their elements.
 #[derive(Drop)]
 pub(crate) struct RowRecord<'r, A: Allocator> {
     pub(crate) level: Level,
@@ -19,8 +20,8 @@ pub(crate) struct RowRecord<'r, A: Allocator> {
 }
 
 impl<'r, A: Allocator> RowRecord<'r, A> {
-    /// Returns what it says of itself, that it is in use (FFFFH) among it, and of its file, under the number of a tag
-    /// (PS3.3 table F.3-3).
+    /// Returns the value of an element of group 0004, by the number of its tag: of the record itself
+    /// and of its file (PS3.3 table F.3-3). Record In-use Flag is FFFFH, in use.
     fn own_value(&self, number: u32) -> Option<&[u8]>
         ensures { option_map (λ v. v.now) result ≡ value_of (own_values_of self.now) number }
     {
@@ -37,8 +38,8 @@ impl<'r, A: Allocator> RowRecord<'r, A> {
         }
     }
 
-    /// Returns what stands under a tag: of group 0004 what it says so, of any above it the key of its row, without
-    /// padding.
+    /// Returns the value of the element with this tag: of group 0004 that of the record itself or its
+    /// file, of any other group the key of the row, without padding.
     pub(crate) fn value(&self, tag: Tag) -> Option<&[u8]>
         ensures { option_map (λ v. v.now) result ≡ says_of self.now (number tag) }
     {

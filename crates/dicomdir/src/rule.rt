@@ -1,34 +1,36 @@
-//! The rules of a directory's links and records.
+//! The rules of directories.
 ghost use Rattle.std.specs.Prelude.{◌≡◌};
 ghost use Rattle.std.specs.List.{find};
 ghost use Rattle.dicomdir.specs.FaultNumbers as numbers;
 
-/// A rule of a directory's links and records (PS3.3 annex F; the limits and the numbers are this
-/// product's own profile). Its number is its discriminant.
+/// A rule that the records of a directory and their offsets have to obey (PS3.3 annex F; the limits and
+/// the numbers are this product's own profile). The variant says how it is broken. Its discriminant is
+/// the number that is printed.
 #[derive(Clone, Copy, Debug, PartialEq, Eq)]
 pub enum DirRule {
-    /// An offset is no record's place. It is reported at the record that has the offset, or at the header of the
-    /// root's element.
+    /// An offset is not the position of a record. Reported at the record that has the offset, or at the
+    /// element of the root.
     BadOffset = 60,
-    /// An offset leads back: to the record that has it, to one before that in its chain, or to one above.
+    /// An offset leads back to the record that has it, to an earlier sibling of that, or to a record
+    /// above.
     Cycle = 61,
-    /// An offset leads to another record that was reached before.
+    /// An offset leads to any other record that was reached before.
     TwiceReached = 62,
-    /// A record in use that no offset leads to.
+    /// No offset leads to a record in use.
     Unreached = 63,
-    /// A record's type does not fit its level.
+    /// The Directory Record Type of a record does not fit its level.
     WrongLevel = 64,
-    /// A file ID is invalid, or an image has none.
+    /// The Referenced File ID of a record in use is invalid, or an IMAGE record has none.
     BadFileId = 65,
-    /// A file of 2^32 bytes or more.
+    /// The file would have 2^32 bytes or more, or more than the limit.
     TooLarge = 66,
-    /// The allocator refused a growth.
+    /// Memory ran out.
     OutOfMemory = 67,
-    /// An element that the root or a record must have is missing, or its value has the wrong size.
+    /// A required element of the root or of a record is missing, or its value is wrong.
     BadRecord = 68,
 }
 
-/// The first of these rules that has this number.
+/// Returns the first of these rules with this number.
 fn first_with(rules: &[DirRule], number: u8) -> Option<DirRule>
     ensures { result ≡ find (numbers.has_number number) rules.now }
 {
@@ -36,7 +38,7 @@ fn first_with(rules: &[DirRule], number: u8) -> Option<DirRule>
 }
 
 impl DirRule {
-    /// The rules, in the order of their numbers.
+    /// Returns all rules, in the order of their numbers.
     fn all() -> [DirRule; 9]
         ensures { result ≡ numbers.all_rules }
     {
@@ -60,14 +62,14 @@ impl DirRule {
         first_with(&DirRule::all(), number)
     }
 
-    /// Returns its number, from 60 to 68.
+    /// Returns the number of the rule, from 60 to 68.
     pub fn number(self) -> u8
         ensures { result ≡ numbers.rule_number self }
     {
         self as u8
     }
 
-    /// Returns its name, as it is printed.
+    /// Returns the name of the rule, as it is printed: that of the variant.
     pub fn name(self) -> &'static str
         ensures { result.now ≡ numbers.text_of_rule self }
     {

@@ -1,13 +1,14 @@
-//! Why a file gets no row.
+//! Why a file has no row.
 use element::Tag;
 
-/// Why a file gets no row in a directory.
+/// Why a file has no row in a directory.
 #[derive(Clone, Copy, Debug, PartialEq, Eq)]
 pub enum Skip {
-    /// The file header or the data set has a fault with this number.
+    /// The File Meta Information or the data set has the fault with this number (10 to 21, 50, 51, 53),
+    /// or a read failed (54).
     Fault(u8),
-    /// This is the first of the keys that must not be empty, by rising tags, that is missing or empty.
+    /// The key of type 1 with this tag, the first such one, is missing or empty.
     Missing(Tag),
-    /// An allocation was refused.
+    /// Memory ran out.
     OutOfMemory,
 }

@@ -1,4 +1,4 @@
-//! In which transfer syntaxes a file is taken.
+//! The transfer syntaxes of the files that are accepted for a directory.
 ghost use Rattle.std.specs.Prelude.{◌≡◌, true, IfOk, IfErr};
 ghost use Rattle.std.specs.List.{list_any};
 ghost use Rattle.dictionary.specs.Transfers.{is_text_of, transfer_uid};
@@ -17,15 +17,15 @@ fn is_among(transfers: &[Transfer], transfer: Transfer) -> bool
     transfers.iter().any(|other| other.uid() == transfer.uid())
 }
 
-/// Returns whether a file in this transfer syntax is taken: in a native one, or in one of the further ones.
+/// Returns whether a file in this transfer syntax is accepted: in a native one, or in one of `further`.
 fn is_taken(further: &[Transfer], transfer: Transfer) -> bool
     ensures { result ≡ rule.is_taken further.now transfer }
 {
     !transfer.is_encapsulated() || is_among(further, transfer)
 }
 
-/// Reads the file header that the reader begins with, where it names a transfer syntax that is taken; any other one is
-/// `OtherSyntax`.
+/// Reads the File Meta Information at the start of the input. Fails as [`read_any_meta`] does, and with
+/// `OtherSyntax` if the transfer syntax is not accepted.
 pub(crate) fn read_taken<R: Read>(reader: &mut R, further: &[Transfer]) -> Result<Meta, MetaFault>
     ensures header { IfOk result (λ meta. TakesMeta (said_of meta) (R.remaining reader.old) (R.remaining reader.new)) }
     ensures taken { IfOk result (λ meta. rule.is_taken further.now meta.syntax ≡ true) }

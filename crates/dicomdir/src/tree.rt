@@ -1,11 +1,11 @@
-//! The tree of a directory that was checked.
+//! The records of a directory that was checked.
 ghost use Rattle.std.specs.Prelude.{◌≡◌, map};
 ghost use Rattle.dicomdir.specs.NodesInUse.{node_of, tree_nodes};
 
 use crate::file_id::FileId;
 use std::alloc::Allocator;
 
-/// A record of a directory, in use with no inactive record above it.
+/// A record of a directory that is in use and has no inactive record above it.
 #[derive(Clone, Copy, Debug)]
 pub struct TreeRecord<'a> {
     place: u64,
@@ -34,28 +34,28 @@ impl<'a> TreeRecord<'a> {
         }
     }
 
-    /// Returns the place of its item, counted from the file's first byte.
+    /// Returns the position of the record's item, in bytes from the start of the file.
     pub fn place(&self) -> u64
         ensures { result ≡ (node_of self.now).place }
     {
         self.place
     }
 
-    /// Returns its level: 1 for a patient, 2 for a study, 3 for a series, 4 for an image.
+    /// Returns the level of the record: 1 for a patient, 2 for a study, 3 for a series, 4 for an image.
     pub fn level(&self) -> u8
         ensures { result ≡ (node_of self.now).level }
     {
         self.level
     }
 
-    /// Returns its type without the padding at its end.
+    /// Returns the Directory Record Type, without padding.
     pub fn kind(&self) -> &'a [u8]
         ensures { result.now ≡ (node_of self.now).carries.kind }
     {
         self.kind
     }
 
-    /// Returns its file ID, if it has one.
+    /// Returns the Referenced File ID, if the record has one.
     pub fn file_id(&self) -> Option<FileId>
         ensures { result ≡ (node_of self.now).carries.file_id }
     {
@@ -63,7 +63,7 @@ impl<'a> TreeRecord<'a> {
     }
 }
 
-/// The records of a directory, depth first.
+/// The records of a directory that are in use and have no inactive record above them, depth first.
 #[derive(Drop)]
 pub struct Tree<'a, A: Allocator + Copy> {
     records: Vec<TreeRecord<'a>, A>,

@@ -1,4 +1,4 @@
-//! Writes a text to any writer.
+//! Writes all bytes to a writer.
 ghost use Rattle.std.specs.Prelude.{◌≤◌, IfOk, OnOk, OnErr, length, take};
 ghost use Rattle.std.specs.Io.KnownBytes.{Appends, Keeps};
 ghost use Rattle.dicomdir.specs.Built.{AppendsFront};
@@ -7,8 +7,8 @@ use element::again::write_again;
 use std::io;
 use std::io::{ErrorKind, Write};
 
-/// Writes all of the bytes. If a write fails, a beginning of them was written; a writer that takes
-/// nothing fails with `WriteZero`.
+/// Writes all of the bytes. Fails as the writer does, or with `WriteZero` if it takes no byte; some of
+/// the first bytes may have been written then. A write that a signal interrupts is repeated.
 pub(crate) fn write_all<W: Write>(writer: &mut W, bytes: &[u8]) -> io::Result<()>
     ensures all { OnOk result (Appends (W.contents writer.old) (W.contents writer.new) bytes.now) }
     ensures front { OnErr result (AppendsFront (W.contents writer.old) (W.contents writer.new) bytes.now) }

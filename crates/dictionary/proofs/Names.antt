@@ -1,4 +1,5 @@
--- The text of each class and of each syntax names it alone.
+-- The text of each class names it alone (`class_back`), and so does that of each native syntax (`syntax_back`). Stands on the
+-- definitions alone.
 use Rattle.std.proofs.Common.{◌≡◌, Some, refl}
 use Rattle.element.specs.declared.syntax.Syntax.{Syntax}
 use Rattle.element.specs.declared.syntax.Syntax.TheVariants.{Implicit, Explicit}

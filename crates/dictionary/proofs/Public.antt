@@ -16,7 +16,7 @@ use Rattle.dictionary.proofs.TransferNames as identifiers
 pub class_back : (c : Class) → class_of (class_uid c) ≡ Some c
 class_back = names.class_back
 
-pub length-storage_classes : length storage_classes ≡ 157
+pub length-storage_classes : length storage_classes ≡ 177
 length-storage_classes = storage.length-storage_classes
 
 pub transfer_back : (t : Transfer) → transfer_of (transfer_uid t) ≡ Some t

@@ -1,7 +1,8 @@
--- The rows of a table that stands in parts.
+-- A row of a table that stands in parts is a row of its part (`row_of_part`) or of the parts after it (`past_part`); the
+-- storage classes are 177 (`length-storage_classes`). Stands on the definitions alone.
 use Rattle.std.proofs.Common.{◌≡◌, ℕ, zero, suc, ◌+◌, ◌-◌, ◌<◌, ◌≤◌, List, [], ◌∷◌, ◌++◌, Some, map, length, drop, slice_get, slice_index_or, refl, ap, sym, ◌∙◌, subst, arith}
 use Rattle.std.specs.List.{flat_map}
-use Rattle.dictionary.specs.StorageClasses.{storage_classes, part_0, part_1, part_2, part_3, part_4, part_5, part_6, part_7, part_8, part_9, part_10, part_11}
+use Rattle.dictionary.specs.StorageClasses.{storage_classes, part_0, part_1, part_2, part_3, part_4, part_5, part_6, part_7, part_8, part_9, part_10, part_11, part_12}
 
 in_first : {A : Type 0} (xs ys : List A) (n : ℕ) → n < length xs → slice_get (xs ++ ys) n ≡ slice_get xs n
 in_first [] ys n h = absurd (omega (arith, h))
@@ -46,6 +47,6 @@ past_part rows f xs i n e h k =
     let next : suc i ≡ i + 1 = omega arith in
     past rows f xs i n e h k ∙ ap (λ j. slice_get (flat_map (λ x. map f (rows x)) (drop j xs)) (n - length (rows (slice_index_or xs i e)))) next
 
-pub length-storage_classes : length storage_classes ≡ 157
-unfolding part_0 part_1 part_2 part_3 part_4 part_5 part_6 part_7 part_8 part_9 part_10 part_11
+pub length-storage_classes : length storage_classes ≡ 177
+unfolding part_0 part_1 part_2 part_3 part_4 part_5 part_6 part_7 part_8 part_9 part_10 part_11 part_12
 length-storage_classes = refl

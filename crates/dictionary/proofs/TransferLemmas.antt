@@ -1,4 +1,5 @@
--- The transfer syntaxes by their texts, and the two that are native among them.
+-- A text that names a transfer syntax is its text (`named_text`, `not_named`), and the two that are native among them are the
+-- native syntaxes (`native_same`, `native_uid`, `native_layout`). Stands on TransferNames.
 use Rattle.std.proofs.Common.{◌≡◌, ◌≢◌, ℕ, Bool, true, false, ◌&&◌, List, [], ◌∷◌, Option, Some, None, option_and_then, if◌then◌else◌, refl, sym, ap, subst, ◌∙◌}
 use Rattle.std.proofs.lemmas.Slice.Eq.{bytes_eq-Decides}
 use Rattle.std.specs.List.{find, list_all}

@@ -1,4 +1,5 @@
--- The text of each transfer syntax names it alone and is short, as `tools/transfer-syntaxes` writes them.
+-- The text of each transfer syntax names it alone (`transfer_back`, `named_back`) and is short (`transfer_short`), as
+-- `tools/transfer-syntaxes` writes them. Stands on the definitions alone.
 use Rattle.std.proofs.Common.{◌≡◌, ◌≤◌, Some, length, refl, arith}
 use Rattle.dictionary.specs.declared.transfer.Transfer.{Transfer}
 use Rattle.dictionary.specs.declared.transfer.Transfer.TheVariants.{Implicit, Explicit, EncapsulatedUncompressed, JpegBaseline8Bit, JpegExtended12Bit, JpegLossless, JpegLosslessSv1, JpegLsLossless, JpegLsNearLossless, Jpeg2000Lossless, Jpeg2000, Jpeg2000McLossless, Jpeg2000Mc, Mpeg2MainLevel, Mpeg2HighLevel, Mpeg4High41, Mpeg4High41Bd, Mpeg4High42For2d, Mpeg4High42For3d, Mpeg4High42Stereo, HevcMainLevel51, HevcMain10Level51, Htj2kLossless, Htj2kLosslessRpcl, Htj2k, RleLossless}

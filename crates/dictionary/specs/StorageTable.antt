@@ -1,4 +1,4 @@
--- What the table of storage classes has (PS3.4 table B.5-1, PS3.3 section F.5).
+-- What the table of storage classes has (PS3.4 table B.5-1, PS3.6 annex A, PS3.3 section F.5).
 use Rattle.dictionary.specs.declared.storage.StorageClass.{StorageClass}
 use Rattle.dictionary.specs.StorageClasses.{StorageRow}
 

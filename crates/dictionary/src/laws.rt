@@ -28,9 +28,9 @@ pub fn implementation_is_named()
     ensures version { IMPLEMENTATION_VERSION_NAME.now ≡ implementation_version_name }
 {}
 
-/// The table of storage classes has 157 rows.
+/// The table of storage classes has 177 rows.
 pub fn storage_classes_are_few()
-    ensures { length storage_classes ≡ 157 }
+    ensures { length storage_classes ≡ 177 }
 {}
 
 /// Each transfer syntax is the one that its unique identifier names, and no other text names one. Those in which Pixel Data is native are the two

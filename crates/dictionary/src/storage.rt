@@ -6,7 +6,7 @@ ghost use Rattle.dictionary.specs.StorageTable as table;
 
 use crate::storage_table::table_parts;
 
-/// A storage class of the standard (PS3.4 table B.5-1, PS3.6 annex A).
+/// A storage class of the standard (PS3.4 table B.5-1), or one that is retired (PS3.6 annex A).
 #[derive(Clone, Copy)]
 pub struct StorageClass {
     /// The text of its unique identifier.

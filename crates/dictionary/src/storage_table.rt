@@ -1,17 +1,33 @@
-//! The storage classes (PS3.4 table B.5-1), as `tools/storage-classes` writes them.
+//! The storage classes (PS3.4 table B.5-1), and those that are retired (PS3.6 annex A), as
+//! `tools/storage-classes` writes them.
 ghost use Rattle.std.specs.Prelude.{◌≡◌, map};
-ghost use Rattle.dictionary.specs.StorageClasses.{parts, part_0, part_1, part_2, part_3, part_4, part_5, part_6, part_7, part_8, part_9, part_10, part_11};
+ghost use Rattle.dictionary.specs.StorageClasses.{parts, part_0, part_1, part_2, part_3, part_4, part_5, part_6, part_7, part_8, part_9, part_10, part_11, part_12};
 ghost use Rattle.dictionary.specs.StorageTable.{storage_row};
 
 use crate::storage::StorageClass;
 
 /// The number of parts in which the table stands.
-pub(crate) const PARTS: usize = 12;
+pub(crate) const PARTS: usize = 13;
 
 fn part_0() -> &'static [StorageClass]
     ensures { map storage_row result.now ≡ part_0 }
 {
     &[
+        StorageClass {
+            uid: b"1.2.840.10008.5.1.1.27",
+            keyword: "StoredPrintStorage",
+            is_image: false,
+        },
+        StorageClass {
+            uid: b"1.2.840.10008.5.1.1.29",
+            keyword: "HardcopyGrayscaleImageStorage",
+            is_image: true,
+        },
+        StorageClass {
+            uid: b"1.2.840.10008.5.1.1.30",
+            keyword: "HardcopyColorImageStorage",
+            is_image: true,
+        },
         StorageClass {
             uid: b"1.2.840.10008.5.1.4.1.1.1",
             keyword: "ComputedRadiographyImageStorage",
@@ -63,6 +79,18 @@ fn part_0() -> &'static [StorageClass]
             is_image: true,
         },
         StorageClass {
+            uid: b"1.2.840.10008.5.1.4.1.1.3",
+            keyword: "UltrasoundMultiFrameImageStorageRetired",
+            is_image: true,
+        },
+    ]
+}
+
+fn part_1() -> &'static [StorageClass]
+    ensures { map storage_row result.now ≡ part_1 }
+{
+    &[
+        StorageClass {
             uid: b"1.2.840.10008.5.1.4.1.1.3.1",
             keyword: "UltrasoundMultiFrameImageStorage",
             is_image: true,
@@ -82,13 +110,6 @@ fn part_0() -> &'static [StorageClass]
             keyword: "MRSpectroscopyStorage",
             is_image: false,
         },
-    ]
-}
-
-fn part_1() -> &'static [StorageClass]
-    ensures { map storage_row result.now ≡ part_1 }
-{
-    &[
         StorageClass {
             uid: b"1.2.840.10008.5.1.4.1.1.4.3",
             keyword: "EnhancedMRColorImageStorage",
@@ -97,6 +118,16 @@ fn part_1() -> &'static [StorageClass]
         StorageClass {
             uid: b"1.2.840.10008.5.1.4.1.1.4.4",
             keyword: "LegacyConvertedEnhancedMRImageStorage",
+            is_image: true,
+        },
+        StorageClass {
+            uid: b"1.2.840.10008.5.1.4.1.1.5",
+            keyword: "NuclearMedicineImageStorageRetired",
+            is_image: true,
+        },
+        StorageClass {
+            uid: b"1.2.840.10008.5.1.4.1.1.6",
+            keyword: "UltrasoundImageStorageRetired",
             is_image: true,
         },
         StorageClass {
@@ -129,10 +160,32 @@ fn part_1() -> &'static [StorageClass]
             keyword: "MultiFrameGrayscaleWordSecondaryCaptureImageStorage",
             is_image: true,
         },
+    ]
+}
+
+fn part_2() -> &'static [StorageClass]
+    ensures { map storage_row result.now ≡ part_2 }
+{
+    &[
         StorageClass {
             uid: b"1.2.840.10008.5.1.4.1.1.7.4",
             keyword: "MultiFrameTrueColorSecondaryCaptureImageStorage",
             is_image: true,
+        },
+        StorageClass {
+            uid: b"1.2.840.10008.5.1.4.1.1.8",
+            keyword: "StandaloneOverlayStorage",
+            is_image: false,
+        },
+        StorageClass {
+            uid: b"1.2.840.10008.5.1.4.1.1.9",
+            keyword: "StandaloneCurveStorage",
+            is_image: false,
+        },
+        StorageClass {
+            uid: b"1.2.840.10008.5.1.4.1.1.9.1",
+            keyword: "WaveformStorageTrial",
+            is_image: false,
         },
         StorageClass {
             uid: b"1.2.840.10008.5.1.4.1.1.9.1.1",
@@ -159,13 +212,6 @@ fn part_1() -> &'static [StorageClass]
             keyword: "CardiacElectrophysiologyWaveformStorage",
             is_image: false,
         },
-    ]
-}
-
-fn part_2() -> &'static [StorageClass]
-    ensures { map storage_row result.now ≡ part_2 }
-{
-    &[
         StorageClass {
             uid: b"1.2.840.10008.5.1.4.1.1.9.4.1",
             keyword: "BasicVoiceAudioWaveformStorage",
@@ -191,6 +237,13 @@ fn part_2() -> &'static [StorageClass]
             keyword: "MultichannelRespiratoryWaveformStorage",
             is_image: false,
         },
+    ]
+}
+
+fn part_3() -> &'static [StorageClass]
+    ensures { map storage_row result.now ≡ part_3 }
+{
+    &[
         StorageClass {
             uid: b"1.2.840.10008.5.1.4.1.1.9.7.1",
             keyword: "RoutineScalpElectroencephalogramWaveformStorage",
@@ -217,6 +270,16 @@ fn part_2() -> &'static [StorageClass]
             is_image: false,
         },
         StorageClass {
+            uid: b"1.2.840.10008.5.1.4.1.1.10",
+            keyword: "StandaloneModalityLUTStorage",
+            is_image: false,
+        },
+        StorageClass {
+            uid: b"1.2.840.10008.5.1.4.1.1.11",
+            keyword: "StandaloneVOILUTStorage",
+            is_image: false,
+        },
+        StorageClass {
             uid: b"1.2.840.10008.5.1.4.1.1.11.1",
             keyword: "GrayscaleSoftcopyPresentationStateStorage",
             is_image: false,
@@ -236,13 +299,6 @@ fn part_2() -> &'static [StorageClass]
             keyword: "BlendingSoftcopyPresentationStateStorage",
             is_image: false,
         },
-    ]
-}
-
-fn part_3() -> &'static [StorageClass]
-    ensures { map storage_row result.now ≡ part_3 }
-{
-    &[
         StorageClass {
             uid: b"1.2.840.10008.5.1.4.1.1.11.5",
             keyword: "XAXRFGrayscaleSoftcopyPresentationStateStorage",
@@ -258,6 +314,13 @@ fn part_3() -> &'static [StorageClass]
             keyword: "CompositingPlanarMPRVolumetricPresentationStateStorage",
             is_image: false,
         },
+    ]
+}
+
+fn part_4() -> &'static [StorageClass]
+    ensures { map storage_row result.now ≡ part_4 }
+{
+    &[
         StorageClass {
             uid: b"1.2.840.10008.5.1.4.1.1.11.8",
             keyword: "AdvancedBlendingPresentationStateStorage",
@@ -299,6 +362,11 @@ fn part_3() -> &'static [StorageClass]
             is_image: true,
         },
         StorageClass {
+            uid: b"1.2.840.10008.5.1.4.1.1.12.3",
+            keyword: "XRayAngiographicBiPlaneImageStorage",
+            is_image: true,
+        },
+        StorageClass {
             uid: b"1.2.840.10008.5.1.4.1.1.13.1.1",
             keyword: "XRay3DAngiographicImageStorage",
             is_image: true,
@@ -313,13 +381,6 @@ fn part_3() -> &'static [StorageClass]
             keyword: "BreastTomosynthesisImageStorage",
             is_image: true,
         },
-    ]
-}
-
-fn part_4() -> &'static [StorageClass]
-    ensures { map storage_row result.now ≡ part_4 }
-{
-    &[
         StorageClass {
             uid: b"1.2.840.10008.5.1.4.1.1.13.1.4",
             keyword: "BreastProjectionXRayImageStorageForPresentation",
@@ -330,6 +391,13 @@ fn part_4() -> &'static [StorageClass]
             keyword: "BreastProjectionXRayImageStorageForProcessing",
             is_image: true,
         },
+    ]
+}
+
+fn part_5() -> &'static [StorageClass]
+    ensures { map storage_row result.now ≡ part_5 }
+{
+    &[
         StorageClass {
             uid: b"1.2.840.10008.5.1.4.1.1.14.1",
             keyword: "IntravascularOpticalCoherenceTomographyImageStorageForPresentation",
@@ -390,13 +458,6 @@ fn part_4() -> &'static [StorageClass]
             keyword: "RealWorldValueMappingStorage",
             is_image: false,
         },
-    ]
-}
-
-fn part_5() -> &'static [StorageClass]
-    ensures { map storage_row result.now ≡ part_5 }
-{
-    &[
         StorageClass {
             uid: b"1.2.840.10008.5.1.4.1.1.68.1",
             keyword: "SurfaceScanMeshStorage",
@@ -406,6 +467,18 @@ fn part_5() -> &'static [StorageClass]
             uid: b"1.2.840.10008.5.1.4.1.1.68.2",
             keyword: "SurfaceScanPointCloudStorage",
             is_image: false,
+        },
+    ]
+}
+
+fn part_6() -> &'static [StorageClass]
+    ensures { map storage_row result.now ≡ part_6 }
+{
+    &[
+        StorageClass {
+            uid: b"1.2.840.10008.5.1.4.1.1.77.1",
+            keyword: "VLImageStorageTrial",
+            is_image: true,
         },
         StorageClass {
             uid: b"1.2.840.10008.5.1.4.1.1.77.1.1",
@@ -467,18 +540,18 @@ fn part_5() -> &'static [StorageClass]
             keyword: "WideFieldOphthalmicPhotographyStereographicProjectionImageStorage",
             is_image: true,
         },
-    ]
-}
-
-fn part_6() -> &'static [StorageClass]
-    ensures { map storage_row result.now ≡ part_6 }
-{
-    &[
         StorageClass {
             uid: b"1.2.840.10008.5.1.4.1.1.77.1.5.6",
             keyword: "WideFieldOphthalmicPhotography3DCoordinatesImageStorage",
             is_image: true,
         },
+    ]
+}
+
+fn part_7() -> &'static [StorageClass]
+    ensures { map storage_row result.now ≡ part_7 }
+{
+    &[
         StorageClass {
             uid: b"1.2.840.10008.5.1.4.1.1.77.1.5.7",
             keyword: "OphthalmicOpticalCoherenceTomographyEnFaceImageStorage",
@@ -497,6 +570,11 @@ fn part_6() -> &'static [StorageClass]
         StorageClass {
             uid: b"1.2.840.10008.5.1.4.1.1.77.1.7",
             keyword: "DermoscopicPhotographyImageStorage",
+            is_image: true,
+        },
+        StorageClass {
+            uid: b"1.2.840.10008.5.1.4.1.1.77.2",
+            keyword: "VLMultiFrameImageStorageTrial",
             is_image: true,
         },
         StorageClass {
@@ -547,8 +625,8 @@ fn part_6() -> &'static [StorageClass]
     ]
 }
 
-fn part_7() -> &'static [StorageClass]
-    ensures { map storage_row result.now ≡ part_7 }
+fn part_8() -> &'static [StorageClass]
+    ensures { map storage_row result.now ≡ part_8 }
 {
     &[
         StorageClass {
@@ -565,6 +643,26 @@ fn part_7() -> &'static [StorageClass]
             uid: b"1.2.840.10008.5.1.4.1.1.82.1",
             keyword: "CornealTopographyMapStorage",
             is_image: true,
+        },
+        StorageClass {
+            uid: b"1.2.840.10008.5.1.4.1.1.88.1",
+            keyword: "TextSRStorageTrial",
+            is_image: false,
+        },
+        StorageClass {
+            uid: b"1.2.840.10008.5.1.4.1.1.88.2",
+            keyword: "AudioSRStorageTrial",
+            is_image: false,
+        },
+        StorageClass {
+            uid: b"1.2.840.10008.5.1.4.1.1.88.3",
+            keyword: "DetailSRStorageTrial",
+            is_image: false,
+        },
+        StorageClass {
+            uid: b"1.2.840.10008.5.1.4.1.1.88.4",
+            keyword: "ComprehensiveSRStorageTrial",
+            is_image: false,
         },
         StorageClass {
             uid: b"1.2.840.10008.5.1.4.1.1.88.11",
@@ -601,6 +699,13 @@ fn part_7() -> &'static [StorageClass]
             keyword: "MammographyCADSRStorage",
             is_image: false,
         },
+    ]
+}
+
+fn part_9() -> &'static [StorageClass]
+    ensures { map storage_row result.now ≡ part_9 }
+{
+    &[
         StorageClass {
             uid: b"1.2.840.10008.5.1.4.1.1.88.59",
             keyword: "KeyObjectSelectionDocumentStorage",
@@ -621,13 +726,6 @@ fn part_7() -> &'static [StorageClass]
             keyword: "RadiopharmaceuticalRadiationDoseSRStorage",
             is_image: false,
         },
-    ]
-}
-
-fn part_8() -> &'static [StorageClass]
-    ensures { map storage_row result.now ≡ part_8 }
-{
-    &[
         StorageClass {
             uid: b"1.2.840.10008.5.1.4.1.1.88.69",
             keyword: "ColonCADSRStorage",
@@ -678,6 +776,13 @@ fn part_8() -> &'static [StorageClass]
             keyword: "MicroscopyBulkSimpleAnnotationsStorage",
             is_image: false,
         },
+    ]
+}
+
+fn part_10() -> &'static [StorageClass]
+    ensures { map storage_row result.now ≡ part_10 }
+{
+    &[
         StorageClass {
             uid: b"1.2.840.10008.5.1.4.1.1.104.1",
             keyword: "EncapsulatedPDFStorage",
@@ -698,13 +803,6 @@ fn part_8() -> &'static [StorageClass]
             keyword: "EncapsulatedOBJStorage",
             is_image: false,
         },
-    ]
-}
-
-fn part_9() -> &'static [StorageClass]
-    ensures { map storage_row result.now ≡ part_9 }
-{
-    &[
         StorageClass {
             uid: b"1.2.840.10008.5.1.4.1.1.104.5",
             keyword: "EncapsulatedMTLStorage",
@@ -719,6 +817,11 @@ fn part_9() -> &'static [StorageClass]
             uid: b"1.2.840.10008.5.1.4.1.1.128.1",
             keyword: "LegacyConvertedEnhancedPETImageStorage",
             is_image: true,
+        },
+        StorageClass {
+            uid: b"1.2.840.10008.5.1.4.1.1.129",
+            keyword: "StandalonePETCurveStorage",
+            is_image: false,
         },
         StorageClass {
             uid: b"1.2.840.10008.5.1.4.1.1.130",
@@ -750,6 +853,13 @@ fn part_9() -> &'static [StorageClass]
             keyword: "RTDoseStorage",
             is_image: false,
         },
+    ]
+}
+
+fn part_11() -> &'static [StorageClass]
+    ensures { map storage_row result.now ≡ part_11 }
+{
+    &[
         StorageClass {
             uid: b"1.2.840.10008.5.1.4.1.1.481.3",
             keyword: "RTStructureSetStorage",
@@ -775,13 +885,6 @@ fn part_9() -> &'static [StorageClass]
             keyword: "RTTreatmentSummaryRecordStorage",
             is_image: false,
         },
-    ]
-}
-
-fn part_10() -> &'static [StorageClass]
-    ensures { map storage_row result.now ≡ part_10 }
-{
-    &[
         StorageClass {
             uid: b"1.2.840.10008.5.1.4.1.1.481.8",
             keyword: "RTIonPlanStorage",
@@ -827,6 +930,13 @@ fn part_10() -> &'static [StorageClass]
             keyword: "RTRadiationRecordSetStorage",
             is_image: false,
         },
+    ]
+}
+
+fn part_12() -> &'static [StorageClass]
+    ensures { map storage_row result.now ≡ part_12 }
+{
+    &[
         StorageClass {
             uid: b"1.2.840.10008.5.1.4.1.1.481.17",
             keyword: "RTRadiationSalvageRecordStorage",
@@ -852,16 +962,14 @@ fn part_10() -> &'static [StorageClass]
             keyword: "RTRadiationSetDeliveryInstructionStorage",
             is_image: false,
         },
-    ]
-}
-
-fn part_11() -> &'static [StorageClass]
-    ensures { map storage_row result.now ≡ part_11 }
-{
-    &[
         StorageClass {
             uid: b"1.2.840.10008.5.1.4.1.1.481.22",
             keyword: "RTTreatmentPreparationStorage",
+            is_image: false,
+        },
+        StorageClass {
+            uid: b"1.2.840.10008.5.1.4.34.1",
+            keyword: "RTBeamsDeliveryInstructionStorageTrial",
             is_image: false,
         },
         StorageClass {
@@ -894,5 +1002,6 @@ pub(crate) fn table_parts() -> [&'static [StorageClass]; PARTS]
         part_9(),
         part_10(),
         part_11(),
+        part_12(),
     ]
 }

@@ -1,4 +1,6 @@
--- The command that is computed from the front of a text is the command that the whole text spells.
+-- The command that is computed from the front of a text is the one that the whole text spells (`command_only`,
+-- `command_found`), and its fault the first (`command_fault`); a text spells one (`one_command`). Stands on ElementLemmas,
+-- ReplyLemmas and SetLemmas.
 use Rattle.std.proofs.Common.{◌≡◌, ℕ, zero, suc, ◌^◌, ◌<◌, ◌≤◌, Bool, true, false, cond, ◌&&◌, ltb, eqb, List, [], ◌∷◌, ◌++◌, length, Option, Some, None, Result, Ok, Err, refl, sym, ap, subst, ◌∙◌, arith, inl, inr, eq-eqb}
 use Rattle.std.specs.Prelude.{IfOk, IfErr}
 use Rattle.std.proofs.lemmas.Bool.{eqb-true, lt-ltb, ltb-true}

@@ -1,4 +1,5 @@
--- What a join shows after each of its calls.
+-- A join shows the message so far after the head of a value (`first_head`, `later_head`) and after each part of its fragment
+-- (`part_shown`). Stands on the laws of `pdu`.
 use Rattle.std.proofs.Common.{◌≡◌, ℕ, ◌-◌, ◌<◌, ◌≤◌, Bool, false, List, [], ◌∷◌, ◌++◌, length, take, drop, get_or, Option, Some, None, Result, Ok, Err, refl, sym, ap, subst, ◌∙◌, append_assoc, arith, inl, inr}
 use Rattle.std.specs.Prelude.{nat_lt, IsOk, OnOk}
 use Rattle.std.proofs.lemmas.Bool.{cases_lt, lt-ltb, le-ltb}

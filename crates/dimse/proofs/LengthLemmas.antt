@@ -1,4 +1,5 @@
--- How long a reply is: its command set, and the PDUs that carry it.
+-- The command set of a reply has 242 bytes at most (`command_short`), and the PDUs that carry it 1,706 in fragments of two
+-- bytes or more (`reply_short`), 3,158 in any (`reply_bounded`). Stands on ReadLemmas, ReplyLemmas and SendingLemmas.
 use Rattle.std.proofs.Common.{◌≡◌, ℕ, zero, suc, ◌+◌, ◌-◌, ◌*◌, ◌/◌, ◌%◌, ◌≤◌, Bool, true, false, ◌&&◌, List, [], ◌∷◌, ◌++◌, length, take, drop, nat_eq, Option, Some, None, option_map, Ok, if◌then◌else◌, codes, arith, ap, inl, inr}
 use Rattle.std.specs.Prelude.{IfSome}
 use Rattle.std.proofs.lemmas.Bool.{cases_lt, cases_Bool, lt-leb, ne_eqb}

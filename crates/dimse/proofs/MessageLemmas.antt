@@ -1,4 +1,5 @@
--- Messages of lists of presentation data values.
+-- The messages of one list of values after another are those of both (`messages_then`), and the fragments of a message, put
+-- together, are it (`message_is`). Stands on RowLemmas.
 use Rattle.std.proofs.Common.{◌≡◌, ℕ, ◌+◌, ◌-◌, ◌≤◌, Bool, true, false, cond, List, [], ◌∷◌, ◌++◌, length, Option, Some, None, Result, Ok, refl, sym, ap, subst, ◌∙◌, append_assoc, arith, eq-eqb}
 use Rattle.std.proofs.lemmas.Bool.{le-leb}
 use Rattle.std.proofs.lemmas.List.{append-nil, length-append}

@@ -1,4 +1,4 @@
--- A command that is read names unique identifiers.
+-- A command that is read names unique identifiers (`reads_uids`). Stands on the definitions alone.
 use Rattle.std.proofs.Common.{◌≡◌, ℕ, Bool, true, false, List, Option, Some, None, Result, Ok, Err, if◌then◌else◌, refl, subst, nat_eq, inl, inr}
 use Rattle.std.proofs.lemmas.Bool.{cases_Bool}
 use Rattle.std.specs.Prelude.{ok_or}

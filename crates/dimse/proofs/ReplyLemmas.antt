@@ -1,4 +1,5 @@
--- How long elements are, and how a reply's are put together.
+-- The elements of a reply, put together, have the bytes and the length of its command set (`put_together`, `elements_then`,
+-- `element_length`). Stands on the definitions alone.
 use Rattle.std.proofs.Common.{◌≡◌, ℕ, ◌+◌, List, [], ◌∷◌, ◌++◌, length, Option, refl, sym, ap, ◌∙◌, append_assoc, arith}
 use Rattle.std.proofs.lemmas.List.{append-nil}
 use Rattle.element.specs.Numbers.{le}

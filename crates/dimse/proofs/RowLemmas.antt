@@ -1,4 +1,5 @@
--- What a fragment brings, by whether it is the last one.
+-- A fragment brings more of a command (`command_row`) or of a data set (`set_row`), and ends it where it is the last one.
+-- Stands on the definitions alone.
 use Rattle.std.proofs.Common.{◌≡◌, ℕ, Bool, cond, List, ◌++◌, ap}
 use Rattle.pdu.specs.Heads.{is_last}
 use Rattle.dimse.specs.Messages.{Pdv, InCommand, InSet, Brought, Goes, completed, brought}

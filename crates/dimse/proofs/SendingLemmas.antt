@@ -1,4 +1,5 @@
--- Sending a command set fragment by fragment.
+-- A command set that is sent fragment by fragment is sent whole (`sending_next`, `last_sent`), or a front of it where a send
+-- fails (`sending_fails`). Stands on the laws of `pdu`.
 use Rattle.std.proofs.Common.{◌≡◌, ℕ, zero, suc, ◌+◌, ◌^◌, ◌<◌, ◌≤◌, Bool, true, false, cond, leb, List, [], ◌∷◌, ◌++◌, length, take, drop, Result, Ok, Err, refl, sym, ap, ◌∙◌, append_assoc, arith}
 use Rattle.std.proofs.lemmas.Bool.{le-leb, lt-leb}
 use Rattle.std.proofs.lemmas.List.{length-drop}

@@ -1,4 +1,5 @@
--- Going along the elements of a command set.
+-- Going along the elements of a command set finds the value of an element (`left_found`, `left_none`), and that all rise and
+-- nothing is left over, or not (`ahead_none`, `ahead_order`). Stands on the definitions alone.
 use Rattle.std.proofs.Common.{◌≡◌, ℕ, zero, suc, ◌<◌, ◌≤◌, Bool, true, false, cond, ◌&&◌, ltb, eqb, List, [], ◌∷◌, length, drop, Option, Some, None, refl, sym, ap, ◌∙◌, arith}
 use Rattle.std.specs.Option.{is_some}
 use Rattle.std.proofs.Math.Dec.{eqb-suc-zero}

@@ -1,4 +1,4 @@
--- Command sets and the commands that they spell (PS3.7 sections 6.3.1, 9.3.1, 9.3.5 and annex E).
+-- Command sets and the commands that they encode (PS3.7 sections 6.3.1, 9.3.1, 9.3.5 and annex E).
 use Rattle.std.specs.Prelude.{◌≡◌, ℕ, ◌^◌, ◌<◌, ◌%◌, Bool, true, false, not, ◌&&◌, List, [], ◌∷◌, ◌++◌, length, Option, Some, None, Result, Ok, Err, nat_eq, ok_or, option_and_then, if◌then◌else◌, ◌⊎◌}
 use Rattle.byteorder.specs.Endian.{little_number}
 use Rattle.element.specs.Numbers.{le}
@@ -7,12 +7,12 @@ use Rattle.element.specs.Uid.{is_uid, uid_of}
 use Rattle.dimse.specs.declared.fault.DimseFault.{DimseFault}
 use Rattle.dimse.specs.declared.fault.DimseFault.TheVariants.{BadCommand, UnknownField, WrongKind}
 
--- an element of group 0000: its number in the group, and its value
+-- an element of group 0000: its element number and its value
 pub record CommandElement : Type 0 where
   pub number : ℕ
   pub value : List ℕ
 
--- tag, length and value, in Implicit VR Little Endian
+-- the bytes of an element: tag, length and value, in Implicit VR Little Endian
 unfoldable pub command_element_bytes : CommandElement → List ℕ
 command_element_bytes e = header_bytes (record { tag = record { 0 = 0; 1 = e.number }; vr = None; length = length e.value }) ++ e.value
 
@@ -20,33 +20,34 @@ abbrev pub command_elements_bytes : List CommandElement → List ℕ
 command_elements_bytes [] = []
 command_elements_bytes (e ∷ es) = command_element_bytes e ++ command_elements_bytes es
 
--- the number is one of the group, and the length even and of four bytes; so it is never the undefined length
+-- the element number has two bytes; the length is even and fits four bytes, so it is never the undefined length
 pub record IsCommandElement (e : CommandElement) : Type 0 where
   pub in_group : e.number < 2 ^ 16
   pub even : length e.value % 2 ≡ 0
   pub fits : length e.value < 2 ^ 32
 
--- elements whose numbers rise from above `last`
+-- elements with strictly ascending element numbers above `last`
 abbrev pub AreRising : ℕ → List CommandElement → Type 0
 AreRising last [] = Unit {0}
 AreRising last (e ∷ es) = IsCommandElement e × (last < e.number) × AreRising e.number es
 
--- a command set: (0000,0000), which counts the bytes after it, and the elements after it
+-- the bytes of a command set: Command Group Length (0000,0000), which is the number of bytes after it, and the other
+-- elements
 abbrev pub command_set_bytes : List CommandElement → List ℕ
 command_set_bytes es = command_element_bytes (record { number = 0; value = le (length (command_elements_bytes es)) 4 }) ++ command_elements_bytes es
 
--- the text is the command set of these elements
+-- the bytes are the command set of these elements
 pub record SpellsSet (text : List ℕ) (es : List CommandElement) : Type 0 where
   pub rising : AreRising 0 es
   pub counted : length (command_elements_bytes es) < 2 ^ 32
   pub whole : text ≡ command_set_bytes es
 
--- the value of the element of this number
+-- the value of the element with this element number
 abbrev pub command_value : ℕ → List CommandElement → Option (List ℕ)
 command_value n [] = None
 command_value n (e ∷ es) = if nat_eq e.number n then Some e.value else command_value n es
 
--- the number that a value of two bytes spells
+-- the number in a value of two bytes; none for a value of another length
 abbrev pub two_bytes : List ℕ → Option ℕ
 two_bytes value = if nat_eq (length value) 2 then Some (little_number 2 value) else None
 
@@ -90,7 +91,8 @@ instance_element = 0x1000
 
 -- ---- commands
 
--- command fields of requests, and the data set type of a message without data set
+-- the Command Field of a C-STORE-RQ; that of a C-ECHO-RQ, and the Command Data Set Type of a message without a data
+-- set follow
 abbrev pub c_store : ℕ
 c_store = 0x0001
 
@@ -100,8 +102,7 @@ c_echo = 0x0030
 abbrev pub no_data_set : ℕ
 no_data_set = 0x0101
 
--- What a C-STORE or C-ECHO request says. The identifiers stand without trailing
--- zero bytes and spaces; C-STORE alone names an instance and has a data set after it.
+-- The contents of a C-STORE-RQ or C-ECHO-RQ. The UIDs have no padding; only a C-STORE has an instance and a data set.
 pub record CommandRecord : Type 0 where
   pub class : List ℕ
   pub field : ℕ
@@ -117,7 +118,7 @@ abbrev pub is_uid_or_none : Option (List ℕ) → Bool
 is_uid_or_none None = true
 is_uid_or_none (Some uid) = is_uid uid
 
--- what every such command is
+-- the invariant of a command: valid UIDs, and an instance and a data set exactly if it is a C-STORE
 pub record IsCommand (c : CommandRecord) : Type 0 where
   pub request : is_request c.field c.with_data c.instance ≡ true
   pub class : is_uid c.class ≡ true
@@ -128,12 +129,11 @@ abbrev pub ◌>>=◌ : {A B : Type 0} → Result A DimseFault → (A → Result 
 (Ok x) >>= f = f x
 (Err e) >>= f = Err e
 
--- an element that has to be there, readable by `reads`
+-- the value of a required element, read by `reads`; `BadCommand` if it is missing or cannot be read
 abbrev pub needed : {A : Type 0} → (List ℕ → Option A) → Option (List ℕ) → Result A DimseFault
 needed reads value = ok_or (option_and_then reads value) BadCommand
 
--- affected SOP class 0002, command field 0100, message id 0110, data set type 0800, and for
--- C-STORE affected SOP instance 1000
+-- the C-STORE of these elements: its Affected SOP Instance UID (0000,1000) must be a valid UID
 unfoldable pub store_command : List ℕ → ℕ → List CommandElement → Result CommandRecord DimseFault
 store_command class message es = do
   instance ← needed uid_of (command_value instance_element es)
@@ -148,7 +148,7 @@ request_of class field message kind es =
     (if nat_eq kind no_data_set then Err WrongKind else store_command class message es)
     else Err UnknownField)
 
--- the command that a set's elements say, or the first rule that they break
+-- the command of the elements of a command set, or its fault
 unfoldable pub command_of : List CommandElement → Result CommandRecord DimseFault
 command_of es = do
   class ← needed uid_of (command_value class_element es)
@@ -157,10 +157,10 @@ command_of es = do
   kind ← needed two_bytes (command_value type_element es)
   request_of class field message kind es
 
--- the text spells the command
+-- the bytes are the command set of this command
 abbrev pub CommandText : CommandRecord → List ℕ → Type 0
 CommandText command text = (es : List CommandElement) × SpellsSet text es × (command_of es ≡ Ok command)
 
--- the first rule that the text breaks: it is no command set, or its elements say no command
+-- the fault of the bytes: they are no command set, or one that is no valid command
 abbrev pub CommandFault : DimseFault → List ℕ → Type 0
 CommandFault fault text = ((es : List CommandElement) × SpellsSet text es × (command_of es ≡ Err fault)) ⊎ ((fault ≡ BadCommand) × ¬ ((es : List CommandElement) × SpellsSet text es))

@@ -1,30 +1,32 @@
--- The cause that a failure reply names (this product's own profile): the number and the name of a fault, and a tag.
+-- The cause that the response to a failed C-STORE reports: the number and the name of a fault, and a tag (this
+-- product's own profile).
 use Rattle.std.specs.Prelude.{ℕ, Bool, true, false, ◌+◌, ◌/◌, ◌%◌, List, [], ◌∷◌, ◌++◌, Option, Some, None, codes, nat_eq, option_map, if◌then◌else◌}
 use Rattle.element.specs.Padding.{padded}
 use Rattle.sequence.specs.declared.rule.Rule.{Rule}
 use Rattle.sequence.specs.declared.rule.Rule.TheVariants.{TooDeep, TooLong}
 use Rattle.sequence.specs.Names.{rule_of, text_of_rule}
 
--- the class or the instance that the data set names is missing, unreadable or other than the command's
+-- the SOP Class UID of the data set is missing, invalid or other than the command's; the next one says so of the SOP
+-- Instance UID
 abbrev pub class_mismatch : ℕ
 class_mismatch = 45
 
 abbrev pub instance_mismatch : ℕ
 instance_mismatch = 46
 
--- a fault of a limit, whose status is another
+-- a rule that is a limit of the receiver: a store that breaks it has status A700, whose response has no cause
 abbrev pub is_limit : Rule → Bool
 is_limit TooDeep = true
 is_limit TooLong = true
 is_limit _ = false
 
--- the name of a fault of a data set as a cause
+-- the name of the rule that a data set breaks, if it is a cause
 abbrev pub rule_cause : Option Rule → Option (List ℕ)
 rule_cause None = None
 rule_cause (Some rule) = if is_limit rule then None else Some (text_of_rule rule)
 
--- The names of the causes: of the faults of data sets, 10 to 21, but of 18 and 19; and of the mismatches of a data set
--- with its command.
+-- the name of the cause with this number: of a rule that a data set breaks, 10 to 21 except 18 and 19, or of a
+-- mismatch of the data set with its command
 abbrev pub cause_name : ℕ → Option (List ℕ)
 cause_name n =
     if nat_eq n class_mismatch then Some (codes "ClassMismatch")

@@ -1,4 +1,4 @@
--- The numbers and the names of the refusals of messages (this product's own profile).
+-- The numbers and the names of the faults of DIMSE messages (this product's own profile).
 use Rattle.std.specs.Prelude.{ℕ, List, codes}
 use Rattle.dimse.specs.declared.fault.DimseFault.{DimseFault}
 use Rattle.dimse.specs.declared.fault.DimseFault.TheVariants.{CommandTooLong, BadCommand, UnknownField, WrongKind, OtherContext}

@@ -1,5 +1,5 @@
--- What a join of fragments shows of a message (PS3.7 section 6.3; PS3.8 annex E): all that has come of it, a part of a
--- fragment with it, but for the bytes of its data set, which a join does not keep.
+-- What the state of a `Join` says of a message (PS3.7 section 6.3; PS3.8 annex E): its fragments so far, the
+-- unfinished one included, except the bytes of its data set, which a join does not keep.
 use Rattle.std.specs.Prelude.{◌≡◌, ℕ, ◌-◌, ◌≤◌, Bool, false, List, [], length, Option, None, Some, Result, Ok, Err, nat_lt, if◌then◌else◌}
 use Rattle.pdu.specs.Heads.{is_last, pdv_head_of}
 use Rattle.pdu.specs.Sizes.{pdv_head_size}
@@ -11,7 +11,7 @@ use Rattle.dimse.specs.Messages.{Pdv, Begun, NoMessage, InCommand, InSet, Brough
 
 -- ---- what a part of a fragment adds
 
--- what has come of a message, with these bytes of a presentation data value: six of its head, and then its fragment
+-- the unfinished message, with the first bytes of a presentation data value: six of its head, and then its fragment
 abbrev pub with_pdv : List ℕ → Begun → Begun
 with_pdv begun message = if nat_lt (length begun) pdv_head_size then message else with_fragment (pdv_context begun) (pdv_content begun) message
 
@@ -21,16 +21,16 @@ pdv_of bytes = record { context = pdv_context bytes; control = pdv_control bytes
 
 -- ---- what a join shows
 
--- what contracts see of a join
+-- the state of a join, as contracts see it
 pub record Joining : Type 0 where
-  -- what has come of a message, its data set left empty
+  -- the unfinished message, with an empty data set in place of its own
   pub message : Begun
-  -- the bytes of its command set; after the end of a message the bytes of that message's command set, until the join is
-  -- cleared or the next message begins
+  -- the bytes of its command set; after the end of a message they stay there until the join is cleared or the next
+  -- message starts
   pub command : List ℕ
-  -- how many bytes of an unfinished fragment are still to come
+  -- how many bytes of the unfinished fragment are still to come
   pub left : ℕ
-  -- whether it is marked as the last one
+  -- whether the unfinished fragment is marked as the last one of its set
   pub last : Bool
 
 abbrev pub without_set : Begun → Begun
@@ -42,7 +42,7 @@ command_bytes NoMessage = []
 command_bytes (InCommand context command) = command
 command_bytes (InSet context command set) = command
 
--- the bytes that an unfinished presentation data value still lacks; none while its head is not whole
+-- how many bytes an unfinished presentation data value still lacks; 0 while its head is unfinished
 abbrev pub left_of_pdv : List ℕ → ℕ
 left_of_pdv begun = if nat_lt (length begun) pdv_head_size then 0 else (pdv_size begun - length begun)
 
@@ -57,8 +57,8 @@ shown message begun = record {
   last = is_last_begun begun;
 }
 
--- The join shows what has come of a message: this of it by whole presentation data values, and these bytes of the next
--- one, whose head was not refused.
+-- The state of the join is that of this unfinished message, from whole presentation data values, and of these first
+-- bytes of the next one, whose head was accepted.
 pub record ShowsMessage (room : ℕ) (join : Joining) (message : Begun) (begun : List ℕ) : Type 0 where
   pub shows : join ≡ shown (with_pdv begun message) begun
   pub accepted : pdv_head_size ≤ length begun → head_refusal room message (pdv_head_of begun) ≡ None
@@ -69,24 +69,25 @@ abbrev pub ok_unless : Option DimseFault → Result (Unit {0}) DimseFault
 ok_unless None = Ok tt
 ok_unless (Some fault) = Err fault
 
--- the message goes on: with more of the same kind, or with a data set that is due from here on
+-- the result of the end of a fragment after which the message is unfinished: more of the same set, or the data set,
+-- must follow
 abbrev pub goes_on : Begun → Begun → Joined
 goes_on (InSet first command set) later = joined.More
 goes_on before (InSet first command set) = joined.DataDue
 goes_on before later = joined.More
 
--- a join after the end of a message: it still shows its command set
+-- a join after the end of a message, which still has its command set
 abbrev pub lending : List ℕ → Joining
 lending command = record { message = NoMessage; command = command; left = 0; last = false }
 
--- What the end of a presentation data value makes of a join, by what it brings to the message: the join shows what has
--- come then, or lends the command set of the message that has ended; a refusal leaves it unchanged.
+-- The state of a join after the end of a presentation data value: that of the unfinished message, or that after the
+-- end of the message; a rejected one leaves it unchanged.
 abbrev pub Joins : ℕ → Begun → Brought → Joining → Joining → Result Joined DimseFault → Type 0
 Joins room before (Goes later) old new result = (result ≡ Ok (goes_on before later)) × ShowsMessage room new later []
 Joins room before (Ends m) old new result = (result ≡ Ok joined.Message) × (new ≡ lending m.command)
 Joins room before (Refuses fault) old new result = (result ≡ Err fault) × (new ≡ old)
 
--- the context in which a message has begun
+-- the presentation context ID of the unfinished message
 abbrev pub InContext : Begun → ℕ → Type 0
 InContext NoMessage id = Unit {0}
 InContext (InCommand context command) id = id ≡ context

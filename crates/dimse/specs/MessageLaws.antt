@@ -1,9 +1,9 @@
--- What the laws of messages speak of: lists of presentation data values one after the other, and the fragments at their
--- front.
+-- Definitions for the lemmas on messages: lists of presentation data values, one after the other, and the fragments
+-- at their front.
 use Rattle.std.specs.Prelude.{◌≡◌, ℕ, List, ◌++◌, None, Some}
 use Rattle.dimse.specs.Messages.{Pdv, Message, IsMessage, Messages, messages}
 
--- the messages of one list and then of another one that begins with what has come of a message
+-- the messages of one list of presentation data values followed by another, given those of each
 abbrev pub and_then : Messages → Messages → Messages
 and_then first second = elim first.fault [
   | None ↦ record { whole = first.whole ++ second.whole; begun = second.begun; fault = second.fault }

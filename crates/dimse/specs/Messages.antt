@@ -16,7 +16,7 @@ pub record Pdv : Type 0 where
   pub control : ℕ
   pub fragment : List ℕ
 
--- a whole message: its context, its command set and its data set, which is empty where there is none
+-- a whole message: its presentation context ID, its command set and its data set, which is empty if it has none
 pub record Message : Type 0 where
   pub context : ℕ
   pub command : List ℕ
@@ -28,7 +28,8 @@ pub record Message : Type 0 where
 abbrev pub IsFragment : ℕ → Bool → Pdv → Type 0
 IsFragment context command p = (p.context ≡ context) × (is_command p.control ≡ command)
 
--- such fragments, of which the last one alone is marked as the last
+-- fragments of a command set (true) or of a data set (false) in this context, of which only the last is marked as the
+-- last
 abbrev pub AreFragments : ℕ → Bool → List Pdv → Type 0
 AreFragments context command [] = ⊥
 AreFragments context command (p ∷ []) = IsFragment context command p × (is_last p.control ≡ true)
@@ -38,7 +39,7 @@ abbrev pub fragments_of : List Pdv → List ℕ
 fragments_of [] = []
 fragments_of (p ∷ ps) = p.fragment ++ fragments_of ps
 
--- the fragments of the data set, which are there exactly where it is due
+-- the fragments of the data set, which are there exactly if the command announces one
 abbrev pub IsSet : Bool → Message → List Pdv → Type 0
 IsSet false m sets = (sets ≡ []) × (m.set ≡ [])
 IsSet true m sets = AreFragments m.context false sets × (m.set ≡ fragments_of sets)
@@ -54,8 +55,8 @@ pub record IsMessage (room : ℕ) (m : Message) (commands sets : List Pdv) : Typ
 
 -- ---- one fragment after the other
 
--- what has come of a message: nothing; fragments of its command set, none of them the last; or its whole command set
--- and fragments of its data set, none of them the last
+-- an unfinished message: nothing; fragments of its command set, without the last; or its whole command set and
+-- fragments of its data set, without the last
 pub data Begun : Type 0 where
   NoMessage : Begun
   InCommand : (context : ℕ) (command : List ℕ) → Begun
@@ -69,52 +70,53 @@ if_room room size = if nat_le size room then None else Some CommandTooLong
 abbrev pub if_context : ℕ → ℕ → Option DimseFault → Option DimseFault
 if_context first context other = if nat_eq context first then other else Some OtherContext
 
--- Whether a head is refused after what has come, and by which rule first: another context than the message's, a fragment
--- of the other kind than is due, a command set above the room. Of the bytes that follow the length two are of the head.
+-- Why the head of a presentation data value is rejected after this unfinished message, if it is: another presentation
+-- context ID than the message's, a fragment of the wrong set, or a command set of more than `room` bytes. Of the
+-- bytes that the length counts two belong to the head.
 abbrev pub head_refusal : ℕ → Begun → PdvHead → Option DimseFault
 head_refusal room NoMessage h = if h.command then if_room room (h.length - pdv_least) else Some WrongKind
 head_refusal room (InCommand first command) h =
     if_context first h.context (if h.command then if_room room (length command + (h.length - pdv_least)) else Some WrongKind)
 head_refusal room (InSet first command set) h = if_context first h.context (if h.command then Some WrongKind else None)
 
--- the same by the length, the context and the control byte
+-- why the head of a presentation data value with this length, context ID and control byte is rejected, if it is
 abbrev pub refusal : ℕ → Begun → ℕ → ℕ → ℕ → Option DimseFault
 refusal room b n context control =
     head_refusal room b (record { length = n; context = context; command = is_command control; last = is_last control })
 
--- ---- what a presentation data value brings
+-- ---- the effect of a presentation data value
 
--- what has come of a message, with a fragment or a part of one, of the kind that is due
+-- the unfinished message with one more fragment, or a part of one, of the set that must follow
 abbrev pub with_fragment : ℕ → List ℕ → Begun → Begun
 with_fragment context fragment NoMessage = InCommand context fragment
 with_fragment context fragment (InCommand first command) = InCommand first (command ++ fragment)
 with_fragment context fragment (InSet first command set) = InSet first command (set ++ fragment)
 
--- what a presentation data value brings, at its last byte
+-- the result of a presentation data value, at its last byte
 pub data Brought : Type 0 where
-  -- the message goes on
+  -- the message is unfinished
   Goes : Begun → Brought
   -- the message is whole
   Ends : Message → Brought
-  -- it is refused
+  -- the message is rejected
   Refuses : DimseFault → Brought
 
--- a whole command set: a data set comes after it where it announces one
+-- the result of a whole command set: the data set must follow if it announces one
 abbrev pub with_command : ℕ → List ℕ → Result CommandRecord DimseFault → Brought
 with_command context command (Err fault) = Refuses fault
 with_command context command (Ok c) = if c.with_data then Goes (InSet context command []) else Ends (record { context = context; command = command; set = [] })
 
--- what has come is whole: the command set, or with its data set the message
+-- the result of the last fragment of a set: the command set is whole, or with its data set the message
 abbrev pub completed : Begun → Brought
 completed NoMessage = Goes NoMessage
 completed (InCommand context command) = with_command context command (command_in command)
 completed (InSet context command set) = Ends (record { context = context; command = command; set = set })
 
--- what a presentation data value brings whose head was not refused
+-- the result of a presentation data value whose head was accepted
 abbrev pub brought : Begun → Pdv → Brought
 brought b p = let come = with_fragment p.context p.fragment b in if is_last p.control then completed come else Goes come
 
--- the message that it ends
+-- the message that is complete with a presentation data value, if one is
 abbrev pub message_by : Brought → Option Message
 message_by (Goes b) = None
 message_by (Ends m) = Some m
@@ -125,7 +127,8 @@ ended b p = message_by (brought b p)
 
 -- ---- the messages of a list of presentation data values
 
--- the whole messages, what has come of the next one, and what was refused, after which nothing more is taken
+-- the whole messages of a list of presentation data values, the unfinished one after them, and the fault, after which
+-- no message is joined
 pub record Messages : Type 0 where
   pub whole : List Message
   pub begun : Begun
@@ -141,7 +144,7 @@ next room b p = unless_refused (refusal room b (length p.fragment + pdv_least) p
 abbrev pub with_message : Message → Messages → Messages
 with_message m ms = record { whole = m ∷ ms.whole; begun = ms.begun; fault = ms.fault }
 
--- the messages given what a presentation data value brings, and those of the later ones by what has come before them
+-- the messages of a list, given the result of its first presentation data value and the messages of the later ones
 abbrev pub with_later : Brought → (Begun → Messages) → Messages
 with_later (Goes b) later = later b
 with_later (Ends m) later = with_message m (later NoMessage)

@@ -1,4 +1,4 @@
--- The command that a text spells, computed from its front: what the definitions of Command.antt determine.
+-- Reads a command from its bytes, front to back: the function that the definitions of Command.antt determine.
 use Rattle.std.specs.Prelude.{ℕ, zero, suc, ◌-◌, ◌%◌, Bool, ◌&&◌, List, [], ◌∷◌, length, take, drop, Option, Some, None, Result, Err, nat_eq, nat_le, nat_lt, if◌then◌else◌}
 use Rattle.byteorder.specs.Endian.{little_number}
 use Rattle.element.specs.Padding.{is_empty}
@@ -6,12 +6,12 @@ use Rattle.dimse.specs.declared.fault.DimseFault.{DimseFault}
 use Rattle.dimse.specs.declared.fault.DimseFault.TheVariants.{BadCommand}
 use Rattle.dimse.specs.Command.{CommandElement, CommandRecord, command_of}
 
--- a header of group 0000 with an even length, and as many bytes after it
+-- the bytes begin with an element of group 0000 and even length, all of it
 abbrev pub is_element : List ℕ → Bool
 is_element b =
     nat_le 8 (length b) && (nat_eq (little_number 2 b) 0 && (nat_eq (little_number 4 (drop 4 b) % 2) 0 && nat_le (little_number 4 (drop 4 b)) (length b - 8)))
 
--- the element at the front, and the bytes after it
+-- the first element, and the bytes after it
 unfoldable pub element_at : List ℕ → Option (CommandElement × List ℕ)
 element_at b =
     if is_element b then
@@ -22,7 +22,8 @@ abbrev pub with_element : CommandElement → Option (List CommandElement) → Op
 with_element e None = None
 with_element e (Some es) = Some (e ∷ es)
 
--- the elements of a text of no more than `most` bytes, their numbers rising from above `last`
+-- the elements of at most `most` bytes, with strictly ascending element numbers above `last`; none if they are
+-- anything else
 unfoldable pub elements_in : ℕ → ℕ → List ℕ → Option (List CommandElement)
 elements_in zero last b = if is_empty b then Some [] else None
 elements_in (suc most) last b =
@@ -32,15 +33,15 @@ elements_in (suc most) last b =
       | Some x ↦ if nat_lt last x.0.number then with_element x.0 (elements_in most x.0.number x.1) else None
     ])
 
--- the elements that the text spells
+-- the elements of these bytes; none if they are not whole elements with strictly ascending element numbers
 unfoldable pub elements_of : List ℕ → Option (List CommandElement)
 elements_of b = elements_in (length b) 0 b
 
--- (0000,0000) with a value of four bytes that counts the bytes after it
+-- the element is Command Group Length (0000,0000), and its value of four bytes is the number of bytes after it
 abbrev pub counts : CommandElement → ℕ → Bool
 counts e rest = nat_eq e.number 0 && (nat_eq (length e.value) 4 && nat_eq (little_number 4 e.value) rest)
 
--- the elements of a command set but (0000,0000)
+-- the elements of a command set after Command Group Length; none if the bytes are no command set
 unfoldable pub set_of : List ℕ → Option (List CommandElement)
 set_of text = elim (element_at text) [
   | None ↦ None
@@ -51,6 +52,6 @@ abbrev pub command_in_set : Option (List CommandElement) → Result CommandRecor
 command_in_set None = Err BadCommand
 command_in_set (Some es) = command_of es
 
--- the command that the text spells, or the first rule that it breaks
+-- the command of these bytes, or their fault
 unfoldable pub command_in : List ℕ → Result CommandRecord DimseFault
 command_in text = command_in_set (set_of text)

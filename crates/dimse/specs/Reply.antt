@@ -1,5 +1,5 @@
--- Responses to C-ECHO and C-STORE (PS3.7 sections 9.3.1.2, 9.3.5.2 and annex E), and how their command sets are cut into
--- P-DATA-TF PDUs of one presentation data value each (PS3.8 annex D.1 and annex E).
+-- Responses to C-ECHO and C-STORE (PS3.7 sections 9.3.1.2, 9.3.5.2 and annex E), and how their command sets are
+-- divided into P-DATA-TF PDUs of one presentation data value each (PS3.8 annex D.1 and annex E).
 use Rattle.std.specs.Prelude.{◌≡◌, ℕ, zero, suc, ◌+◌, ◌-◌, ◌*◌, ◌/◌, ◌≤◌, ◌⊎◌, true, false, ◌&&◌, ◌||◌, List, [], ◌∷◌, ◌++◌, length, take, drop, Option, Some, None, nat_eq, nat_le, if◌then◌else◌}
 use Rattle.element.specs.declared.tag.Tag.{Tag}
 use Rattle.element.specs.Numbers.{le}
@@ -15,16 +15,16 @@ use Rattle.dimse.specs.Detail.{comment_of}
 abbrev pub element : ℕ → List ℕ → CommandElement
 element number value = record { number = number; value = value }
 
--- affected SOP instance 1000
+-- Affected SOP Instance UID (0000,1000) of a C-STORE
 abbrev pub instance_elements : Option (List ℕ) → List CommandElement
 instance_elements None = []
 instance_elements (Some uid) = element instance_element (even_uid uid) ∷ []
 
--- offending element 0901, left out where the tag is (0000,0000)
+-- Offending Element (0000,0901), left out if the tag is (0000,0000)
 abbrev pub tag_elements : Tag → List CommandElement
 tag_elements tag = if nat_eq tag.0 0 && nat_eq tag.1 0 then [] else element offending_element (le tag.0 2 ++ le tag.1 2) ∷ []
 
--- offending element 0901 and error comment 0902; none where the cause has no name
+-- Offending Element (0000,0901) and Error Comment (0000,0902) of a cause; neither if the cause has no name
 abbrev pub detail_elements : Option Detail → List CommandElement
 detail_elements None = []
 detail_elements (Some detail) = elim (comment_of detail.number) [
@@ -32,7 +32,7 @@ detail_elements (Some detail) = elim (comment_of detail.number) [
   | Some text ↦ tag_elements detail.tag ++ element comment_element text ∷ []
 ]
 
--- a reply to a C-STORE whose status is C000 or A900 names its cause, and no other one does
+-- the cause that a response reports: only that to a C-STORE with status C000 or A900 does
 abbrev pub detail_carried : ℕ → ℕ → Option Detail → Option Detail
 detail_carried field status detail =
     if nat_eq field c_store && (nat_eq status cannot_understand || nat_eq status data_set_mismatch) then detail else None
@@ -41,9 +41,9 @@ detail_carried field status detail =
 abbrev pub response : ℕ
 response = 0x8000
 
--- Affected SOP class 0002, command field 0100 (that of the request with its highest bit set), message id responded to
--- 0120, data set type 0800 (none), status 0900, what names the cause of a failure, and of C-STORE affected SOP instance
--- 1000.
+-- The elements of a response: Affected SOP Class UID (0000,0002), Command Field (0000,0100) with its highest bit set,
+-- Message ID Being Responded To (0000,0120), Command Data Set Type (0000,0800) for none, Status (0000,0900), the
+-- cause of a failure, and of a C-STORE Affected SOP Instance UID (0000,1000).
 abbrev pub reply_elements : CommandRecord → ℕ → Option Detail → List CommandElement
 reply_elements command status detail =
     element class_element (even_uid command.class) ∷ element field_element (le (command.field + response) 2) ∷ element answered_element (le command.message 2)
@@ -54,27 +54,27 @@ reply_elements command status detail =
 unfoldable pub reply_command : CommandRecord → ℕ → Option Detail → List ℕ
 reply_command command status detail = command_set_bytes (reply_elements command status detail)
 
--- a peer's maximum length that leaves room for a fragment; 0 is no maximum
+-- a maximum length that allows fragments of two bytes or more; 0 stands for no maximum
 abbrev pub IsMaximum : ℕ → Type 0
 IsMaximum maximum = (maximum ≡ 0) ⊎ (8 ≤ maximum)
 
--- the bytes of a fragment: the greatest even number up to the peer's maximum less the 6 of a presentation data value's
--- head; without a maximum all of them
+-- the size of a fragment: the greatest even number of bytes that fits the peer's maximum length, which counts the 6
+-- of the presentation data value's head too; without a maximum, that of the whole command set
 abbrev pub fragment_size : ℕ → ℕ → ℕ
 fragment_size maximum all = if nat_eq maximum 0 then all else ((maximum - pdv_head_size) / 2 * 2)
 
--- fragments of this size, of which the last one alone may be shorter; it is empty only where it stands alone
+-- fragments of this size, of which only the last may be shorter; it is empty only if it is the only one
 abbrev pub HaveSize : ℕ → List (List ℕ) → Type 0
 HaveSize size [] = ⊥
 HaveSize size (last ∷ []) = length last ≤ size
 HaveSize size (fragment ∷ next ∷ more) = (length fragment ≡ size) × (1 ≤ length next) × HaveSize size (next ∷ more)
 
--- the text cut into such fragments
+-- the bytes divided into fragments of this size
 pub record IsFragmented (size : ℕ) (text : List ℕ) (cut : List (List ℕ)) : Type 0 where
   pub whole : text ≡ joined cut
   pub sizes : HaveSize size cut
 
--- the one cut of the text, computed: at most `more` fragments of this size, and a last one
+-- the fragments of these bytes: at most `more` of this size, and a last one
 abbrev pub fragments_in : ℕ → ℕ → List ℕ → List (List ℕ)
 fragments_in zero size text = text ∷ []
 fragments_in (suc more) size text = if nat_le (length text) size then text ∷ [] else (take size text ∷ fragments_in more size (drop size text))
@@ -82,13 +82,13 @@ fragments_in (suc more) size text = if nat_le (length text) size then text ∷ [
 unfoldable pub fragments : ℕ → List ℕ → List (List ℕ)
 fragments size text = fragments_in (length text) size text
 
--- the PDUs of a command's fragments, of which the last one is marked so
+-- the P-DATA-TF PDUs of the fragments of a command set, of which the last is marked as the last
 abbrev pub command_pdus : ℕ → List (List ℕ) → List ℕ
 command_pdus context [] = []
 command_pdus context (fragment ∷ []) = data_text context true true fragment
 command_pdus context (fragment ∷ next ∷ more) = data_text context true false fragment ++ command_pdus context (next ∷ more)
 
--- the response as it is sent
+-- the bytes of a response, as they are sent: its P-DATA-TF PDUs
 unfoldable pub reply_bytes : CommandRecord → ℕ → Option Detail → ℕ → ℕ → List ℕ
 reply_bytes command status detail context maximum =
     let set = reply_command command status detail in

@@ -1,4 +1,4 @@
--- The statuses of replies (PS3.7 annex C, PS3.4 annex B.2.3).
+-- The values of Status (0000,0900) in responses (PS3.7 annex C, PS3.4 annex B.2.3).
 use Rattle.std.specs.Prelude.{ℕ}
 
 abbrev pub success : ℕ

@@ -1,4 +1,4 @@
--- Worked examples on which the definitions are tried.
+-- Example messages for the definitions.
 use Rattle.std.specs.Prelude.{ℕ, false, true, List, [], ◌∷◌, drop, Option, Some, None, codes}
 use Rattle.byteorder.specs.Endian.{little_number}
 use Rattle.dimse.specs.Command.{CommandRecord}
@@ -9,7 +9,7 @@ use Rattle.dimse.specs.Reply.{reply_command}
 abbrev pub pdv : ℕ → ℕ → List ℕ → Pdv
 pdv context control fragment = record { context = context; control = control; fragment = fragment }
 
--- the command set of an echo of the verification class with message id 1
+-- the command set of a C-ECHO-RQ of the Verification SOP Class with Message ID 1
 abbrev pub echo : List ℕ
 echo =
     0 ∷ 0 ∷ 0 ∷ 0 ∷ 4 ∷ 0 ∷ 0 ∷ 0 ∷ 56 ∷ 0 ∷ 0 ∷ 0
@@ -18,11 +18,11 @@ echo =
     ∷ 0 ∷ 0 ∷ 16 ∷ 1 ∷ 2 ∷ 0 ∷ 0 ∷ 0 ∷ 1 ∷ 0
     ∷ 0 ∷ 0 ∷ 0 ∷ 8 ∷ 2 ∷ 0 ∷ 0 ∷ 0 ∷ 1 ∷ 1 ∷ []
 
--- what it says
+-- the contents of the command set `echo`
 abbrev pub echo_record : CommandRecord
 echo_record = record { class = codes "1.2.840.10008.1.1"; field = 0x0030; message = 1; with_data = false; instance = None }
 
--- its response with status 0000 in context 1, to a peer without a maximum
+-- the response to `echo` with status 0000 and presentation context ID 1, to a peer without a maximum length
 abbrev pub echo_reply : List ℕ
 echo_reply =
     4 ∷ 0 ∷ 0 ∷ 0 ∷ 0 ∷ 84 ∷ 0 ∷ 0 ∷ 0 ∷ 80 ∷ 1 ∷ 3 ∷ 0 ∷ 0 ∷ 0 ∷ 0
@@ -32,11 +32,11 @@ echo_reply =
     ∷ 2 ∷ 0 ∷ 0 ∷ 0 ∷ 1 ∷ 0 ∷ 0 ∷ 0 ∷ 0 ∷ 8 ∷ 2 ∷ 0 ∷ 0 ∷ 0 ∷ 1 ∷ 1
     ∷ 0 ∷ 0 ∷ 0 ∷ 9 ∷ 2 ∷ 0 ∷ 0 ∷ 0 ∷ 0 ∷ 0 ∷ []
 
--- a store of a CT instance `1.2.3`
+-- the contents of a C-STORE-RQ of the CT Image instance `1.2.3`
 abbrev pub store_record : CommandRecord
 store_record = record { class = codes "1.2.840.10008.5.1.4.1.1.2"; field = 0x0001; message = 7; with_data = true; instance = Some (codes "1.2.3") }
 
--- its command set, with a priority
+-- the command set of `store_record`, with a Priority
 abbrev pub store : List ℕ
 store =
     0 ∷ 0 ∷ 0 ∷ 0 ∷ 4 ∷ 0 ∷ 0 ∷ 0 ∷ 88 ∷ 0 ∷ 0 ∷ 0
@@ -47,7 +47,7 @@ store =
     ∷ 0 ∷ 0 ∷ 0 ∷ 8 ∷ 2 ∷ 0 ∷ 0 ∷ 0 ∷ 2 ∷ 1
     ∷ 0 ∷ 0 ∷ 0 ∷ 16 ∷ 6 ∷ 0 ∷ 0 ∷ 0 ∷ 49 ∷ 46 ∷ 50 ∷ 46 ∷ 51 ∷ 0 ∷ []
 
--- the cause of a failure, and what its reply to that store has: the count of (0000,0000), and the bytes after the status
+-- a cause of a failure; of the response that reports it, Command Group Length and the bytes after Status follow
 abbrev pub cause : ℕ → ℕ → ℕ → Option Detail
 cause number group element = Some (record { number = number; tag = record { 0 = group; 1 = element } })
 
@@ -57,6 +57,6 @@ group_length status detail = little_number 4 (drop 8 (reply_command store_record
 abbrev pub after_status : ℕ → Option Detail → List ℕ
 after_status status detail = drop 86 (reply_command store_record status detail)
 
--- affected SOP instance `1.2.3`
+-- the element Affected SOP Instance UID with `1.2.3`
 abbrev pub instance_123 : List ℕ
 instance_123 = 0 ∷ 0 ∷ 0 ∷ 16 ∷ 6 ∷ 0 ∷ 0 ∷ 0 ∷ 49 ∷ 46 ∷ 50 ∷ 46 ∷ 51 ∷ 0 ∷ []

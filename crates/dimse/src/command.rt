@@ -1,4 +1,4 @@
-//! Commands.
+//! The DIMSE requests that this product accepts: C-ECHO and C-STORE.
 ghost use Rattle.std.specs.Prelude.{◌≡◌, true, false, Some, None, option_map};
 ghost use Rattle.dimse.specs.Command.{c_echo, c_store, is_request, is_uid_or_none};
 ghost use Rattle.element.specs.Uid.{is_uid};
@@ -6,8 +6,8 @@ ghost use Rattle.element.specs.Uid.{is_uid};
 use element::Uid;
 use std::marker::Model;
 
-/// A C-ECHO or C-STORE request (PS3.7 sections 9.3.1 and 9.3.5). A C-STORE names an instance and is
-/// followed by a data set; a C-ECHO has neither.
+/// A C-ECHO-RQ or C-STORE-RQ (PS3.7 sections 9.3.1 and 9.3.5). A C-STORE has an Affected SOP Instance
+/// UID and is followed by a data set; a C-ECHO has neither.
 #[derive(Debug, Drop)]
 pub struct Command {
     class: Uid,
@@ -28,10 +28,10 @@ impl Model for Command {
 }
 
 impl Command {
-    /// Command field of a C-STORE request.
+    /// The Command Field (0000,0100) of a C-STORE-RQ.
     pub const C_STORE: u16 = 0x0001;
 
-    /// Command field of a C-ECHO request.
+    /// The Command Field (0000,0100) of a C-ECHO-RQ.
     pub const C_ECHO: u16 = 0x0030;
 
     /// Returns a C-ECHO request.
@@ -63,7 +63,7 @@ impl Command {
         }
     }
 
-    /// Returns the affected SOP Class UID.
+    /// Returns the Affected SOP Class UID (0000,0002).
     pub fn class(&self) -> &Uid
         ensures value { result.now ≡ self.now.class }
         ensures is_uid { is_uid self.now.class ≡ true }
@@ -71,7 +71,7 @@ impl Command {
         &self.class
     }
 
-    /// Returns the command field: 0001H for C-STORE, 0030H for C-ECHO.
+    /// Returns the Command Field (0000,0100): 0001H for C-STORE-RQ, 0030H for C-ECHO-RQ.
     pub fn field(&self) -> u16
         ensures value { result ≡ self.now.field }
         ensures kind { is_request self.now.field self.now.with_data self.now.instance ≡ true }
@@ -79,21 +79,21 @@ impl Command {
         self.field
     }
 
-    /// Returns the message ID.
+    /// Returns the Message ID (0000,0110), which the response repeats.
     pub fn message(&self) -> u16
         ensures { result ≡ self.now.message }
     {
         self.message
     }
 
-    /// Returns whether a data set follows the command.
+    /// Returns whether a data set follows the command set, by its Command Data Set Type (0000,0800).
     pub fn with_data(&self) -> bool
         ensures { result ≡ self.now.with_data }
     {
         self.with_data
     }
 
-    /// Returns the affected SOP Instance UID, which only a C-STORE has.
+    /// Returns the Affected SOP Instance UID (0000,1000) of a C-STORE, or `None` for a C-ECHO.
     pub fn instance(&self) -> Option<&Uid>
         ensures value { option_map (λ u. u.now) result ≡ self.now.instance }
         ensures is_uid { is_uid_or_none self.now.instance ≡ true }

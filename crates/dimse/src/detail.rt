@@ -1,4 +1,4 @@
-//! The cause that a failure reply names.
+//! The cause of a failed C-STORE, as its response reports it.
 ghost use Rattle.std.specs.Prelude.{◌≡◌, ◌≤◌, length, option_map, IfSome};
 ghost use Rattle.dimse.specs.Detail as spelling;
 
@@ -6,34 +6,39 @@ use arrayvec::ArrayVec;
 use element::Tag;
 use sequence::Rule;
 
-/// The room of an error comment: `fault`, two digits, two spaces and a name, padded.
+/// The greatest size in bytes of an Error Comment (0000,0902): `fault`, a space, two digits, a space, a
+/// name of at most 16 bytes, and padding to an even length.
 pub(crate) const COMMENT: usize = 26;
 
-/// The cause of a failed C-STORE, which its reply names.
+/// The cause of a failed C-STORE, which its response reports as Offending Element (0000,0901) and Error
+/// Comment (0000,0902).
 #[derive(Clone, Copy, Debug, PartialEq, Eq)]
 pub struct Detail {
-    /// The number of the data set's fault, 10 to 17, 20 or 21; `CLASS_MISMATCH` if the data set does
-    /// not name the command's class; `INSTANCE_MISMATCH` if it does not name its instance.
+    /// The number of the rule that the data set breaks (`sequence::Rule`), 10 to 17, 20 or 21; or
+    /// [`CLASS_MISMATCH`] or [`INSTANCE_MISMATCH`].
     pub number: u8,
     /// The offending element; (0000,0000) if there is none.
     pub tag: Tag,
 }
 
-/// The class of the data set is missing, unreadable or other than the command's.
+/// The SOP Class UID of the data set is missing, invalid, or other than the Affected SOP Class UID of
+/// the command.
 pub const CLASS_MISMATCH: u8 = 45;
 
-/// The instance of the data set is missing, unreadable or other than the command's.
+/// The SOP Instance UID of the data set is missing, invalid, or other than the Affected SOP Instance
+/// UID of the command.
 pub const INSTANCE_MISMATCH: u8 = 46;
 
-/// Whether a data set's fault against this rule is a limit of the receiver's: its status is another,
-/// which names no cause.
+/// Returns whether this rule is a limit of the receiver (too deep or too long) rather than a fault of
+/// the data set. Such a store is answered with status A700, whose response has no cause.
 fn is_limit(rule: Rule) -> bool
     ensures { result ≡ spelling.is_limit rule }
 {
     matches!(rule, Rule::TooDeep | Rule::TooLong)
 }
 
-/// Returns the name of the cause with this number, or `None` if it has none.
+/// Returns the name of the cause with this number (see [`Detail::number`]), at most 16 bytes, or `None`
+/// if no cause has it.
 pub fn cause_name(number: u8) -> Option<&'static str>
     ensures value { option_map (λ name. name.now) result ≡ spelling.cause_name number }
     ensures short { IfSome result (λ name. length name.now ≤ 16) }
@@ -48,7 +53,8 @@ pub fn cause_name(number: u8) -> Option<&'static str>
     }
 }
 
-/// Returns the error comment of a cause with this name.
+/// Returns the Error Comment of a cause with this number and name, as `fault 17 Overrun`, padded to an
+/// even length. The number is below 100.
 pub(crate) fn comment(number: u8, name: &str) -> ArrayVec<u8, COMMENT>
     requires { length name.now ≤ 16 }
     ensures { result.items ≡ spelling.comment number name.now }

@@ -1,4 +1,4 @@
-//! The elements of a command set.
+//! Reads the elements of a command set, in Implicit VR Little Endian.
 ghost use Rattle.std.specs.Prelude.{◌≡◌, List, option_map, Some};
 ghost use Rattle.std.specs.Option.{is_some};
 ghost use Rattle.dimse.specs.Command.{CommandElement, command_value};
@@ -6,8 +6,8 @@ ghost use Rattle.dimse.specs.Reading as spelling;
 
 use element::{Syntax, Tag, read_header};
 
-/// Returns the element at the front, as its number in group 0000 and its value, and the bytes after
-/// it; or `None` if no whole element of group 0000 with an even length stands there.
+/// Returns the element number and the value of the first element, and the bytes after it. Returns
+/// `None` if the bytes do not begin with a whole element of group 0000 and of even length.
 #[tactic(auto, using(crate::proofs::ElementLemmas::whole_plain, crate::proofs::ElementLemmas::plain_parts), unfolding(crate::specs::Reading::element_at))]
 pub fn element_at(bytes: &[u8]) -> Option<(u16, &[u8], &[u8])>
     ensures { option_map (λ x. (record { number = x.0; value = x.1.now }, x.2.now)) result ≡ spelling.element_at bytes.now }
@@ -26,7 +26,8 @@ pub fn element_at(bytes: &[u8]) -> Option<(u16, &[u8], &[u8])>
     Some((number, value, rest))
 }
 
-/// Returns whether the bytes are whole elements of rising numbers above 0000.
+/// Returns whether the bytes are whole elements with strictly ascending element numbers above 0000, and
+/// nothing else.
 #[tactic(auto, unfolding(crate::specs::Reading::elements_of))]
 pub fn are_rising(bytes: &[u8]) -> bool
     ensures { result ≡ is_some (spelling.elements_of bytes.now) }
@@ -43,7 +44,7 @@ pub fn are_rising(bytes: &[u8]) -> bool
     rest.is_empty()
 }
 
-/// Returns the value of the element of this number, or `None` if there is none.
+/// Returns the value of the element with this element number, or `None` if there is none.
 pub fn value_in(bytes: &[u8], number: u16) -> Option<&[u8]>
     ensures { (es : List CommandElement) → spelling.elements_of bytes.now ≡ Some es → option_map (λ v. v.now) result ≡ command_value number es }
 {

@@ -1,27 +1,28 @@
-//! Why a message is rejected.
+//! Why a DIMSE message is rejected.
 ghost use Rattle.std.specs.Prelude.{◌≡◌};
 ghost use Rattle.dimse.specs.Fault.{fault_name, number_of};
 
 use std::fmt;
 
-/// Why a message is rejected: each variant with its number.
+/// Why a DIMSE message is rejected. The local user aborts the association then. Each variant has a
+/// number that is logged.
 #[derive(Clone, Copy, Debug, PartialEq, Eq)]
 pub enum DimseFault {
-    /// 40: the command set has more bytes than are kept.
+    /// 40: the command set has more bytes than the receiver's limit (the `C` of [`Join`](crate::Join)).
     CommandTooLong,
-    /// 41: the bytes are not a command set, or a required element is missing or unreadable.
+    /// 41: the bytes are not a command set, or a required element is missing or invalid.
     BadCommand,
-    /// 42: the command field is neither C-ECHO's nor C-STORE's.
+    /// 42: the Command Field is neither that of C-ECHO-RQ nor that of C-STORE-RQ.
     UnknownField,
-    /// 43: a C-ECHO announces a data set or a C-STORE none, or a fragment of a data set came where
-    /// one of a command set was due, or the reverse.
+    /// 43: a C-ECHO announces a data set, or a C-STORE announces none; or a fragment belongs to a data
+    /// set where a command set must follow, or the reverse.
     WrongKind,
-    /// 44: a fragment came in another presentation context than the message's first one.
+    /// 44: a fragment has another presentation context ID than the first fragment of the message.
     OtherContext,
 }
 
 impl DimseFault {
-    /// Returns its number.
+    /// Returns the number of the fault, from 40 to 44.
     pub fn number(self) -> u8
         ensures { result ≡ number_of self }
     {
@@ -34,7 +35,7 @@ impl DimseFault {
         }
     }
 
-    /// Returns its name.
+    /// Returns the name of the fault, that of the variant.
     pub fn name(self) -> &'static str
         ensures { result.now ≡ fault_name self }
     {
@@ -48,7 +49,7 @@ impl DimseFault {
     }
 }
 
-/// The number and the name, as `41 BadCommand`.
+/// Prints the number and the name, as `41 BadCommand`.
 impl fmt::Display for DimseFault {
     fn fmt<W: fmt::Write>(&self, f: &mut fmt::Formatter<W>) -> fmt::Result {
         write!(f, "{} {}", self.number(), self.name())

@@ -1,4 +1,4 @@
-//! Joins the fragments of a message.
+//! Joins the fragments of a DIMSE message.
 ghost use Rattle.std.specs.Prelude.{◌≡◌, ◌-◌, ◌≤◌, ◌^◌, ◌++◌, [], List, ℕ, length, OnOk, OnErr};
 ghost use Rattle.pdu.specs.Heads.{pdv_head_of};
 ghost use Rattle.dimse.specs.Messages.{Begun, NoMessage, brought, head_refusal};
@@ -15,8 +15,11 @@ use std::marker::Model;
 
 mod fields;
 
-/// Joins the fragments of one message at a time (PS3.7 section 6.3; PS3.8 annex E): it keeps the
-/// command set, of at most `C` bytes, and counts the bytes of the data set.
+/// Joins the fragments of DIMSE messages, one message at a time (PS3.7 section 6.3; PS3.8 annex E). It
+/// buffers the command set, of at most `C` bytes. Of the data set it keeps no byte.
+///
+/// For each presentation data value call `head`, then `take` with the bytes of the fragment as they
+/// come, then `end`.
 #[derive(Drop)]
 pub struct Join<const C: usize> {
     stage: Stage,
@@ -39,7 +42,7 @@ impl<const C: usize> Model for Join<C> {
 }
 
 impl<const C: usize> Join<C> {
-    /// Returns a join without any fragment.
+    /// Creates a join before the first fragment.
     pub fn new() -> Join<C>
         requires { C ≤ 2 ^ 24 }
         ensures { ShowsMessage C result NoMessage [] }
@@ -53,7 +56,8 @@ impl<const C: usize> Join<C> {
         }
     }
 
-    /// Returns the first rule that the head breaks, if any, after what has come of the message.
+    /// Returns why the head of a presentation data value is rejected after the fragments so far, or
+    /// `None` if it is accepted.
     fn refusal(&self, head: &PdvHead) -> Option<DimseFault>
         ensures { result ≡ head_refusal C self.now.message head.now }
     {
@@ -73,10 +77,11 @@ impl<const C: usize> Join<C> {
         }
     }
 
-    /// Begins the fragment that follows this head. The error is the first of these that applies, and
-    /// leaves the join unchanged: `OtherContext` if the message's first fragment came in another
-    /// context; `WrongKind` if the fragment is of a data set and one of a command set is due, or the
-    /// reverse; `CommandTooLong` if the command set would have more than `C` bytes.
+    /// Starts the fragment that follows this head of a presentation data value. An error leaves the
+    /// join unchanged. It is the first of these that applies: `OtherContext` if the message's first
+    /// fragment has another presentation context ID; `WrongKind` if the fragment is of a data set where
+    /// a command set must follow, or the reverse; `CommandTooLong` if the command set would have more
+    /// than `C` bytes.
     pub fn head(&mut self, head: &PdvHead) -> Result<(), DimseFault>
         ensures judged { (message : Begun) → self.old.message ≡ without_set message → result ≡ ok_unless (head_refusal C message head.now) }
         ensures begun { (message : Begun) (bytes : List ℕ) → self.old.message ≡ without_set message → length bytes ≡ 6 → head.now ≡ pdv_head_of bytes
@@ -97,19 +102,22 @@ impl<const C: usize> Join<C> {
         Ok(())
     }
 
-    /// Takes the next part of the unfinished fragment. The bytes of a data set are only counted.
+    /// Appends the next bytes of the fragment, at most as many as it still lacks. Bytes of a command
+    /// set are buffered, those of a data set only counted.
     pub fn take(&mut self, part: &[u8])
         requires { length part.now ≤ self.old.left }
         ensures shows { (message : Begun) (begun : List ℕ) → ShowsMessage C self.old message begun → ShowsMessage C self.new message (begun ++ part.now) }
         ensures left { self.new.left ≡ self.old.left - length part.now }
     {
         if let Stage::Command = self.stage {
+            // It fits, as a head with a longer fragment is refused.
             let _taken = self.command.try_extend_from_slice(part);
         }
         self.left -= part.len() as u32;
     }
 
-    /// Returns what the end of the unfinished fragment makes of the message.
+    /// Returns the state of the message after the end of the fragment. Fails if the fragment completes
+    /// an invalid command set.
     fn joined(&self) -> Result<Joined, DimseFault>
         ensures { result ≡ ended_as self.now.message self.now.last }
     {
@@ -127,9 +135,10 @@ impl<const C: usize> Join<C> {
         }
     }
 
-    /// Ends the unfinished fragment, at its last byte. If it completes a command set that is no valid
-    /// command, the fault (`BadCommand`, `UnknownField` or `WrongKind`) is the error, and the join
-    /// stays unchanged. After `Message` the join lends the command until `clear` or the next message.
+    /// Ends the fragment, at its last byte, and returns the state of the message. If it completes an
+    /// invalid command set, the error is the fault that [`read_command`](crate::read_command) returns
+    /// (`BadCommand`, `UnknownField` or `WrongKind`), and the join stays unchanged. After `Message`,
+    /// `command` still returns the command set, until `clear` or the next message.
     pub fn end(&mut self) -> Result<Joined, DimseFault>
         ensures { (message : Begun) (begun : List ℕ) → 6 ≤ length begun → ShowsMessage C self.old message begun → Joins C message (brought message (pdv_of begun)) self.old self.new result }
     {
@@ -144,7 +153,7 @@ impl<const C: usize> Join<C> {
         Ok(joined)
     }
 
-    /// Returns the presentation context of the message that has begun.
+    /// Returns the presentation context ID of the unfinished message.
     pub fn context(&self) -> u8
         ensures { InContext self.now.message result }
     {
@@ -155,7 +164,8 @@ impl<const C: usize> Join<C> {
         }
     }
 
-    /// Returns the bytes of the command set so far; from its end until `clear`, all of them.
+    /// Returns the bytes of the command set so far. All of them are there from the end of its last
+    /// fragment until `clear` or the next message.
     pub fn command(&self) -> &[u8]
         ensures value { result.now ≡ self.now.command }
         ensures fits { length self.now.command ≤ C }
@@ -163,7 +173,7 @@ impl<const C: usize> Join<C> {
         self.command.as_slice()
     }
 
-    /// Drops the message that was joined so far: the next fragment is the first of a command set.
+    /// Discards the message: the next fragment must be the first of a command set.
     pub fn clear(&mut self)
         ensures { ShowsMessage C self.new NoMessage [] }
     {

@@ -1,4 +1,5 @@
-//! Laws of the definitions: the contract of each function is a law.
+//! Lemmas on the definitions of this crate and worked examples, each stated as the contract of a
+//! function with an empty body.
 ghost use Rattle.std.specs.Prelude.{◌≡◌, ◌≤◌, ◌∷◌, ◌++◌, [], ◌*◌, ◌-◌, ◌^◌, ℕ, true, false, List, Option, Some, None, Ok, Err, length, take, drop, codes};
 ghost use Rattle.dimse.specs.Command.{CommandRecord, CommandText, c_echo, c_store};
 ghost use Rattle.dimse.specs.Messages.{Begun, InCommand, IsMessage, Message, NoMessage, Pdv, messages, messages_from, with_message};
@@ -18,19 +19,21 @@ use crate::status::{
     CANNOT_UNDERSTAND, CLASS_NOT_SUPPORTED, DATA_SET_MISMATCH, OUT_OF_RESOURCES, SUCCESS,
 };
 
-/// No text spells two commands.
+/// A byte string is the encoding of at most one command.
 pub fn one_command()
     ensures { (text : List ℕ) (a b : CommandRecord) → CommandText a text → CommandText b text → a ≡ b }
 {}
 
-/// The fragments of a response are the one cut of its command set into fragments of their size.
+/// There is exactly one way to divide a command set into fragments of a given size, the last of which
+/// may be shorter.
 pub fn one_cut()
     ensures cut { (size : ℕ) (text : List ℕ) → 1 ≤ size → IsFragmented size text (fragments size text) }
     ensures only { (size : ℕ) (text : List ℕ) (cut : List (List ℕ)) → 1 ≤ size → IsFragmented size text cut → cut ≡ fragments size text }
 {}
 
-/// A reply is short. Its command set has 242 bytes at most; the PDUs that carry it have 1,706 at most to a
-/// peer whose maximum length takes fragments, of two bytes or more, and 3,158 at most to any other.
+/// Bounds of a response: its command set has at most 242 bytes. The P-DATA-TF PDUs that carry it have
+/// at most 1,706 bytes together if the peer's maximum length is 0 or allows fragments of two bytes, and
+/// at most 3,158 for any maximum length.
 pub fn replies_are_short()
     ensures command { (text : List ℕ) (command : CommandRecord) (status : ℕ) (detail : Option Detail) → command_in text ≡ Ok command → length (reply_command command status detail) ≤ 242 }
     ensures reply { (text : List ℕ) (command : CommandRecord) (status : ℕ) (detail : Option Detail) (context maximum : ℕ)
@@ -39,9 +42,9 @@ pub fn replies_are_short()
         → command_in text ≡ Ok command → length (reply_bytes command status detail context maximum) ≤ 3158 }
 {}
 
-/// The fragments of a message, at the front of a list of presentation data values, are put together
-/// to that message; each message that is put together has its fragments there; and a list that is
-/// continued keeps its messages.
+/// If a list of presentation data values begins with the fragments of a message, that message is the
+/// first that is joined; each message that is joined has its fragments at that place in the list; and
+/// the messages of a list stay the same when it is continued.
 pub fn messages_are_joined()
     ensures message { (room : ℕ) (m : Message) (commands sets more : List Pdv) → IsMessage room m commands sets
         → messages room ((commands ++ sets) ++ more) ≡ with_message m (messages room more) }
@@ -50,10 +53,10 @@ pub fn messages_are_joined()
         → messages_from room b (first ++ more) ≡ and_then (messages_from room b first) (messages_from room (messages_from room b first).begun more) }
 {}
 
-/// Worked examples of messages: an echo in two fragments; its second fragment in another context;
-/// a fragment of a data set after the first one, in the same context and in another one; a command
-/// above the room; a store with its data set in three fragments, and a begun message; a command
-/// where a data set is due; a command cut short.
+/// Examples of messages: a C-ECHO-RQ in two fragments; its second fragment in another presentation
+/// context; a fragment of a data set after the first one, in the same context and in another; a command
+/// set above the limit; a C-STORE-RQ with its data set in three fragments, and the first fragment of
+/// another message; a command set where a data set must follow; a truncated command set.
 pub fn worked_messages()
     ensures whole { messages 1024 (pdv 1 1 (take 10 echo) ∷ pdv 1 3 (drop 10 echo) ∷ [])
         ≡ record { whole = record { context = 1; command = echo; set = [] } ∷ []; begun = NoMessage; fault = None } }
@@ -67,8 +70,8 @@ pub fn worked_messages()
     ensures unreadable { (messages 1024 (pdv 1 3 (take 66 echo) ∷ [])).fault ≡ Some BadCommand }
 {}
 
-/// Worked examples of commands: the echo is read; with another count, another field, or a data set
-/// it is not.
+/// Examples of commands: a C-ECHO-RQ is read; with another Command Group Length, another Command Field,
+/// or a data set it is rejected.
 pub fn worked_commands()
     ensures read { command_in echo ≡ Ok echo_record }
     ensures other_count { command_in (take 8 echo ++ 54 ∷ drop 9 echo) ≡ Err BadCommand }
@@ -76,9 +79,9 @@ pub fn worked_commands()
     ensures with_data { command_in (take 66 echo ++ 2 ∷ drop 67 echo) ≡ Err WrongKind }
 {}
 
-/// Worked examples of responses: the echo's in one PDU; in PDUs of 14 bytes, of which there are 39,
-/// for a peer that takes eight or nine; in one for a peer with the greatest maximum; and a store's,
-/// whose command set counts 88 bytes.
+/// Examples of responses: to a C-ECHO in one PDU; in 39 PDUs of 14 bytes for a peer with a maximum
+/// length of 8 or 9; in one for a peer with the greatest maximum length; and to a C-STORE, with a
+/// Command Group Length of 88 bytes.
 pub fn worked_responses()
     ensures one { reply_bytes echo_record 0x0000 None 1 0 ≡ echo_reply }
     ensures many { length (reply_bytes echo_record 0x0000 None 1 8) ≡ 39 * 14 }
@@ -89,8 +92,8 @@ pub fn worked_responses()
     ensures store { take 12 (reply_command store_record 0x0000 None) ≡ 0 ∷ 0 ∷ 0 ∷ 0 ∷ 4 ∷ 0 ∷ 0 ∷ 0 ∷ 88 ∷ 0 ∷ 0 ∷ 0 ∷ [] }
 {}
 
-/// Worked examples of causes: an item past its end, without a tag; a value of undefined length;
-/// another instance; another class. A reply with another status names none, nor does one to an echo.
+/// Examples of causes in responses: a fault without a tag; a value of undefined length; another SOP
+/// instance; another SOP class. A response with another status has no cause, nor has one to a C-ECHO.
 pub fn worked_causes()
     ensures overrun { after_status 0xc000 (cause 17 0 0) ≡ 0 ∷ 0 ∷ 2 ∷ 9 ∷ 16 ∷ 0 ∷ 0 ∷ 0 ∷ (codes "fault 17 Overrun" ++ instance_123) }
     ensures overrun_length { group_length 0xc000 (cause 17 0 0) ≡ 112 }
@@ -107,14 +110,15 @@ pub fn worked_causes()
     ensures echo { reply_bytes echo_record 0xc000 (cause 17 0 0) 1 0 ≡ reply_bytes echo_record 0xc000 None 1 0 }
 {}
 
-/// The command fields are the definitions'.
+/// Returns the constants `C_STORE` and `C_ECHO` of [`Command`]: they equal those of the definitions.
 pub fn command_fields() -> [u16; 2]
     ensures { result ≡ c_store ∷ c_echo ∷ [] }
 {
     [Command::C_STORE, Command::C_ECHO]
 }
 
-/// The statuses and the numbers of the mismatches are the definitions'.
+/// The constants of [`status`](crate::status) and the numbers of the mismatches equal those of the
+/// definitions.
 pub fn statuses_and_causes()
     ensures success { SUCCESS ≡ success }
     ensures class_not_supported { CLASS_NOT_SUPPORTED ≡ class_not_supported }

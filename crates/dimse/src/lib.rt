@@ -1,5 +1,5 @@
-//! Messages of the DICOM message service element: the commands that come in, and the responses
-//! that go out (PS3.7 chapter 9).
+//! DIMSE messages: joins the fragments of received ones, reads their command sets, and writes the
+//! responses (PS3.7 chapter 9).
 #![tactic(auto)]
 
 mod command;

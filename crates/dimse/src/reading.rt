@@ -1,4 +1,4 @@
-//! Reads commands.
+//! Reads the command set of a C-ECHO-RQ or C-STORE-RQ.
 ghost use Rattle.std.specs.Prelude.{◌≡◌, true, IfOk, IfErr};
 ghost use Rattle.dimse.specs.Command.{CommandFault, CommandRecord, CommandText, command_of, request_of, store_command};
 ghost use Rattle.dimse.specs.Reading.{command_in};
@@ -59,11 +59,13 @@ fn read_text(bytes: &[u8]) -> Result<Command, DimseFault>
 }
 
 /// Reads a whole command set (PS3.7 sections 6.3.1, 9.3.1 and 9.3.5): Implicit VR Little Endian,
-/// rising tags of group 0000, even lengths. The error is the first of these that applies:
-/// `BadCommand` if the bytes are not a command set, or the affected class, the command field, the
-/// message ID or the data set type is missing or unreadable; `UnknownField` if the field is neither
-/// C-ECHO's nor C-STORE's; `WrongKind` if a C-ECHO announces a data set or a C-STORE none;
-/// `BadCommand` if a C-STORE names no readable instance.
+/// strictly ascending tags of group 0000, even lengths.
+///
+/// The error is the first of these that applies: `BadCommand` if the bytes are not a command set, or
+/// the Affected SOP Class UID, the Command Field, the Message ID or the Command Data Set Type is
+/// missing or invalid; `UnknownField` if the Command Field is neither that of C-ECHO-RQ nor that of
+/// C-STORE-RQ; `WrongKind` if a C-ECHO announces a data set or a C-STORE announces none; `BadCommand`
+/// if a C-STORE has no valid Affected SOP Instance UID.
 pub fn read_command(bytes: &[u8]) -> Result<Command, DimseFault>
     ensures exact { result ≡ command_in bytes.now }
     ensures found { IfOk result (λ c. CommandText c bytes.now) }

@@ -1,4 +1,4 @@
-//! Command sets of replies.
+//! The command sets of responses.
 ghost use Rattle.std.specs.Prelude.{◌≡◌, ◌+◌, ◌≤◌, ◌++◌, length, true, option_map};
 ghost use Rattle.arrayvec.specs.ArrayVec.{array_vec_len};
 ghost use Rattle.element.specs.Numbers.{le};
@@ -18,17 +18,17 @@ use arrayvec::ArrayVec;
 use byteorder::{ByteOrder, LittleEndian};
 use element::{Header, Syntax, Tag, Uid, write_header};
 
-/// What a reply's command field has above its request's.
+/// The highest bit of a Command Field, which is set in a response.
 const RESPONSE: u16 = 0x8000;
 
-/// The most bytes of a reply's elements after (0000,0000): two identifiers with 72 each, four
-/// numbers with 10 each, a tag with 12, an error comment with 34.
+/// The greatest size in bytes of a response's elements after Command Group Length: two UIDs of 72 each,
+/// four numbers of 10 each, a tag of 12, an Error Comment of 34.
 const ELEMENTS: usize = 230;
 
-/// The most bytes of a reply's command set.
+/// The greatest size in bytes of a response's command set.
 pub(crate) const REPLY: usize = ELEMENTS + 12;
 
-/// Adds an element of group 0000.
+/// Appends an element of group 0000 with this element number, in Implicit VR Little Endian.
 #[tactic(auto, unfolding(crate::specs::Command::command_element_bytes))]
 fn put_element<const N: usize>(set: &mut ArrayVec<u8, N>, number: u16, value: &[u8])
     requires room { array_vec_len set.old + 8 + length value.now ≤ N }
@@ -43,6 +43,7 @@ fn put_element<const N: usize>(set: &mut ArrayVec<u8, N>, number: u16, value: &[
     };
     let mut room = [0u8; 12];
     let size = write_header(Syntax::Implicit, &header, &mut room);
+    // Both fit, by `room`.
     let _header = set.try_extend_from_slice(&room[..size]);
     let _value = set.try_extend_from_slice(value);
 }
@@ -57,7 +58,7 @@ fn put_number(set: &mut ArrayVec<u8, ELEMENTS>, number: u16, value: u16)
     put_element(set, number, &bytes);
 }
 
-/// Adds an identifier as a value of even length.
+/// Appends an element with a UID, padded to an even length.
 fn put_uid(set: &mut ArrayVec<u8, ELEMENTS>, number: u16, uid: &Uid)
     requires room { array_vec_len set.old + 72 ≤ ELEMENTS }
     requires is_uid { is_uid uid.now ≡ true }
@@ -111,8 +112,8 @@ fn put_instance(set: &mut ArrayVec<u8, ELEMENTS>, instance: Option<&Uid>)
     }
 }
 
-/// Returns the cause that a reply with this status names: only a C-STORE's reply does, if the data
-/// set cannot be understood or does not match.
+/// Returns the cause that a response with this status reports: only that of a C-STORE does, with status
+/// C000 (cannot understand) or A900 (data set does not match SOP class).
 fn carried(field: u16, status: u16, detail: Option<Detail>) -> Option<Detail>
     ensures { result ≡ spelling.detail_carried field status detail }
 {
@@ -123,7 +124,7 @@ fn carried(field: u16, status: u16, detail: Option<Detail>) -> Option<Detail>
     }
 }
 
-/// Returns the elements of a reply's command set after (0000,0000).
+/// Returns the elements of a response's command set after Command Group Length (0000,0000).
 #[tactic(auto, using(crate::proofs::ReplyLemmas::put_together))]
 fn reply_set(command: &Command, status: u16, detail: Option<Detail>) -> ArrayVec<u8, ELEMENTS>
     ensures { result.items ≡ command_elements_bytes (reply_elements command.now status detail) }
@@ -139,7 +140,7 @@ fn reply_set(command: &Command, status: u16, detail: Option<Detail>) -> ArrayVec
     set
 }
 
-/// Returns the command set of the reply to a command with this status.
+/// Returns the command set of the response to a command, with this status and cause.
 #[tactic(auto, unfolding(crate::specs::Reply::reply_command))]
 pub(crate) fn reply_command_set(
     command: &Command,

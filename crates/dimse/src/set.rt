@@ -1,4 +1,4 @@
-//! Command sets.
+//! Command sets, element by element.
 ghost use Rattle.std.specs.Prelude.{◌≡◌, true, length, option_map, IfOk};
 ghost use Rattle.dimse.specs.Command.{needed, two_bytes, command_value};
 ghost use Rattle.dimse.specs.Reading as spelling;
@@ -11,7 +11,8 @@ use byteorder::{ByteOrder, LittleEndian};
 use element::Uid;
 use std::marker::Model;
 
-/// The elements of a command set but (0000,0000) (PS3.7 section 6.3.1).
+/// The elements of a valid command set after Command Group Length (0000,0000) (PS3.7 section 6.3.1). It
+/// borrows their bytes.
 #[derive(Drop)]
 pub struct CommandSet<'a> {
     elements: &'a [u8],
@@ -29,7 +30,8 @@ impl<'a> Model for CommandSet<'a> {
     ghost invariant = { λ s. elements_of s.elements.now ≡ Some (unwrap_or (elements_of s.elements.now) []) };
 }
 
-/// Returns whether the element is (0000,0000) and counts the bytes after it.
+/// Returns whether the element is Command Group Length (0000,0000) and its value is the number of bytes
+/// after it.
 fn counts(number: u16, count: &[u8], elements: &[u8]) -> bool
     ensures { result ≡ spelling.counts (record { number = number; value = count.now }) (length elements.now) }
 {
@@ -37,7 +39,9 @@ fn counts(number: u16, count: &[u8], elements: &[u8]) -> bool
 }
 
 impl<'a> CommandSet<'a> {
-    /// Returns the command set that the bytes are, or `None` if they are none.
+    /// Returns the command set in these bytes, or `None` if they do not begin with a right Command
+    /// Group Length, or are not whole elements of group 0000 with even lengths and strictly ascending
+    /// tags.
     #[tactic(auto, unfolding(crate::specs::Reading::set_of))]
     pub fn read(bytes: &'a [u8]) -> Option<CommandSet<'a>>
         ensures { result ≡ set_of bytes.now }
@@ -51,15 +55,15 @@ impl<'a> CommandSet<'a> {
         }
     }
 
-    /// Returns the value of the element of this number, or `None` if there is none.
+    /// Returns the value of the element with this element number, or `None` if there is none.
     pub fn value(&self, number: u16) -> Option<&'a [u8]>
         ensures { option_map (λ v. v.now) result ≡ command_value number self.now }
     {
         value_in(self.elements, number)
     }
 
-    /// Returns the unique identifier that this element holds, or `BadCommand` if it is missing or
-    /// holds none.
+    /// Returns the UID in the element with this element number, or `BadCommand` if it is missing or not
+    /// a valid UID.
     pub fn uid(&self, number: u16) -> Result<Uid, DimseFault>
         ensures value { result ≡ needed uid_of (command_value number self.now) }
         ensures is_uid { IfOk result (λ u. is_uid u ≡ true) }
@@ -68,8 +72,8 @@ impl<'a> CommandSet<'a> {
         Uid::read(value).ok_or(DimseFault::BadCommand)
     }
 
-    /// Returns the number of two bytes that this element holds, or `BadCommand` if it is missing or
-    /// holds none.
+    /// Returns the value of the element with this element number as a number of two bytes, or
+    /// `BadCommand` if it is missing or has not two bytes.
     pub fn number(&self, number: u16) -> Result<u16, DimseFault>
         ensures { result ≡ needed two_bytes (command_value number self.now) }
     {

@@ -1,12 +1,12 @@
-//! How far a message has come.
+//! The stage of a DIMSE message.
 
-/// How far the fragments of a message have come, as they are joined.
+/// Which part of a DIMSE message the next fragment belongs to.
 #[derive(Clone, Copy, Debug, PartialEq, Eq)]
 pub enum Stage {
-    /// No message is unfinished: the next fragment is the first of a command set.
+    /// The start of a command set: no message is unfinished.
     Between,
-    /// A fragment of a command set has begun; the last one is not whole.
+    /// The command set, of which at least one fragment has started.
     Command,
-    /// The command set is whole, and its data set is not.
+    /// The data set; the command set is complete.
     Set,
 }

@@ -1,4 +1,4 @@
-//! The statuses of replies (PS3.7 annex C, PS3.4 annex B.2.3).
+//! The values of Status (0000,0900) in responses (PS3.7 annex C, PS3.4 annex B.2.3).
 
 /// Success.
 pub const SUCCESS: u16 = 0x0000;

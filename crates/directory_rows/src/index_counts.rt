@@ -2,8 +2,8 @@
 use crate::index_rows::{FIRST, SECOND, THIRD, WITHOUT_STUDY_ID, put_images, settings};
 use index_command::{IndexCounts, Indexed, index_folder};
 use inspection::Outcome;
-use std::fs;
 use std::test::Fail;
+use std::{fs, io};
 
 /// Runs `index` over the folder; returns whether it prints no more than these lines, and counts so.
 fn counts(
@@ -14,7 +14,13 @@ fn counts(
     line: &str,
 ) -> Result<bool, Fail> {
     let mut out = Vec::new(rt.alloc());
-    let indexed = index_folder(rt, &settings("counted", keep)?, u32::MAX, &mut out)?;
+    let indexed = index_folder(
+        rt,
+        &settings("counted", keep)?,
+        u32::MAX,
+        &mut out,
+        &mut io::sink(),
+    )?;
     let told = format!(in rt.alloc(); "{wanted}")?;
     Ok(indexed == Indexed::Written(wanted) && out.as_slice() == lines && told.as_str() == line)
 }
@@ -46,7 +52,13 @@ fn images_and_files_that_are_left_out(rt: HostRuntime) -> Result<(), Fail> {
     assert!(rt; counts(&rt, true, lines, kept, "images 2 left out 1")?);
     fs::write(&rt, "counted/DICOMDIR", b"no directory")?;
     let mut out = Vec::new(rt.alloc());
-    let indexed = index_folder(&rt, &settings("counted", true)?, u32::MAX, &mut out)?;
+    let indexed = index_folder(
+        &rt,
+        &settings("counted", true)?,
+        u32::MAX,
+        &mut out,
+        &mut io::sink(),
+    )?;
     assert!(rt; indexed == Indexed::Faulty && indexed.outcome() == Outcome::Faulty);
     assert!(rt; out.as_slice() == b"fault 50 NotPart10 at 128\n".as_slice());
     Ok(())

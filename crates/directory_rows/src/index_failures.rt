@@ -31,6 +31,7 @@ fn is_put(rt: &HostRuntime, row: Failing) -> Result<bool, Fail> {
     let watched = Watched {
         dir: "failing",
         fails,
+        opened: Cell::new(None),
         stage: Cell::new(Stage::Nothing),
     };
     let recorded = Recorded {

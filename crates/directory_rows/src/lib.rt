@@ -19,4 +19,6 @@ mod index_rows;
 #[cfg(test)]
 mod index_sizes;
 #[cfg(test)]
+mod index_told;
+#[cfg(test)]
 mod recorded;

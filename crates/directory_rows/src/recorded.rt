@@ -37,6 +37,8 @@ pub enum Stage {
 pub struct Watched<'a> {
     pub dir: &'a str,
     pub fails: Option<Call>,
+    /// How many files are opened to be read before one can't be; none fails without a number.
+    pub opened: Cell<Option<usize>>,
     pub stage: Cell<Stage>,
 }
 
@@ -60,7 +62,17 @@ impl Watched<'_> {
         if how.asks_write() {
             return self.step(Call::Create, &[Stage::Nothing], Stage::Created);
         }
-        Ok(())
+        match self.opened.get() {
+            None => Ok(()),
+            Some(0) => {
+                self.opened.set(None);
+                Err(io::Error::from(ErrorKind::NotFound))
+            }
+            Some(count) => {
+                self.opened.set(Some(count.saturating_sub(1)));
+                Ok(())
+            }
+        }
     }
 
     /// Watches a sync of the draft, or of the folder.

@@ -1,4 +1,6 @@
--- Headers: what need says, what a spelling says of its bytes, and back.
+-- Bytes that spell a header are read as it (`read_spelled`), and bytes that are whole spell what is read of them
+-- (`front_spells`); what they ask for is one thing (`need_is`, `is_need`), no spelling begins another (`one_spelling`), and
+-- what is written spells (`written_spells`). Stands on the definitions alone.
 use Rattle.std.proofs.Common.{◌≡◌, ℕ, ◌+◌, ◌*◌, ◌^◌, ◌<◌, ◌≤◌, Bool, true, false, not, ◌&&◌, List, [], ◌∷◌, ◌++◌, length, get_or, take, drop, Option, Some, None, refl, sym, ap, subst, ◌∙◌, arith, inl, inr, nat_lt, IsTrue, ltb-true, ltb-false, leb-true, le-leb, length-append, if◌then◌else◌, take-append-drop, length-take, lit<, lit≤}
 use Rattle.std.proofs.lemmas.Bool.Decides.{nat_tests}
 use Rattle.std.proofs.lemmas.List.{get_or_append_left, get_or_past}

@@ -1,4 +1,5 @@
--- One zero byte at the end of a value.
+-- One zero byte at the end of a value is dropped (`zero_dropped`), and no other byte (`other_kept`, `none_kept`). Stands on
+-- the definitions alone.
 use Rattle.std.proofs.Common.{◌≡◌, ◌≢◌, ℕ, zero, suc, ◌+◌, false, List, [], ◌∷◌, length, get_or, take, refl, ap, arith, nat_eq}
 use Rattle.std.proofs.lemmas.Bool.Decides.{nat_tests}
 use Rattle.element.specs.Values.{without_last_zero}

@@ -1,4 +1,5 @@
--- What is dropped at the ends of a text.
+-- A byte at an end of a text is dropped where it is padding (`trailing_dropped`, `leading_dropped`), and else the text stays
+-- (`trailing_kept`, `leading_kept`). Stands on the definitions alone.
 use Rattle.std.proofs.Common.{◌≡◌, ℕ, ◌+◌, ◌<◌, Bool, true, false, List, [], ◌∷◌, ◌++◌, length, get_or, take, drop, refl, sym, ap, ◌∙◌, add-one, drop-cons}
 use Rattle.std.proofs.lemmas.List.{take_more}
 use Rattle.element.specs.Padding.{is_empty, kept_before, without_trailing, without_leading}

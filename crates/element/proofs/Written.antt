@@ -1,4 +1,5 @@
--- The room of a header after the tag and what follows it are laid down.
+-- The room of a header, after the tag and what follows it are laid down, begins with the header's bytes (`written`). Stands
+-- on Headers.
 use Rattle.std.proofs.Common.{◌≡◌, ℕ, ◌+◌, ◌^◌, ◌<◌, true, List, [], ◌∷◌, ◌++◌, length, take, drop, refl, sym, ap, subst, ◌∙◌, arith, length-drop}
 use Rattle.std.proofs.lemmas.List.{take_all, take_at, drop-drop, drop_all, append-nil}
 use borrow.Rule.Slice.PartMut.{put_mid}

@@ -1,4 +1,4 @@
--- The header of an element, an item or a delimitation, and which bytes spell it (PS3.5 sections 7.1 and 7.5).
+-- The header of an element, an item or a delimitation, and its encodings (PS3.5 sections 7.1 and 7.5).
 use Rattle.std.specs.Prelude.{◌≡◌, ℕ, ◌+◌, ◌*◌, ◌^◌, ◌<◌, Bool, true, false, not, ◌&&◌, ◌||◌, List, [], ◌∷◌, ◌++◌, length, get_or, Option, Some, None, nat_eq, nat_le, nat_lt, if◌then◌else◌}
 use Rattle.element.specs.declared.syntax.Syntax.{Syntax}
 use Rattle.element.specs.declared.syntax.Syntax.TheVariants.{Implicit, Explicit}
@@ -9,7 +9,7 @@ use Rattle.element.specs.declared.size.Need.TheVariants.{More, Size, BadVr}
 use Rattle.element.specs.Numbers.{le}
 use Rattle.element.specs.Vr.{is_capital, is_short, is_short_vr}
 
--- the tag's place in the order of tags
+-- the tag as one number, by which tags are ordered: the group in its upper 16 bits
 abbrev pub number : Tag → ℕ
 number t = t.0 * 65536 + t.1
 
@@ -38,7 +38,7 @@ tag_bytes t = le t.0 2 ++ le t.1 2
 abbrev pub IsTag : Tag → Type 0
 IsTag t = (t.0 < 2 ^ 16) × (t.1 < 2 ^ 16)
 
--- b spells the header h
+-- the bytes b are an encoding of the header h
 pub data SpellsHeader : Syntax → Header → List ℕ → Type 0 where
   -- tag and length
   plain : {s : Syntax} (tag : Tag) (length : ℕ) → IsTag tag → is_plain s tag ≡ true → length < 2 ^ 32
@@ -61,7 +61,7 @@ long_number_at b i = number_at b i + 65536 * number_at b (i + 2)
 abbrev pub tag_at : List ℕ → Tag
 tag_at b = record { 0 = number_at b 0; 1 = number_at b 2 }
 
--- how many bytes the header takes that begins so
+-- the size of the header that begins with these bytes, as far as they determine it
 unfoldable pub need : Syntax → List ℕ → Need
 need s b =
     if nat_lt (length b) 4 then More
@@ -76,11 +76,11 @@ has_size More n = false
 has_size BadVr n = false
 has_size (Size k) n = nat_le k n
 
--- whether a header is whole in b
+-- whether b contains all bytes of the header at its front
 unfoldable pub is_whole : Syntax → List ℕ → Bool
 is_whole s b = has_size (need s b) (length b)
 
--- the header that stands at the front of b
+-- the header at the front of b
 unfoldable pub header_at : Syntax → List ℕ → Header
 header_at s b =
     if is_plain s (tag_at b) then record { tag = tag_at b; vr = None; length = long_number_at b 4 }
@@ -99,7 +99,7 @@ fits_vr false (Some vr) n = not (is_short_vr vr) || nat_lt n 65536
 abbrev pub header_fits : Syntax → Header → Bool
 header_fits s h = fits_vr (is_plain s h.tag) h.vr h.length
 
--- the bytes that are written for a header: those that spell it, with reserved bytes of zero
+-- the encoding of a header that is written, with reserved bytes of zero
 abbrev pub vr_bytes : Option (List ℕ) → ℕ → List ℕ
 vr_bytes None n = le n 4
 vr_bytes (Some vr) n = if is_short_vr vr then vr ++ le n 2 else (vr ++ (0 ∷ 0 ∷ le n 4))

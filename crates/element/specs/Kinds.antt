@@ -1,4 +1,5 @@
--- What the values of each VR are made of (PS3.5 section 6.2). Which VRs are tested is this product's own profile.
+-- The VRs, grouped by the rules that their values are checked by (PS3.5 section 6.2). Which VRs are checked is this
+-- product's own profile.
 use Rattle.std.specs.Prelude.{ℕ, List, [], ◌∷◌, Bool, nat_eq, codes, if◌then◌else◌}
 use Rattle.std.specs.List.{list_any}
 use Rattle.std.specs.Cmp.Lexicographic.{pointwise}
@@ -8,7 +9,7 @@ use Rattle.element.specs.declared.kinds.Kind.TheVariants.{Words, Longs, Doubles,
 abbrev pub is_one_of : List (List ℕ) → List ℕ → Bool
 is_one_of names vr = list_any (pointwise nat_eq vr) names
 
--- the kind of a VR whose values are no numbers in bytes
+-- the group of a VR that is none of the binary ones
 abbrev pub kind_of_text : List ℕ → Kind
 kind_of_text vr =
     if pointwise nat_eq vr (codes "AE") then Title
@@ -21,7 +22,7 @@ kind_of_text vr =
     else (if pointwise nat_eq vr (codes "UI") then Identifier
     else Free)))))))
 
--- words of two, four and eight bytes
+-- VRs with binary values of two bytes each; those of four and of eight follow
 abbrev pub is_words : List ℕ → Bool
 is_words vr = is_one_of (codes "US" ∷ codes "SS" ∷ codes "OW" ∷ []) vr
 

@@ -12,15 +12,15 @@ caps b = is_capital (get_or b 4 0) && is_capital (get_or b 5 0)
 abbrev pub shorts : List ℕ → Bool
 shorts b = is_short (get_or b 4 0) (get_or b 5 0)
 
--- what is said of a header that begins with the bytes b
+-- the size of the header that begins with the bytes b, case by case
 pub data NeedIs (s : Syntax) (b : List ℕ) : Need → Type 0 where
-  -- the tag is not whole
+  -- fewer than the four bytes of the tag
   few : length b < 4 → NeedIs s b More
   -- a header without a VR
   plain_eight : 4 ≤ length b → is_plain s (tag_at b) ≡ true → NeedIs s b (Size 8)
-  -- the VR is not whole
+  -- fewer than the six bytes of tag and VR
   no_vr : 4 ≤ length b → is_plain s (tag_at b) ≡ false → length b < 6 → NeedIs s b More
-  -- no two capital letters where the VR stands
+  -- bytes 4 and 5, where the VR stands, are not two capital letters
   refused : 6 ≤ length b → is_plain s (tag_at b) ≡ false → caps b ≡ false → NeedIs s b BadVr
   short_eight : 6 ≤ length b → is_plain s (tag_at b) ≡ false → caps b ≡ true → shorts b ≡ true → NeedIs s b (Size 8)
   long_twelve : 6 ≤ length b → is_plain s (tag_at b) ≡ false → caps b ≡ true → shorts b ≡ false → NeedIs s b (Size 12)

@@ -15,12 +15,12 @@ is_empty (x ∷ xs) = false
 abbrev pub kept_before : (ℕ → Bool) → ℕ → List ℕ → List ℕ
 kept_before p x rest = if is_empty rest && p x then [] else x ∷ rest
 
--- the text without what passes p at its end
+-- the text without the bytes at its end for which p holds
 abbrev pub without_trailing : (ℕ → Bool) → List ℕ → List ℕ
 without_trailing p [] = []
 without_trailing p (x ∷ xs) = kept_before p x (without_trailing p xs)
 
--- the text without what passes p at its front
+-- the text without the bytes at its front for which p holds
 abbrev pub without_leading : (ℕ → Bool) → List ℕ → List ℕ
 without_leading p [] = []
 without_leading p (x ∷ xs) = if p x then without_leading p xs else x ∷ xs

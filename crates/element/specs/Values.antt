@@ -1,5 +1,5 @@
--- What a value has to be by its VR (PS3.5 sections 6.2 and 9.1). Which rules are tested, and in which order, is
--- this product's own profile.
+-- What a value has to be by its VR (PS3.5 sections 6.2 and 9.1). A part is one of the values of a value field, which
+-- backslashes separate (section 6.4). Which rules are checked, and in which order, is this product's own profile.
 use Rattle.std.specs.Prelude.{ℕ, ◌%◌, Bool, true, false, not, ◌&&◌, ◌||◌, List, [], ◌∷◌, length, Option, Some, None, nat_eq, nat_le, codes, if◌then◌else◌}
 use Rattle.std.specs.List.{list_all, slice_split}
 use Rattle.element.specs.declared.kinds.Kind.{Kind}
@@ -43,7 +43,7 @@ abbrev pub is_age : List ℕ → Bool
 is_age (a ∷ b ∷ c ∷ unit ∷ []) = is_digit a && is_digit b && is_digit c && is_unit unit
 is_age _ = false
 
--- rules for a part
+-- the rules for a part, a single value
 
 abbrev pub has_size : Kind → List ℕ → Bool
 has_size Date part = nat_eq (length part) 8
@@ -76,14 +76,14 @@ abbrev pub has_form : Kind → List ℕ → Bool
 has_form Identifier part = list_all is_component (slice_split is_dot part)
 has_form _ part = true
 
--- whether a part is good by one rule; an empty one is
+-- whether a part obeys a rule; an empty one does
 abbrev pub obeys : PartRule → Kind → List ℕ → Bool
 obeys Size kind part = is_empty part || has_size kind part
 obeys Longest kind part = is_empty part || is_short_enough kind part
 obeys Characters kind part = is_empty part || has_characters kind part
 obeys Form kind part = is_empty part || has_form kind part
 
--- a value and its parts
+-- a value field and its parts
 
 abbrev pub is_backslash : ℕ → Bool
 is_backslash c = nat_eq c 92
@@ -94,17 +94,17 @@ without_last_zero [] = []
 without_last_zero (c ∷ []) = if nat_eq c 0 then [] else c ∷ []
 without_last_zero (c ∷ d ∷ more) = c ∷ without_last_zero (d ∷ more)
 
--- what of a value counts
+-- the value field without its padding, as far as that is by kind
 abbrev pub content : Kind → List ℕ → List ℕ
 content Identifier value = without_last_zero value
 content _ value = value
 
--- what of a part counts: spaces at its ends do not, but in a UID
+-- the part without the spaces at its ends, which count only in a UID
 abbrev pub part_text : Kind → List ℕ → List ℕ
 part_text Identifier part = part
 part_text _ part = title_text part
 
--- whether each part is good by one rule; words have no parts
+-- whether each part obeys a rule; binary values have no parts
 abbrev pub parts_obey : PartRule → Kind → List ℕ → Bool
 parts_obey rule Words value = true
 parts_obey rule Longs value = true
@@ -112,14 +112,14 @@ parts_obey rule Doubles value = true
 parts_obey rule Free value = true
 parts_obey rule kind value = list_all (λ part. obeys rule kind (part_text kind part)) (slice_split is_backslash (content kind value))
 
--- whether the value is whole words
+-- whether the length is a multiple of the size of one binary value
 abbrev pub is_whole_words : Kind → List ℕ → Bool
 is_whole_words Words value = nat_eq (length value % 2) 0
 is_whole_words Longs value = nat_eq (length value % 4) 0
 is_whole_words Doubles value = nat_eq (length value % 8) 0
 is_whole_words _ value = true
 
--- the first rule that a value breaks: rule by rule over all its parts
+-- the fault of a value field: the first rule that any of its parts breaks
 abbrev pub fault_of : Kind → List ℕ → Option ValueFault
 fault_of kind value =
     if not (is_whole_words kind value && parts_obey Size kind value) then Some WrongSize

@@ -37,6 +37,6 @@ is_short_vr letters = is_short (get_or letters 0 0) (get_or letters 1 0)
 abbrev pub is_long : List ℕ → Bool
 is_long letters = not (is_short_vr letters)
 
--- the VR that two bytes spell
+-- the VR of two bytes, if these are capital letters
 abbrev pub vr_of : List ℕ → Option (List ℕ)
 vr_of letters = if is_capital (get_or letters 0 0) && is_capital (get_or letters 1 0) then Some letters else None

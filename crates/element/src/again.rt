@@ -1,6 +1,6 @@
-//! Calls that a signal interrupted are made again.
+//! Reads and writes that are repeated while a signal interrupts them.
 //!
-//! What is ensured is what std ensures of the call itself, and that no error is an interruption.
+//! The contracts are those of std for the single call; in addition no error is `Interrupted`.
 ghost use Rattle.std.specs.Prelude.{◌≡◌, ◌≢◌, ◌<◌, ◌≤◌, ◌↔◌, length, take, IsTrue, IfOk, IfErr, OnErr, IsErrAnd};
 ghost use Rattle.std.specs.Io.KnownBytes.{Appends, Consumes, IsAtEnd, Keeps};
 ghost use Rattle.std.specs.IoError.{error_kind};
@@ -8,18 +8,19 @@ ghost use Rattle.std.specs.IoError.{error_kind};
 use std::io;
 use std::io::{ErrorKind, Read, Write};
 
-/// Returns whether a signal interrupted the call.
+/// Returns whether the call failed with `ErrorKind::Interrupted`.
 fn is_interrupted(call: &io::Result<usize>) -> bool
     ensures { IsTrue result ↔ IsErrAnd call.now (λ error. error_kind error ≡ ErrorKind.Interrupted) }
 {
     matches!(call, Err(error) if error.kind() == ErrorKind::Interrupted)
 }
 
-/// Reads some bytes, and again where a signal interrupted the call. Returns how many came: none only at
-/// the end, or with no room.
+/// Calls `read` once to fill the front of the buffer `room`, and repeats the call while a signal
+/// interrupts it. Returns the number of bytes read: 0 only at the end of the input or for an empty
+/// buffer.
 ///
-/// Fails as the reader does; after 2^64 - 1 interruptions in a row with `Other`, since every loop ends.
-/// No byte was read then.
+/// Fails as the reader does, and with `Other` after 2^64 - 1 interruptions in a row, the bound of the
+/// loop. No byte is consumed by a call that fails.
 pub fn read_again<R: Read>(reader: &mut R, room: &mut [u8]) -> io::Result<usize>
     ensures size { length room.new ≡ length room.old }
     ensures within { IfOk result (λ n. n ≤ length room.new) }
@@ -37,11 +38,11 @@ pub fn read_again<R: Read>(reader: &mut R, room: &mut [u8]) -> io::Result<usize>
     Err(io::Error::from(ErrorKind::Other))
 }
 
-/// Writes some of the bytes, and again where a signal interrupted the call. Returns how many the writer
-/// took.
+/// Calls `write` once, and repeats the call while a signal interrupts it. Returns the number of bytes
+/// written, which may be fewer than all.
 ///
-/// Fails as the writer does; after 2^64 - 1 interruptions in a row with `Other`, since every loop ends.
-/// No byte was taken then.
+/// Fails as the writer does, and with `Other` after 2^64 - 1 interruptions in a row, the bound of the
+/// loop. No byte is written by a call that fails.
 pub fn write_again<W: Write>(writer: &mut W, bytes: &[u8]) -> io::Result<usize>
     ensures within { IfOk result (λ n. n ≤ length bytes.now) }
     ensures appends { IfOk result (λ n. Appends (W.contents writer.old) (W.contents writer.new) (take n bytes.now)) }

@@ -1,11 +1,11 @@
-//! A count that only contracts read. It takes no bytes.
+//! A counter for contracts alone; it has no size at run time.
 ghost use Rattle.std.specs.Prelude.{◌≡◌, ℕ, ◌+◌};
 ghost use Rattle.std.specs.Borrow.{ftrue};
 
 use std::marker::{Model, PhantomData};
 
-/// How often something happened, as a whole number without a greatest value. Only contracts see it:
-/// the program cannot read it.
+/// A counter of events, an unbounded natural number. It is a ghost value: contracts can name it, the
+/// program cannot read it.
 #[derive(Drop)]
 pub struct Count {
     marker: PhantomData<u8>,

@@ -1,4 +1,4 @@
-//! The kinds of values that VRs have.
+//! The VRs, grouped by the rules that their values are checked by.
 ghost use Rattle.std.specs.Prelude.{◌≡◌, nat_eq};
 ghost use Rattle.std.specs.List.{list_any};
 ghost use Rattle.std.specs.Cmp.Lexicographic.{pointwise};
@@ -6,14 +6,14 @@ ghost use Rattle.element.specs.Kinds as rules;
 
 use crate::Vr;
 
-/// The kind of the values of a VR (PS3.5 section 6.2).
+/// A group of VRs whose values obey the same rules (PS3.5 section 6.2).
 #[derive(Clone, Copy)]
 pub(crate) enum Kind {
-    /// Words of two bytes.
+    /// Binary values of two bytes each: US, SS, OW.
     Words,
-    /// Words of four bytes.
+    /// Binary values of four bytes each: UL, SL, FL, AT, OL, OF.
     Longs,
-    /// Words of eight bytes.
+    /// Binary values of eight bytes each: FD, SV, UV, OD, OV.
     Doubles,
     Title,
     Code,
@@ -23,7 +23,7 @@ pub(crate) enum Kind {
     Integer,
     Decimal,
     Identifier,
-    /// No rule applies.
+    /// Every other VR: its values are not checked.
     Free,
 }
 
@@ -33,7 +33,7 @@ fn is_one_of(vr: Vr, names: &[Vr]) -> bool
     names.iter().any(|name| vr == *name)
 }
 
-/// Returns the kind of the values of a VR whose values are no numbers in bytes.
+/// Returns the group of a VR that is none of the binary ones.
 fn kind_of_text(vr: Vr) -> Kind
     ensures { result ≡ rules.kind_of_text vr }
 {
@@ -58,28 +58,28 @@ fn kind_of_text(vr: Vr) -> Kind
     }
 }
 
-/// Returns whether the values of a VR are words of two bytes.
+/// Returns whether a VR has binary values of two bytes each.
 fn is_words(vr: Vr) -> bool
     ensures { result ≡ rules.is_words vr }
 {
     is_one_of(vr, &[Vr::US, Vr::SS, Vr::OW])
 }
 
-/// Returns whether the values of a VR are words of four bytes.
+/// Returns whether a VR has binary values of four bytes each.
 fn is_longs(vr: Vr) -> bool
     ensures { result ≡ rules.is_longs vr }
 {
     is_one_of(vr, &[Vr::UL, Vr::SL, Vr::FL, Vr::AT, Vr::OL, Vr::OF])
 }
 
-/// Returns whether the values of a VR are words of eight bytes.
+/// Returns whether a VR has binary values of eight bytes each.
 fn is_doubles(vr: Vr) -> bool
     ensures { result ≡ rules.is_doubles vr }
 {
     is_one_of(vr, &[Vr::FD, Vr::SV, Vr::UV, Vr::OD, Vr::OV])
 }
 
-/// Returns the kind of the values of a VR.
+/// Returns the group that a VR belongs to.
 pub(crate) fn kind_of(vr: Vr) -> Kind
     ensures { result ≡ rules.kind_of vr }
 {

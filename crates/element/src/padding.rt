@@ -1,4 +1,4 @@
-//! Padding of values.
+//! Removes the padding of values (PS3.5 section 6.2).
 ghost use Rattle.std.specs.Prelude.{◌≡◌};
 ghost use Rattle.element.specs.Padding as spelling;
 ghost use Rattle.element.specs.Title.{title_text};

@@ -1,20 +1,21 @@
-//! The rules for one part of a value.
+//! The rules for each single value of an element. The code calls it a part: the bytes between two
+//! backslashes of a value field (PS3.5 section 6.4).
 ghost use Rattle.std.specs.Prelude.{◌≡◌};
 ghost use Rattle.std.specs.List.{list_all, slice_split};
 ghost use Rattle.element.specs.Values as rules;
 
 use crate::kinds::Kind;
 
-/// A rule that a part is tested by.
+/// A rule that each single value (part) of a value field is checked by.
 #[derive(Clone, Copy)]
 pub(crate) enum PartRule {
-    /// It has the fixed size of its kind.
+    /// A date has 8 bytes, an age 4.
     Size,
-    /// It is no longer than its kind allows.
+    /// The value is no longer than its VR allows: 12, 16 or 64 bytes.
     Longest,
-    /// It has only characters of its kind.
+    /// The value has only characters that its VR allows.
     Characters,
-    /// Its components are those of a unique identifier.
+    /// Each component of a unique identifier is 0 or a number without leading zero.
     Form,
 }
 
@@ -129,7 +130,7 @@ fn has_form(kind: Kind, part: &[u8]) -> bool
     }
 }
 
-/// Returns whether a part obeys a rule; an empty one does.
+/// Returns whether a single value obeys a rule. An empty value obeys every rule.
 pub(crate) fn obeys(rule: PartRule, kind: Kind, part: &[u8]) -> bool
     ensures { result ≡ rules.obeys rule kind part.now }
 {

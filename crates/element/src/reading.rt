@@ -1,4 +1,4 @@
-//! Reads headers.
+//! Reads the headers of data elements and items.
 ghost use Rattle.std.specs.Prelude.{◌≡◌, ℕ, ◌+◌, ◌<◌, ◌≤◌, List, ◌++◌, length, take, IsTrue, None};
 ghost use Rattle.element.specs.declared.header.Header.{Header};
 ghost use Rattle.element.specs.declared.size.Need.TheVariants.{Size};
@@ -18,7 +18,7 @@ pub(crate) fn is_plain(syntax: Syntax, tag: Tag) -> bool
     }
 }
 
-/// Reads the tag at the front of the bytes.
+/// Reads the tag from the first four bytes.
 pub fn read_tag(bytes: &[u8]) -> Tag
     requires { 4 ≤ length bytes.now }
     ensures { result ≡ spelling.tag_at bytes.now }
@@ -29,7 +29,7 @@ pub fn read_tag(bytes: &[u8]) -> Tag
     )
 }
 
-/// Returns the size of the header that begins with these bytes, as far as they show it.
+/// Returns the size of the header that begins with these bytes, or that they are too few to know it.
 #[tactic(auto, unfolding(crate::specs::Header::need))]
 pub fn need(syntax: Syntax, bytes: &[u8]) -> Need
     ensures { result ≡ spelling.need syntax bytes.now }
@@ -54,7 +54,7 @@ pub fn need(syntax: Syntax, bytes: &[u8]) -> Need
     }
 }
 
-/// Reads a header without a VR.
+/// Reads a header without a VR: its length is bytes 4 to 7.
 fn plain_header(tag: Tag, bytes: &[u8]) -> Header
     requires { 8 ≤ length bytes.now }
     ensures { result ≡ record { tag = tag; vr = None; length = spelling.long_number_at bytes.now 4 } }
@@ -66,7 +66,7 @@ fn plain_header(tag: Tag, bytes: &[u8]) -> Header
     }
 }
 
-/// Reads the length of two bytes after a VR.
+/// Reads a length of two bytes, bytes 6 and 7, which follows the VR.
 fn short_length(bytes: &[u8]) -> u32
     requires { 8 ≤ length bytes.now }
     ensures { result ≡ spelling.number_at bytes.now 6 }
@@ -74,7 +74,7 @@ fn short_length(bytes: &[u8]) -> u32
     u32::from(LittleEndian::read_u16(&bytes[6..]))
 }
 
-/// Reads the length of four bytes after a VR and two reserved bytes.
+/// Reads a length of four bytes, bytes 8 to 11, which follows the VR and two reserved bytes.
 fn long_length(bytes: &[u8]) -> u32
     requires { 12 ≤ length bytes.now }
     ensures { result ≡ spelling.long_number_at bytes.now 8 }
@@ -101,8 +101,9 @@ fn front_header(syntax: Syntax, bytes: &[u8]) -> Header
     Header { tag, vr, length }
 }
 
-/// Reads the header at the front of the bytes (PS3.5 sections 7.1.2, 7.1.3 and 7.5). `need` has to
-/// return its size, and that many bytes have to be there. Reserved bytes are not tested.
+/// Reads the header at the front of the bytes (PS3.5 sections 7.1.2, 7.1.3 and 7.5). The bytes have to
+/// contain all of it: `need` returns a size, and there are at least so many bytes. Reserved bytes are
+/// not checked.
 #[tactic(auto, using(crate::proofs::Headers::front_spells, crate::proofs::Headers::spelled_need, crate::proofs::Headers::spelled_header))]
 pub fn read_header(syntax: Syntax, bytes: &[u8]) -> Header
     requires { IsTrue (spelling.is_whole syntax bytes.now) }

@@ -1,12 +1,13 @@
-//! The size of a header.
+//! The size of the header of a data element or an item.
 
-/// How many bytes a header has, as far as the bytes that came of it tell.
+/// The size of a header, as far as its first bytes determine it.
 #[derive(Clone, Copy, Debug, PartialEq, Eq)]
 pub enum Need {
-    /// The bytes are too few to tell.
+    /// Not known yet: fewer than 4 bytes are given, or fewer than 6 of a header with a VR.
     More,
-    /// 8 or 12 bytes.
+    /// The number of bytes, 8 or 12.
     Size(usize),
-    /// Bytes 4 and 5 are not two capital letters: fault 10.
+    /// The header must have a VR, but bytes 4 and 5 are not two capital letters. A data set with such a
+    /// header has fault 10, `BadVr`.
     BadVr,
 }

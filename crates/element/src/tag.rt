@@ -1,4 +1,4 @@
-//! Tags.
+//! Tags of data elements.
 ghost use Rattle.std.specs.Prelude.{◌≡◌};
 ghost use Rattle.element.specs.Header as spelling;
 
@@ -17,7 +17,8 @@ impl Tag {
     /// Sequence Delimitation.
     pub const SEQUENCE_DELIMITATION: Tag = Tag(0xfffe, 0xe0dd);
 
-    /// Returns the tag as one number, the group in its upper 16 bits: numbers have the order of tags.
+    /// Returns the tag as one number, with the group in its upper 16 bits. Numbers have the order of
+    /// tags.
     pub fn number(self) -> u32
         ensures { result ≡ spelling.number self }
     {

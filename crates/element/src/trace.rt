@@ -1,11 +1,12 @@
-//! Histories that only contracts read. They take no bytes.
+//! Lists of bytes for contracts alone; they have no size at run time.
 ghost use Rattle.std.specs.Prelude.{◌≡◌, ℕ, List, [], ◌∷◌, ◌++◌};
 ghost use Rattle.std.specs.Borrow.{ftrue};
 
 use std::marker::{Model, PhantomData};
 
-/// Bytes, one after another, as a list without a greatest length. Only contracts see them: the
-/// program cannot read them. Only a device that is traced makes one and adds to it.
+/// The bytes that went through a device so far, an unbounded list. It is a ghost value: contracts can
+/// name it, the program cannot read it. Only [`Traced`](crate::traced::Traced) and
+/// [`TracedStream`](crate::traced_stream::TracedStream) make one and add to it.
 #[derive(Drop)]
 pub struct Trace {
     marker: PhantomData<u8>,
@@ -26,13 +27,13 @@ impl Trace {
         }
     }
 
-    /// Adds these bytes at the end.
+    /// Appends these bytes.
     pub(crate) fn append(&mut self, _bytes: &[u8])
         ensures { self.new.bytes ≡ self.old.bytes ++ _bytes.now }
     {}
 }
 
-/// Traces, one after another. Only contracts see them.
+/// A list of traces, each the bytes of one [`Trace`]. Like a trace it is a ghost value.
 #[derive(Drop)]
 pub struct Traces {
     marker: PhantomData<u8>,
@@ -44,7 +45,7 @@ impl Model for Traces {
 }
 
 impl Traces {
-    /// Creates a list of no traces.
+    /// Creates an empty list.
     pub fn new() -> Traces
         ensures { result.all ≡ [] }
     {
@@ -53,7 +54,7 @@ impl Traces {
         }
     }
 
-    /// Adds the bytes of this trace as the last item.
+    /// Appends the bytes of this trace as one item.
     pub fn push(&mut self, _trace: &Trace)
         ensures { self.new.all ≡ self.old.all ++ _trace.now.bytes ∷ [] }
     {}

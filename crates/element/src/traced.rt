@@ -1,10 +1,10 @@
-//! A writer that is traced: the bytes that it took are shown to contracts.
+//! A wrapper of a writer that records, for contracts, the bytes that were written.
 //!
-//! This is the one place where a writer's calls and their trace are put side by side. Each call is
-//! generic over the writer, and ensures two things of the same bytes: that the writer took them,
-//! wherever its contracts show its bytes, and that they were added to the trace. So a body that
-//! traces what the writer was not called with is refused. The writer is not lent: it is written
-//! through these calls alone.
+//! A file or a socket of std has no contract that names its bytes; contracts name the trace instead, so
+//! it has to be right. Each method is generic over the writer and ensures two things of the same bytes:
+//! that the writer took them, as far as the writer's own contract shows its bytes, and that they were
+//! appended to the trace. A body that traces other bytes than it writes does not prove. No method
+//! returns a reference to the writer, so nothing is written past the trace.
 ghost use Rattle.std.specs.Prelude.{◌≡◌, [], ◌++◌, OnOk, OnErr};
 ghost use Rattle.std.specs.Io.KnownBytes.{Appends};
 
@@ -13,7 +13,7 @@ use std::fs::OpenFile;
 use std::io;
 use std::io::Write;
 
-/// A writer, and the bytes that were handed to it so far in calls that succeeded.
+/// A writer, with the trace of the bytes of all its calls that succeeded.
 #[derive(Drop)]
 pub struct Traced<D> {
     device: D,
@@ -21,7 +21,7 @@ pub struct Traced<D> {
 }
 
 impl<D> Traced<D> {
-    /// Begins a trace of no bytes.
+    /// Wraps a writer, with an empty trace.
     pub fn new(device: D) -> Traced<D>
         ensures device { result.device ≡ device }
         ensures nothing { result.trace.bytes ≡ [] }
@@ -32,7 +32,7 @@ impl<D> Traced<D> {
         }
     }
 
-    /// Returns what contracts see of the bytes so far.
+    /// Returns the trace, for use in contracts.
     pub fn trace(&self) -> &Trace
         ensures { result.now ≡ self.now.trace }
     {
@@ -41,7 +41,8 @@ impl<D> Traced<D> {
 }
 
 impl<W: Write> Traced<W> {
-    /// Writes all of the bytes, and traces them; a call that fails is not traced.
+    /// Writes all of the bytes and appends them to the trace. A call that fails leaves the trace as it
+    /// is, though some bytes may have been written. Fails as the writer does.
     pub fn write_all(&mut self, bytes: &[u8]) -> io::Result<()>
         ensures written { OnOk result (Appends (W.contents self.old.device) (W.contents self.new.device) bytes.now) }
         ensures traced { OnOk result (self.new.trace.bytes ≡ self.old.trace.bytes ++ bytes.now) }
@@ -54,7 +55,7 @@ impl<W: Write> Traced<W> {
 }
 
 impl<F: OpenFile> Traced<F> {
-    /// Writes to the disk what the file has taken.
+    /// Flushes the file's data and metadata to the disk, as `File::sync_all` does. Fails as that does.
     pub fn sync_all(&self) -> io::Result<()> {
         self.device.sync_all()
     }

@@ -1,4 +1,5 @@
-//! A device that is read and written, and is traced both ways, as `Traced` is one way.
+//! A wrapper of a device, such as a socket, that records for contracts the bytes read from it and the
+//! bytes written to it. See [`traced`](crate::traced) for why.
 ghost use Rattle.std.specs.Prelude.{◌≡◌, ◌≢◌, [], ◌++◌, take, IfOk, IfErr, OnErr};
 ghost use Rattle.std.specs.Io.{ReadsAtMost, WritesAtMost};
 ghost use Rattle.std.specs.Io.KnownBytes.{ReadConsumes, WriteAppends};
@@ -9,8 +10,8 @@ use crate::trace::Trace;
 use std::io;
 use std::io::{ErrorKind, Read, Write};
 
-/// A device, and the bytes that went through it so far: what it gave, and what it took. It is not lent:
-/// it is read and written through these calls alone.
+/// A device with two traces: the bytes read from it and the bytes written to it so far. No method
+/// returns a reference to the device, so no byte goes past the traces.
 #[derive(Drop)]
 pub struct TracedStream<D> {
     device: D,
@@ -19,7 +20,7 @@ pub struct TracedStream<D> {
 }
 
 impl<D> TracedStream<D> {
-    /// Begins traces of no bytes.
+    /// Wraps a device, with empty traces.
     pub fn new(device: D) -> TracedStream<D>
         ensures device { result.device ≡ device }
         ensures nothing_read { result.read.bytes ≡ [] }
@@ -34,8 +35,7 @@ impl<D> TracedStream<D> {
 }
 
 impl<D: Drop> TracedStream<D> {
-    /// Gives up the device. Returns what contracts see of the bytes that it gave and of those that it
-    /// took.
+    /// Drops the device and returns its traces: first the bytes read, then the bytes written.
     pub fn into_traces(self) -> (Trace, Trace)
         ensures read { result.0 ≡ self.read }
         ensures written { result.1 ≡ self.written }
@@ -45,8 +45,8 @@ impl<D: Drop> TracedStream<D> {
 }
 
 impl<W: Write> TracedStream<W> {
-    /// Writes as many of the bytes as the device takes, and traces those. A call that a signal interrupted
-    /// is made again.
+    /// Writes some of the bytes and appends those to the trace. Returns their number. The call is
+    /// repeated while a signal interrupts it. Fails as the device does; nothing is traced then.
     pub fn write(&mut self, bytes: &[u8]) -> io::Result<usize>
         ensures bound { WritesAtMost result bytes.now }
         ensures written { WriteAppends (W.contents self.old.device) (W.contents self.new.device) result bytes.now }
@@ -62,7 +62,9 @@ impl<W: Write> TracedStream<W> {
 }
 
 impl<R: Read> TracedStream<R> {
-    /// Reads some bytes, and traces them. A call that a signal interrupted is made again.
+    /// Reads bytes into the front of `room` and appends them to the trace. Returns their number, 0 at
+    /// the end of the input. The call is repeated while a signal interrupts it. Fails as the device
+    /// does; nothing is traced then.
     pub fn read(&mut self, room: &mut [u8]) -> io::Result<usize>
         ensures bound { ReadsAtMost result room.new }
         ensures consumed { ReadConsumes (R.remaining self.old.device) (R.remaining self.new.device) result room.new }

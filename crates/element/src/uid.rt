@@ -57,18 +57,19 @@ impl Uid {
             return None;
         }
         let mut text = ArrayVec::new();
+        // It fits, as an identifier has 64 characters at most.
         let _ = text.try_extend_from_slice(rest);
         Some(Uid { text })
     }
 
-    /// Returns its digits and dots.
+    /// Returns the digits and dots of the identifier, without padding.
     pub fn as_bytes(&self) -> &[u8]
         ensures { result.now ≡ self.now }
     {
         self.text.as_slice()
     }
 
-    /// Returns the number of its digits and dots.
+    /// Returns the number of digits and dots, 1 to 64, padding not counted.
     pub fn len(&self) -> usize
         ensures count { result ≡ length self.now }
         ensures known { spelling.is_uid self.now ≡ true }
@@ -82,6 +83,7 @@ impl Uid {
     {
         let own = &self.text;
         let mut text = ArrayVec::new();
+        // It fits, as both have the same capacity.
         let _ = text.try_extend_from_slice(own.as_slice());
         Uid { text }
     }

@@ -1,4 +1,4 @@
-//! The check of values.
+//! Checks values against their VR.
 ghost use Rattle.std.specs.Prelude.{◌≡◌, Some, None, MatchResult};
 ghost use Rattle.std.specs.List.{list_all, slice_split};
 ghost use Rattle.element.specs.Values as rules;
@@ -9,22 +9,23 @@ use crate::padding::trimmed;
 use crate::parts::{PartRule, obeys};
 use std::fmt;
 
-/// Why a value breaks the rules of its VR.
+/// The rule of its VR that a value breaks. Of a value field with several values, separated by
+/// backslash, it is the fault of any one of them.
 #[derive(Clone, Copy, Debug, PartialEq, Eq)]
 pub enum ValueFault {
-    /// 1: a part has a character that its VR does not allow.
+    /// 1: a value has a character that its VR does not allow.
     BadCharacter,
-    /// 2: the length is no multiple of the size of a number, or a date or an age has another length
-    /// than its fixed one.
+    /// 2: the length of binary values is no multiple of the size of one, or a date (DA) has not 8
+    /// bytes, or an age (AS) not 4.
     WrongSize,
-    /// 3: a part is longer than its VR allows.
+    /// 3: a value is longer than its VR allows.
     TooLongValue,
     /// 4: a component of a unique identifier is empty, or begins with 0 and is not `0`.
     BadUid,
 }
 
 impl ValueFault {
-    /// Returns its number, from 1 to 4.
+    /// Returns the number of the fault, from 1 to 4.
     pub fn number(self) -> u8
         ensures { result ≡ rules.fault_number self }
     {
@@ -36,7 +37,7 @@ impl ValueFault {
         }
     }
 
-    /// Returns its name, as it is printed.
+    /// Returns the name of the fault, as it is printed: that of the variant.
     pub fn name(self) -> &'static str
         ensures { result.now ≡ rules.fault_name self }
     {
@@ -111,11 +112,14 @@ fn is_whole_words(kind: Kind, value: &[u8]) -> bool
     }
 }
 
-/// Checks a value against its VR (PS3.5 section 6.2), rule by rule over the whole value: the size of
-/// each part, then its greatest size, then its characters, then the form of a unique identifier. Text
-/// values are split at backslash, and spaces at both ends of a part are ignored; in a unique
-/// identifier one zero byte at the end of the value is. An empty part passes, and so does every value
-/// of a VR that has no rule.
+/// Checks the value field of an element against its VR (PS3.5 section 6.2).
+///
+/// Text is split at backslash into single values. Spaces at both ends of each are ignored, except in a
+/// unique identifier, where one zero byte at the end of the field is ignored instead. An empty value is
+/// valid, and so is every value of a VR that has no rule here (LO, PN, OB and others).
+///
+/// The error is the first of these that any of the values has: `WrongSize`, `TooLongValue`,
+/// `BadCharacter`, `BadUid`.
 #[tactic(auto, unfolding(crate::specs::Values::value_fault))]
 pub fn check_value(vr: Vr, value: &[u8]) -> Result<(), ValueFault>
     ensures { MatchResult result (λ _. rules.value_fault vr value.now ≡ None) (λ fault. rules.value_fault vr value.now ≡ Some fault) }

@@ -139,7 +139,7 @@ impl Vr {
         }
     }
 
-    /// Returns its two letters.
+    /// Returns the two letters of the VR.
     pub fn letters(self) -> [u8; 2]
         ensures same { result ≡ self }
         ensures capital { spelling.IsVr self }

@@ -1,4 +1,4 @@
-//! Writes headers.
+//! Writes the headers of data elements and items.
 ghost use Rattle.std.specs.Prelude.{◌≡◌, List, ◌∷◌, ℕ, ◌+◌, ◌^◌, ◌<◌, ◌≤◌, ◌++◌, length, drop, take, Bool, true, IsTrue};
 ghost use Rattle.element.specs.Numbers.{le};
 ghost use Rattle.element.specs.Vr.{IsVr, IsVrOrNone};
@@ -9,8 +9,9 @@ use crate::reading::is_plain;
 use crate::{Header, Syntax, Tag, Vr};
 use byteorder::{ByteOrder, LittleEndian};
 
-/// Returns whether a header can be written in this syntax: it has a VR exactly in Explicit outside
-/// group FFFE, and with a short VR a length of at most 65535.
+/// Returns whether a header can be written in this syntax. It must have a VR in Explicit VR Little
+/// Endian outside group FFFE, and must not have one otherwise; its length is at most 65535 where the VR
+/// has a length field of two bytes.
 pub fn header_fits(syntax: Syntax, header: &Header) -> bool
     ensures { result ≡ spelling.header_fits syntax header.now }
 {
@@ -83,8 +84,9 @@ fn write_rest(header: &Header, room: &mut [u8]) -> usize
     }
 }
 
-/// Writes a header to the front of the room and returns its size, 8 or 12. Reserved bytes are zero,
-/// and the bytes after the header keep their values (PS3.5 sections 7.1.2, 7.1.3 and 7.5).
+/// Writes a header to the front of the buffer `room` and returns its size, 8 or 12 bytes (PS3.5
+/// sections 7.1.2, 7.1.3 and 7.5). Reserved bytes are zero. The bytes of the buffer after the header
+/// stay as they are.
 pub fn write_header(syntax: Syntax, header: &Header, room: &mut [u8; 12]) -> usize
     requires { IsTrue (spelling.header_fits syntax header.now) }
     ensures size { result ≡ length (spelling.header_bytes header.now) }

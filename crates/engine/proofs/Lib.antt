@@ -1,50 +1,34 @@
-pub mod StoryLemmas
-pub mod TimelineLemmas
-pub mod SizeLemmas
-pub mod StoreLemmas
-pub mod PendsLemmas
-pub mod PhaseLemmas
-pub mod DueLemmas
-pub mod JudgedLemmas
-pub mod HeadLemmas
-pub mod RequestLemmas
-pub mod WholeLemmas
-pub mod MessageLemmas
-pub mod EndedLemmas
-pub mod DataLemmas
-pub mod KeptLemmas
-pub mod DoesLemmas
-pub mod ShapeLemmas
-pub mod SettledLemmas
-pub mod EventLemmas
-pub mod SkipLemmas
-pub mod StateLemmas
-pub mod StillLemmas
-pub mod PartLemmas
-pub mod MovedLemmas
-pub mod HeldLemmas
-pub mod RanLemmas
-pub mod Examples
-pub mod WholeExamples
-pub mod StoreExamples
-pub mod VerdictLemmas
-pub mod OneVerdict
-pub mod StoreLawLemmas
-pub mod RunLawLemmas
-pub mod VerdictExamples
-pub mod StoreVerdicts
-pub mod CutLemmas
-pub mod RowsLemmas
-pub mod WalkVerdictLemmas
-pub mod ShownLemmas
-pub mod WalkedLemmas
-pub mod BodyLemmas
-pub mod AskedLemmas
-pub mod OutputLemmas
+-- The theorems of this crate, and which folder proves which step of them; each folder's file says what its files prove.
+--
+-- `run` returns a report on the whole received stream (`Run`, specs/Ran), whatever its pieces. The code sees one piece after the
+-- other and keeps a few fields. From the code to the stream:
+--
+--   FieldsShow       the fields show where the timeline has led (`Pends`), before and after each event
+--   MarksAreDone     each method of `Provider` does what its mark gives (`Does`)
+--   StoresAreKept    draft and walker of a store are those of the data so far
+--   PiecesAreDone    the events of a piece do what its marks give (`DoesPart`)
+--   WholeRun         so an association stands as all its inputs say, and a run is its turns (`Ran`)
+--
+-- What follows, and what holds of timelines alone:
+--
+--   AlongTimelines   heads come first, contexts are accepted, nothing happens after the end, cuts do not show
+--   HeldBytes        what is held is exact, one number, and bounded
+--   StoresAreJudged  each store has one verdict, and no good image is refused
+--   OutputIsBounded  a piece has an association send few bytes
+--   WorkedRuns       the associations on which the definitions are tried
+--   AssociationSize  an association has fewer than 2^63 bytes
+--   Public           what the crates above cite: the contracts of `engine::laws`
+--
+-- The folders with small letters have the answers to goals of single functions.
+pub mod FieldsShow
+pub mod MarksAreDone
+pub mod StoresAreKept
+pub mod PiecesAreDone
+pub mod AlongTimelines
+pub mod WholeRun
+pub mod HeldBytes
+pub mod StoresAreJudged
+pub mod OutputIsBounded
+pub mod WorkedRuns
 pub mod Public
-pub mod AcceptedLemmas
-pub mod OneHeld
-pub mod HeadedLemmas
-pub mod RoomLemmas
-pub mod BoundLemmas
-pub mod PortionLemmas
+pub mod AssociationSize

@@ -2,9 +2,9 @@
 -- the definitions alone.
 use Rattle.engine.specs.TurnLaws.{TurnsBegin, OneTurnMore, TurnsAreARun, EndedHasNoDraft}
 use Rattle.engine.specs.OutputLaws.{FewMarks, BoundedOutput, FewBytesButAnswers, AnswersAreShort, StoriesAnswerShortly, OutputOfAPiece, EntriesOfMore, SilentSendsNothing, AbortsShortly}
-use Rattle.engine.proofs.OutputLemmas as output
-use Rattle.engine.proofs.PortionLemmas as portions
-use Rattle.engine.proofs.RanLemmas as ran
+use Rattle.engine.proofs.OutputIsBounded.OutputOfAPiece as output
+use Rattle.engine.proofs.OutputIsBounded.OutputOfAPortion as portions
+use Rattle.engine.proofs.WholeRun.OneTurnMore as ran
 
 pub turns_begin : TurnsBegin
 turns_begin = ran.turns_begin

@@ -1,4 +1,4 @@
--- The devices of an association, the wire and the filing, and what they gain along its timeline.
+-- The devices of an association, the wire and the filing, and how their states change along its timeline.
 use Rattle.std.specs.Prelude.{ℕ, ◌+◌, ◌≤◌, ◌<◌, List, [], ◌++◌, length, Option, Some, None, option_map}
 use Rattle.std.specs.Io.KnownBytes.{append_known}
 use Rattle.pdu.specs.Sent.{Line, sent_all, cut_after}
@@ -13,29 +13,29 @@ devices line store = record { line = line; store = store }
 
 -- ---- the wire
 
--- the line after this text, of which a front was sent where the wire failed
+-- the state of the wire after these bytes: all were sent, or, if a send failed, the first k
 abbrev pub line_after : Option ℕ → List ℕ → Line → Line
 line_after None text line = sent_all text line
 line_after (Some k) text line = cut_after k text line
 
--- the wire fails only in a text, and sends a front of it
+-- a send fails only if there are bytes to send, after at most all of them
 abbrev pub IsFront : Option ℕ → List ℕ → Type 0
 IsFront None text = Unit {0}
 IsFront (Some k) text = (0 < length text) × (k ≤ length text)
 
--- the line after these bytes, with so many failures more
+-- the state of the wire after these bytes and so many more failures
 abbrev pub line_with : List ℕ → ℕ → Line → Line
 line_with text failed line = record { sent = append_known line.sent text; failures = line.failures + failed }
 
 -- ---- the filing
 
--- the files, where they are known
+-- the files of a filing, if they are known
 abbrev pub files_in : Store → Option (List (List ℕ))
 files_in store = option_map (λ shelf. shelf.files) store.told
 
 abbrev pub with_files : List (List ℕ) → Option (List (List ℕ)) → Option (List (List ℕ))
 with_files files known = option_map (λ fs. fs ++ files) known
 
--- the shelf with these files more, and no draft
+-- the contents of a filing with these files at the end, and no draft
 abbrev pub filed : List (List ℕ) → Shelf → Shelf
 filed files shelf = record { files = shelf.files ++ files; draft = [] }

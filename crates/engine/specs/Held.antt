@@ -28,72 +28,74 @@ abbrev pub is_ended : State → Bool
 is_ended Sta1 = true
 is_ended state = false
 
--- an unfinished head
+-- the number of these bytes if they are fewer than a head of six, else 0
 abbrev pub unfinished : List ℕ → ℕ
 unfinished bytes = if nat_lt (length bytes) head_size then length bytes else 0
 
 -- ---- the sizes of what is kept
 
--- of an accepted request its calling title and the peer's maximum length
+-- how many bytes are held of an accepted request beside its contexts: the calling AE title and the maximum length
 abbrev pub peer_size : ℕ
 peer_size = title_size + 4
 
--- an accepted context
+-- how many bytes are held of an accepted presentation context
 abbrev pub row_size : ℕ
 row_size = 4
 
--- at most so many of the heads and of an accepted request, which has 128 contexts at most
+-- the greatest number of bytes held of heads and of an accepted request, which has at most 128 presentation contexts:
+-- 544
 abbrev pub accepted_most : ℕ
 accepted_most = heads_size + peer_size + row_size * 128
 
 -- ---- the parts
 
--- the head of a PDU
+-- how many bytes are held of the head of a PDU
 abbrev pub of_head : Reached → ℕ
 of_head r = unfinished r.rest
 
--- that of a presentation data value
+-- how many bytes are held of the head of a presentation data value
 abbrev pub of_pdv_head : Reached → ℕ
 of_pdv_head r = unfinished (begun_pdv r)
 
--- what is kept of an accepted request, until it is left
+-- how many bytes are held of an accepted request, until the association is released or aborted
 abbrev pub of_accepted : RequestRecord → ℕ
 of_accepted request = peer_size + row_size * accepted_count request
 
--- of a request that is taken: in Sta2 what has come of its body, and in an established association what is kept of it
+-- how many bytes are held of a request: in Sta2 the received ones of its body, in an established association those of
+-- the accepted one
 abbrev pub of_request : Progress → List ℕ → ℕ
 of_request p rest =
     if is_due p.state then (if not p.refused && nat_eq (frame_kind rest) associate_rq then length rest - head_size else 0)
     else (if is_established p.state then of_accepted (request_record p.request) else 0)
 
--- the command set of a message
+-- how many bytes are held of the command set of a message
 abbrev pub of_command : Begun → ℕ
 of_command NoMessage = 0
 of_command (InCommand context command) = length command
 of_command (InSet context command set) = length command
 
--- all of these; nothing once the association has ended
+-- the sum of all these; 0 once the association has ended
 abbrev pub held_before_data : Reached → ℕ
 held_before_data r =
     if is_ended r.progress.state then 0
     else (of_head r + of_pdv_head r + of_request r.progress r.rest + of_command (message_so_far r))
 
--- What a walk holds of the bytes of a data set that have come: where no rule is broken, the unfinished header, the wanted
--- values with what has come of a begun one, and the open levels; else the values and the levels at the fault's
--- place.
+-- How many bytes the walker holds after these bytes of a data set: if they break no rule, the unfinished header, the
+-- wanted values, the unfinished one included, and the open levels; else the values and the levels at the position of
+-- the fault.
 pub data IsHeldOfSet (syntax : Coding) (lim : Limits) (bytes : List ℕ) : ℕ → Type 0 where
   unbroken : {es : Elements} {path : List PathEntry} {last : ℕ} {tail : Tail} → IsUnbroken syntax lim bytes → Open syntax bytes es path last tail
       → IsHeldOfSet syntax lim bytes (held_of lim.wanted es path tail)
   faulty : {p u : List ℕ} {rule : ℕ} {tag : Tag} {es : Elements} {path : List PathEntry} {last : ℕ} → FirstFault syntax lim bytes p u rule tag
       → Open syntax p es path last (in_header []) → IsHeldOfSet syntax lim bytes (held_of lim.wanted es path (in_header []))
 
--- the data of a message in the association of this request: those of a store whose class is its context's are walked,
--- and of others nothing is held
+-- how many bytes are held of the data set of a message, in the association of this request: those that the walker
+-- holds of a C-STORE of the SOP class of its presentation context, and none of any other
 pub data IsHeldOfMessage (rooms : Rooms) (s : Settings) (request : Requested) (message : Begun) : ℕ → Type 0 where
   walked : {n : ℕ} → (store : InStore request message) → IsHeldOfSet (coding_in store.context.syntax) (limits rooms.depth s.max_data) store.set n → IsHeldOfMessage rooms s request message n
   not_walked : (InStore request message → ⊥) → IsHeldOfMessage rooms s request message 0
 
--- so many bytes are held: the sum of these parts and of that of the data set
+-- n bytes are held: the sum of all parts, with that of the data set
 pub record Held (rooms : Rooms) (s : Settings) (r : Reached) (n : ℕ) : Type 0 where
   pub of_set : ℕ
   pub walked : IsHeldOfMessage rooms s r.progress.request (message_so_far r) of_set

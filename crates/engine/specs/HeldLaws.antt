@@ -1,4 +1,4 @@
--- What follows for the bytes that are held: that their number is one, and its bounds (this product's own profile).
+-- The number of held bytes is determined, and its bounds (this product's own profile).
 use Rattle.std.specs.Prelude.{◌≡◌, ℕ, ◌+◌, ◌*◌, ◌≤◌, Bool, List, []}
 use Rattle.acceptor.specs.declared.state.State.{State}
 use Rattle.acceptor.specs.declared.state.State.TheVariants.{Sta6}
@@ -12,17 +12,18 @@ use Rattle.engine.specs.Reached.{Reached, reached}
 use Rattle.engine.specs.Run.{Rooms, progress_of}
 use Rattle.engine.specs.Timeline.{Happened, entries, entries_of}
 
--- There is one number of bytes that are held, and no other, wherever inputs have led.
+-- No state of an association has two numbers of held bytes.
 abbrev pub HeldIsOne : Type 0
 HeldIsOne = (rooms : Rooms) (s : Settings) (r : Reached) (n m : ℕ) → Held rooms s r n → Held rooms s r m → n ≡ m
 
--- the rooms have place for so many bytes; and of them, once the association is accepted, 544 and those of a message
+-- the number of held bytes is within the limits: at most their sum, and in an established association at most 544 and
+-- those of a message
 pub record IsWithinRooms (rooms : Rooms) (state : State) (n : ℕ) : Type 0 where
   pub all : n ≤ rooms.request + rooms.command + rooms.values + level_size * rooms.depth
   pub accepted : state ≡ Sta6 → n ≤ accepted_most + rooms.command + rooms.values + level_size * rooms.depth
 
--- So many are held at most, for all inputs that are bytes and whatever outcome stands beside each entry of their timeline:
--- it follows from what is held and from which heads are refused, without an association that holds it.
+-- The number of held bytes is within the limits, for all inputs and all outcomes of the entries of their timeline. It
+-- follows from the definitions alone: from what is held, and from which heads are rejected.
 abbrev pub HeldIsWithinRooms : Type 0
 HeldIsWithinRooms = (rooms : Rooms) (s : Settings) (inputs : List Received) (story : List Happened) (failed : Bool) (n : ℕ)
     → 256 ≤ rooms.request → 140 ≤ rooms.values → IsBytes (stream_of inputs) → entries_of story ≡ entries [] inputs

@@ -1,5 +1,5 @@
--- What an association receives: pieces of the stream, the transport's close, the ARTIM timer's expiry and the local
--- user's abort (PS3.8 section 9.2.1).
+-- The inputs of an association: received bytes, the close of the transport connection, the expiry of the ARTIM timer
+-- and an abort of the local user (PS3.8 section 9.2.1).
 use Rattle.std.specs.Prelude.{◌≡◌, ℕ, zero, suc, List, [], ◌∷◌, ◌++◌, map, Option, Some, None, option_map}
 use Rattle.acceptor.specs.declared.state.State.{State}
 use Rattle.engine.specs.declared.source.Input.{Input}
@@ -13,7 +13,7 @@ pub data Received : Type 0 where
   Expiry : Received
   UserAbort : Received
 
--- the pieces put together
+-- the received bytes of all these inputs
 abbrev pub stream_of : List Received → List ℕ
 stream_of [] = []
 stream_of (Bytes piece ∷ inputs) = piece ++ stream_of inputs
@@ -21,7 +21,7 @@ stream_of (Close ∷ inputs) = stream_of inputs
 stream_of (Expiry ∷ inputs) = stream_of inputs
 stream_of (UserAbort ∷ inputs) = stream_of inputs
 
--- the first input; at the end the transport connection is closed
+-- the first input; if there is none, the transport connection is closed
 abbrev pub first_of : List Received → Received
 first_of [] = Close
 first_of (x ∷ xs) = x
@@ -35,41 +35,42 @@ abbrev pub first_inputs : ℕ → List Received → List Received
 first_inputs zero xs = []
 first_inputs (suc n) xs = first_of xs ∷ first_inputs n (others_of xs)
 
--- the input that a source named, with the bytes that it lends
+-- the input that `Source::next` returned, with the bytes of `Source::piece`
 abbrev pub input_of : Input → List ℕ → Received
 input_of kind.Piece bytes = Bytes bytes
 input_of kind.Closed bytes = Close
 input_of kind.Expired bytes = Expiry
 input_of kind.LocalAbort bytes = UserAbort
 
--- the inputs that a source named, one after another, each with the bytes that it lent
+-- the inputs that a source returned, one after another, each with its bytes
 abbrev pub inputs_of : List (Input × List ℕ) → List Received
 inputs_of named = map (λ x. input_of x.0 x.1) named
 
--- what contracts see of a source: the inputs that are still to come, and those that it has given, where it shows them
+-- the state of a source as contracts see it: the inputs that are still to come and those that it has returned, each
+-- if the source can tell them
 pub record Supply : Type 0 where
   pub to_come : Option (List Received)
   pub given : Option (List Received)
 
--- these inputs were given too, where it is known what was
+-- the inputs that a source has returned, with these appended, if they are known
 abbrev pub with_given : List Received → Option (List Received) → Option (List Received)
 with_given inputs known = option_map (λ xs. xs ++ inputs) known
 
--- the state that a source was shown last, where it shows that
+-- the state with which `Source::next` was called last, if the source can tell it
 abbrev pub shown_after : State → Option State → Option State
 shown_after state known = option_map (λ _. state) known
 
--- a source that shows what is to come gives the first of it and keeps the others
+-- if the inputs to come are known, the input is the first of them, and the others are still to come
 abbrev pub TakesFirst : Option (List Received) → Option (List Received) → Received → Type 0
 TakesFirst None new input = new ≡ None
 TakesFirst (Some inputs) new input = (input ≡ first_of inputs) × (new ≡ Some (others_of inputs))
 
--- a source gives this input: the first of those that were to come, and the last of those that it has given
+-- a source returns this input: the first of those to come, appended to those returned
 pub record Gives (old new : Supply) (last : List ℕ) (named : Input) : Type 0 where
   pub first : TakesFirst old.to_come new.to_come (input_of named last)
   pub added : new.given ≡ with_given (input_of named last ∷ []) old.given
 
--- a listed input
+-- the input of a list entry
 abbrev pub received_of : ListedInput → Received
 received_of (listed.Piece bytes) = Bytes bytes.now
 received_of listed.Closed = Close

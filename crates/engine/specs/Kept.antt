@@ -1,4 +1,5 @@
--- What the upper half of an association keeps, by where its timeline stands and what has come of the PDU that has begun.
+-- The fields of an association without its deframer, as contracts see them, and how they depend on its timeline and
+-- on the unfinished PDU.
 use Rattle.std.specs.Prelude.{◌≡◌, ℕ, ◌+◌, ◌*◌, Bool, true, false, not, ◌&&◌, List, [], length, replicate, nat_eq, if◌then◌else◌}
 use Rattle.pdu.specs.Sizes.{title_size}
 use Rattle.pdu.specs.Types.{associate_rq}
@@ -25,28 +26,28 @@ use Rattle.engine.specs.Fair.{InStore}
 use Rattle.engine.specs.StoredData.{Stored, Walks, drafting_in, held_in}
 use Rattle.negotiate.specs.Taken.{Taken}
 
--- what contracts see of the fields
+-- the values of the fields
 pub record Kept : Type 0 where
-  -- the greatest command set that is kept, the most open levels and the most bytes of a data set
+  -- the limits: the bytes of a command set, the open levels of a data set, and the bytes of a data set
   pub room : ℕ
   pub depth : ℕ
   pub most : ℕ
   pub state : State
-  -- whether the later marks of the PDU that has begun count for nothing
+  -- whether the rest of the unfinished PDU is ignored, as it was already answered
   pub refused : Bool
   -- of the accepted request: the calling AE title, the peer's maximum length, the accepted contexts
   pub caller : List ℕ
   pub peer_max : ℕ
   pub table : List ContextRow
-  -- the further storage classes that are taken
+  -- the storage classes that the configuration adds to those of the dictionary
   pub further : Taken
-  -- what has come of a request's body
+  -- the received bytes of the body of a request
   pub body : List ℕ
   pub join : Joining
-  -- of the data of a message
+  -- the state of the data set of a message
   pub storing : Stored
 
--- with these settings, in this phase
+-- the values of the fields, with this configuration and in this phase
 abbrev pub kept_in : {A C V D : ℕ} → Config → Bool → Phase A C V D → Kept
 kept_in {A} {C} {V} {D} config refused phase =
     record { room = C; depth = D; most = config.max_data; state = state_in phase; refused = refused; caller = caller_in phase; peer_max = maximum_in phase; table = rows_in phase; further = (settings_of config).further; body = request_in phase; join = joining_in phase; storing = stored_in phase }
@@ -57,7 +58,8 @@ kept_of p = kept_in p.config p.refused p.phase
 abbrev pub settings_in : {A C V D : ℕ} → Provider A C V D → Settings
 settings_in p = settings_of p.config
 
--- what an accepted request leaves of itself, where these further storage classes are taken
+-- the values that are kept of an accepted request, with these added storage classes: calling AE title, maximum length
+-- and presentation contexts
 pub record Agreed (calling : List ℕ) (most : ℕ) (table : List ContextRow) (further : Taken) (r : RequestRecord) : Type 0 where
   pub caller : calling ≡ r.calling
   pub maximum : most ≡ r.maximum
@@ -65,25 +67,27 @@ pub record Agreed (calling : List ℕ) (most : ℕ) (table : List ContextRow) (f
   pub contexts : (id : ℕ) → context_in further table id ≡ context_of r id
   pub count : length table ≡ accepted_count r
 
--- nothing of a request: no title, no maximum length and no context
+-- the values without an accepted request: no title, no maximum length and no presentation context
 pub record IsUnagreed (caller : List ℕ) (maximum : ℕ) (table : List ContextRow) : Type 0 where
   pub no_caller : caller ≡ replicate title_size 0
   pub no_maximum : maximum ≡ 0
   pub no_rows : table ≡ []
 
--- those of a request's body where a request is due, and of a PDV where the association is established
+-- the bytes of a body that are kept: those of a request while one is awaited, unless it was already rejected
 abbrev pub counted_body : Progress → List ℕ → List ℕ
 counted_body p body = if is_due p.state && not p.refused then body else []
 
 abbrev pub counted_pdv : Progress → List ℕ → List ℕ
 counted_pdv p begun = if takes_pdvs p then begun else []
 
--- the bytes of a body that count in a PDU of this type
+-- the bytes of the body of a PDU of this type that may be kept: those of an A-ASSOCIATE-RQ
 abbrev pub body_in : ℕ → List ℕ → List ℕ
 body_in kind body = if nat_eq kind associate_rq then body else []
 
--- The fields and the draft are those of this progress, where these bytes of a request's body and of a PDV have come: the body's or the
--- PDV's counted ones alone; and of a request its agreement, where it is accepted, and nothing before it and after it. Once the association has ended it is not known whether the PDU that has begun was refused.
+-- The fields and the draft are those of this state of the timeline and of the unfinished PDU, of which the bytes
+-- `body` of a request's body and `begun` of a presentation data value were received. Bytes that are ignored are not
+-- held. Of a request the values that are kept are there while it is accepted (Sta6), and only then. Once the
+-- association has ended, nothing is said of `refused`.
 pub record Pends (kept : Kept) (store : Store) (p : Progress) (body begun : List ℕ) : Type 0 where
   pub state_is : kept.state ≡ p.state
   pub refused_is : is_ended p.state ≡ false → kept.refused ≡ p.refused
@@ -94,17 +98,17 @@ pub record Pends (kept : Kept) (store : Store) (p : Progress) (body begun : List
   pub none_left : is_established p.state ≡ false → p.message ≡ NoMessage
   pub walks : Walks kept.depth kept.most p.request (with_pdv (counted_pdv p begun) p.message) kept.storing
   pub draft : IsDraft p.request (with_pdv (counted_pdv p begun) p.message) p.filing_failed store (drafting_in kept.storing)
-  -- a failure of the filing stands in the data of a store alone
+  -- a call of the filing can have failed only inside the data set of a C-STORE
   pub failed_in : is_ended p.state ≡ false → p.filing_failed ≡ true → InStore p.request p.message
 
--- whether the PDVs of the PDU that has begun count
+-- whether the presentation data values of the unfinished PDU are handled
 abbrev pub takes_pdvs_in : Kept → Bool
 takes_pdvs_in kept = is_established kept.state && not kept.refused
 
--- whether the body of a PDU of this type is kept
+-- whether the body of a PDU of this type is buffered
 abbrev pub takes_body_in : Kept → ℕ → Bool
 takes_body_in kept kind = is_due kept.state && (not kept.refused && nat_eq kind associate_rq)
 
--- how many bytes are kept of a request and of a message
+-- how many bytes are held of a request and of a message
 abbrev pub held_by : Kept → ℕ
 held_by kept = (if is_established kept.state then peer_size + row_size * length kept.table else 0) + length kept.body + length kept.join.command + held_in kept.storing

@@ -1,4 +1,4 @@
--- The inputs that a source over a list has left.
+-- The inputs that a source over a list has still to return.
 use Rattle.std.specs.Prelude.{List, drop, map}
 use Rattle.engine.specs.declared.list_source.ListSource.{ListSource}
 use Rattle.engine.specs.Inputs.{Received, received_of}

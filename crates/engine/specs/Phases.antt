@@ -1,4 +1,4 @@
--- What an association keeps, by its phase.
+-- The data of an association, by its phase.
 use Rattle.std.specs.Prelude.{ℕ, ◌+◌, ◌*◌, List, [], replicate}
 use Rattle.arrayvec.specs.ArrayVec.{array_vec_len}
 use Rattle.acceptor.specs.declared.state.State.{State}
@@ -20,7 +20,7 @@ state_in (Established peer message) = Sta6
 state_in AwaitingClose = Sta13
 state_in Ended = Sta1
 
--- of an accepted request: the calling AE title, the peer's maximum length, the accepted contexts
+-- the calling AE title of an accepted request; its maximum length and its accepted presentation contexts follow
 abbrev pub caller_in : {A C V D : ℕ} → Phase A C V D → List ℕ
 caller_in (Established peer message) = peer.caller
 caller_in phase = replicate title_size 0
@@ -33,12 +33,12 @@ abbrev pub rows_in : {A C V D : ℕ} → Phase A C V D → List ContextRow
 rows_in (Established peer message) = peer.contexts.items
 rows_in phase = []
 
--- what has come of a request's body
+-- the received bytes of the body of a request
 abbrev pub request_in : {A C V D : ℕ} → Phase A C V D → List ℕ
 request_in (AwaitingRequest body) = body.items
 request_in phase = []
 
--- of a message: what a join shows of it, and its data
+-- the state of the join of a message; that of its data set follows
 abbrev pub joining_in : {A C V D : ℕ} → Phase A C V D → Joining
 joining_in (Established peer message) = message.join
 joining_in phase = shown NoMessage []
@@ -47,7 +47,8 @@ abbrev pub stored_in : {A C V D : ℕ} → Phase A C V D → Stored
 stored_in (Established peer message) = stored_of message.storing
 stored_in phase = Nothing
 
--- how many bytes are taken, with the heads of a PDU and of a PDV, where the body of a request has its room
+-- how many bytes the body of a request takes of its limit, with 12 for the heads of a PDU and a presentation data
+-- value
 abbrev pub taken_in : {A C V D : ℕ} → Phase A C V D → ℕ
 taken_in (AwaitingRequest body) = array_vec_len body + heads_size
 taken_in (Established peer message) = heads_size + peer_size + row_size * array_vec_len peer.contexts

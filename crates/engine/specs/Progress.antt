@@ -1,5 +1,5 @@
--- Where an association stands at a place of its timeline, and what an event does there: the acceptor's table and the
--- effects of its actions (PS3.8 section 9.2).
+-- The state of an association after some entries of its timeline (its progress), and the effect of an event: the
+-- acceptor's state table and its actions (PS3.8 section 9.2).
 use Rattle.std.specs.Prelude.{ℕ, Bool, true, false, ◌||◌, List, [], ◌++◌}
 use Rattle.acceptor.specs.declared.state.State.{State}
 use Rattle.acceptor.specs.declared.state.State.TheVariants.{Sta1, Sta2, Sta6, Sta13}
@@ -10,8 +10,8 @@ use Rattle.pdu.specs.Texts.{release_text, abort_text}
 use Rattle.dimse.specs.Messages.{Begun, NoMessage}
 use Rattle.engine.specs.Requested.{Requested, no_request}
 
--- The acceptor's state; the association request, from its end on until the association is left; whether the
--- PDU that has begun was refused; what has come of a message, and whether a filing call failed in it.
+-- The acceptor's state; the association request, until the association is left; whether the rest of the unfinished
+-- PDU is ignored; the unfinished message, and whether a call of the filing failed in it.
 pub record Progress : Type 0 where
   pub state : State
   pub request : Requested
@@ -19,11 +19,11 @@ pub record Progress : Type 0 where
   pub message : Begun
   pub filing_failed : Bool
 
--- the transport connection is open, and a request is due
+-- the transport connection was just opened, and a request is awaited
 abbrev pub at_start : Progress
 at_start = record { state = Sta2; request = no_request; refused = false; message = NoMessage; filing_failed = false }
 
--- the association is left: its request and a message that has begun are dropped
+-- the state after the association is left: its request and the unfinished message are dropped
 abbrev pub left : State → Progress → Progress
 left next p = record { state = next; request = no_request; refused = p.refused; message = NoMessage; filing_failed = false }
 
@@ -32,7 +32,7 @@ moved Sta1 p = left Sta1 p
 moved Sta13 p = left Sta13 p
 moved next p = record p { state = next }
 
--- a filing call failed in the message that is open
+-- the state, where a call of the filing has failed in the unfinished message, if `failed`
 abbrev pub absorb : Bool → Progress → Progress
 absorb failed p = record p { filing_failed = failed || p.filing_failed }
 
@@ -44,7 +44,7 @@ abbrev pub is_established : State → Bool
 is_established Sta6 = true
 is_established state = false
 
--- what an entry brings: where the association stands after it, the bytes that are sent, and the files that are put
+-- the effect of an entry: the state after it, the bytes that are sent, and the files that are stored
 pub record Advance : Type 0 where
   pub next : Progress
   pub sent : List ℕ
@@ -53,17 +53,17 @@ pub record Advance : Type 0 where
 abbrev pub nothing : Progress → Advance
 nothing p = record { next = p; sent = []; files = [] }
 
--- one after the other
+-- two effects one after the other: the second starts in the state after the first
 abbrev pub followed_by : Advance → (Progress → Advance) → Advance
 followed_by g f = let h = f g.next in record { next = h.next; sent = g.sent ++ h.sent; files = g.files ++ h.files }
 
--- An event: the table's action is done, and its state comes. `answer` are the bytes that answer a request, and `reason`
--- is that of a service provider's abort.
+-- The effect of an event: the action and the next state of the state table. `answer` are the bytes of the
+-- A-ASSOCIATE-AC or A-ASSOCIATE-RJ, and `reason` is that of an A-ABORT of the service provider.
 abbrev pub done : List ℕ → ℕ → Progress → Event → Advance
 done answer reason p e =
     let step = table p.state e in
     record { next = moved step.1 p; sent = bytes_sent answer release_text abort_text (sending step.0 step.1 reason); files = [] }
 
--- the later marks of the PDU give nothing
+-- the effect, where the rest of the PDU is ignored afterwards
 abbrev pub refusing : Advance → Advance
 refusing g = record { next = record g.next { refused = true }; sent = g.sent; files = g.files }

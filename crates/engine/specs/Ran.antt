@@ -1,4 +1,4 @@
--- A run: which inputs were taken, and what came of them.
+-- A run: which inputs were handled, and their effect.
 use Rattle.std.specs.Prelude.{◌≡◌, ◌≢◌, ℕ, zero, suc, ◌+◌, ◌*◌, ◌<◌, ◌≤◌, Bool, false, List, [], length, take, Option, Some}
 use Rattle.acceptor.specs.declared.state.State.{State}
 use Rattle.acceptor.specs.declared.state.State.TheVariants.{Sta1, Sta6, Sta13}
@@ -17,23 +17,24 @@ use Rattle.engine.specs.Reached.{reached}
 use Rattle.engine.specs.Run.{Rooms, progress_of, sent_of, files_of, wire_failures, filing_failures}
 use Rattle.engine.specs.Timeline.{Happened, entries}
 
--- The inputs, with the outcomes of the entries of their timeline, give these bytes sent, these files, and this state.
+-- The inputs, with this trace (the entries of their timeline with their outcomes), send these bytes, store these
+-- files, and lead to this state.
 pub record Run (rooms : Rooms) (s : Settings) (inputs : List Received) (story : List Happened) (failed : Bool) (sent : List ℕ) (files : List (List ℕ)) (state : State) : Type 0 where
   pub story_is : IsStory rooms s inputs story failed
   pub sent_is : sent ≡ sent_of rooms s at_start story
   pub files_are : files ≡ files_of rooms s at_start story
   pub state_is : state ≡ (progress_of rooms s at_start story).state
 
--- what is left after n inputs
+-- the inputs after the first n
 abbrev pub inputs_after : ℕ → List Received → List Received
 inputs_after zero xs = xs
 inputs_after (suc n) xs = inputs_after n (others_of xs)
 
--- the story of the first n inputs
+-- the part of the trace that the first n inputs cause
 abbrev pub story_after : ℕ → List Received → List Happened → List Happened
 story_after n inputs story = take (length (entries [] (take n inputs))) story
 
--- no shorter front of the inputs ended the association
+-- the association has not ended before the last of the inputs
 abbrev pub EndsLast : Rooms → Settings → List Received → List Happened → Type 0
 EndsLast rooms s inputs story = (n : ℕ) → n < length inputs → (progress_of rooms s at_start (story_after n inputs story)).state ≢ Sta1
 
@@ -42,9 +43,9 @@ standing_of Sta1 = standing.Ended
 standing_of Sta13 = standing.Closing
 standing_of state = standing.Open
 
--- What came of the inputs: a story of them gives the bytes that were sent, the files that were put, how the association
--- stands and what it holds, once it is accepted 544 bytes at most beside a message; and so often the wire and the filing
--- failed. No draft is left.
+-- The effect of the inputs: a trace of them gives the bytes that were sent, the files that were stored, the state of
+-- the association and the number of held bytes, which beside a message is at most 544 once a request is accepted; and
+-- the number of failures of the wire and of the filing. No draft is left.
 pub record Answered (rooms : Rooms) (s : Settings) (taken : List Received) (report : Report) (old new : Devices) : Type 0 where
   pub story : List Happened
   pub failed : Bool
@@ -60,13 +61,14 @@ pub record Answered (rooms : Rooms) (s : Settings) (taken : List Received) (repo
   pub told : new.store.told ≡ told_after (filed files) old.store.told
   pub count : new.store.failures ≡ old.store.failures + filing_failures story failed
 
--- the source gave these inputs, and has the others left
+-- the source has returned these inputs, and the others are still to come
 pub record LeavesOthers (taken all : List Received) (new : Option (List Received)) : Type 0 where
   pub first : taken ≡ first_inputs (length taken) all
   pub others : new ≡ Some (inputs_after (length taken) all)
 
--- The first inputs of the source were taken, as many as there were turns unless they ended the association, and this came
--- of them. They are what the source was to give, and what it has given, where it shows either.
+-- The first inputs of the source were handled, as many as `turns`, or fewer if they ended the association, with this
+-- effect. They are the first of those that were to come, and those that the source has returned, as far as it can
+-- tell either.
 pub record Ran (rooms : Rooms) (s : Settings) (turns : ℕ) (report : Report) (source_old source_new : Supply) (old new : Devices) : Type 0 where
   pub taken : List Received
   pub most_turns : length taken ≤ turns

@@ -14,7 +14,7 @@ request =
     ∷ 56 ∷ 46 ∷ 49 ∷ 46 ∷ 50 ∷ 80 ∷ 0 ∷ 0 ∷ 17 ∷ 81 ∷ 0 ∷ 0 ∷ 4 ∷ 0 ∷ 0 ∷ 64 ∷ 0 ∷ 82 ∷ 0 ∷ 0 ∷ 5 ∷ 49 ∷ 46 ∷ 50
     ∷ 46 ∷ 51 ∷ []
 
--- the same request to OTHER
+-- the same request with the called AE title OTHER
 abbrev pub other_request : List ℕ
 other_request =
     1 ∷ 0 ∷ 0 ∷ 0 ∷ 0 ∷ 164 ∷ 0 ∷ 1 ∷ 0 ∷ 0 ∷ 79 ∷ 84 ∷ 72 ∷ 69 ∷ 82 ∷ 32 ∷ 32 ∷ 32 ∷ 32 ∷ 32 ∷ 32 ∷ 32 ∷ 32 ∷ 32

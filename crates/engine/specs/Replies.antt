@@ -1,5 +1,5 @@
--- What the PDVs of an established association bring (PS3.7 chapter 9, PS3.8 section 9.2 and annex E): messages, and the
--- replies to them. Which breaches the local user answers by an abort is this product's own profile.
+-- The effect of presentation data values in an established association: messages and the responses to them (PS3.7
+-- chapter 9, PS3.8 section 9.2 and annex E). For which faults the local user aborts is this product's own profile.
 use Rattle.std.specs.Prelude.{ℕ, Bool, true, false, ◌&&◌, List, [], ◌∷◌, Option, Some, None, Result, Ok, Err, nat_eq, if◌then◌else◌}
 use Rattle.acceptor.specs.declared.event.Event.TheVariants as event
 use Rattle.dictionary.specs.declared.class.Class.{Class}
@@ -33,7 +33,8 @@ abbrev pub aborted_if_refused : Option DimseFault → Progress → Advance
 aborted_if_refused None p = nothing p
 aborted_if_refused (Some fault) p = user_aborts p
 
--- a PDV of a context that was not accepted is invalid; one that doesn't go on with the message is the user's abort
+-- the effect of the head of a presentation data value: with a presentation context that was not accepted it is
+-- invalid; one that does not continue the message leads to an abort of the local user
 abbrev pub at_pdv_head : ℕ → Progress → ℕ → ℕ → ℕ → Advance
 at_pdv_head room p n context control = elim (context_of (request_record p.request) context) [
   | None ↦ invalid p
@@ -54,21 +55,23 @@ abbrev pub class_by : Option Context → Option Class
 class_by None = None
 class_by (Some context) = known_class context.class
 
--- C-ECHO: success where the command and its context name Verification, else SOP class not supported
+-- the status of a C-ECHO: success if both the command and its presentation context have the Verification SOP Class,
+-- else SOP class not supported
 abbrev pub echo_status : Option Context → CommandRecord → ℕ
 echo_status context command = if is_verification (class_of command.class) && is_verification (class_by context) then success else class_not_supported
 
--- on a C-STORE it is that which stands beside the entry
+-- the status and cause of the response to a command: of a C-ECHO its status, of a C-STORE the finding of the entry's
+-- outcome
 abbrev pub finding_on : Option Context → CommandRecord → Finding → Finding
 finding_on context command finding = if nat_eq command.field c_echo then record { status = echo_status context command; detail = None } else finding
 
--- the file of a stored instance
+-- the file of an instance that is stored from this accepted presentation context, as a list of one
 abbrev pub file_in : RequestRecord → Option Context → CommandRecord → List ℕ → List (List ℕ)
 file_in r None command data_set = []
 file_in r (Some context) command data_set =
     File (record { class = command.class; instance = or_nothing command.instance; syntax = context.syntax; calling = record { 0 = r.calling } }) data_set ∷ []
 
--- a C-STORE of status 0000 puts its file last
+-- the files that a whole message stores: one if it is a C-STORE of status 0000, else none
 abbrev pub file_put : RequestRecord → ℕ → CommandRecord → List ℕ → Finding → List (List ℕ)
 file_put r id command data_set finding =
     if nat_eq command.field c_store && nat_eq finding.status success then file_in r (context_of r id) command data_set else []
@@ -90,7 +93,7 @@ replied p finding m (Ok command) =
 abbrev pub going_on : Begun → Progress → Progress
 going_on begun p = record p { message = begun }
 
--- the last byte of a PDV, with the finding on the store that it may end
+-- the effect of the last byte of a presentation data value, with the finding on the C-STORE that it may end
 abbrev pub at_pdv : Progress → Finding → Pdv → Advance
 at_pdv p finding pdv = elim (brought p.message pdv) [
   | Goes begun ↦ nothing (going_on begun p)

@@ -1,12 +1,12 @@
--- The request of an association, and the further storage classes that the receiver takes (PS3.8 section 7.1.1; which classes
--- are taken is this product's own profile).
+-- The request of an association, and the storage classes that the receiver's configuration adds to those of the
+-- dictionary (PS3.8 section 7.1.1; which classes are accepted is this product's own profile).
 use Rattle.std.specs.Prelude.{ℕ, List, []}
 use Rattle.pdu.specs.Record.{RequestRecord}
 use Rattle.pdu.specs.Items as items
 use Rattle.negotiate.specs.Contexts.{offered}
 use Rattle.negotiate.specs.Taken.{Taken, nothing_further}
 
--- the identifiers of the further storage classes, and the body of the A-ASSOCIATE-RQ
+-- the UIDs of the added storage classes, and the body of the A-ASSOCIATE-RQ
 pub record Requested : Type 0 where
   pub further : Taken
   pub body : List ℕ
@@ -14,6 +14,6 @@ pub record Requested : Type 0 where
 abbrev pub no_request : Requested
 no_request = record { further = nothing_further; body = [] }
 
--- what the request says to this receiver: an abstract syntax that is not taken counts as none
+-- the request as this receiver reads it: an abstract syntax that it does not accept counts as none
 abbrev pub request_record : Requested → RequestRecord
 request_record q = offered q.further (items.request_record q.body)

@@ -1,5 +1,5 @@
--- What a whole association request brings (PS3.8 sections 7.1 and 9.2): a refusal, or the answer of the local user, who
--- answers at once (this product's own profile).
+-- The effect of a whole association request (PS3.8 sections 7.1 and 9.2): a rejection by the service provider, or the
+-- response of the local user, who responds at once (this product's own profile).
 use Rattle.std.specs.Prelude.{ℕ, List, [], Some, None, true, false, nat_eq, if◌then◌else◌}
 use Rattle.acceptor.specs.declared.event.Event.TheVariants as event
 use Rattle.pdu.specs.Record.{RequestRecord}
@@ -15,18 +15,20 @@ use Rattle.negotiate.specs.Accept.{accept_text}
 use Rattle.engine.specs.Progress.{Progress, Advance, followed_by, done}
 use Rattle.engine.specs.Heads.{invalid_parameter}
 
--- the request is kept
+-- the state with this request
 abbrev pub keeping : Settings → List ℕ → Progress → Progress
 keeping s body p = record p { request = record { further = s.further; body = body } }
 
--- the request is accepted, and the local user accepts or refuses it, sending these bytes
+-- the effect of a request that is acceptable to the service provider and accepted by the local user, with these bytes
+-- as its answer
 abbrev pub accepting : Progress → List ℕ → Advance
 accepting p answer = followed_by (done [] 0 p (event.Request true)) (λ q. done answer 0 q event.UserAccepts)
 
 abbrev pub declined : Progress → List ℕ → Advance
 declined p answer = followed_by (done [] 0 p (event.Request true)) (λ q. done answer 0 q event.UserRefuses)
 
--- a rejection whose source is ACSE is the service provider's, any other the local user's
+-- the effect of the answer to a request; a rejection whose source is the service provider (ACSE) is its own, any
+-- other the local user's
 abbrev pub answered : Settings → RequestRecord → Progress → Answer → Advance
 answered s r p Accept = accepting p (accept_text s r)
 answered s r p (Reject result source reason) =

@@ -1,5 +1,4 @@
--- What an association does along its timeline (PS3.8 section 9.2): what it sends, which files it puts, and where it
--- stands.
+-- The effect of the entries of a timeline (PS3.8 section 9.2): what is sent, which files are stored, and the state.
 use Rattle.std.specs.Prelude.{ℕ, ◌+◌, ◌-◌, Bool, true, false, ◌&&◌, List, [], ◌∷◌, ◌++◌, take, Option, Some, None, nat_eq, if◌then◌else◌}
 use Rattle.acceptor.specs.declared.state.State.TheVariants.{Sta1}
 use Rattle.acceptor.specs.declared.event.Event.TheVariants as event
@@ -15,7 +14,7 @@ use Rattle.engine.specs.Heads.{NoEvent, AtOnce, TooLong, head_event}
 use Rattle.engine.specs.Requests.{at_request}
 use Rattle.engine.specs.Replies.{invalid, at_pdv_head, at_pdv}
 
--- the rooms of an association: A bytes for a request's body and two heads, C for a command set, V for kept values and a
+-- the limits of an association: A bytes of a request's body and two heads, C of a command set, V of kept values and a
 -- header, D open levels
 pub record Rooms : Type 0 where
   pub request : ℕ
@@ -26,7 +25,7 @@ pub record Rooms : Type 0 where
 abbrev pub rooms_of : ℕ → ℕ → ℕ → ℕ → Rooms
 rooms_of A C V D = record { request = A; command = C; values = V; depth = D }
 
--- the heads of a PDU and of a presentation data value, which have their place in the room of a request
+-- the size of the heads of a PDU and of a presentation data value, which count toward the limit of a request
 abbrev pub heads_size : ℕ
 heads_size = head_size + pdv_head_size
 
@@ -42,7 +41,7 @@ at_head rooms s p kind n = elim (head_event (rooms.request - heads_size) s.max_p
 abbrev pub released : Progress → Advance
 released p = followed_by (done [] 0 p event.ReleaseRq) (λ q. done [] 0 q event.UserReleases)
 
--- a whole PDU that was not refused
+-- the effect of the end of a PDU that was not answered at its head
 abbrev pub at_end : Settings → Progress → ℕ → List ℕ → Advance
 at_end s p kind body =
     if nat_eq kind abort then done [] 0 p event.Abort
@@ -50,7 +49,8 @@ at_end s p kind body =
     else (if nat_eq kind release_rq && is_established p.state then released p
     else nothing p))
 
--- a mark of a PDU that was not refused; PDVs count in an established association alone
+-- the effect of a mark of a PDU that was not answered before; presentation data values have one only in an
+-- established association
 abbrev pub at_mark : Rooms → Settings → Progress → Finding → Mark → Advance
 at_mark rooms s p finding (Head kind n) = at_head rooms s p kind n
 at_mark rooms s p finding (PdvHead n context control) = if is_established p.state then at_pdv_head rooms.command p n context control else nothing p
@@ -60,12 +60,12 @@ at_mark rooms s p finding BadPdv = if is_established p.state then invalid p else
 at_mark rooms s p finding Leftover = if is_established p.state then invalid p else nothing p
 at_mark rooms s p finding (End kind body) = at_end s p kind body
 
--- a head begins a PDU; the later marks of a refused one give nothing
+-- whether a mark is the head of a PDU: the other marks of a PDU that was already answered have no effect
 abbrev pub begins : Mark → Bool
 begins (Head kind n) = true
 begins mark = false
 
--- what an entry brings, with the finding on the store that it may end
+-- the effect of an entry, with the finding on the C-STORE that it may end
 abbrev pub at_entry : Rooms → Settings → Progress → Finding → Entry → Advance
 at_entry rooms s p finding (At mark) =
     if begins mark then at_mark rooms s (record p { refused = false }) finding mark
@@ -74,13 +74,13 @@ at_entry rooms s p finding Shut = done [] 0 p event.Closed
 at_entry rooms s p finding TimedOut = done [] 0 p event.Expired
 at_entry rooms s p finding Aborted = done [] 0 p event.UserAborts
 
--- where the wire failed after k bytes, a front is sent, and the association ends as if the transport connection had been
--- closed; a file that was put stays
+-- the effect if a send failed after k bytes: only these are sent, and the association ends as if the transport
+-- connection had been closed; a file that was stored stays
 abbrev pub cut : Option ℕ → Progress → Advance → Advance
 cut None p g = g
 cut (Some k) p g = record { next = left Sta1 p; sent = take k g.sent; files = g.files }
 
--- an entry with its outcome: a filing call that failed counts for the message that is open, at whatever entry it stands
+-- the effect of an entry with its outcome; a call of the filing that failed counts for the unfinished message
 abbrev pub gives : Rooms → Settings → Progress → Happened → Advance
 gives rooms s p happened = cut happened.1.wire p (at_entry rooms s (absorb happened.1.filing p) happened.1.finding happened.0)
 
@@ -102,7 +102,7 @@ abbrev pub fails : Option ℕ → ℕ
 fails None = 0
 fails (Some k) = 1
 
--- how often the wire failed
+-- the number of failed sends
 abbrev pub wire_failures : List Happened → ℕ
 wire_failures [] = 0
 wire_failures (h ∷ story) = fails h.1.wire + wire_failures story
@@ -111,8 +111,8 @@ abbrev pub counted : Bool → ℕ
 counted true = 1
 counted false = 0
 
--- In how many messages a filing call failed: each stands at most once, at the entry that comes next or, after the last
--- entry, beside the story.
+-- The number of messages in which a call of the filing failed: each is counted once, at the entry after the failure,
+-- or by `failed` after the last entry.
 abbrev pub filing_failures : List Happened → Bool → ℕ
 filing_failures [] failed = counted failed
 filing_failures (h ∷ story) failed = counted h.1.filing + filing_failures story failed

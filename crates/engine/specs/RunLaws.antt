@@ -1,4 +1,4 @@
--- What follows for stores in a whole run.
+-- Statements on C-STOREs in a whole run.
 use Rattle.std.specs.Prelude.{◌≡◌, ℕ, Bool, List, ◌∷◌, ◌++◌, None}
 use Rattle.acceptor.specs.declared.state.State.{State}
 use Rattle.engine.specs.Requested.{request_record}
@@ -18,8 +18,8 @@ use Rattle.engine.specs.Ran.{Run, Answered}
 use Rattle.engine.specs.Laws.{DifferInCuts}
 use Rattle.engine.specs.StoreLaws.{EndsAt, IsGoodImage, IsCalm, file_of}
 
--- A run in which a good image ends and no device fails in its message: its file is put between those of the entries
--- before it and those after it, and so is the reply of success sent.
+-- In a run in which a good image ends and no device fails during its message, its file is stored between those of the
+-- entries before and after, and so is the response with success sent.
 pub record IsFiledBetween (rooms : Rooms) (s : Settings) (before : List Happened) (h : Happened) (after : List Happened) (m : Message) (command : CommandRecord) (context : Context) (sent : List ℕ) (files : List (List ℕ)) : Type 0 where
   pub files_are : files ≡ files_of rooms s at_start before
       ++ file_of command context.syntax (request_record (progress_of rooms s at_start before).request).calling m.set
@@ -28,7 +28,8 @@ pub record IsFiledBetween (rooms : Rooms) (s : Settings) (before : List Happened
       ++ (reply_bytes command success None m.context (request_record (progress_of rooms s at_start before).request).maximum
       ++ sent_of rooms s (gives rooms s (progress_of rooms s at_start before) h).next after)
 
--- Every good image that a run has taken whole is filed and answered by success, whatever else came in its association.
+-- Every good image that a run has received whole, with no device failing during its message, is stored and answered
+-- with success, whatever else its association received.
 abbrev pub EveryGoodImageIsFiled : Type 0
 EveryGoodImageIsFiled =
     (rooms : Rooms) (s : Settings) (inputs : List Received) (before after : List Happened) (h : Happened) (failed : Bool) (sent : List ℕ) (files : List (List ℕ)) (state : State) (m : Message) (command : CommandRecord) (context : Context)
@@ -38,13 +39,13 @@ EveryGoodImageIsFiled =
 
 -- ---- a run without failures
 
--- no send failed and no call of the filing
+-- no send and no call of the filing failed in this trace
 pub record IsUnfailed (story : List Happened) (failed : Bool) : Type 0 where
   pub wire : wire_failures story ≡ 0
   pub filing : filing_failures story failed ≡ 0
 
--- Inputs have one run in which no device fails: two lists of them that differ in their cuts alone give the same bytes sent,
--- the same files and the same state.
+-- The inputs determine the run in which no device fails: two lists that differ only in how bytes are divided into
+-- pieces give the same bytes sent, the same files and the same state.
 abbrev pub OneRun : Type 0
 OneRun =
     (rooms : Rooms) (s : Settings) (a b : List Received) (story story2 : List Happened) (failed failed2 : Bool) (sent sent2 : List ℕ) (files files2 : List (List ℕ)) (state state2 : State)
@@ -52,12 +53,12 @@ OneRun =
     → IsUnfailed story failed → IsUnfailed story2 failed2
     → (sent ≡ sent2) × (files ≡ files2) × (state ≡ state2)
 
--- no device failed from here to there
+-- no device failed between these two states of the devices
 pub record NoneFailed (old new : Devices) : Type 0 where
   pub wire : new.line.failures ≡ old.line.failures
   pub filing : new.store.failures ≡ old.store.failures
 
--- the same bytes sent, the same files, the same standing, and as many bytes held
+-- two runs with the same bytes sent, the same files, the same state and the same number of held bytes
 pub record SameOutcome (rooms : Rooms) (s : Settings) (a b : List Received) (one other : Report) (old new old2 new2 : Devices) (x : Answered rooms s a one old new) (y : Answered rooms s b other old2 new2) : Type 0 where
   pub sent : x.sent ≡ y.sent
   pub files : x.files ≡ y.files
@@ -65,8 +66,8 @@ pub record SameOutcome (rooms : Rooms) (s : Settings) (a b : List Received) (one
   pub standing : one.standing ≡ other.standing
   pub held : one.held ≡ other.held
 
--- Two runs whose inputs differ only in how the stream between the other inputs is cut, and in which no device fails, send
--- the same bytes, put the same files, stand alike and hold as many bytes.
+-- Two runs in which no device fails and whose inputs differ only in how bytes are divided into pieces send the same
+-- bytes, store the same files, end in the same state and hold the same number of bytes.
 abbrev pub CutsGiveTheSame : Type 0
 CutsGiveTheSame =
     (rooms : Rooms) (s : Settings) (a b : List Received) (one other : Report) (old new old2 new2 : Devices)

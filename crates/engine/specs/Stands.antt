@@ -1,4 +1,5 @@
--- An association stands as its inputs say. It is a fact about values as they are now: no history is stored.
+-- The invariant of an association: its fields, and the filing, are in the state that its inputs so far determine. No
+-- history is stored.
 use Rattle.std.specs.Prelude.{◌≡◌, Bool, true, List, []}
 use Rattle.pdu.specs.Deframing.{At}
 use Rattle.negotiate.specs.Settings.{Settings}
@@ -15,12 +16,13 @@ use Rattle.engine.specs.Reached.{Reached, reached, message_so_far}
 
 -- ---- the association
 
--- It shows this progress and this PDU that has begun; once it has ended it keeps no byte of a head.
+-- The fields are those of this state of the timeline and of the unfinished PDU; once the association has ended they
+-- have no byte of a head.
 pub record Shows (f : Fields) (store : Store) (r : Reached) : Type 0 where
   pub frame : ShowsFrame f store r.progress r.rest
   pub headless : is_ended r.progress.state ≡ true → At f.position [] []
 
--- the draft that is due where the timeline has led is in the filing
+-- the filing has the draft that the state of the timeline requires, and no other
 abbrev pub IsDraftAt : Reached → Store → Bool → Type 0
 IsDraftAt r store drafting = IsDraft r.progress.request (message_so_far r) r.progress.filing_failed store drafting
 
@@ -30,7 +32,7 @@ drafting f = drafting_in f.kept.storing
 
 -- ---- both
 
--- After these inputs, with this story, the association and the filing are where the timeline has led.
+-- After these inputs, with this trace, the association and the filing are in the state that the timeline gives.
 pub record Stands (rooms : Rooms) (s : Settings) (inputs : List Received) (story : List Happened) (failed : Bool) (fields : Fields) (store : Store) : Type 0 where
   pub story_is : IsStory rooms s inputs story failed
   pub shows : Shows fields store (reached rooms s inputs story failed)

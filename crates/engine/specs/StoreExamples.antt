@@ -1,5 +1,5 @@
--- One CT store: its request, its command and its data set; and what comes of it where all goes well, where the filing
--- fails, where its reply is cut, and where the transport is closed in its data.
+-- Examples with a C-STORE of a CT image: it succeeds; the filing fails; sending the response fails; the transport
+-- connection is closed inside the data set.
 use Rattle.std.specs.Prelude.{◌≡◌, ℕ, Bool, true, false, List, [], ◌∷◌, ◌++◌, length, map, take, Option, Some, None}
 use Rattle.acceptor.specs.declared.state.State.{State}
 use Rattle.acceptor.specs.declared.state.State.TheVariants.{Sta1, Sta6}
@@ -35,15 +35,16 @@ command =
     ∷ 1 ∷ 2 ∷ 0 ∷ 0 ∷ 0 ∷ 1 ∷ 0 ∷ 0 ∷ 0 ∷ 16 ∷ 1 ∷ 2 ∷ 0 ∷ 0 ∷ 0 ∷ 7 ∷ 0 ∷ 0 ∷ 0 ∷ 0 ∷ 7 ∷ 2 ∷ 0 ∷ 0 ∷ 0 ∷ 0 ∷ 0 ∷ 0
     ∷ 0 ∷ 0 ∷ 8 ∷ 2 ∷ 0 ∷ 0 ∷ 0 ∷ 0 ∷ 0 ∷ 0 ∷ 0 ∷ 0 ∷ 16 ∷ 6 ∷ 0 ∷ 0 ∷ 0 ∷ 49 ∷ 46 ∷ 50 ∷ 46 ∷ 51 ∷ 0 ∷ []
 
--- its class and its instance
+-- the data set of the instance: its SOP class and instance UIDs
 abbrev pub data_set : List ℕ
 data_set = one_store
 
--- the association of this request
+-- the established association of this request
 abbrev pub accepted : Progress
 accepted = record { state = Sta6; request = record { further = nothing_further; body = request_body }; refused = false; message = NoMessage; filing_failed = false }
 
--- an entry; whether a filing call failed before it, and the finding on a store that ends in it
+-- an entry with its outcome: whether a call of the filing failed before it, the finding on the C-STORE that ends with
+-- it, and after how many bytes a send failed
 abbrev pub told : Entry → Bool → Finding → Option ℕ → Happened
 told e failed finding wire = (e, record { wire = wire; filing = failed; finding = finding })
 
@@ -56,36 +57,36 @@ the_set failed finding wire = told (At (Pdv 1 2 data_set)) failed finding wire
 abbrev pub a_store : Happened → List Happened
 a_store set = the_command ∷ set ∷ []
 
--- the lengths of the files that were put, the bytes that were sent, and the state
+-- the trace stores files of these lengths, sends so many bytes, and leads to this state
 abbrev pub Comes : List Happened → List ℕ → ℕ → State → Type 0
 Comes story files sent state =
     (map length (files_of rooms settings accepted story) ≡ files) × (length (sent_of rooms settings accepted story) ≡ sent) × ((progress_of rooms settings accepted story).state ≡ state)
 
--- a store is filed in 336 bytes, and answered in 112
+-- a C-STORE is stored as a file of 336 bytes, and answered with 112
 abbrev pub AStoreIsFiled : Type 0
 AStoreIsFiled = Comes (a_store (the_set false good None)) (336 ∷ []) 112 Sta6
 
 abbrev pub unfiled : Finding
 unfiled = record { status = out_of_resources; detail = None }
 
--- A filing that fails in the first of two stores: it is answered by A700 and leaves no file, the second one is filed, and
--- one failure is counted.
+-- The filing fails in the first of two C-STOREs: that is answered with A700 and leaves no file, the second one is
+-- stored, and one failure is counted.
 abbrev pub AFilingFailsOnce : Type 0
 AFilingFailsOnce = let story = a_store (the_set true unfiled None) ++ a_store (the_set false good None) in
     Comes story (336 ∷ []) 224 Sta6 × (filing_failures story false ≡ 1)
 
--- a wire that fails in the reply: the file stays, and the association ends
+-- a send that fails in the response: the file stays, and the association ends
 abbrev pub ACutReply : Type 0
 ACutReply = let story = a_store (the_set false good (Some 5)) in Comes story (336 ∷ []) 5 Sta1 × (wire_failures story ≡ 1)
 
--- the transport is closed in the middle of the data: no file
+-- the transport connection is closed inside the data set: no file is stored
 abbrev pub ACloseInADataSet : Type 0
 ACloseInADataSet = Comes (the_command ∷ told Shut false good None ∷ []) [] 0 Sta1
 
--- the P-DATA of the data set, of which the head, the head of its value, and 39 bytes of it have come
+-- the state inside the P-DATA-TF of the data set, after both heads and 39 bytes of the data set
 abbrev pub in_the_set : Reached
 in_the_set = record { progress = progress_of rooms settings accepted (the_command ∷ []); rest = 4 ∷ 0 ∷ 0 ∷ 0 ∷ 0 ∷ 54 ∷ 0 ∷ 0 ∷ 0 ∷ 50 ∷ 1 ∷ 2 ∷ take 39 data_set }
 
--- there 24 bytes for the request and 100 of the command are held, beside the walk's; with the 31 of this one, 155
+-- there 24 bytes of the request and 100 of the command set are held; with the 31 of the walker, 155
 abbrev pub HeldInADataSet : Type 0
 HeldInADataSet = (message_so_far in_the_set ≡ InSet 1 command (take 39 data_set)) × (held_before_data in_the_set ≡ 124)

@@ -1,5 +1,5 @@
--- What follows for stores: there is one verdict on each; no good image is refused; and what is filed for a store depends
--- on nothing but itself and its sender's title.
+-- Statements on C-STOREs: each has one verdict; no good image is rejected; and the file of one depends only on its
+-- own bytes and its sender's AE title.
 use Rattle.std.specs.Prelude.{◌≡◌, ℕ, Bool, false, List, [], ◌∷◌, Some, None, Ok}
 use Rattle.element.specs.Numbers.{IsBytes}
 use Rattle.dictionary.specs.declared.transfer.Transfer.{Transfer}
@@ -25,44 +25,44 @@ use Rattle.engine.specs.Fair.{IsFair, message_at}
 
 -- ---- verdicts
 
--- there is a verdict on every store
+-- every C-STORE has a verdict
 abbrev pub AVerdictIsThere : Type 0
 AVerdictIsThere = (depth most : ℕ) (context : Context) (command : CommandRecord) (data_set : List ℕ) (failed : Bool) → IsBytes data_set → (finding : Finding) × Verdict depth most context command data_set failed finding
 
--- and no other one
+-- no C-STORE has two verdicts
 abbrev pub AVerdictIsOne : Type 0
 AVerdictIsOne = (depth most : ℕ) (context : Context) (command : CommandRecord) (data_set : List ℕ) (failed : Bool) (one other : Finding) → IsBytes data_set
     → Verdict depth most context command data_set failed one → Verdict depth most context command data_set failed other → one ≡ other
 
 -- ---- good images
 
--- a store ends at this entry: this message, whose command stands in this accepted context
+-- a C-STORE ends at this entry: this message, with this command, in this accepted presentation context
 pub record EndsAt (p : Progress) (h : Happened) (m : Message) (command : CommandRecord) (context : Context) : Type 0 where
   pub ended : message_at p h.0 ≡ Some m
   pub spelled : command_in m.command ≡ Ok command
   pub store : command.field ≡ c_store
   pub accepted : context_of (request_record p.request) m.context ≡ Some context
 
--- A good image: it is sent under its own class and instance, in an accepted context of that class, as a whole data set
--- within the limits.
+-- A good image: a whole data set within the limits, sent with its own SOP class and instance UIDs in an accepted
+-- presentation context of that class.
 pub record IsGoodImage (depth most : ℕ) (context : Context) (command : CommandRecord) (data_set : List ℕ) : Type 0 where
   pub of_context : IsOfContext context command
   pub whole : IsWholeDataSet (coding_in context.syntax) (limits depth most) data_set
   pub own_class : NamesUid (kept_of wanted whole.elements) class_tag command.class
   pub own_instance : NamesInstance (kept_of wanted whole.elements) command
 
--- no device failed in the message up to the end of this entry
+-- no device has failed in the message up to the end of this entry
 pub record IsCalm (p : Progress) (h : Happened) : Type 0 where
   pub before : p.filing_failed ≡ false
   pub filing : h.1.filing ≡ false
   pub wire : h.1.wire ≡ None
 
--- the file of a store with these bytes, from a sender with this title
+-- the file of a C-STORE of this data set, from a sender with this AE title
 abbrev pub file_of : CommandRecord → Transfer → List ℕ → List ℕ → List ℕ
 file_of command syntax title data_set = File (record { class = command.class; instance = or_nothing command.instance; syntax = syntax; calling = record { 0 = title } }) data_set
 
--- A good image is answered by success, and its file is put, in any association, wherever its last byte comes: no verdict
--- but success may stand beside it where no device fails.
+-- A good image is answered with success and stored, in any association, if no device fails: success is the only
+-- possible verdict.
 abbrev pub NoGoodImageIsRefused : Type 0
 NoGoodImageIsRefused =
     (rooms : Rooms) (s : Settings) (p : Progress) (h : Happened) (m : Message) (command : CommandRecord) (context : Context)
@@ -73,8 +73,8 @@ NoGoodImageIsRefused =
 
 -- ---- what is filed
 
--- Of two stores with the same bytes, in contexts of the same transfer syntax, from senders with the same title, the same
--- is filed where they succeed, whatever else comes in their associations, before them or after.
+-- Two C-STOREs with the same bytes, in presentation contexts of the same transfer syntax, from senders with the same
+-- AE title, give the same file if they succeed, whatever else their associations receive before or after.
 abbrev pub FiledByItself : Type 0
 FiledByItself =
     (rooms rooms2 : Rooms) (s s2 : Settings) (p p2 : Progress) (h h2 : Happened) (m m2 : Message) (command command2 : CommandRecord) (context context2 : Context)

@@ -1,4 +1,4 @@
--- The verdict on one CT store, and its file, byte for byte (PS3.10 section 7.1).
+-- Examples: verdicts on the C-STORE of a CT image, and its file, byte for byte (PS3.10 section 7.1).
 use Rattle.std.specs.Prelude.{◌≡◌, ℕ, ◌^◌, Bool, true, false, List, [], ◌∷◌, ◌++◌, length, replicate, Some, None, codes}
 use Rattle.dictionary.specs.declared.transfer.Transfer.TheVariants.{Explicit}
 use Rattle.dimse.specs.Command.{CommandRecord}
@@ -11,15 +11,15 @@ use Rattle.engine.specs.Examples.{rooms, settings}
 use Rattle.engine.specs.StoreExamples.{data_set, accepted, a_store, the_set, unfiled}
 use Rattle.engine.specs.VerdictExamples.{ct_in}
 
--- a C-STORE-RQ of a CT image with this instance
+-- a C-STORE-RQ of a CT image with this SOP Instance UID
 abbrev pub store_of : List ℕ → CommandRecord
 store_of instance = record { class = codes "1.2.840.10008.5.1.4.1.1.2"; field = 1; message = 7; with_data = true; instance = Some instance }
 
 abbrev pub Comes : List ℕ → Bool → Finding → Type 0
 Comes instance failed finding = Verdict 64 (2 ^ 40) (ct_in Explicit) (store_of instance) data_set failed finding
 
--- The data set is of the instance 1.2.3. Where the command names it too, the store is answered by success, or by A700 if a
--- filing call failed; where it names another one, by A900.
+-- The data set is of the instance 1.2.3. If the command has the same, the answer is success, or A700 if a call of the
+-- filing failed; if it has another one, A900.
 abbrev pub VerdictsOnOneImage : Type 0
 VerdictsOnOneImage =
     Comes (codes "1.2.3") false good
@@ -30,7 +30,8 @@ VerdictsOnOneImage =
 abbrev pub meta : ℕ → List ℕ → List ℕ → List ℕ
 meta number vr value = 2 ∷ 0 ∷ number ∷ 0 ∷ (vr ++ length value ∷ 0 ∷ value)
 
--- its file: the preamble and the letters, group 0002 after its length of 144, and the data set as it was sent
+-- the file of the instance: preamble and prefix, group 0002 with its length of 144, and the data set as it was
+-- received
 abbrev pub the_file : List ℕ
 the_file =
     replicate 128 0 ++ codes "DICM"

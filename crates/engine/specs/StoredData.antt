@@ -1,4 +1,4 @@
--- What an association keeps of the data of a message.
+-- The state of the data set of a message in an association.
 use Rattle.std.specs.Prelude.{◌≡◌, ℕ, Bool, false, List}
 use Rattle.sequence.specs.Transfer.{coding_in}
 use Rattle.sequence.specs.declared.coding.Coding.{Coding}
@@ -12,7 +12,7 @@ use Rattle.engine.specs.Requested.{Requested}
 use Rattle.engine.specs.Fair.{InStore}
 use Rattle.engine.specs.Stores.{limits}
 
--- what contracts see of it: nothing, or a walker that takes the data set, and whether its draft is in the filing
+-- the state as contracts see it: no data set is handled; or a walker reads it, and the filing has its draft or not
 pub data Stored : Type 0 where
   Nothing : Stored
   Walking : {V D : ℕ} → (walker : Walker V D) → (drafting : Bool) → Stored
@@ -30,14 +30,14 @@ abbrev pub held_in : Stored → ℕ
 held_in Nothing = 0
 held_in (Walking walker drafting) = (told_by walker).held
 
--- a walker of a data set in this syntax, held to these limits, took these bytes of it
+-- the walker of a data set of this encoding, with these limits, has read these bytes of it
 pub record HasWalked {V D : ℕ} (walker : Walker V D) (syntax : Coding) (lim : Limits) (set : List ℕ) : Type 0 where
   pub stands : StandsAt walker set
   pub syntax_is : walker_syntax walker ≡ syntax
   pub limits_are : limits_of walker ≡ lim
 
--- Of a message in the association of this request: the data of a store whose class is its context's are walked, and of
--- others nothing is kept.
+-- The state of the data set of a message, in the association of this request: that of a C-STORE of the SOP class of
+-- its presentation context is walked, any other is dropped.
 pub data Walks (depth most : ℕ) (request : Requested) (message : Begun) : Stored → Type 0 where
   not_walked : (InStore request message → ⊥) → Walks depth most request message Nothing
   walked : {V D : ℕ} {walker : Walker V D} {drafting : Bool} → (store : InStore request message)

@@ -1,5 +1,5 @@
--- C-STORE (PS3.7 section 9.1.1, PS3.4 annex B): the file of a stored instance, and the status of its reply. Which fault
--- has which status is this product's own profile.
+-- C-STORE (PS3.7 section 9.1.1, PS3.4 annex B): the status of its response. Which fault has which status is this
+-- product's own profile.
 use Rattle.std.specs.Prelude.{◌≡◌, ◌⊎◌, ℕ, Bool, true, false, ◌||◌, List, [], ◌∷◌, Some, None, nat_eq, if◌then◌else◌}
 use Rattle.sequence.specs.Transfer.{coding_in}
 use Rattle.sequence.specs.declared.coding.Coding.{Coding}
@@ -23,29 +23,29 @@ use Rattle.sequence.specs.FirstFault.{IsUnbroken}
 use Rattle.sequence.specs.Ending.{Fails}
 use Rattle.engine.specs.Timeline.{Finding, good}
 
--- (0008,0016) SOP Class UID and (0008,0018) SOP Instance UID
+-- SOP Class UID (0008,0016); SOP Instance UID (0008,0018) follows
 abbrev pub class_tag : Tag
 class_tag = record { 0 = 0x0008; 1 = 0x0016 }
 
 abbrev pub instance_tag : Tag
 instance_tag = record { 0 = 0x0008; 1 = 0x0018 }
 
--- the longest UID (PS3.5 section 9.1)
+-- the greatest length of a UID (PS3.5 section 9.1)
 abbrev pub uid_most : ℕ
 uid_most = 64
 
--- what a receiver wants of a data set: both, as far as they are no longer
+-- the values that a receiver keeps of a data set: both UIDs, each of at most 64 bytes
 abbrev pub wanted : List Want
 wanted = record { tag = class_tag; room = uid_most } ∷ record { tag = instance_tag; room = uid_most } ∷ []
 
--- what a data set is held to: so many open levels and so many bytes
+-- the limits of a data set: the greatest number of open levels and of bytes
 abbrev pub limits : ℕ → ℕ → Limits
 limits depth bytes = record { wanted = wanted; depth = depth; bytes = bytes }
 
 -- ---- the checks
 
--- What is judged of a store: its command in this context, the data set that came after it, what this is held to, its
--- elements where it is whole, and whether a filing call failed in the message.
+-- What a C-STORE is judged by: its command and presentation context, its data set, the limits of that, its elements
+-- if it is whole, and whether a call of the filing failed in the message.
 pub record Submitted : Type 0 where
   pub context : Context
   pub command : CommandRecord
@@ -58,34 +58,34 @@ abbrev pub is_storage_service : Service → Bool
 is_storage_service (Known class) = is_storage class
 is_storage_service (Further uid) = true
 
--- the command's class is a storage class, and that of the presentation context
+-- the SOP class of the command is a storage class, and that of the presentation context
 pub record IsOfContext (context : Context) (command : CommandRecord) : Type 0 where
   pub named : service_of command.class ≡ Some context.class
   pub storage : is_storage_service context.class ≡ true
 
--- the value of this tag names this identifier
+-- the value of this tag is this UID
 abbrev pub NamesUid : Values → Tag → List ℕ → Type 0
 NamesUid values tag uid = (value : List ℕ) × (value_of values (number tag) ≡ Some value) × (uid_of value ≡ Some uid)
 
--- the data set's instance is the command's
+-- the SOP Instance UID of the data set is that of the command
 abbrev pub NamesInstance : Values → CommandRecord → Type 0
 NamesInstance values command = (uid : List ℕ) × (command.instance ≡ Some uid) × NamesUid values instance_tag uid
 
--- the data set is whole, of these elements, and breaks no rule
+-- the data set is whole, with these elements, and within its limits
 pub record HasNoFault (syntax : Coding) (lim : Limits) (data_set : List ℕ) (elements : Elements) : Type 0 where
   pub whole : DataSet syntax 0 elements data_set
   pub unbroken : IsUnbroken syntax lim data_set
 
--- what is checked of a store: that its class is the context's, the data set, the class and the instance that this names,
--- and the calls of the filing
+-- a check of a C-STORE: its SOP class is that of the presentation context; its data set is whole and valid; the SOP
+-- class of the data set is the command's; so is the SOP instance; no call of the filing failed
 pub data Check : Type 0 where
   OfContext WholeSet OwnClass OwnInstance Filed : Check
 
--- the checks in their order
+-- the checks, in the order in which they are made
 abbrev pub checks : List Check
 checks = OfContext ∷ WholeSet ∷ OwnClass ∷ OwnInstance ∷ Filed ∷ []
 
--- what a store has to be to pass a check
+-- a C-STORE passes a check
 abbrev pub Passes : Submitted → Check → Type 0
 Passes x OfContext = IsOfContext x.context x.command
 Passes x WholeSet = HasNoFault (coding_in x.context.syntax) x.limits x.data_set x.elements
@@ -95,19 +95,20 @@ Passes x Filed = x.failed ≡ false
 
 -- ---- the findings
 
--- a failure without a cause
+-- a finding with this status of failure, without a cause
 abbrev pub failure : ℕ → Finding
 failure status = record { status = status; detail = None }
 
--- a failure that names its cause: a fault of the data set, or what doesn't match the command
+-- a finding with this status of failure and its cause: a fault of the data set, or its mismatch with the command
 abbrev pub cause : ℕ → ℕ → Tag → Finding
 cause status number tag = record { status = status; detail = Some (record { number = number; tag = tag }) }
 
--- a fault of the data set: too many open levels or too many bytes are a lack of resources
+-- the finding for a fault of the data set: A700 (out of resources) for too many open levels or bytes, else C000 with
+-- the fault as its cause
 abbrev pub of_fault : Fault → Finding
 of_fault fault = if nat_eq fault.number too_deep || nat_eq fault.number too_long then failure out_of_resources else cause cannot_understand fault.number fault.tag
 
--- the finding on a store that fails a check
+-- a C-STORE fails this check, with this finding
 abbrev pub FailsWith : Submitted → Check → Finding → Type 0
 FailsWith x OfContext finding = (Passes x OfContext → ⊥) × (finding ≡ failure class_not_supported)
 FailsWith x WholeSet finding = (fault : Fault) × Fails (coding_in x.context.syntax) x.limits x.data_set fault × (finding ≡ of_fault fault)
@@ -115,12 +116,12 @@ FailsWith x OwnClass finding = (Passes x OwnClass → ⊥) × (finding ≡ cause
 FailsWith x OwnInstance finding = (Passes x OwnInstance → ⊥) × (finding ≡ cause data_set_mismatch instance_mismatch instance_tag)
 FailsWith x Filed finding = (Passes x Filed → ⊥) × (finding ≡ failure out_of_resources)
 
--- the finding of the first check that fails, all before it passed; success where none fails
+-- the finding of the first check that a C-STORE fails; success if it passes all
 abbrev pub FirstFinding : Submitted → List Check → Finding → Type 0
 FirstFinding x [] finding = finding ≡ good
 FirstFinding x (check ∷ later) finding = FailsWith x check finding ⊎ (Passes x check × FirstFinding x later finding)
 
--- the finding on a store
+-- the finding on a C-STORE: the status of its response, and the cause of a failure
 pub record Verdict (depth bytes : ℕ) (context : Context) (command : CommandRecord) (data_set : List ℕ) (failed : Bool) (finding : Finding) : Type 0 where
   pub elements : Elements
   pub first : FirstFinding (record { context = context; command = command; data_set = data_set; limits = limits depth bytes; elements = elements; failed = failed }) checks finding

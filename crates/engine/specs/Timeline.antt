@@ -1,5 +1,5 @@
--- The timeline of an association: what becomes whole along the received stream, with each other input placed after
--- what is whole by then (PS3.8 section 9.2.1).
+-- The timeline of an association: the marks of the received stream (ends of heads, of presentation data values and of
+-- PDUs) and the other inputs, in their order (PS3.8 section 9.2.1).
 use Rattle.std.specs.Prelude.{ℕ, Bool, List, [], ◌∷◌, ◌++◌, map, Option, None}
 use Rattle.pdu.specs.Marks.{Mark, new_marks}
 use Rattle.dimse.specs.declared.detail.Detail.{Detail}
@@ -12,7 +12,7 @@ pub data Entry : Type 0 where
   TimedOut : Entry
   Aborted : Entry
 
--- the entries that the inputs bring, after the bytes that came before
+-- the entries that these inputs append, after the bytes received before
 abbrev pub entries : List ℕ → List Received → List Entry
 entries before [] = []
 entries before (Bytes piece ∷ inputs) = map At (new_marks before piece) ++ entries (before ++ piece) inputs
@@ -20,7 +20,7 @@ entries before (Close ∷ inputs) = Shut ∷ entries before inputs
 entries before (Expiry ∷ inputs) = TimedOut ∷ entries before inputs
 entries before (UserAbort ∷ inputs) = Aborted ∷ entries before inputs
 
--- the finding on a store: the status of its reply, and what names the cause of a failure
+-- the finding on a C-STORE: the status of its response, and the cause of a failure
 pub record Finding : Type 0 where
   pub status : ℕ
   pub detail : Option Detail
@@ -28,8 +28,8 @@ pub record Finding : Type 0 where
 abbrev pub good : Finding
 good = record { status = success; detail = None }
 
--- What came of an entry: where the wire failed in it, how many of its bytes went out; whether a filing call failed since
--- the entry before; and, where a store ends in it, the finding on it.
+-- The outcome of an entry: if a send failed, after how many bytes; whether a call of the filing failed since the
+-- entry before; and, if a C-STORE ends with it, the finding on that.
 pub record Outcome : Type 0 where
   pub wire : Option ℕ
   pub filing : Bool

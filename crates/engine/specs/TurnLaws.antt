@@ -1,4 +1,4 @@
--- A run is its turns: laws by which whoever takes the turns has the clause of a whole run.
+-- Statements by which a caller of `Running::turn` gets the contract of `run`.
 use Rattle.std.specs.Prelude.{◌≡◌, ◌≢◌, ℕ, ◌+◌, ◌<◌, ◌≤◌, Bool, true, false, List, []}
 use Rattle.acceptor.specs.declared.state.State.TheVariants.{Sta1}
 use Rattle.negotiate.specs.Settings.{Settings}
@@ -14,19 +14,19 @@ use Rattle.engine.specs.Timeline.{Happened}
 use Rattle.engine.specs.Turns.{TookTurns, TookInput, Reports}
 use Rattle.engine.specs.FrameFields.{Fields}
 
--- an association that has just been opened has taken no turn
+-- a new association has had no turn (call of `Running::turn`)
 abbrev pub TurnsBegin : Type 0
 TurnsBegin = (rooms : Rooms) (s : Settings) (seen : Fields) (source : Supply) (d : Devices) → Stands rooms s [] [] false seen d.store → TookTurns rooms s 0 source source seen d d
 
--- one that has not ended takes one turn more
+-- after `turns` turns of an association that has not ended, one more makes `turns + 1`
 abbrev pub OneTurnMore : Type 0
 OneTurnMore =
     (rooms : Rooms) (s : Settings) (turns : ℕ) (source now next : Supply) (seen seen_new : Fields) (old mid new : Devices)
     → seen.kept.state ≢ Sta1 → TookTurns rooms s turns source now seen old mid → TookInput rooms s now next seen seen_new mid new
     → TookTurns rooms s (turns + 1) source next seen_new old new
 
--- Turns that were as many as asked for, or after which the association had ended, are a run: its report is that of the
--- association, and the draft that may be there is dropped.
+-- A given number of turns, or fewer if the association ends before, have the effect of a run: its report is that of
+-- the association, and the draft, if there is one, is dropped.
 abbrev pub TurnsAreARun : Type 0
 TurnsAreARun =
     (rooms : Rooms) (s : Settings) (turns most : ℕ) (source now : Supply) (seen : Fields) (old mid new : Devices) (report : Report)

@@ -1,4 +1,5 @@
--- A run turn by turn: what was taken and what came of it between two of them, and what one turn does.
+-- A run turn by turn: the state between two turns, and the effect of one turn. A turn takes one input of the source
+-- and handles it.
 use Rattle.std.specs.Prelude.{◌≡◌, ℕ, ◌+◌, ◌*◌, ◌≤◌, Bool, false, List, length, Option, Some, None}
 use Rattle.acceptor.specs.declared.state.State.TheVariants.{Sta6}
 use Rattle.sequence.specs.Wanted.{level_size}
@@ -19,17 +20,18 @@ use Rattle.engine.specs.Stands.{Stands}
 use Rattle.engine.specs.FrameFields.{Fields}
 use Rattle.engine.specs.Timeline.{Happened}
 
--- a source that shows what is to come gave these inputs, and has the others left
+-- if the inputs to come are known, the source has returned these of them, and the others are still to come
 abbrev pub TakesFront : Option (List Received) → Option (List Received) → List Received → Type 0
 TakesFront None now taken = now ≡ None
 TakesFront (Some all) now taken = (taken ≡ first_inputs (length taken) all) × (now ≡ Some (inputs_after (length taken) all))
 
--- a source gave these inputs
+-- a source has returned these inputs
 pub record Follows (old now : Supply) (taken : List Received) : Type 0 where
   pub front : TakesFront old.to_come now.to_come taken
   pub given : now.given ≡ with_given taken old.given
 
--- after these inputs the association stands so, none before the last of them ended it, and this is what the devices gained
+-- after these inputs the association has these fields, it had not ended before the last of them, and the devices have
+-- changed by them
 pub record Stood (rooms : Rooms) (s : Settings) (taken : List Received) (seen : Fields) (old new : Devices) : Type 0 where
   pub story : List Happened
   pub failed : Bool
@@ -37,14 +39,14 @@ pub record Stood (rooms : Rooms) (s : Settings) (taken : List Received) (seen : 
   pub last : EndsLast rooms s taken story
   pub gains : Gains rooms s at_start story false failed old new
 
--- so many inputs were taken
+-- this many inputs of the source were handled, or fewer if the association has ended, with this effect
 pub record TookTurns (rooms : Rooms) (s : Settings) (turns : ℕ) (source_old source_now : Supply) (seen : Fields) (old new : Devices) : Type 0 where
   pub taken : List Received
   pub number : length taken ≡ turns
   pub follows : Follows source_old source_now taken
   pub stood : Stood rooms s taken seen old new
 
--- a source gave one more input, and this is what it did to an association and its devices
+-- a source returned one more input, with this effect on the association and its devices
 pub record TookInput (rooms : Rooms) (s : Settings) (source_old source_now : Supply) (seen_old seen_new : Fields) (old new : Devices) : Type 0 where
   pub bytes : List ℕ
   pub kind : Input
@@ -52,8 +54,8 @@ pub record TookInput (rooms : Rooms) (s : Settings) (source_old source_now : Sup
   pub moved : (inputs : List Received) (story : List Happened) (failed : Bool) → Stands rooms s inputs story failed seen_old old.store
       → Moved rooms s inputs story failed (input_of kind bytes) seen_old seen_new old new
 
--- the report of an association that is seen so: how it stands, and how many bytes it holds where it stands as its inputs
--- say, once it is accepted 544 bytes at most beside a message
+-- the report of an association with these fields: its state, and the number of bytes that it holds by the definition,
+-- which beside a message is at most 544 once a request is accepted
 pub record Reports (rooms : Rooms) (s : Settings) (seen : Fields) (store : Store) (report : Report) : Type 0 where
   pub standing : report.standing ≡ standing_of seen.kept.state
   pub held : (inputs : List Received) (story : List Happened) (failed : Bool) → Stands rooms s inputs story failed seen store → Held rooms s (reached rooms s inputs story failed) report.held

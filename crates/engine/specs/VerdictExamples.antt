@@ -1,4 +1,4 @@
--- Verdicts on stores of CT images whose data sets break a rule.
+-- Examples: verdicts on C-STOREs of CT images whose data sets break a rule.
 use Rattle.std.specs.Prelude.{ℕ, ◌^◌, Bool, true, List, Some, None, codes}
 use Rattle.dictionary.specs.declared.transfer.Transfer.{Transfer}
 use Rattle.dictionary.specs.declared.transfer.Transfer.TheVariants.{Implicit, Explicit}
@@ -18,7 +18,7 @@ ct_in syntax = record { class = Known Ct; syntax = syntax }
 abbrev pub ct_store : CommandRecord
 ct_store = record { class = codes "1.2.840.10008.5.1.4.1.1.2"; field = 1; message = 7; with_data = true; instance = Some (codes "1.2.3") }
 
--- with so many levels, this is the verdict, whether or not the filing failed
+-- with at most `depth` levels, this is the verdict on the data set, whether or not the filing failed
 abbrev pub Comes : ℕ → Transfer → List ℕ → Finding → Type 0
 Comes depth syntax set finding = (failed : Bool) → Verdict depth (2 ^ 40) (ct_in syntax) ct_store set failed finding
 

@@ -1,5 +1,5 @@
--- Associations of which the whole is shown: the run, the bytes held, how it stands, and verdicts on stores, each beside
--- one that is not so.
+-- Example associations: a run, the number of held bytes, the state, and verdicts on C-STOREs, each beside one that is
+-- not so.
 use Rattle.std.specs.Prelude.{◌≡◌, ℕ, ◌^◌, Bool, true, false, List, [], ◌∷◌, ◌++◌, drop, Some, None, codes}
 use Rattle.acceptor.specs.declared.state.State.{State}
 use Rattle.acceptor.specs.declared.state.State.TheVariants.{Sta1, Sta6}
@@ -36,7 +36,8 @@ calmly inputs = calm (entries [] inputs)
 abbrev pub echo_inputs : List Received
 echo_inputs = Bytes recording ∷ Close ∷ []
 
--- the recorded echo is answered as recorded, and files nothing; without the release response it is not
+-- the recorded C-ECHO is answered as recorded, and stores nothing; an answer without the A-RELEASE-RP is not the
+-- right one
 abbrev pub TheEchoRuns : Type 0
 TheEchoRuns =
     Run rooms settings echo_inputs (calmly echo_inputs) false (accept ++ reply ++ released) [] Sta1
@@ -45,20 +46,21 @@ TheEchoRuns =
 abbrev pub request_inputs : List Received
 request_inputs = Bytes request ∷ []
 
--- after the answer to the request 24 bytes are held, and no other number
+-- after the A-ASSOCIATE-AC 24 bytes are held, and no other number
 abbrev pub TheRequestIsHeld : Type 0
 TheRequestIsHeld =
     Held rooms settings (reached rooms settings request_inputs (calmly request_inputs) false) 24
     × ((n : ℕ) → Held rooms settings (reached rooms settings request_inputs (calmly request_inputs) false) n → n ≡ 24)
 
--- what is kept with this table
+-- the fields of an established association with this table of presentation contexts
 abbrev pub established : List ContextRow → Fields
 established table = record {
   position = position.Head (record { items = [] });
   kept = record { room = 4096; depth = 64; most = 2 ^ 40; state = Sta6; refused = false; caller = codes "SCANNER1        "; peer_max = 16384; table = table; further = nothing_further; body = []; join = shown NoMessage []; storing = Nothing };
 }
 
--- it stands established with the accepted context, whatever the filing shows, and not without it
+-- after the A-ASSOCIATE-AC the association has these fields with the accepted presentation context, and not without
+-- it
 abbrev pub ItStandsEstablished : Type 0
 ItStandsEstablished =
     ((store : Store) → Stands rooms settings request_inputs (calmly request_inputs) false (established (context_rows nothing_further (request_record (record { further = nothing_further; body = drop 6 request })))) store)
@@ -73,8 +75,8 @@ unsupported = record { status = class_not_supported; detail = None }
 abbrev pub store_of : List ℕ → CommandRecord
 store_of class = record { class = class; field = 1; message = 7; with_data = true; instance = Some (codes "1.2.3") }
 
--- A store of another class than its context's is answered by 0122 and nothing else, whatever its data. An empty data set
--- names no class.
+-- A C-STORE of another SOP class than that of its presentation context is answered with 0122, whatever its data set
+-- is. An empty data set has no SOP class.
 abbrev pub VerdictsOnStores : Type 0
 VerdictsOnStores =
     ((data_set : List ℕ) (failed : Bool) → Verdict 64 (2 ^ 40) ct_context (store_of (codes "1.2.840.10008.5.1.4.1.1.4")) data_set failed unsupported)

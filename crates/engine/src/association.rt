@@ -1,4 +1,4 @@
-//! One association of the acceptor.
+//! One association of the acceptor, driven by inputs.
 ghost use Rattle.std.specs.Prelude.{◌≡◌, ◌≤◌, ◌<◌, ◌+◌, ◌*◌, ◌-◌, ◌^◌, false};
 ghost use Rattle.pdu.specs.Deframed.{position_of};
 ghost use Rattle.pdu.specs.Steps.{body_kind, body_due, fragment_due};
@@ -18,16 +18,16 @@ use negotiate::Config;
 use part10::Filing;
 use pdu::{Deframer, Wire};
 
-/// An association with one peer, from the opening of the transport connection to its end (PS3.8
-/// section 9.2).
+/// An association with one peer, from the opening of the transport connection to its end (PS3.8 section
+/// 9.2). It does no input of its own: each method handles one input, and sends and stores through the
+/// `wire` and the `filing` that it is given, which must be the same at every call.
 ///
-/// `A`, at least 256, bounds the bytes of a request's body and of the heads of a PDU and a PDV; `C`,
-/// at least 256, those of a command set; `V`, at least 140, the values that are kept of a data set,
-/// with a header; and `D`, at least 2, how many levels of a data set may be open. Each is at most
-/// 2^24.
+/// The const parameters are limits, each at most 2^24: `A`, at least 256, the bytes of the body of an
+/// A-ASSOCIATE-RQ, plus 12; `C` the bytes of a command set; `V`, at least 140, the bytes of the values
+/// kept of a data set, with one header; `D`, at least 2, the open sequences and items of a data set.
 #[derive(Drop)]
 pub struct Association<const A: usize, const C: usize, const V: usize, const D: usize> {
-    /// Cuts the stream of the peer into events.
+    /// Divides the stream of the peer into events.
     deframer: Deframer,
     provider: Provider<A, C, V, D>,
     ghost body_fits: { BodyFits (A - 12) (kept_of provider) (body_kind (position_of deframer)) (body_due (position_of deframer)) },
@@ -58,7 +58,8 @@ impl<const A: usize, const C: usize, const V: usize, const D: usize> Association
     ghost use Rattle.engine.specs.machine.Lent.{before, after};
     ghost use Rattle.engine.specs.Run.{rooms_of};
 
-    /// The transport connection is open: a request is due, and the ARTIM timer runs.
+    /// Creates the association of a transport connection that was just opened: it awaits an
+    /// A-ASSOCIATE-RQ, and the ARTIM timer runs.
     pub fn open(config: &Config) -> Self
         requires least { 256 ≤ A }
         requires greatest { A ≤ 2 ^ 24 }
@@ -77,31 +78,32 @@ impl<const A: usize, const C: usize, const V: usize, const D: usize> Association
         }
     }
 
-    /// The state of the acceptor.
+    /// Returns the state of the acceptor (PS3.8 section 9.2.1).
     pub fn state(&self) -> State
         ensures { result ≡ state_of self.now }
     {
         self.provider.phase.state()
     }
 
-    /// Whether the ARTIM timer runs: while a request is due, and while the peer is to close the
-    /// transport connection.
+    /// Returns whether the ARTIM timer runs: in Sta2, awaiting an A-ASSOCIATE-RQ, and in Sta13,
+    /// awaiting the close of the transport connection.
     pub fn artim(&self) -> bool
         ensures { result ≡ timer_runs (state_of self.now) }
     {
         self.state().timer_runs()
     }
 
-    /// Whether a store of this association has its draft in the filing.
+    /// Returns whether the filing has the draft of an unfinished C-STORE of this association.
     pub fn drafting(&self) -> bool
         ensures { result ≡ drafting_of self.now }
     {
         self.provider.drafting()
     }
 
-    /// How many received bytes are held: of an unfinished head, of a request's body, what is kept of
-    /// an accepted request, the command set of a message, and what a walk holds of its data set. They
-    /// are what the fields hold, and no field holds others.
+    /// Returns how many received bytes the association holds in memory: those of an unfinished head and
+    /// of the body of an A-ASSOCIATE-RQ; 20, and 4 for each presentation context, of an accepted one;
+    /// those of an unfinished command set; and what [`Walker::held`](sequence::Walker::held) counts of
+    /// a data set. No field holds other received bytes.
     pub fn held(&self) -> usize
         ensures held { (inputs : List Received) (story : List Happened) (failed : Bool) (store : Store)
             → Stands (rooms_of A C V D) (settings_in self.now) inputs story failed (fields_of self.now) store
@@ -113,9 +115,9 @@ impl<const A: usize, const C: usize, const V: usize, const D: usize> Association
         self.deframer.held() + self.provider.held()
     }
 
-    /// Returns how many bytes may be fed at once so that 18,600 are sent at most: those that are to come
-    /// of the part of a PDU that has begun, its head, its body, the head of a presentation data value or
-    /// its fragment, or of a PDU that goes by; and at least one.
+    /// Returns how many bytes may be passed to `feed` at once so that it sends at most 18,600: those
+    /// that are missing from the unfinished part of a PDU (its head, its body, the head of a
+    /// presentation data value, a fragment, or a PDU that is skipped), and at least one.
     pub fn portion(&self) -> usize
         ensures some { 0 < result }
         ensures few { (inputs : List Received) (story : List Happened) (failed : Bool) (store : Store)
@@ -129,10 +131,10 @@ impl<const A: usize, const C: usize, const V: usize, const D: usize> Association
         due
     }
 
-    /// Takes the next bytes of the stream.
+    /// Handles the next bytes received from the peer, any number of them.
     ///
-    /// `filing` is that of the earlier calls: where a store has its draft in it, the draft is still
-    /// there.
+    /// `filing` must be that of the earlier calls: if a C-STORE has its draft in it, the draft must
+    /// still be there.
     pub fn feed<W: Wire, F: Filing>(&mut self, piece: &[u8], wire: &mut W, filing: &mut F)
         requires draft { IsThere (drafting_of self.old) (F.store filing.old) }
         ensures draft { IsThere (drafting_of self.new) (F.store filing.new) }
@@ -151,7 +153,7 @@ impl<const A: usize, const C: usize, const V: usize, const D: usize> Association
         self.drop_heads();
     }
 
-    /// The peer closed the transport connection. A draft is still in `filing`, as in `feed`.
+    /// Handles the close of the transport connection by the peer. For `filing` see `feed`.
     pub fn closed<W: Wire, F: Filing>(&mut self, wire: &mut W, filing: &mut F)
         requires draft { IsThere (drafting_of self.old) (F.store filing.old) }
         ensures draft { IsThere (drafting_of self.new) (F.store filing.new) }
@@ -166,7 +168,7 @@ impl<const A: usize, const C: usize, const V: usize, const D: usize> Association
         self.happens(Event::Closed, Devices { wire, filing });
     }
 
-    /// The ARTIM timer ran out. A draft is still in `filing`, as in `feed`.
+    /// Handles the expiry of the ARTIM timer. For `filing` see `feed`.
     pub fn expired<W: Wire, F: Filing>(&mut self, wire: &mut W, filing: &mut F)
         requires draft { IsThere (drafting_of self.old) (F.store filing.old) }
         ensures draft { IsThere (drafting_of self.new) (F.store filing.new) }
@@ -181,7 +183,7 @@ impl<const A: usize, const C: usize, const V: usize, const D: usize> Association
         self.happens(Event::Expired, Devices { wire, filing });
     }
 
-    /// The local user aborts the association. A draft is still in `filing`, as in `feed`.
+    /// Aborts the association as its local user (A-ABORT request primitive). For `filing` see `feed`.
     pub fn local_abort<W: Wire, F: Filing>(&mut self, wire: &mut W, filing: &mut F)
         requires draft { IsThere (drafting_of self.old) (F.store filing.old) }
         ensures draft { IsThere (drafting_of self.new) (F.store filing.new) }
@@ -196,7 +198,8 @@ impl<const A: usize, const C: usize, const V: usize, const D: usize> Association
         self.happens(Event::UserAborts, Devices { wire, filing });
     }
 
-    /// Whether the association has ended.
+    /// Returns whether the association has ended, by a close or a failed send. It handles no input
+    /// then.
     pub fn is_ended(&self) -> bool
         ensures ended { result ≡ holding.is_ended (state_of self.now) }
         ensures no_draft { result ≡ true → drafting_of self.now ≡ false }
@@ -204,7 +207,8 @@ impl<const A: usize, const C: usize, const V: usize, const D: usize> Association
         matches!(self.provider.phase, Phase::Ended)
     }
 
-    /// An event happens that no byte of the stream brings.
+    /// Performs an event that does not come from the stream: a close, the timer's expiry or a local
+    /// abort.
     fn happens<W: Wire, F: Filing>(&mut self, event: Event, devices: Devices<'_, W, F>)
         requires draft { IsThere (drafting_of self.old) (F.store devices.filing.now) }
         requires stays { Stays (state_of self.old) event }
@@ -224,7 +228,7 @@ impl<const A: usize, const C: usize, const V: usize, const D: usize> Association
         self.drop_heads();
     }
 
-    /// Gives up the bytes of heads once the association has ended.
+    /// Drops the bytes of an unfinished head if the association has ended.
     fn drop_heads(&mut self)
         ensures settings { settings_in self.new ≡ settings_in self.old }
         ensures kept { kept_of self.new.provider ≡ kept_of self.old.provider }

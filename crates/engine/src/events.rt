@@ -1,4 +1,4 @@
-//! What each event of the stream does to an association.
+//! Handles the events of the stream.
 ghost use Rattle.std.specs.Prelude.{◌≡◌, ◌-◌};
 
 use crate::devices::Devices;
@@ -12,7 +12,8 @@ impl<const A: usize, const C: usize, const V: usize, const D: usize> Provider<A,
     ghost use Rattle.engine.specs.Kept.{kept_of, settings_in};
     ghost use Rattle.engine.specs.Run.{rooms_of};
 
-    /// Takes an event of the stream, where the bodies that are lent are of PDUs of this type.
+    /// Handles an event of the stream. `kind` is the type of the PDU whose body is reported, if the
+    /// event is `Event::Body`.
     pub(crate) fn on_event<W: Wire, F: Filing>(
         &mut self,
         event: Event<'_>,
@@ -43,6 +44,7 @@ impl<const A: usize, const C: usize, const V: usize, const D: usize> Provider<A,
                 let due = self.on_invalid();
                 self.happens(due, devices);
             }
+            // As above: the proof answers each arm for itself.
             Event::Leftover => {
                 let due = self.on_invalid();
                 self.happens(due, devices);

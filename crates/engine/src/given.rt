@@ -1,4 +1,4 @@
-//! The inputs that a source gave, which only contracts read. They take no bytes.
+//! The list of a source's inputs, for contracts alone; it has no size at run time.
 ghost use Rattle.std.specs.Prelude.{◌≡◌, ℕ, List, [], ◌∷◌, ◌++◌};
 ghost use Rattle.std.specs.Borrow.{ftrue};
 ghost use Rattle.engine.specs.declared.source.Input.{Input};
@@ -6,8 +6,8 @@ ghost use Rattle.engine.specs.declared.source.Input.{Input};
 use crate::source::Input;
 use std::marker::{Model, PhantomData};
 
-/// What a source named, one after another, and the bytes that it had with each. Only contracts see
-/// them: the program cannot read them.
+/// The inputs that a [`Source`](crate::Source) has returned, in their order, each with the bytes of its
+/// piece. It is a ghost value: contracts can name it, the program cannot read it.
 #[derive(Drop)]
 pub struct Given {
     marker: PhantomData<u8>,
@@ -19,7 +19,7 @@ impl Model for Given {
 }
 
 impl Given {
-    /// Creates a list of no inputs.
+    /// Creates an empty list.
     pub fn new() -> Given
         ensures { result.named ≡ [] }
     {
@@ -28,7 +28,7 @@ impl Given {
         }
     }
 
-    /// Adds an input at the end, with the bytes of its piece.
+    /// Appends an input, with the bytes of its piece.
     pub fn push(&mut self, _input: &Input, _piece: &[u8])
         ensures { self.new.named ≡ self.old.named ++ (_input.now, _piece.now) ∷ [] }
     {}

@@ -1,4 +1,4 @@
-//! What the head of a PDU brings at its sixth byte, before its body has come.
+//! Judges a PDU by its head, before its body is received.
 ghost use Rattle.std.specs.Prelude.{◌≡◌, ◌≤◌, ℕ};
 ghost use Rattle.engine.specs.machine.DoesDue.{Stays};
 ghost use Rattle.acceptor.specs.declared.state.State.TheVariants.{Sta2};
@@ -10,34 +10,35 @@ use crate::sending::{Answering, Due};
 use acceptor::{Action, Event, State, act};
 use pdu::pdu_type;
 
-/// The reasons of a service provider's abort (PS3.8 section 9.3.8).
+/// The reason unrecognized-PDU of an A-ABORT of the service provider (PS3.8 section 9.3.8).
 const UNRECOGNIZED: u8 = 1;
 
 const UNEXPECTED: u8 = 2;
 
 pub(crate) const INVALID_PARAMETER: u8 = 6;
 
-/// The bytes of an association request's body before its items.
+/// The size in bytes of the body of an A-ASSOCIATE-RQ before its items.
 const BEFORE_ITEMS: u32 = 68;
 
-/// The bytes of a presentation data value's head.
+/// The size in bytes of the head of a presentation data value.
 const PDV_HEAD: u32 = 6;
 
-/// The bytes of the heads of a PDU and a PDV, which a request leaves free.
+/// The size in bytes of the heads of a PDU and a presentation data value together. The body of an
+/// A-ASSOCIATE-RQ may have at most the limit `A` less this.
 const HEADS: usize = 12;
 
-/// What the head of a PDU brings.
+/// The event that the head of a PDU causes, if any.
 #[derive(Clone, Copy)]
 pub(crate) enum HeadEvent {
-    /// Nothing yet: the PDU is taken.
+    /// No event: the PDU is read on.
     Nothing,
-    /// An event at once, and the reason of the abort that may answer it.
+    /// This event, before the body is received, with the reason of the A-ABORT if the action sends one.
     AtOnce(Event, u8),
-    /// The rejection of a request that is longer than its room.
+    /// The rejection of an A-ASSOCIATE-RQ whose body is longer than the limit.
     TooLong,
 }
 
-/// The event of a PDU of this type.
+/// Returns the event of a received PDU of this type.
 fn event_of(kind: u8) -> Event
     ensures { result ≡ spelling.event_of kind }
 {
@@ -53,14 +54,15 @@ fn event_of(kind: u8) -> Event
     }
 }
 
-/// Whether the action answers a PDU by an abort.
+/// Returns whether the action sends an A-ABORT.
 fn is_abort(action: Action) -> bool
     ensures { result ≡ spelling.is_abort action }
 {
     matches!(action, Action::Aa1 | Action::Aa7 | Action::Aa8)
 }
 
-/// Returns the event of a PDU that the state answers by an abort, whatever its body.
+/// Returns the event of a PDU of this type if it leads to an A-ABORT in this state, whatever its body
+/// is.
 fn out_of_place(state: State, kind: u8) -> HeadEvent
     ensures { brings result ≡ spelling.out_of_place state kind }
 {
@@ -73,7 +75,8 @@ fn out_of_place(state: State, kind: u8) -> HeadEvent
     }
 }
 
-/// Judges the length of an association request, whose body has at most `room` bytes.
+/// Returns the event that the length of an A-ASSOCIATE-RQ causes. Its body may have at most `room`
+/// bytes.
 fn request_length(room: usize, length: u32) -> HeadEvent
     ensures { brings result ≡ spelling.request_length room length }
 {
@@ -86,7 +89,8 @@ fn request_length(room: usize, length: u32) -> HeadEvent
     }
 }
 
-/// Judges the length of a P-DATA-TF, of which `most` bytes were announced as the maximum.
+/// Returns the event that the length of a P-DATA-TF causes. `most` is the maximum length that was
+/// announced to the peer, in bytes.
 fn data_length(most: u32, length: u32) -> HeadEvent
     ensures { brings result ≡ spelling.data_length most length }
 {
@@ -97,14 +101,16 @@ fn data_length(most: u32, length: u32) -> HeadEvent
     }
 }
 
-/// Whether the body of a PDU of this known type has four bytes.
+/// Returns whether a PDU of this type, one of the seven known, has a body of four bytes:
+/// A-ASSOCIATE-RJ, A-RELEASE-RQ, A-RELEASE-RP and A-ABORT.
 fn is_short(kind: u8) -> bool
     ensures { result ≡ spelling.has_four_bytes kind }
 {
     kind == pdu_type::A_ASSOCIATE_RJ || pdu_type::A_RELEASE_RQ <= kind
 }
 
-/// Returns what the head of a PDU of this type and length brings in this state.
+/// Returns the event that the head of a PDU of this type and length causes in this state. `room` is the
+/// greatest body of an A-ASSOCIATE-RQ, `most` the greatest length of a P-DATA-TF, in bytes.
 pub(crate) fn head_event(room: usize, most: u32, state: State, kind: u8, length: u32) -> HeadEvent
     ensures brings { brings result ≡ spelling.head_event room most state kind length }
     ensures stays { (event : Event) (reason : ℕ) → result ≡ HeadEvent.AtOnce event reason → Stays state event }
@@ -134,7 +140,7 @@ impl<const A: usize, const C: usize, const V: usize, const D: usize> Provider<A,
     ghost use Rattle.pdu.specs.Marks.{Head};
     ghost use Rattle.engine.specs.Run.{rooms_of};
 
-    /// The head of a PDU: it is judged by its type, its length and the state.
+    /// Handles the head of a PDU: judges it by its type, its length and the state.
     pub(crate) fn on_head(&mut self, kind: u8, length: u32) -> Due
         ensures fits { BodyFits (A - 12) (kept_of self.new) kind length }
         ensures settings { settings_in self.new ≡ settings_in self.old }

@@ -1,5 +1,9 @@
-//! Laws of the definitions, and the associations on which they are tried: each the contract of a
-//! function that does nothing.
+//! Lemmas on the definitions of this crate and example associations, each stated as the contract of a
+//! function with an empty body.
+//!
+//! The timeline of an association is the list of entries that its inputs cause: what each sends, does
+//! to the filing and to the state. A trace (`story`) is such a list with the outcome of each call of a
+//! device.
 ghost use Rattle.engine.specs.WholeExamples.{TheEchoRuns, TheRequestIsHeld, ItStandsEstablished, VerdictsOnStores};
 ghost use Rattle.engine.specs.StoreExamples.{AStoreIsFiled, AFilingFailsOnce, ACutReply, ACloseInADataSet, HeldInADataSet};
 ghost use Rattle.engine.specs.StoreVerdicts.{VerdictsOnOneImage, TheFileOfAStore};
@@ -12,43 +16,48 @@ ghost use Rattle.engine.specs.Laws.{EntriesAppend, CutsDoNotShow, NothingAfterTh
 ghost use Rattle.engine.specs.HeldLaws.{HeldIsOne, HeldIsWithinRooms};
 ghost use Rattle.engine.specs.Examples.{ARequestAboveTheRoom, BytesThatAreNoPdu, DataAboveTheMaximum, AfterTheEnd, AnotherCalledTitle, RecordedEcho, HeldWhileTheEchoComes, AGoodPdvBeforeABadOne};
 
-/// The timeline with more inputs is the old one with their entries appended.
+/// Further inputs append entries to the timeline and change none of the earlier ones.
 pub fn timeline_only_grows()
     ensures { EntriesAppend }
 {}
 
-/// How the stream is cut doesn't show.
+/// The timeline does not depend on how the received bytes are divided into pieces.
 pub fn cuts_do_not_show()
     ensures { CutsDoNotShow }
 {}
 
-/// Inputs have one run in which no device fails, however their stream is cut.
+/// The inputs determine the run in which no device fails, however the received bytes are divided into
+/// pieces.
 pub fn a_run_without_failures_is_one()
     ensures { OneRun }
 {}
 
-/// However the stream is cut: two runs over the same bytes and the same other inputs, in which no device
-/// fails, send the same bytes, put the same files, stand alike and hold as many bytes.
+/// Two runs in which no device fails, over the same bytes, divided in any way, and the same other
+/// inputs, send the same bytes, store the same files, end in the same state and hold the same number of
+/// bytes.
 pub fn cuts_give_the_same()
     ensures { CutsGiveTheSame }
 {}
 
-/// Nothing is sent and no file is put after the end.
+/// After the end of the association nothing is sent and no file is stored.
 pub fn nothing_after_the_end()
     ensures { NothingAfterTheEnd }
 {}
 
-/// An association that has just been opened has taken no turn.
+/// An association that was just opened satisfies the invariant of calls of
+/// [`Running::turn`](crate::Running::turn), for zero calls.
 pub fn turns_begin()
     ensures { TurnsBegin }
 {}
 
-/// An association that has not ended takes one turn more.
+/// One more call of [`Running::turn`](crate::Running::turn) on an association that has not ended
+/// preserves the invariant of these calls.
 pub fn one_turn_more()
     ensures { OneTurnMore }
 {}
 
-/// Turns, as many as asked for or until the association ended, are a run.
+/// Calls of [`Running::turn`](crate::Running::turn), a given number or fewer if the association ends
+/// before, have the effect that the contract of [`run`](crate::run) states.
 pub fn turns_are_a_run()
     ensures { TurnsAreARun }
 {}
@@ -58,176 +67,180 @@ pub fn ended_has_no_draft()
     ensures { EndedHasNoDraft }
 {}
 
-/// A byte completes four marks at most.
+/// A byte completes at most four marks: heads and ends of PDUs and presentation data values.
 pub fn few_marks()
     ensures { FewMarks }
 {}
 
-/// For each byte of a piece an association sends at most four times 30 bytes and an answer.
+/// For each received byte an association sends at most four times 30 bytes, and one answer to a request
+/// or a command.
 pub fn bounded_output()
     ensures { BoundedOutput }
 {}
 
-/// But for the answer to a request and the reply to a message an entry sends 30 bytes at most.
+/// An entry of the timeline sends at most 30 bytes, unless it answers an A-ASSOCIATE-RQ or a DIMSE
+/// message.
 pub fn few_bytes_but_answers()
     ensures { FewBytesButAnswers }
 {}
 
-/// An A-ASSOCIATE-AC and a reply have 4,620 bytes at most, at each entry and along each story; so for each
-/// byte of a piece an association sends 18,600 bytes at most.
+/// An A-ASSOCIATE-AC has at most 4,620 bytes, and so have the PDUs of a response, at each entry of the
+/// timeline and in each trace. So an association sends at most 18,600 bytes for each received byte.
 pub fn answers_are_short()
     ensures entry { AnswersAreShort }
     ensures story { StoriesAnswerShortly }
     ensures piece { OutputOfAPiece }
 {}
 
-/// The entries of one input more are those that it brings after the bytes of the inputs before it.
+/// The entries that one more input appends depend on it and on the bytes of the inputs before it.
 pub fn entries_of_one_more()
     ensures { EntriesOfMore }
 {}
 
-/// The transport's close and the ARTIM timer's expiry send nothing, and the local user's abort sends 30
-/// bytes at most.
+/// The close of the transport connection and the expiry of the ARTIM timer send nothing, and an abort
+/// of the local user sends at most 30 bytes.
 pub fn other_inputs_send_little()
     ensures silent { SilentSendsNothing }
     ensures abort { AbortsShortly }
 {}
 
-/// The number of held bytes is one: what `Association::held` returns, and `run` reports, is all that the
-/// definition names.
+/// The definition determines the number of held bytes, so it is what
+/// [`Association::held`](crate::Association::held) returns and [`run`](crate::run) reports.
 pub fn the_number_of_held_bytes_is_one()
     ensures { HeldIsOne }
 {}
 
-/// Whatever comes, at most as many bytes are held as the rooms have place for; and once an association is
-/// accepted, 544 and those of a message.
+/// Whatever is received, an association holds at most `A + C + V + 16 * D` bytes, its limits; and an
+/// established one at most 544 and those of a message.
 pub fn held_is_within_the_rooms()
     ensures { HeldIsWithinRooms }
 {}
 
-/// There is a verdict on every store.
+/// Every C-STORE has a verdict: the status and cause of its response, and whether it is stored.
 pub fn a_verdict_is_there()
     ensures { AVerdictIsThere }
 {}
 
-/// There is no more than one.
+/// No C-STORE has two verdicts.
 pub fn a_verdict_is_one()
     ensures { AVerdictIsOne }
 {}
 
-/// A whole data set within the limits, sent under its own class and instance in an accepted context of
-/// that class, is answered by success and filed, where no device fails.
+/// A whole data set within the limits, sent under its own SOP class and instance UIDs in an accepted
+/// presentation context of that class, is stored and answered with Success, if no device fails.
 pub fn no_good_image_is_refused()
     ensures { NoGoodImageIsRefused }
 {}
 
-/// Every good image that a run has taken whole, with no device failing in its message, has its file and
-/// its reply of success there, at their place among all others.
+/// For every such data set that a run has received whole, with no device failing during its message,
+/// there is a file and a response with Success, in order among all others.
 pub fn every_good_image_is_filed()
     ensures { EveryGoodImageIsFiled }
 {}
 
-/// What is filed for a store depends on its own bytes and the sender's title alone.
+/// The file of a C-STORE depends only on the bytes of its own message and on the sender's AE title.
 pub fn a_store_is_filed_by_itself()
     ensures { FiledByItself }
 {}
 
-/// Statuses and causes of stores whose data sets break a rule.
+/// Examples: statuses and causes of C-STOREs whose data sets break a rule.
 pub fn verdicts_on_faults()
     ensures { VerdictsOnFaults }
 {}
 
-/// A CT image is stored, is not filed, or is not the one that the command names.
+/// Examples: a CT image is stored; its filing fails; it is not the instance that the command names.
 pub fn verdicts_on_one_image()
     ensures { VerdictsOnOneImage }
 {}
 
-/// The file of a CT image, byte for byte.
+/// Example: the file of a CT image, byte for byte.
 pub fn the_file_of_a_store()
     ensures { TheFileOfAStore }
 {}
 
-/// A request above its room is rejected at its head.
+/// Example: an A-ASSOCIATE-RQ above the limit is rejected at its head.
 pub fn a_request_above_the_room()
     ensures { ARequestAboveTheRoom }
 {}
 
-/// Bytes that are no PDU are aborted at the sixth.
+/// Example: bytes that are no PDU are answered with an A-ABORT at the sixth byte.
 pub fn bytes_that_are_no_pdu()
     ensures { BytesThatAreNoPdu }
 {}
 
-/// P-DATA above the announced maximum is aborted at its head.
+/// Example: a P-DATA-TF above the announced maximum length is answered with an A-ABORT at its head.
 pub fn data_above_the_maximum()
     ensures { DataAboveTheMaximum }
 {}
 
-/// After the end P-DATA is dropped, and a request is aborted.
+/// Example: after the end of the association a P-DATA-TF is dropped, and an A-ASSOCIATE-RQ is answered
+/// with an A-ABORT.
 pub fn after_the_end()
     ensures { AfterTheEnd }
 {}
 
-/// A request to another title is rejected.
+/// Example: an A-ASSOCIATE-RQ with another called AE title is rejected.
 pub fn another_called_title()
     ensures { AnotherCalledTitle }
 {}
 
-/// The recorded echo gives the recorded answer.
+/// Example: a recorded C-ECHO gives the recorded answer.
 pub fn recorded_echo()
     ensures { RecordedEcho }
 {}
 
-/// The bytes that are held while the recorded echo comes.
+/// Example: the number of held bytes while the recorded C-ECHO is received.
 pub fn held_while_the_echo_comes()
     ensures { HeldWhileTheEchoComes }
 {}
 
-/// A PDV is answered although a bad one follows in its PDU.
+/// Example: a message in a valid presentation data value is answered, although an invalid one follows
+/// in the same PDU.
 pub fn a_good_pdv_before_a_bad_one()
     ensures { AGoodPdvBeforeABadOne }
 {}
 
-/// The recorded echo, as a run.
+/// Example: the recorded C-ECHO, as a run.
 pub fn the_echo_runs()
     ensures { TheEchoRuns }
 {}
 
-/// The bytes that are held after the answer to a request.
+/// Example: the number of held bytes after an A-ASSOCIATE-RQ was accepted.
 pub fn the_request_is_held()
     ensures { TheRequestIsHeld }
 {}
 
-/// How an association stands after the answer to a request.
+/// Example: the state of an association after an A-ASSOCIATE-RQ was accepted.
 pub fn it_stands_established()
     ensures { ItStandsEstablished }
 {}
 
-/// Statuses of stores.
+/// Examples: statuses of C-STOREs.
 pub fn verdicts_on_stores()
     ensures { VerdictsOnStores }
 {}
 
-/// A store is filed and answered.
+/// Example: a C-STORE is stored and answered.
 pub fn a_store_is_filed()
     ensures { AStoreIsFiled }
 {}
 
-/// A filing fails in one store, and the next one is filed.
+/// Example: the filing fails in one C-STORE, and the next one is stored.
 pub fn a_filing_fails_once()
     ensures { AFilingFailsOnce }
 {}
 
-/// A reply that is cut leaves the file.
+/// Example: if sending the response fails, the file stays.
 pub fn a_cut_reply()
     ensures { ACutReply }
 {}
 
-/// The transport is closed in the data of a store.
+/// Example: the transport connection is closed inside the data set of a C-STORE.
 pub fn a_close_in_a_data_set()
     ensures { ACloseInADataSet }
 {}
 
-/// The bytes that are held in the data of a store.
+/// Example: the number of held bytes inside the data set of a C-STORE.
 pub fn held_in_a_data_set()
     ensures { HeldInADataSet }
 {}

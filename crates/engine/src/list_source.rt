@@ -1,11 +1,11 @@
-//! A source over a list of inputs.
+//! A [`Source`] over a list of inputs, for tests and replays.
 ghost use Rattle.std.specs.Prelude.{◌≡◌, ◌≤◌, Some, length, map};
 ghost use Rattle.engine.specs.Inputs.{received_of};
 
 use crate::source::{Input, Source};
 use acceptor::State;
 
-/// An input of a list, a piece with its bytes.
+/// An input of a [`ListSource`], as [`Input`] but with the bytes of a piece.
 #[derive(Clone, Copy)]
 pub enum ListedInput<'a> {
     Piece(&'a [u8]),
@@ -14,8 +14,8 @@ pub enum ListedInput<'a> {
     LocalAbort,
 }
 
-/// Gives the inputs of a list one after the other, whatever the state; at the end the transport
-/// connection is closed.
+/// A [`Source`] that returns the inputs of a list one after the other, whatever the state is, and then
+/// `Input::Closed`.
 #[derive(Drop)]
 pub struct ListSource<'a> {
     inputs: &'a [ListedInput<'a>],
@@ -27,7 +27,7 @@ pub struct ListSource<'a> {
 impl<'a> ListSource<'a> {
     ghost use Rattle.engine.specs.ListSource.{inputs_left};
 
-    /// A source of these inputs.
+    /// Creates a source of these inputs.
     pub fn new(inputs: &'a [ListedInput<'a>]) -> ListSource<'a>
         ensures { inputs_left result ≡ map received_of inputs.entry.now }
     {

@@ -1,5 +1,5 @@
-//! What the PDVs of an established association do: fragments are joined to messages, and the commands
-//! are answered.
+//! Handles the presentation data values of an established association: joins their fragments to
+//! messages, and answers the commands.
 ghost use Rattle.std.specs.Prelude.{◌≡◌, ◌≤◌, ◌+◌, ◌-◌, ◌^◌, ℕ, length, Ok};
 ghost use Rattle.pdu.specs.Sent.{Line};
 
@@ -17,7 +17,8 @@ use negotiate::Config;
 use part10::Filing;
 use pdu::{PdvHead, Wire, WireFailed};
 
-/// Where a message came: the presentation context with this ID, of this peer.
+/// The peer and the presentation context ID of a message, with the configuration that the context is
+/// looked up in.
 #[derive(Clone, Copy)]
 struct Origin<'a> {
     peer: &'a Peer,
@@ -31,8 +32,9 @@ impl<const C: usize, const V: usize, const D: usize> Message<C, V, D> {
     ghost use Rattle.engine.specs.machine.Lent.{before, after};
     ghost use Rattle.engine.specs.machine.Messages.{BeginsData, EndsMessage};
 
-    /// A command that announces a data set is whole: where its class is that of its context, the data
-    /// are walked and go to a draft.
+    /// Starts the data set of a message after a whole command set that announces one. If the command is
+    /// a C-STORE of the SOP class of its presentation context, the data set is walked and goes to a
+    /// draft; else its bytes are dropped.
     fn begin<F: Filing>(&mut self, origin: Origin, filing: &mut F)
         requires draft { IsThere (drafting_in (stored_of self.old.storing)) (F.store filing.old) }
         requires least_kept { 140 ≤ V }
@@ -59,7 +61,7 @@ impl<const C: usize, const V: usize, const D: usize> Message<C, V, D> {
         }
     }
 
-    /// Judges a message whose data are whole, and sends the reply to its command.
+    /// Ends a whole message: judges its data set, and sends the response to its command.
     fn reply<W: Wire, F: Filing>(
         &mut self,
         origin: Origin,
@@ -102,7 +104,9 @@ impl<const A: usize, const C: usize, const V: usize, const D: usize> Provider<A,
     ghost use Rattle.part10.specs.Store.{Store};
     ghost use Rattle.engine.specs.Run.{rooms_of};
 
-    /// The head of a PDV: its context has to be an accepted one, and it has to go on with the message.
+    /// Handles the head of a presentation data value. A presentation context that was not accepted
+    /// leads to an A-ABORT of the service provider; a fragment that does not continue the message to an
+    /// abort of the local user.
     pub(crate) fn on_pdv_head(&mut self, head: PdvHead) -> Due
         requires two { 2 ≤ head.length }
         ensures settings { settings_in self.new ≡ settings_in self.old }
@@ -130,7 +134,7 @@ impl<const A: usize, const C: usize, const V: usize, const D: usize> Provider<A,
         }
     }
 
-    /// A part of the fragment of a PDV.
+    /// Handles bytes of a fragment.
     pub(crate) fn on_data<F: Filing>(&mut self, part: &[u8], filing: &mut F)
         requires draft { DraftIsThere (kept_of self.old) (F.store filing.old) }
         requires fits { FragmentFits (kept_of self.old) (length part.now) }
@@ -149,7 +153,8 @@ impl<const A: usize, const C: usize, const V: usize, const D: usize> Provider<A,
         }
     }
 
-    /// A PDV is whole.
+    /// Handles the end of a presentation data value. An invalid command set leads to an abort of the
+    /// local user.
     pub(crate) fn on_pdv<W: Wire, F: Filing>(&mut self, devices: Devices<'_, W, F>)
         requires draft { DraftIsThere (kept_of self.old) (F.store devices.filing.now) }
         ensures settings { settings_in self.new ≡ settings_in self.old }

@@ -1,4 +1,4 @@
-//! What an association keeps, by its phase.
+//! The phases of an association, and the data of each.
 ghost use Rattle.std.specs.Prelude.{◌≡◌, ◌<◌, ◌≤◌, ◌+◌, ◌*◌, length};
 ghost use Rattle.engine.specs.StoredData.{held_in, stored_of};
 
@@ -8,42 +8,43 @@ use arrayvec::ArrayVec;
 use dimse::Join;
 use negotiate::{Config, Context, ContextRow, context_of};
 
-/// The phase of an association, with what is kept in it. Leaving a phase drops what it kept.
+/// The phase of an association, with its data, which are dropped when it is left.
 #[derive(Drop)]
 pub(crate) enum Phase<const A: usize, const C: usize, const V: usize, const D: usize> {
-    /// A request is due, of whose body this has come.
+    /// Awaiting an A-ASSOCIATE-RQ, of whose body these bytes were received (Sta2).
     AwaitingRequest {
         body: ArrayVec<u8, A>,
     },
-    /// The association is established with this peer, and this has come of a message.
+    /// The association is established (Sta6): its peer, and the unfinished message.
     Established {
         peer: Peer,
         message: Message<C, V, D>,
     },
-    /// The peer is to close the transport connection.
+    /// Awaiting the close of the transport connection by the peer (Sta13).
     AwaitingClose,
-    /// The transport connection is closed.
+    /// The transport connection is closed, or a send failed (Sta1).
     Ended,
 }
 
-/// What is kept of the peer of an accepted request.
+/// The data of an accepted A-ASSOCIATE-RQ that are needed afterwards.
 #[derive(Drop)]
 pub(crate) struct Peer {
     /// The calling AE title.
     pub(crate) caller: [u8; 16],
-    /// The peer's maximum length, or 0.
+    /// The greatest length of a P-DATA-TF that the peer receives, in bytes: at least 8, or 0 for no
+    /// limit.
     pub(crate) max_length: u32,
     /// The accepted presentation contexts.
     pub(crate) contexts: ArrayVec<ContextRow, 128>,
     ghost answerable: { max_length < 8 → max_length ≡ 0 },
 }
 
-/// What is kept of a message.
+/// The data of the unfinished message.
 #[derive(Drop)]
 pub(crate) struct Message<const C: usize, const V: usize, const D: usize> {
-    /// What has come of it.
+    /// Its command set, and which fragment must follow.
     pub(crate) join: Join<C>,
-    /// What is kept of the data of a store.
+    /// Its data set, if it is a C-STORE.
     pub(crate) storing: Storing<V, D>,
 }
 
@@ -74,7 +75,8 @@ impl Peer {
         context_of(config, self.contexts.as_slice(), id)
     }
 
-    /// Returns how many bytes are kept of the request: 20, and 4 for each accepted context.
+    /// Returns how many bytes count as held of the request: 20, and 4 for each accepted presentation
+    /// context.
     pub(crate) fn held(&self) -> usize
         ensures value { result ≡ 20 + 4 * length self.now.contexts.items }
         ensures bound { result ≤ 532 }
@@ -84,8 +86,8 @@ impl Peer {
 }
 
 impl<const C: usize, const V: usize, const D: usize> Message<C, V, D> {
-    /// Returns how many bytes are kept of the message: its command set, and what a walk holds of its
-    /// data set.
+    /// Returns how many bytes of the message are held: its command set, and what the walker holds of
+    /// its data set.
     pub(crate) fn held(&self) -> usize
         ensures value { result ≡ length self.now.join.command + held_in (stored_of self.now.storing) }
         ensures bound { result ≤ C + V + 16 * D }

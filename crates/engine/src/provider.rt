@@ -1,4 +1,5 @@
-//! What an association does at each mark of its stream, above the framing.
+//! An association without the division of its stream into PDUs: what the service provider and the local
+//! user do.
 ghost use Rattle.std.specs.Prelude.{◌≡◌, ◌≤◌, ◌+◌, ◌*◌, ◌-◌, ◌^◌, [], false};
 ghost use Rattle.acceptor.specs.declared.state.State.TheVariants.{Sta6};
 ghost use Rattle.engine.specs.Phases.{taken_in};
@@ -14,14 +15,14 @@ use negotiate::Config;
 use part10::Filing;
 use pdu::{Deframer, Wire, WireFailed};
 
-/// An association above its framing: the phase that it is in, and what the service provider and the
-/// local user do at each mark of the stream.
+/// An association without the division of its stream into PDUs: its phase, and the reaction of the
+/// service provider and of the local user to each event of the stream.
 #[derive(Drop)]
 pub(crate) struct Provider<const A: usize, const C: usize, const V: usize, const D: usize> {
     pub(crate) config: Config,
-    /// Whether the later marks of the PDU that has begun count for nothing.
+    /// Whether the rest of the unfinished PDU is ignored, as it was already answered.
     pub(crate) refused: bool,
-    /// What is kept of a request, of its peer and of a message.
+    /// The phase, with the data of the request, the peer or the message.
     pub(crate) phase: Phase<A, C, V, D>,
     ghost least: { 256 ≤ A },
     ghost greatest: { A ≤ 2 ^ 24 },
@@ -52,7 +53,8 @@ impl<const A: usize, const C: usize, const V: usize, const D: usize> Provider<A,
     ghost use Rattle.engine.specs.machine.Messages.{with_body, with_storing};
     ghost use Rattle.engine.specs.machine.Storing.{Drops};
 
-    /// The transport connection is open: a request is due.
+    /// Creates the association of a transport connection that was just opened: it awaits an
+    /// A-ASSOCIATE-RQ.
     pub(crate) fn open(config: &Config) -> Self
         requires least { 256 ≤ A }
         requires greatest { A ≤ 2 ^ 24 }
@@ -75,7 +77,8 @@ impl<const A: usize, const C: usize, const V: usize, const D: usize> Provider<A,
         }
     }
 
-    /// Whether the PDVs of the PDU that has begun count.
+    /// Returns whether the presentation data values of the unfinished PDU are handled: in an
+    /// established association, unless the PDU was already answered.
     pub(crate) fn takes_pdvs(&self) -> bool
         ensures { result ≡ takes_pdvs_in (kept_of self.now) }
     {
@@ -85,8 +88,8 @@ impl<const A: usize, const C: usize, const V: usize, const D: usize> Provider<A,
         }
     }
 
-    /// Lets the rest of the PDU that has begun go by where neither its body nor its PDVs count: no head
-    /// of a PDV is gathered in it.
+    /// Makes the deframer skip the rest of the unfinished PDU if neither its body nor its presentation
+    /// data values are handled.
     pub(crate) fn skip_uncounted(&self, deframer: &mut Deframer)
         ensures passes { position_of deframer.new ≡ passed (kept_of self.now) (position_of deframer.old) }
         ensures fewer { events_due (position_of deframer.new) ≤ events_due (position_of deframer.old) }
@@ -97,7 +100,7 @@ impl<const A: usize, const C: usize, const V: usize, const D: usize> Provider<A,
         deframer.skip_frame();
     }
 
-    /// Whether the draft of a store is in the filing.
+    /// Returns whether the filing has the draft of an unfinished C-STORE.
     pub(crate) fn drafting(&self) -> bool
         ensures { result ≡ drafting_in (kept_of self.now).storing }
     {
@@ -107,8 +110,9 @@ impl<const A: usize, const C: usize, const V: usize, const D: usize> Provider<A,
         }
     }
 
-    /// Returns how many bytes are kept of a request and of a message: 20 and 4 for each accepted
-    /// context of one that was accepted, and what a walk holds of a data set.
+    /// Returns how many received bytes are held: of the body of an A-ASSOCIATE-RQ; 20, and 4 for each
+    /// presentation context, of an accepted one; of the command set of a message, and what the walker
+    /// holds of its data set.
     pub(crate) fn held(&self) -> usize
         ensures value { result ≡ held_by (kept_of self.now) }
         ensures room { result + 12 ≤ A + C + V + 16 * D }
@@ -121,7 +125,7 @@ impl<const A: usize, const C: usize, const V: usize, const D: usize> Provider<A,
         }
     }
 
-    /// Drops what has come of the body of a request.
+    /// Drops the received bytes of the body of an A-ASSOCIATE-RQ.
     pub(crate) fn clear_body(&mut self)
         ensures kept { kept_of self.new ≡ with_body [] (kept_of self.old) }
         ensures settings { settings_in self.new ≡ settings_in self.old }
@@ -131,7 +135,7 @@ impl<const A: usize, const C: usize, const V: usize, const D: usize> Provider<A,
         }
     }
 
-    /// Drops the draft of a store.
+    /// Drops the draft of an unfinished C-STORE.
     fn drop_draft<F: Filing>(&mut self, filing: &mut F)
         requires draft { DraftIsThere (kept_of self.old) (F.store filing.old) }
         ensures kept { kept_of self.new ≡ with_storing (kept_of self.new).storing (kept_of self.old) }
@@ -143,8 +147,8 @@ impl<const A: usize, const C: usize, const V: usize, const D: usize> Provider<A,
         }
     }
 
-    /// The state that comes after a send: `next`, which is that of the phase or leaves it, or Sta1 where
-    /// the send failed. Where the association is left, nothing of it is kept.
+    /// Enters the state `next`, or Sta1 if the send before failed. Entering Sta1 or Sta13 drops the
+    /// draft and all data of the phase; any other `next` must be the state of the phase.
     pub(crate) fn settle<F: Filing>(
         &mut self,
         next: State,
@@ -171,7 +175,7 @@ impl<const A: usize, const C: usize, const V: usize, const D: usize> Provider<A,
         }
     }
 
-    /// What is due happens: the association is left, or keeps its state.
+    /// Performs a reaction ([`Due`]): the event's action and the next state.
     pub(crate) fn happens<W: Wire, F: Filing>(&mut self, due: Due, devices: Devices<'_, W, F>)
         requires draft { DraftIsThere (kept_of self.old) (F.store devices.filing.now) }
         requires stays { StaysThen (kept_of self.old).state due }
@@ -195,7 +199,8 @@ impl<const A: usize, const C: usize, const V: usize, const D: usize> Provider<A,
         }
     }
 
-    /// The head of a PDV is bad, or bytes are left over after a PDV.
+    /// Returns the reaction to an invalid head of a presentation data value, or to bytes left over
+    /// after one: an A-ABORT, if presentation data values are handled.
     pub(crate) fn on_invalid(&mut self) -> Due
         ensures settings { settings_in self.new ≡ settings_in self.old }
         ensures storing { (kept_of self.new).storing ≡ (kept_of self.old).storing }

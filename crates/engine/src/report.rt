@@ -1,22 +1,23 @@
-//! How a run ended.
+//! The report of a run.
 ghost use Rattle.std.specs.Prelude.{◌≡◌};
 ghost use Rattle.engine.specs.Ran.{standing_of};
 
 use acceptor::State;
 use std::fmt;
 
-/// How an association stands.
+/// The state of an association, for users: a summary of the acceptor's states.
 #[derive(Clone, Copy, Debug, PartialEq, Eq)]
 pub enum Standing {
-    /// A request is due, or the association is established.
+    /// Awaiting an A-ASSOCIATE-RQ, or established.
     Open,
-    /// The peer is to close the transport connection.
+    /// Awaiting the close of the transport connection by the peer.
     Closing,
     /// The association has ended.
     Ended,
 }
 
-/// How an association stands after a run, and how many received bytes it holds.
+/// The state of an association after a run, and how many received bytes it holds (see
+/// [`Association::held`](crate::Association::held)).
 #[derive(Clone, Copy, Debug, PartialEq, Eq)]
 pub struct Report {
     pub standing: Standing,
@@ -24,7 +25,7 @@ pub struct Report {
 }
 
 impl Standing {
-    /// How an association stands in this state.
+    /// Returns the summary of this state of the acceptor.
     pub fn of(state: State) -> Standing
         ensures { result ≡ standing_of state }
     {

@@ -1,4 +1,4 @@
-//! Association requests, and the other PDUs that act when they are whole.
+//! Handles association requests, and the ends of the other PDUs.
 ghost use Rattle.std.specs.Prelude.{◌≡◌, ◌≤◌, ◌<◌, ◌+◌, ◌*◌, ◌-◌, ℕ, length, true, false, OnErr, IfSome, IfNone};
 ghost use Rattle.acceptor.specs.declared.state.State.TheVariants.{Sta2, Sta6};
 ghost use Rattle.arrayvec.specs.ArrayVec.{array_vec_len};
@@ -25,7 +25,8 @@ use negotiate::{Answer, Config, compact, judge, rejection};
 use part10::Filing;
 use pdu::{Request, Wire, WireFailed, pdu_type, read_request};
 
-/// Sends the rejection of a request, which is the service provider's or the local user's.
+/// Sends the A-ASSOCIATE-RJ to a request, as the service provider (ACSE) or as the local user, by
+/// `source`. Returns the next state and whether the send succeeded.
 fn reject<W: Wire>(
     config: &Config,
     request: &Request,
@@ -45,7 +46,7 @@ fn reject<W: Wire>(
     }
 }
 
-/// Returns what is kept of a request that is accepted.
+/// Returns the data of an accepted request that are needed afterwards.
 fn peer_of(config: &Config, request: &Request) -> Peer
     requires answerable { request.now.maximum < 8 → request.now.maximum ≡ 0 }
     ensures { IsPeerOf result (settings_of config.now).further (offered (settings_of config.now).further request.now) }
@@ -61,8 +62,9 @@ fn peer_of(config: &Config, request: &Request) -> Peer
     }
 }
 
-/// Reads the body of an association request, judges it, and sends the answer. Returns the peer of an
-/// accepted one, the next state and whether all was sent.
+/// Reads the body of an A-ASSOCIATE-RQ, judges it, and sends the answer: A-ASSOCIATE-AC,
+/// A-ASSOCIATE-RJ, or A-ABORT if it is invalid. Returns the peer if it is accepted, the next state, and
+/// whether the send succeeded.
 fn answer_request<W: Wire>(
     config: &Config,
     body: &[u8],
@@ -107,7 +109,8 @@ impl<const A: usize, const C: usize, const V: usize, const D: usize> Provider<A,
     ghost use Rattle.engine.specs.machine.Tries.{TriesRequest};
     ghost use Rattle.engine.specs.machine.Judged.{StaysThen, JudgesEnd};
 
-    /// Whether the body of a PDU of this type is kept.
+    /// Returns whether the body of a PDU of this type is buffered: that of an A-ASSOCIATE-RQ while one
+    /// is awaited, unless it was already rejected.
     pub(crate) fn takes_body(&self, kind: u8) -> bool
         ensures { result ≡ takes_body_in (kept_of self.now) kind }
     {
@@ -117,7 +120,8 @@ impl<const A: usize, const C: usize, const V: usize, const D: usize> Provider<A,
         }
     }
 
-    /// A part of the body of a PDU of this type.
+    /// Handles bytes of the body of a PDU of this type: appends those of an awaited A-ASSOCIATE-RQ to
+    /// its buffer, and drops others.
     pub(crate) fn on_body(&mut self, kind: u8, part: &[u8])
         requires fits { BodyFits (A - 12) (kept_of self.old) kind (length part.now) }
         ensures settings { settings_in self.new ≡ settings_in self.old }
@@ -133,8 +137,7 @@ impl<const A: usize, const C: usize, const V: usize, const D: usize> Provider<A,
         }
     }
 
-    /// An association request is whole: where one is due, it is read, judged and answered, and then
-    /// given up.
+    /// Handles the end of an awaited A-ASSOCIATE-RQ: reads, judges and answers it, and drops its body.
     pub(crate) fn on_request<W: Wire, F: Filing>(&mut self, devices: Devices<'_, W, F>)
         requires draft { DraftIsThere (kept_of self.old) (F.store devices.filing.now) }
         ensures settings { settings_in self.new ≡ settings_in self.old }
@@ -158,8 +161,9 @@ impl<const A: usize, const C: usize, const V: usize, const D: usize> Provider<A,
         }
     }
 
-    /// A PDU of this type is whole, of whose body nothing was kept: a release request and an abort count
-    /// where they are due, others do not.
+    /// Returns the reaction to the end of a PDU of this type whose body is not buffered: that to an
+    /// A-ABORT, or to an A-RELEASE-RQ of an established association. Other PDUs have none, nor has one
+    /// that was already answered.
     pub(crate) fn on_end(&self, kind: u8) -> Due
         requires unkept { takes_body_in (kept_of self.now) kind ≡ false }
         ensures stays { StaysThen (kept_of self.now).state result }

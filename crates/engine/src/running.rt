@@ -1,4 +1,4 @@
-//! A run over a source of inputs, whole or turn by turn.
+//! Runs an association over a source of inputs, to its end or input by input.
 ghost use Rattle.std.specs.Prelude.{◌≡◌, ◌≤◌, ◌<◌, ◌^◌, ◌+◌, ◌*◌};
 ghost use Rattle.negotiate.specs.Settings.{settings_of};
 ghost use Rattle.engine.specs.Devices.{devices};
@@ -13,11 +13,11 @@ use negotiate::Config;
 use part10::Filing;
 use pdu::Wire;
 
-/// An association that takes its inputs one after another: a run that its caller may leave between any
-/// two of them and go on with later.
+/// An association that handles its inputs one at a time: like [`run`], but the caller may do other
+/// things between two inputs.
 ///
-/// Its limits are those of `Association`. `wire` and `filing` are the same at every call: where a store
-/// has its draft in the filing, the draft is still there.
+/// The const parameters are the limits of [`Association`]. `wire` and `filing` must be the same at
+/// every call: if a C-STORE has its draft in the filing, the draft must still be there.
 #[derive(Drop)]
 pub struct Running<const A: usize, const C: usize, const V: usize, const D: usize> {
     association: Association<A, C, V, D>,
@@ -37,7 +37,7 @@ impl<const A: usize, const C: usize, const V: usize, const D: usize> Running<A, 
     ghost use Rattle.engine.specs.Timeline.{Happened};
     ghost use Rattle.engine.specs.Turns.{TookInput, Reports};
 
-    /// Opens an association that has taken no input.
+    /// Creates the association of a transport connection that was just opened.
     pub fn open(config: &Config) -> Self
         requires least { 256 ≤ A }
         requires greatest { A ≤ 2 ^ 24 }
@@ -55,15 +55,15 @@ impl<const A: usize, const C: usize, const V: usize, const D: usize> Running<A, 
         }
     }
 
-    /// Returns the state of the acceptor. `State::timer_runs` says whether the ARTIM timer runs in it;
-    /// where it does, the timer was started with the input that led into it.
+    /// Returns the state of the acceptor. `State::timer_runs` says whether the ARTIM timer runs in it.
+    /// If it does, the timer was started by the input that led to this state.
     pub fn state(&self) -> State
         ensures { result ≡ state_of (association_in self.now) }
     {
         self.association.state()
     }
 
-    /// Returns whether the association has ended. Then no draft of it is in the filing.
+    /// Returns whether the association has ended. The filing has no draft of it then.
     pub fn is_ended(&self) -> bool
         ensures ended { result ≡ holding.is_ended (state_of (association_in self.now)) }
         ensures no_draft { result ≡ true → drafting_of (association_in self.now) ≡ false }
@@ -71,9 +71,9 @@ impl<const A: usize, const C: usize, const V: usize, const D: usize> Running<A, 
         self.association.is_ended()
     }
 
-    /// Returns how many bytes a piece may have so that 18,600 are sent at most for it: those that are to
-    /// come of the part of a PDU that has begun, its head, its body, the head of a presentation data
-    /// value or its fragment, or of a PDU that goes by; and at least one.
+    /// Returns how many bytes a piece may have so that at most 18,600 are sent for it: those that are
+    /// missing from the unfinished part of a PDU (its head, its body, the head of a presentation data
+    /// value, a fragment, or a PDU that is skipped), and at least one.
     pub fn portion(&self) -> usize
         ensures some { 0 < result }
         ensures few { (inputs : List Received) (story : List Happened) (failed : Bool) (store : Store)
@@ -83,14 +83,15 @@ impl<const A: usize, const C: usize, const V: usize, const D: usize> Running<A, 
         self.association.portion()
     }
 
-    /// Returns whether a store of the association has its draft in the filing.
+    /// Returns whether the filing has the draft of an unfinished C-STORE of the association.
     pub fn drafting(&self) -> bool
         ensures { result ≡ drafting_of (association_in self.now) }
     {
         self.association.drafting()
     }
 
-    /// Takes an input, with the bytes of its piece.
+    /// Handles an input. `piece` has the received bytes of `Input::Piece`, and is ignored for the
+    /// others.
     pub fn take<W: Wire, F: Filing>(
         &mut self,
         input: Input,
@@ -116,7 +117,7 @@ impl<const A: usize, const C: usize, const V: usize, const D: usize> Running<A, 
         }
     }
 
-    /// Takes the next input of the source, which is shown the state that the association is in.
+    /// Takes the next input of the source, which is given the state of the association, and handles it.
     pub fn turn<S: Source, W: Wire, F: Filing>(
         &mut self,
         source: &mut S,
@@ -134,7 +135,7 @@ impl<const A: usize, const C: usize, const V: usize, const D: usize> Running<A, 
         self.take(input, source.piece(), wire, filing);
     }
 
-    /// Returns how the association stands, and how many received bytes it holds.
+    /// Returns the state of the association, and how many received bytes it holds.
     pub fn report(&self) -> Report
         ensures reports { (store : Store) → Reports (rooms_of A C V D) (settings_in (association_in self.now)) (fields_of (association_in self.now)) store result }
         ensures room { result.held ≤ A + C + V + 16 * D }
@@ -146,14 +147,15 @@ impl<const A: usize, const C: usize, const V: usize, const D: usize> Running<A, 
     }
 }
 
-/// Opens an association and takes inputs until it has ended or `turns` were taken; then drops the
-/// draft that may be there. Returns how the association stands, and how many received bytes it holds.
+/// Opens an association and handles inputs of the source until it has ended or `turns` inputs were
+/// handled; then drops the draft, if there is one. Returns the state of the association, and how many
+/// received bytes it holds. The const parameters are the limits of [`Association`].
 ///
-/// `ran`: the source is left with exactly the inputs that were not taken, has given exactly those that
-/// were, and only the last one that was taken may have ended the association. What was sent, the files,
-/// how the association stands and what it holds are what the acceptor's table and the rules of DIMSE
-/// give for the inputs, cut off at a failed send; and every failure is counted. It holds for every
-/// number of turns, so at every moment between two inputs.
+/// The clause `ran` states: the source has returned exactly the inputs that were handled, the others
+/// are still to come, and only the last one handled may have ended the association. What was sent, the
+/// files, the state and the number of held bytes are what the acceptor's state table and the rules of
+/// DIMSE give for these inputs, up to a send that failed; and every failed call of a device is counted.
+/// It holds for every number of turns, and so after every input.
 pub fn run<
     const A: usize,
     const C: usize,

@@ -1,5 +1,5 @@
-//! What an event does: the acceptor's table gives an action and the next state, and the action may
-//! send a PDU.
+//! Performs the action that the acceptor's state table gives for an event: sends a PDU, and returns the
+//! next state.
 ghost use Rattle.std.specs.Prelude.{◌≡◌, ◌<◌, length, OnErr};
 ghost use Rattle.acceptor.specs.Table.{table};
 ghost use Rattle.pdu.specs.Sent.{Sends};
@@ -13,31 +13,33 @@ use acceptor::{Event, Sending, State, act};
 use negotiate::{Config, rejection, write_answer};
 use pdu::{Request, Wire, WireFailed, write_abort, write_reject, write_release};
 
-/// What an action sends in answer to an event, where it does.
+/// What the action of an event needs to send its PDU, beyond the state table.
 #[derive(Clone, Copy)]
 pub(crate) enum Answering<'a> {
-    /// Nothing that depends on the event.
+    /// Nothing.
     Nothing,
-    /// The service provider's abort for this reason (PS3.8 section 9.3.8).
+    /// The reason of an A-ABORT of the service provider (PS3.8 section 9.3.8).
     Abort(u8),
-    /// The rejection of a request that is longer than its room.
+    /// The A-ASSOCIATE-RJ to a request that is longer than the limit.
     TooLong,
-    /// The answer to this request.
+    /// The A-ASSOCIATE-AC or A-ASSOCIATE-RJ to this request, with this configuration.
     Request(&'a Config, &'a Request<'a>),
 }
 
-/// What is due once a mark of the stream has been judged.
+/// The reaction to an event of the stream, to be performed by
+/// [`Provider::happens`](crate::provider::Provider::happens).
 #[derive(Clone, Copy)]
 pub(crate) enum Due {
-    /// Nothing.
+    /// No reaction.
     Nothing,
-    /// This event, which is answered so.
+    /// This event of the acceptor's state table, with what its action needs to send.
     Happens(Event, Answering<'static>),
-    /// A release request, to which the local user of an established association agrees at once.
+    /// The release of an established association: an A-RELEASE-RQ, to which the local user agrees at
+    /// once.
     Releases,
 }
 
-/// Sends the answer to an association request.
+/// Sends the A-ASSOCIATE-AC or A-ASSOCIATE-RJ to an association request.
 fn answer<W: Wire>(answering: Answering, wire: &mut W) -> Result<(), WireFailed>
     ensures sends { Sends (answer_text answering.entry) result (W.line wire.old) (W.line wire.new) }
     ensures due { OnErr result (0 < length (answer_text answering.entry)) }
@@ -54,7 +56,7 @@ fn answer<W: Wire>(answering: Answering, wire: &mut W) -> Result<(), WireFailed>
     }
 }
 
-/// Returns the reason of the service provider's abort that may answer, or 0.
+/// Returns the reason of an A-ABORT of the service provider, or 0 if there is none.
 fn reason(answering: Answering) -> u8
     ensures { result ≡ reason_of answering.entry }
 {
@@ -64,7 +66,7 @@ fn reason(answering: Answering) -> u8
     }
 }
 
-/// Sends what an action asks for.
+/// Sends the PDU of an action, if it has one.
 fn send<W: Wire>(sending: Sending, answering: Answering, wire: &mut W) -> Result<(), WireFailed>
     ensures sends { Sends (bytes_sent (answer_text answering.entry) release_text abort_text sending) result (W.line wire.old) (W.line wire.new) }
     ensures due { OnErr result (0 < length (bytes_sent (answer_text answering.entry) release_text abort_text sending)) }
@@ -77,8 +79,8 @@ fn send<W: Wire>(sending: Sending, answering: Answering, wire: &mut W) -> Result
     }
 }
 
-/// Does the action that the table gives for the event, and returns the next state and whether all
-/// was sent.
+/// Performs the action that the state table gives for the event. Returns the next state, and whether
+/// the send succeeded.
 pub(crate) fn step<W: Wire>(
     state: State,
     event: Event,
@@ -94,8 +96,8 @@ pub(crate) fn step<W: Wire>(
     (next, sent)
 }
 
-/// After a failed send the association ends as if the transport connection had been closed (PS3.8
-/// section 9.2.2).
+/// Returns the state after a send: `next`, or Sta1 if the send failed, which ends the association like
+/// a closed transport connection (PS3.8 section 9.2.2).
 pub(crate) fn state_after(next: State, sent: Result<(), WireFailed>) -> State
     ensures { result ≡ machine.state_after sent next }
 {

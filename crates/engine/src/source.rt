@@ -1,42 +1,43 @@
-//! Where an association's inputs come from.
+//! The interface of the inputs of an association.
 ghost use Rattle.std.specs.Prelude.{◌≡◌, ℕ, List, Option, None};
 ghost use Rattle.acceptor.specs.declared.state.State.{State};
 ghost use Rattle.engine.specs.Inputs.{Supply, Gives, shown_after};
 
 use acceptor::State;
 
-/// What comes next.
+/// An input of an association.
 #[derive(Clone, Copy, Debug, PartialEq, Eq)]
 pub enum Input {
-    /// Bytes from the peer: `Source::piece` lends them.
+    /// Bytes were received from the peer: `Source::piece` returns them.
     Piece,
-    /// The transport connection was closed.
+    /// The transport connection was closed by the peer, or broke.
     Closed,
-    /// The ARTIM timer ran out.
+    /// The ARTIM timer expired.
     Expired,
     /// The local user aborts the association.
     LocalAbort,
 }
 
-/// Where inputs come from.
+/// The source of the inputs of an association: a socket with a timer, or a list.
 pub trait Source {
-    /// The inputs that are still to come, and those that the source has given, where it shows them.
+    /// For contracts: the inputs that are still to come, and those that the source has returned, as far
+    /// as the implementation can tell them.
     ghost supply: { Self → Supply };
 
-    /// The bytes of the last piece.
+    /// For contracts: the bytes of the last piece.
     ghost last: { Self → List ℕ };
 
-    /// The state that the source was shown last, where it shows that.
+    /// For contracts: the state with which `next` was called last, if the implementation can tell it.
     ghost shown: { Self → Option State } = { λ _. None };
 
-    /// Takes the next input of an association that is in this state. Where the ARTIM timer runs in it,
-    /// the timer was started since the call before exactly where that one was shown another state
+    /// Returns the next input of an association that is in this state. If the ARTIM timer runs in the
+    /// state, it has to be started anew exactly if the state is another one than at the call before
     /// (`acceptor::laws::starts_are_seen`).
     fn next(&mut self, state: State) -> Input
         ensures gives { Gives (supply self.old) (supply self.new) (last self.new) result }
         ensures shown { shown self.new ≡ shown_after state (shown self.old) };
 
-    /// The bytes of the last piece.
+    /// Returns the bytes of the last `Input::Piece`.
     fn piece(&self) -> &[u8]
         ensures { result.now ≡ last self.now };
 }

@@ -1,4 +1,4 @@
-//! The statuses of replies (PS3.7 annex C).
+//! The status of the response to a C-ECHO (PS3.7 annex C).
 ghost use Rattle.std.specs.Prelude.{◌≡◌};
 ghost use Rattle.engine.specs.Replies as spelling;
 
@@ -13,7 +13,7 @@ fn is_verification(class: Option<Class>) -> bool
     matches!(class, Some(Class::Verification))
 }
 
-/// The class of a presentation context.
+/// Returns the class of a presentation context, if there is one and its class is in the dictionary.
 fn class_by(context: Option<Context>) -> Option<Class>
     ensures { result ≡ spelling.class_by context }
 {
@@ -26,8 +26,8 @@ fn class_by(context: Option<Context>) -> Option<Class>
     }
 }
 
-/// Returns the status of the response to an echo in this presentation context: success where the
-/// command and the context name Verification.
+/// Returns the status of the response to a C-ECHO in this presentation context: Success if both the
+/// command and the context have the Verification SOP Class, else 0122 (SOP class not supported).
 pub(crate) fn echo_status(context: Option<Context>, command: &Command) -> u16
     ensures { result ≡ spelling.echo_status context command.now }
 {

@@ -1,4 +1,4 @@
-//! The data of a C-STORE: they are walked as they come, and go to the draft of a file.
+//! Handles the data set of a C-STORE: walks it as it is received, and writes it to the draft of a file.
 ghost use Rattle.std.specs.Prelude.{◌≡◌, ◌≤◌, ◌+◌, ◌*◌, ◌^◌, ◌++◌, List, ℕ, true, false, Some, None};
 ghost use Rattle.sequence.specs.declared.coding.Coding.{Coding};
 ghost use Rattle.sequence.specs.Rules.{Limits};
@@ -19,28 +19,30 @@ use negotiate::{Context, Service};
 use part10::{Filing, Meta, meta_bytes};
 use sequence::{Fault, Walker, Want, Wanted};
 
-/// SOP Class UID.
+/// SOP Class UID (0008,0016).
 const CLASS: Tag = Tag(0x0008, 0x0016);
 
-/// SOP Instance UID.
+/// SOP Instance UID (0008,0018).
 const INSTANCE: Tag = Tag(0x0008, 0x0018);
 
-/// The room for the value of a wanted tag: a unique identifier has at most so many bytes.
+/// The greatest size of a UID in bytes.
 const UID_ROOM: u32 = 64;
 
-/// What is kept of the data of a message.
+/// The state of a message's data set.
 #[derive(Drop)]
 pub(crate) enum Storing<const V: usize, const D: usize> {
-    /// No data set is due, or that of a store whose class is not its context's.
+    /// There is no data set, or it is dropped: the C-STORE has another SOP class than its presentation
+    /// context.
     Nothing,
-    /// A data set is walked. Its draft is in the filing until a filing call fails.
+    /// A data set is being received. `drafting` says whether the filing still has its draft, which a
+    /// failed call drops.
     DataSet {
         drafting: bool,
         walker: Walker<V, D>,
     },
 }
 
-/// The status of the reply to a store, and the cause of a failure where the reply names it.
+/// The status of the response to a C-STORE, and the cause of a failure if the response reports it.
 #[derive(Clone, Copy)]
 pub(crate) struct StoreStatus {
     pub(crate) status: u16,
@@ -48,7 +50,7 @@ pub(crate) struct StoreStatus {
 }
 
 impl StoreStatus {
-    /// A status that names no cause.
+    /// Returns a status without a cause.
     fn of(status: u16) -> StoreStatus
         ensures { result ≡ record { status = status; detail = None } }
     {
@@ -58,7 +60,7 @@ impl StoreStatus {
         }
     }
 
-    /// A failure and its cause.
+    /// Returns a status of failure with its cause: the number of a fault, and a tag.
     fn caused(status: u16, number: u8, tag: Tag) -> StoreStatus
         ensures { result ≡ record { status = status; detail = Some (record { number = number; tag = tag }) } }
     {
@@ -69,7 +71,7 @@ impl StoreStatus {
     }
 }
 
-/// Whether the service is this class of the dictionary.
+/// Returns whether the service is this class of the dictionary.
 fn is_known(service: &Service, class: Class) -> bool
     ensures yes { result ≡ true → service.now ≡ services.Known class }
     ensures no { result ≡ false → service.now ≡ services.Known class → ⊥ }
@@ -80,7 +82,7 @@ fn is_known(service: &Service, class: Class) -> bool
     }
 }
 
-/// Whether the service is this further class.
+/// Returns whether the service is a class that the configuration adds to the dictionary, with this UID.
 fn is_further(service: &Service, uid: &Uid) -> bool
     ensures yes { result ≡ true → service.now ≡ services.Further uid.now }
     ensures no { result ≡ false → service.now ≡ services.Further uid.now → ⊥ }
@@ -91,7 +93,8 @@ fn is_further(service: &Service, uid: &Uid) -> bool
     }
 }
 
-/// Whether the class of a store is that of its presentation context, and one of storage.
+/// Returns whether the SOP class of a C-STORE is that of its presentation context, and a storage class:
+/// one of the dictionary, or one that the configuration adds.
 pub(crate) fn is_of_context(context: &Context, command: &Command) -> bool
     ensures yes { result ≡ true → IsOfContext context.now command.now }
     ensures no { result ≡ false → IsOfContext context.now command.now → ⊥ }
@@ -106,7 +109,7 @@ pub(crate) fn is_of_context(context: &Context, command: &Command) -> bool
     }
 }
 
-/// What is wanted of a data set.
+/// Returns the tags whose values are kept of a data set: SOP Class UID and SOP Instance UID.
 fn wanted() -> Wanted
     ensures { wanted_tags result ≡ spelling.wanted }
 {
@@ -126,7 +129,8 @@ fn wanted() -> Wanted
     }
 }
 
-/// Begins a draft, which gets the file header; whether it is there.
+/// Starts a draft with this file header. Returns whether the draft is there: false if a call of the
+/// filing failed.
 fn begin_draft<F: Filing>(header: &[u8], filing: &mut F) -> bool
     ensures { Begins header.now result (F.store filing.old) (F.store filing.new) }
 {
@@ -136,7 +140,8 @@ fn begin_draft<F: Filing>(header: &[u8], filing: &mut F) -> bool
     }
 }
 
-/// Begins the draft of a store in this context, which gets the file header, and the walk of its data.
+/// Starts a C-STORE in this presentation context: its draft, with the file header, and the walker of
+/// its data set, of at most `max_data` bytes. Returns `Storing::Nothing` for any other command.
 pub(crate) fn begin_store<const V: usize, const D: usize, F: Filing>(
     context: &Context,
     command: &Command,
@@ -172,7 +177,7 @@ pub(crate) fn begin_store<const V: usize, const D: usize, F: Filing>(
     }
 }
 
-/// Walks the part to its end, or to a refusal. A step takes nothing only after one.
+/// Walks the bytes to their end, or to the first fault. Only after a fault does a step take no byte.
 fn walk<const V: usize, const D: usize>(walker: &mut Walker<V, D>, part: &[u8])
     ensures { (syntax : Coding) (lim : Limits) (set : List ℕ) → HasWalked walker.old syntax lim set → HasWalked walker.new syntax lim (set ++ part.now) }
 {
@@ -187,7 +192,8 @@ fn walk<const V: usize, const D: usize>(walker: &mut Walker<V, D>, part: &[u8])
     }
 }
 
-/// Adds a part of the data set to the draft, if there is one; whether it is still there.
+/// Appends bytes of the data set to the draft, if there is one. Returns whether the draft is still
+/// there: false if the filing failed.
 fn extend_draft<F: Filing>(part: &[u8], drafting: bool, filing: &mut F) -> bool
     requires there { IsThere drafting (F.store filing.old) }
     ensures { Grows part.now drafting result (F.store filing.old) (F.store filing.new) }
@@ -199,7 +205,7 @@ fn extend_draft<F: Filing>(part: &[u8], drafting: bool, filing: &mut F) -> bool
     }
 }
 
-/// Whether the data set names this identifier by this tag.
+/// Returns whether the data set has this UID as the value of this tag.
 fn names<const V: usize, const D: usize>(walker: &Walker<V, D>, tag: Tag, uid: &Uid) -> bool
     ensures yes { result ≡ true → NamesUid (told_by walker.now).kept tag uid.now }
     ensures no { result ≡ false → NamesUid (told_by walker.now).kept tag uid.now → ⊥ }
@@ -213,7 +219,8 @@ fn names<const V: usize, const D: usize>(walker: &Walker<V, D>, tag: Tag, uid: &
     }
 }
 
-/// The failure that a fault of the data set is.
+/// Returns the status for a data set with this fault: A700 (out of resources) if it is a limit of the
+/// receiver, else C000 (cannot understand) with the fault as its cause.
 fn failure_of(fault: Fault) -> StoreStatus
     ensures { finding_of result ≡ of_fault fault }
 {
@@ -223,7 +230,8 @@ fn failure_of(fault: Fault) -> StoreStatus
     }
 }
 
-/// Whether the data set names the command's instance.
+/// Returns whether the SOP Instance UID of the data set is the Affected SOP Instance UID of the
+/// command.
 fn names_instance<const V: usize, const D: usize>(walker: &Walker<V, D>, command: &Command) -> bool
     ensures yes { result ≡ true → NamesInstance (told_by walker.now).kept command.now }
     ensures no { result ≡ false → NamesInstance (told_by walker.now).kept command.now → ⊥ }
@@ -234,7 +242,8 @@ fn names_instance<const V: usize, const D: usize>(walker: &Walker<V, D>, command
     }
 }
 
-/// Compares the class and the instance that the data set names with those of the command.
+/// Compares the SOP class and instance UIDs of the data set with those of the command. Fails with
+/// status A900 (data set does not match SOP class).
 fn compare<const V: usize, const D: usize>(
     walker: &Walker<V, D>,
     command: &Command,
@@ -250,7 +259,8 @@ fn compare<const V: usize, const D: usize>(
     Ok(())
 }
 
-/// Judges a data set at its end: its first fault, and whether it names what the command names.
+/// Judges a data set at its end. Fails with the status for its first fault, for a truncated data set,
+/// or for UIDs other than the command's.
 fn verdict_of<const V: usize, const D: usize>(
     walker: &Walker<V, D>,
     command: &Command,
@@ -263,7 +273,7 @@ fn verdict_of<const V: usize, const D: usize>(
     }
 }
 
-/// Makes a file of the draft.
+/// Commits the draft, and returns the status: Success, or A700 (out of resources) if the filing failed.
 fn commit<F: Filing>(filing: &mut F) -> StoreStatus
     requires there { (F.store filing.old).has_draft ≡ true }
     ensures { Commits (finding_of result) (F.store filing.old) (F.store filing.new) }
@@ -281,7 +291,7 @@ impl<const V: usize, const D: usize> Storing<V, D> {
     ghost use Rattle.engine.specs.StoredData.{Nothing, stored_of, drafting_in};
     ghost use Rattle.engine.specs.machine.Storing.{GoesOn, Drops, finding_of};
 
-    /// Whether the draft is in the filing.
+    /// Returns whether the filing has the draft of this data set.
     pub(crate) fn drafting(&self) -> bool
         ensures { result ≡ drafting_in (stored_of self.now) }
     {
@@ -291,7 +301,7 @@ impl<const V: usize, const D: usize> Storing<V, D> {
         }
     }
 
-    /// How many bytes the walk holds.
+    /// Returns how many bytes the walker holds of the data set.
     pub(crate) fn held(&self) -> usize
         ensures value { result ≡ held_in (stored_of self.now) }
         ensures bound { result ≤ V + 16 * D }
@@ -302,7 +312,7 @@ impl<const V: usize, const D: usize> Storing<V, D> {
         }
     }
 
-    /// Takes a part of the data set: it is walked, and added to the draft.
+    /// Handles bytes of the data set: walks them, and appends them to the draft.
     pub(crate) fn take<F: Filing>(&mut self, part: &[u8], filing: &mut F)
         requires there { IsThere (drafting_in (stored_of self.old)) (F.store filing.old) }
         ensures goes_on { GoesOn part.now (stored_of self.old) (stored_of self.new) (F.store filing.old) (F.store filing.new) }
@@ -316,7 +326,8 @@ impl<const V: usize, const D: usize> Storing<V, D> {
         }
     }
 
-    /// What is wrong with the data set, if it is whole.
+    /// Judges the data set at its end. Fails with the status of the response, unless the data set is
+    /// valid.
     fn verdict(&self, command: &Command) -> Result<(), StoreStatus>
         ensures { HasVerdict command.now (stored_of self.now) result }
     {
@@ -326,7 +337,8 @@ impl<const V: usize, const D: usize> Storing<V, D> {
         }
     }
 
-    /// The data set is whole: judges it, and commits or drops its draft.
+    /// Ends the data set: checks it as a whole, and commits or drops its draft. Returns the status of
+    /// the response.
     pub(crate) fn end<F: Filing>(&mut self, command: &Command, filing: &mut F) -> StoreStatus
         requires there { IsThere (drafting_in (stored_of self.old)) (F.store filing.old) }
         ensures nothing { stored_of self.new ≡ Nothing }
@@ -351,7 +363,8 @@ impl<const V: usize, const D: usize> Storing<V, D> {
         }
     }
 
-    /// The message is left: its draft is dropped.
+    /// Drops the draft, if there is one, and the state of the data set: for a C-STORE that fails, or is
+    /// abandoned.
     pub(crate) fn leave<F: Filing>(&mut self, filing: &mut F)
         requires there { IsThere (drafting_in (stored_of self.old)) (F.store filing.old) }
         ensures nothing { stored_of self.new ≡ Nothing }

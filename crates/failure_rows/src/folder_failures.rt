@@ -5,7 +5,7 @@ use crate::runtimes::Diverted;
 use crate::two_stores::{Due, TwoStores};
 use fixtures::folders::{are_in, count, fresh, holds, is_filed, put};
 use fixtures::refusing::Refusing;
-use harness::{Step, drive};
+use fixtures::{Step, drive};
 use part10::{Filing, FolderFiling, FolderWriter};
 use pdu::MemoryWire;
 use std::alloc::Global;

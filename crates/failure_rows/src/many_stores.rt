@@ -3,7 +3,7 @@
 use crate::two_stores::TwoStores;
 use fixtures::bytes::{back, front, joined};
 use fixtures::folders::{count, fresh, holds, is_filed};
-use harness::{Step, over_memory};
+use fixtures::{Step, over_memory};
 use part10::FolderFiling;
 use pdu::{MemoryWire, Wire};
 use std::alloc::{AllocError, Global};

@@ -2,9 +2,9 @@
 
 use crate::two_stores::{ENDS, TwoStores};
 use fixtures::bytes::front;
+use fixtures::drive;
 use fixtures::folders::is_filed;
 use fixtures::refusing::Refusing;
-use harness::drive;
 use part10::MemoryFiling;
 use pdu::{MemoryWire, Wire};
 use std::alloc::{AllocError, Allocator, Global};

@@ -5,7 +5,7 @@ use crate::two_stores::{ENDS, TwoStores};
 use crate::wires::FailingWire;
 use fixtures::bytes::front;
 use fixtures::folders::{are_in, fresh};
-use harness::{Shown, Step, drive};
+use fixtures::{Shown, Step, drive};
 use part10::{FolderFiling, MemoryFiling};
 use std::alloc::{AllocError, Global};
 use std::test::Fail;

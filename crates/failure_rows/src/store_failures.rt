@@ -4,7 +4,7 @@
 use crate::filings::FailingFiling;
 use crate::two_stores::TwoStores;
 use acceptor::State;
-use harness::{Shown, Step, drive};
+use fixtures::{Shown, Step, drive};
 use part10::MemoryFiling;
 use pdu::MemoryWire;
 use std::alloc::{AllocError, Global};

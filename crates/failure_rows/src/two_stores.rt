@@ -1,11 +1,11 @@
 //! Two stores on one association, and what is due for them.
 
 use dimse::status;
+use fixtures::Step;
 use fixtures::bytes::{back, front, joined};
 use fixtures::stores::{
     ACCEPT, CT_SET, EXPLICIT, INSTANCE, OTHER, file, reply, request, whole_store,
 };
-use harness::Step;
 use std::alloc::{AllocError, Global};
 
 /// What is sent, and the files.

@@ -1,4 +1,4 @@
-//! What ends the program early.
+//! The error type of the program.
 use crate::failure::Failure;
 use crate::words_error::WordsError;
 use std::alloc::AllocError;
@@ -6,11 +6,12 @@ use std::io::ErrorKind;
 use std::{fmt, io};
 use thiserror::Error;
 
-/// The operating system's number for `EBADF`, by which it refuses to write what was closed.
+/// The number of the system error `EBADF`, for a write to a closed file descriptor.
 const BAD_DESCRIPTOR: i32 = 9;
 
-/// Why the program did not do what it was asked for, and what to do about it. But for help, the
-/// version and invalid arguments it ends with status 3 and this text; where the output was closed, without it.
+/// An error that ends the program early. Its text says what failed and what to do about it. Except for
+/// help, the version and invalid arguments the program prints it and exits with status 3; it is not
+/// printed if the output is closed.
 #[derive(Drop, Error)]
 pub enum ProgramError {
     #[error("{what}: {1}; {advice}", what = .0.what(), advice = .0.advice())]
@@ -28,14 +29,15 @@ pub enum ProgramError {
 }
 
 impl fmt::Debug for ProgramError {
-    /// Prints the text of the error.
+    /// Prints the text of the error, as `Display` does.
     fn fmt<W: fmt::Write>(&self, f: &mut fmt::Formatter<W>) -> fmt::Result {
         fmt::Display::fmt(self, f)
     }
 }
 
 impl ProgramError {
-    /// Returns the error of what the system refused; where memory ran out for that, nothing else failed.
+    /// Returns the error for a failed system call. If it failed because memory ran out, that is the
+    /// error.
     pub fn of(failure: Failure, error: io::Error) -> ProgramError {
         match error.kind() {
             ErrorKind::OutOfMemory => ProgramError::Memory(AllocError),
@@ -43,13 +45,13 @@ impl ProgramError {
         }
     }
 
-    /// Returns the error of an output that can't be written; where memory ran out for that, nothing else failed.
+    /// Returns the error for an output that cannot be written. If memory ran out, that is the error.
     pub fn of_output(error: io::Error) -> ProgramError {
         ProgramError::of(Failure::Write, error)
     }
 
-    /// Returns the error of a folder that could not be opened or listed; where memory ran out for that, the folder has
-    /// no fault.
+    /// Returns the error for a folder that could not be opened or listed: missing, locked by another
+    /// program, or any other. If memory ran out, that is the error.
     pub fn of_folder(error: io::Error) -> ProgramError {
         let failure = match error.kind() {
             ErrorKind::NotFound => Failure::MissingFolder,
@@ -59,8 +61,9 @@ impl ProgramError {
         ProgramError::of(failure, error)
     }
 
-    /// Returns the error of an address and a port that could not be listened on. The system tells that it
-    /// has no such address, or denies a port that it keeps; what is no IP address is not supported.
+    /// Returns the error for an address and port that could not be listened on: an address that this
+    /// machine does not have, or a text that is no IP address; a port that needs more rights; or any
+    /// other.
     pub fn of_listening(error: io::Error) -> ProgramError {
         let failure = match error.kind() {
             ErrorKind::AddrNotAvailable | ErrorKind::Unsupported => Failure::Address,
@@ -70,8 +73,8 @@ impl ProgramError {
         ProgramError::System(failure, error)
     }
 
-    /// Returns whether the output is closed, by its reader or since the program began; then nobody reads a text
-    /// either.
+    /// Returns whether the error is that the standard output is closed, by its reader or from the
+    /// start, so that no text need be printed.
     pub fn is_of_closed_output(&self) -> bool {
         match self {
             ProgramError::System(Failure::Write, error) => {
@@ -82,7 +85,7 @@ impl ProgramError {
         }
     }
 
-    /// Returns what the system refused, if that is the error.
+    /// Returns what failed, if the error is that of a system call.
     pub fn failure(&self) -> Option<Failure> {
         match self {
             ProgramError::System(failure, _) => Some(*failure),

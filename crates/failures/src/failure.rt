@@ -1,46 +1,51 @@
-//! What the system can refuse the program.
+//! The operations of the program that can fail with a system error.
 
-/// What failed where the system told an error.
+/// The operation that failed with a system error. Each has a text that says what failed, and one with
+/// advice.
 #[derive(Clone, Copy, PartialEq, Eq)]
 pub enum Failure {
-    /// The program's arguments can't be read.
+    /// The arguments of the program cannot be read.
     Arguments,
-    /// A file can't be opened.
+    /// A file cannot be opened.
     Open,
-    /// A file can't be read.
+    /// A file cannot be read.
     Read,
-    /// A folder can't be opened or listed.
+    /// A folder cannot be opened or listed.
     Folder,
-    /// A folder is not there.
+    /// A folder does not exist.
     MissingFolder,
-    /// Another program receives into a folder.
+    /// A folder is locked: another program stores files in it.
     BusyFolder,
-    /// A folder can't be written into.
+    /// No file can be created in a folder.
     UnwrittenFolder,
-    /// The file of numbers can't be read or made.
+    /// The file of numbers (option `--numbers`) cannot be read or created.
     Numbers,
-    /// A folder's directory can't be read.
+    /// The DICOMDIR of a folder cannot be read.
     NoDirectory,
-    /// Who wrote a folder's directory can't be told.
+    /// The DICOMDIR of a folder cannot be read to see which program wrote it.
     UnreadDirectory,
-    /// The system gives no random bytes.
+    /// The system provides no random bytes, for a new UID.
     Random,
-    /// A directory can't be written.
+    /// A DICOMDIR cannot be written.
     Directory,
-    /// The output can't be written.
+    /// The standard output cannot be written.
     Write,
-    /// A port can't be listened on.
+    /// A port cannot be listened on.
     Listen,
-    /// A port can't be listened on, since the system keeps it for programs with more rights.
+    /// A port cannot be listened on, as it needs more rights (below 1024).
     KeptPort,
-    /// No more associations can be served.
+    /// No more connections can be accepted.
     Serve,
-    /// An address can't be listened on.
+    /// An address cannot be listened on.
     Address,
+    /// A file cannot be linked into a tree of folders, by `arrange`.
+    Link,
+    /// A tree of folders cannot be written, by `arrange`.
+    Tree,
 }
 
 impl Failure {
-    /// Returns what failed.
+    /// Returns the text that says what failed.
     pub fn what(self) -> &'static str {
         match self {
             Failure::Arguments => "the command line can't be read",
@@ -60,10 +65,12 @@ impl Failure {
             Failure::KeptPort => "can't be listened on",
             Failure::Serve => "associations can't be served any more",
             Failure::Address => "can't be listened on",
+            Failure::Link => "a file can't be linked into it",
+            Failure::Tree => "it can't be written into",
         }
     }
 
-    /// Returns what to do about it.
+    /// Returns the text that says what the user can do.
     pub fn advice(self) -> &'static str {
         match self {
             Failure::Arguments => "start the program again",
@@ -90,15 +97,23 @@ impl Failure {
             Failure::Serve => "start the program again",
             Failure::Address =>
                 "--bind takes an IP address of this machine, or 0.0.0.0 for all of them, and no name",
+            Failure::Link =>
+                "where it is on another disk, or the files are another user's, copy them with --copy",
+            Failure::Tree => "check that you may, and that its disk has room",
         }
     }
 
-    /// Returns whether a file or a folder can't be read.
+    /// Returns whether an input of the program failed: a file or a folder.
     pub fn is_of_input(self) -> bool {
         matches!(self, Failure::Open | Failure::Read) || self.is_of_folder()
     }
 
-    /// Returns whether a folder can't be opened, listed or written into.
+    /// Returns whether the output tree of `arrange` failed, or is locked by another program.
+    pub fn is_of_tree(self) -> bool {
+        matches!(self, Failure::Link | Failure::Tree | Failure::BusyFolder)
+    }
+
+    /// Returns whether a folder failed: it cannot be opened, listed or written.
     pub fn is_of_folder(self) -> bool {
         matches!(
             self,

@@ -1,4 +1,4 @@
-//! What ends the program early: what failed, what to do about it, and why arguments ask for no job.
+//! The errors that end the program early, with what failed and what to do about it.
 #![tactic(auto)]
 
 mod error;

@@ -1,10 +1,10 @@
-//! The end of an output.
+//! Flushes an output at its end.
 use crate::error::ProgramError;
 use std::io::Write;
 
-/// Flushes the output, also after an error, and returns the outcome.
+/// Flushes the output, even after an error, and returns `outcome`.
 ///
-/// Fails with the error of the outcome, or else if the output can't be written.
+/// Fails with the error of `outcome`, or else if the output cannot be written.
 pub fn flushed<T: Drop, O: Write>(
     outcome: Result<T, ProgramError>,
     out: &mut O,

@@ -1,12 +1,12 @@
-//! A file that is read whole.
+//! Reads a file whole.
 use crate::error::ProgramError;
 use crate::failure::Failure;
 use std::alloc::Allocator;
 use std::io::Read;
 
-/// Returns all that the reader gives.
+/// Reads the input to its end and returns its bytes.
 ///
-/// Fails with this failure if it can't be read, or if memory runs out.
+/// Fails with `failure` if it cannot be read, or if memory runs out.
 pub fn read_whole<A: Allocator, R: Read>(
     alloc: A,
     input: &mut R,

@@ -1,14 +1,14 @@
-//! Why arguments ask for no job.
+//! The errors of the command line.
 use std::alloc::AllocError;
 use thiserror::Error;
 
-/// Why there is no job.
+/// Why the command line names no command to run.
 #[derive(Debug, Drop, Error)]
 pub enum WordsError {
-    /// Help or the version was asked for: this text.
+    /// It asks for help or the version, which is this text.
     #[error("{0}")]
     Shown(String),
-    /// The arguments are invalid, as this text says.
+    /// Its arguments are invalid, as this text says.
     #[error("{0}")]
     Refused(String),
     #[error("out of memory")]

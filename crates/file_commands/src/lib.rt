@@ -2,7 +2,6 @@
 //! `dcmbox checkdir` reads, too.
 #![tactic(auto)]
 
-mod counter;
 mod json_text;
 mod several;
 mod single;

@@ -1,10 +1,10 @@
 //! Several files that are inspected, one after the other, and the folders that they are in.
-use crate::counter::Counter;
 use crate::single::{Inspection, inspect, inspect_file};
 use crate::tally::Tally;
 use crate::tree::Visits;
 use failures::{Failure, ProgramError, flushed};
 use inspection::{Outcome, OutputForm, Printable};
+use keyed_files::Counter;
 use std::fs;
 use std::io::{self, BufWriter, Write};
 
@@ -50,7 +50,7 @@ impl<O: Write + Drop> Inspector<'_, O> {
 
     /// Writes the name of a file and what is asked for of it.
     fn inspect(&mut self, file: &str) -> Result<(), ProgramError> {
-        self.counter.show(self.rt);
+        self.counter.show(&mut self.rt.stderr());
         self.tell_name(file)?;
         match inspect_file(self.rt, self.inspection, file, &mut self.out) {
             Ok(inspected) => {
@@ -113,7 +113,7 @@ impl<O: Write + Drop> Inspector<'_, O> {
     /// Inspects the files, and writes how many there were where values are checked.
     fn run(&mut self, files: Files<'_>) -> Result<(), ProgramError> {
         let ran = self.inspect_all(files);
-        self.counter.clear(self.rt);
+        self.counter.clear(&mut self.rt.stderr());
         ran?;
         if !self.inspection.is_counted() {
             return Ok(());

@@ -4,8 +4,8 @@ use checkdir_command::checkdir_over;
 use element::Uid;
 use failures::{Failure, ProgramError, flushed};
 use inspection::{
-    CheckOptions, FileFront, Inspected, InspectionError, Outcome, OutputForm, Printable,
-    ShowOptions, Syntaxes, check_with, other_syntax_of, show_with,
+    CheckOptions, FileFront, Inspected, InspectionError, MetaRule, Outcome, OutputForm, Printable,
+    ShowOptions, Syntaxes, broken_rule_of, check_with, other_syntax_of, show_with,
 };
 use keywords::syntax_keyword;
 use std::alloc::Global;
@@ -100,8 +100,24 @@ fn tell_syntax(rt: &HostRuntime, file: &str, syntax: &Uid) {
     );
 }
 
+/// Tells which rule of the file meta information a file breaks.
+fn tell_rule(rt: &HostRuntime, file: &str, rule: MetaRule) {
+    let file = Printable(file.as_bytes());
+    let _ = eprintln!(rt; "dcmbox: {file}: its file meta information is wrong: {rule}");
+}
+
+/// Tells what is wrong with the header of a file that has a fault, where that is it.
+fn tell_header(rt: &HostRuntime, file: &str, beginning: &[u8], syntaxes: Syntaxes) {
+    if let Some(syntax) = other_syntax_of(beginning, syntaxes) {
+        tell_syntax(rt, file, &syntax);
+    }
+    if let Some(rule) = broken_rule_of(beginning) {
+        tell_rule(rt, file, rule);
+    }
+}
+
 /// Writes what is asked for of a file of this name that the reader gives, and tells of a transfer syntax that
-/// is not taken.
+/// is not taken, and of a rule of the file meta information that is broken.
 fn inspect_named<R: Read, O: Write>(
     rt: &HostRuntime,
     inspection: Inspection<'_>,
@@ -113,8 +129,8 @@ fn inspect_named<R: Read, O: Write>(
     }
     let mut front = FileFront::new(input);
     let inspected = inspect_over(rt.alloc(), inspection, &mut front, out)?;
-    if let Some(syntax) = other_syntax_of(front.kept(), inspection.syntaxes()) {
-        tell_syntax(rt, file, &syntax);
+    if inspected.outcome == Outcome::Faulty {
+        tell_header(rt, file, front.kept(), inspection.syntaxes());
     }
     Ok(inspected)
 }

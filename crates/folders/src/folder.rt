@@ -1,4 +1,4 @@
-//! The folder that received files go to.
+//! Opens the folder that received files go to.
 use arguments::Layout;
 use failures::{Failure, ProgramError};
 use part10::{Filing, FolderFiling, FolderWriter};
@@ -6,8 +6,10 @@ use std::fs::File;
 use std::io::{Error, ErrorKind};
 use std::rt::Files;
 
-/// Opens the folder for several filings. It must be there and have no other writer. With `sync`, a
-/// file is on the disk before its store is answered.
+/// Opens an existing folder for several filings, in this layout. With `sync`, a file is on the disk
+/// before its C-STORE is answered.
+///
+/// Fails if the folder does not exist, cannot be opened, or is locked by another writer.
 pub fn open_writer<R: Files<File = File> + Alloc + Clone + Drop>(
     rt: R,
     dir: &str,
@@ -24,9 +26,10 @@ pub fn open_writer<R: Files<File = File> + Alloc + Clone + Drop>(
     }
 }
 
-/// Has the file of this path, if there is one, keep the greatest numbers that the folder's files are given.
+/// Keeps the greatest numbers given to the folder's files in the file at `path`, as
+/// [`FolderWriter::with_numbers`] does. Does nothing without a path.
 ///
-/// Fails if it can't be read or made, or has no numbers.
+/// Fails if the file cannot be read or created, or is anything but a line of numbers.
 pub fn numbered<R: Files<File = File> + Alloc + Clone + Drop>(
     writer: FolderWriter<R>,
     path: Option<&str>,
@@ -40,7 +43,7 @@ pub fn numbered<R: Files<File = File> + Alloc + Clone + Drop>(
     }
 }
 
-/// Opens the folder for one filing, as `open_writer` does for several.
+/// Opens an existing folder for a single filing, as [`open_writer`] does for several.
 pub fn open_folder<R: Files<File = File> + Alloc + Clone + Drop>(
     rt: R,
     dir: &str,
@@ -51,10 +54,10 @@ pub fn open_folder<R: Files<File = File> + Alloc + Clone + Drop>(
     writer.filing().map_err(ProgramError::of_folder)
 }
 
-/// Makes a draft in the folder and drops it, so that a folder that can't be written into is told of
+/// Creates a draft in the folder and drops it, so that a folder that cannot be written is reported
 /// before anything is received.
 ///
-/// Fails with the system's error if no draft can be made.
+/// Fails with the system's error if no draft can be created.
 pub fn try_draft<R: Files<File = File> + Alloc + Clone + Drop>(
     filing: &mut FolderFiling<R>,
 ) -> Result<(), ProgramError> {

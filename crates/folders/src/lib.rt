@@ -1,4 +1,4 @@
-//! The folder that received files go to, as `serve` and `replay` open it.
+//! Opens the folder that received files go to, for `dcmbox serve` and `replay`.
 #![tactic(auto)]
 
 mod folder;

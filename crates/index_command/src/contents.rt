@@ -1,4 +1,5 @@
 //! What `dcmbox index` reads of the files of a folder: their rows, and why a file has none.
+use crate::kept::IndexedFiles;
 use crate::names::path_of;
 use arguments::Index;
 use checkdir_command::PathText;
@@ -107,6 +108,8 @@ pub(crate) struct Skipped {
 pub(crate) struct Contents<A: Allocator> {
     pub rows: Vec<Row<A>, A>,
     pub skipped: Vec<Skipped, A>,
+    /// How many files the present directory names, and the new one leaves out.
+    pub left_out: usize,
 }
 
 impl<A: Allocator> Contents<A> {
@@ -128,7 +131,7 @@ impl<A: Allocator> Contents<A> {
 pub(crate) fn read_rows<R: Files + Alloc>(
     rt: &R,
     settings: &Index,
-    ids: &[FileId],
+    files: IndexedFiles<R::A>,
     further: &[Transfer],
 ) -> Result<Contents<R::A>, ProgramError>
 where
@@ -137,8 +140,9 @@ where
     let mut contents = Contents {
         rows: Vec::new(rt.alloc()),
         skipped: Vec::new(rt.alloc()),
+        left_out: files.left_out,
     };
-    for id in ids {
+    for id in &files.ids {
         contents.push(id, row_of(rt, settings, id, further))?;
     }
     Ok(contents)

@@ -1,14 +1,16 @@
 //! `dcmbox index`: the directory of a folder of received files.
 use crate::contents::{Contents, Skipped, read_rows, tell_skipped};
+use crate::doubles::{list_doubles, tell_doubles};
 use crate::indexed::{IndexCounts, Indexed};
+use crate::kept::{DIRECTORY, IndexedFiles, kept_files};
 use crate::names::received_files;
 use crate::new_uid::new_uid;
 use arguments::Index;
-use checkdir_command::{PathText, tell_fault};
-use dicomdir::{Built, DirFault, FileId, build_within, check, kept_of, write_dir};
+use checkdir_command::tell_fault;
+use dicomdir::{Built, DirFault, build_within, write_dir};
 use dictionary::{IMPLEMENTATION_CLASS_UID, Transfer};
 use element::Uid;
-use failures::{Failure, ProgramError, flushed, read_whole};
+use failures::{Failure, ProgramError, flushed};
 use inspection::{Outcome, implementation_of};
 use std::alloc::Allocator;
 use std::fs::OpenFile;
@@ -16,59 +18,26 @@ use std::io::{BufWriter, ErrorKind, Read, Write};
 use std::rt::Files;
 use std::{fs, io};
 
-/// The name of the directory of a folder.
-const DIRECTORY: &str = "DICOMDIR";
-
 /// How many bytes of a directory are looked at for what wrote it.
 const HEADER_ROOM: u64 = 4096;
 
 /// The name of a directory that is not written whole yet.
 const DRAFT: &str = "DIRDRAFT";
 
-/// Reads the folder's directory whole.
-fn present_directory<R: Files + Alloc>(rt: &R, dir: &str) -> Result<Vec<u8, R::A>, ProgramError>
-where
-    R::A: Copy,
-{
-    let path = format!(in rt.alloc(); "{dir}/{DIRECTORY}")?;
-    match fs::open(rt, path.as_str()) {
-        Ok(mut file) => read_whole(rt.alloc(), &mut file, Failure::NoDirectory),
-        Err(error) => Err(ProgramError::System(Failure::NoDirectory, error)),
-    }
-}
-
-/// Returns the file IDs of the images that a directory keeps, or its fault.
-fn kept_in<A: Allocator + Copy>(alloc: A, bytes: &[u8]) -> Result<Vec<FileId, A>, DirFault> {
-    match check(alloc, bytes) {
-        Ok(tree) => kept_of(alloc, &tree),
-        Err(fault) => Err(fault),
-    }
-}
-
-/// Returns the file IDs of the images that the folder's directory keeps, or the fault of the directory.
-fn kept_files<R: Files + Alloc>(
-    rt: &R,
-    dir: &str,
-) -> Result<Result<Vec<FileId, R::A>, DirFault>, ProgramError>
-where
-    R::A: Copy,
-{
-    let bytes = present_directory(rt, dir)?;
-    Ok(kept_in(rt.alloc(), bytes.as_slice()))
-}
-
-/// Returns the file IDs of the files that the directory is of, or the fault of the present directory.
-fn files_of<R: Files + Alloc + Clone + Drop>(
+/// Returns the files that the directory is of, or the fault of the present directory.
+fn files_of<R: Files + Alloc + Clone + Drop, E: Write>(
     rt: &R,
     settings: &Index,
-) -> Result<Result<Vec<FileId, R::A>, DirFault>, ProgramError>
+    err: &mut E,
+) -> Result<Result<IndexedFiles<R::A>, DirFault>, ProgramError>
 where
     R::A: Copy,
 {
     if settings.keep {
-        return kept_files(rt, settings.dir);
+        return kept_files(rt, settings.dir, err);
     }
-    Ok(Ok(received_files(rt, settings.dir)?))
+    let ids = received_files(rt, settings.dir)?;
+    Ok(Ok(IndexedFiles { ids, left_out: 0 }))
 }
 
 /// Returns the beginning of a file, as far as a file header goes.
@@ -176,30 +145,26 @@ fn tell_built<A: Allocator, O: Write>(
     out: &mut O,
 ) -> io::Result<()> {
     tell_skipped(skipped, out)?;
-    for place in built.doubles() {
-        if let Some(row) = built.rows().get(*place) {
-            let path = PathText(row.file_id());
-            writeln!(out, "double {path}")?;
-        }
-    }
+    list_doubles(built, out)?;
     let records = built.records();
     writeln!(out, "records {records}")
 }
 
-/// Puts the directory into the folder, tells what it left out, and counts that.
-fn put_and_tell<R: Files + Alloc, O: Write>(
+/// Compares doubles, puts the directory into the folder, tells what it left out, and counts that.
+fn put_and_tell<R: Files + Alloc, O: Write, E: Write>(
     rt: &R,
     dir: &str,
     built: &Built<'_, R::A>,
-    skipped: &[Skipped],
-    out: &mut O,
+    contents: &Contents<R::A>,
+    (out, err): (&mut O, &mut E),
 ) -> Result<Indexed, ProgramError>
 where
     R::A: Copy,
 {
+    tell_doubles(rt, dir, built, err)?;
     put_directory(rt, dir, built)?;
-    match tell_built(built, skipped, out) {
-        Ok(()) => Ok(Indexed::Written(IndexCounts::of(built, skipped))),
+    match tell_built(built, contents.skipped.as_slice(), out) {
+        Ok(()) => Ok(Indexed::Written(IndexCounts::of(built, contents))),
         Err(error) => Err(ProgramError::of_output(error)),
     }
 }
@@ -219,22 +184,21 @@ fn refuse<O: Write>(fault: DirFault, out: &mut O) -> Result<Indexed, ProgramErro
 }
 
 /// Writes the directory of these files, of at most `most` bytes, and tells what it left out, or its fault.
-fn index_files<R: Files + Alloc, O: Write>(
+fn index_files<R: Files + Alloc, O: Write, E: Write>(
     rt: &R,
     settings: &Index,
     contents: &Contents<R::A>,
     most: u32,
-    out: &mut O,
+    (out, err): (&mut O, &mut E),
 ) -> Result<Indexed, ProgramError>
 where
     R::A: Copy,
 {
-    let skipped = contents.skipped.as_slice();
     let uid = uid_of(rt, settings)?;
     match build_within(rt.alloc(), contents.rows.as_slice(), uid, most) {
-        Ok(built) => put_and_tell(rt, settings.dir, &built, skipped, out),
+        Ok(built) => put_and_tell(rt, settings.dir, &built, contents, (out, err)),
         Err(fault) => {
-            tell_skipped(skipped, out).map_err(ProgramError::of_output)?;
+            tell_skipped(contents.skipped.as_slice(), out).map_err(ProgramError::of_output)?;
             refuse(fault, out)
         }
     }
@@ -251,6 +215,9 @@ fn further_syntaxes(all: bool) -> &'static [Transfer] {
 /// many files it leaves out. A directory that is not built, as one of more than `most` bytes, leaves an old one
 /// as it is, and its fault is told.
 ///
+/// On `err` a line tells of each record of the present directory that names a file and is no image's, and of each double
+/// whether it has the bytes of the file before it.
+///
 /// Memory for what the files say is the runtime's.
 ///
 /// Fails if the folder or its directory can't be read; if the directory was written by another
@@ -258,11 +225,12 @@ fn further_syntaxes(all: bool) -> &'static [Transfer] {
 /// bytes for a new UID; if the directory or the output can't be written; or if memory runs out. Then an old
 /// directory is as it was. Where only the output fails, or the folder can't be
 /// written up to the disk, the new directory is there.
-pub fn index_folder<R: Files + Alloc + Clone + Drop, O: Write>(
+pub fn index_folder<R: Files + Alloc + Clone + Drop, O: Write, E: Write>(
     rt: &R,
     settings: &Index,
     most: u32,
     out: &mut O,
+    err: &mut E,
 ) -> Result<Indexed, ProgramError>
 where
     R::A: Copy,
@@ -270,18 +238,18 @@ where
     if !settings.keep && !settings.replace {
         spare_others(rt, settings.dir)?;
     }
-    match files_of(rt, settings)? {
-        Ok(ids) => {
+    match files_of(rt, settings, err)? {
+        Ok(files) => {
             let further = further_syntaxes(settings.all_syntaxes);
-            let contents = read_rows(rt, settings, ids.as_slice(), further)?;
-            index_files(rt, settings, &contents, most, out)
+            let contents = read_rows(rt, settings, files, further)?;
+            index_files(rt, settings, &contents, most, (out, err))
         }
         Err(fault) => refuse(fault, out),
     }
 }
 
 /// Writes the directory of a folder as `index_folder` does, of fewer than 2^32 bytes, and returns whether there
-/// was no fault.
+/// was no fault. What `index_folder` tells on `err` is not told.
 pub fn index_dir<R: Files + Alloc + Clone + Drop, O: Write>(
     rt: &R,
     settings: &Index,
@@ -290,7 +258,7 @@ pub fn index_dir<R: Files + Alloc + Clone + Drop, O: Write>(
 where
     R::A: Copy,
 {
-    let indexed = index_folder(rt, settings, u32::MAX, out)?;
+    let indexed = index_folder(rt, settings, u32::MAX, out, &mut io::sink())?;
     Ok(indexed.outcome())
 }
 
@@ -298,7 +266,7 @@ where
 /// it leaves out goes to standard error. What was written before an error is printed, too.
 pub fn index(rt: &HostRuntime, settings: &Index) -> Result<Outcome, ProgramError> {
     let mut out = BufWriter::new(rt.alloc(), io::writer(rt)).map_err(ProgramError::of_output)?;
-    let indexed = index_folder(rt, settings, u32::MAX, &mut out);
+    let indexed = index_folder(rt, settings, u32::MAX, &mut out, &mut rt.stderr());
     let indexed = flushed(indexed, &mut out)?;
     if let Indexed::Written(counts) = indexed {
         let _ = eprintln!(rt; "{counts}");

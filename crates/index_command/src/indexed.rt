@@ -1,5 +1,5 @@
 //! What comes of a folder that is indexed.
-use crate::contents::Skipped;
+use crate::contents::Contents;
 use dicomdir::Built;
 use inspection::Outcome;
 use std::alloc::Allocator;
@@ -11,17 +11,18 @@ use std::fmt::{Display, Formatter};
 pub struct IndexCounts {
     /// The images, each with a record of its own.
     pub images: usize,
-    /// The files without a row, and the doubles.
+    /// The files without a row, the doubles, and the files whose records are not kept.
     pub left_out: usize,
 }
 
 impl IndexCounts {
-    /// Returns the counts of a directory, and of the files that have no row.
-    pub(crate) fn of<A: Allocator>(built: &Built<'_, A>, skipped: &[Skipped]) -> IndexCounts {
+    /// Returns the counts of a directory, and of the files that are left out.
+    pub(crate) fn of<A: Allocator>(built: &Built<'_, A>, contents: &Contents<A>) -> IndexCounts {
         let doubles = built.doubles().len();
+        let unlisted = contents.skipped.len().saturating_add(contents.left_out);
         IndexCounts {
             images: built.rows().len().saturating_sub(doubles),
-            left_out: skipped.len().saturating_add(doubles),
+            left_out: unlisted.saturating_add(doubles),
         }
     }
 }

@@ -3,7 +3,9 @@
 
 mod contents;
 mod directory;
+mod doubles;
 mod indexed;
+mod kept;
 mod names;
 mod new_uid;
 

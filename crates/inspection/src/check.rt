@@ -12,6 +12,7 @@ use element::{Header, Tag, Vr, check_value};
 use part10::Meta;
 use std::io;
 use std::io::{Read, Write};
+use values::Repertoire;
 
 /// The longest value that is checked without the whole table of VRs.
 const SHORT: usize = 1024;
@@ -69,9 +70,8 @@ impl<O: Write> Listing<O> for Values {
         header: &Header,
         _out: &mut O,
     ) -> io::Result<()> {
-        let header = *header;
         self.value.clear();
-        self.due = due_of(place, header);
+        self.due = due_of(place, *header);
         Ok(())
     }
 
@@ -83,10 +83,13 @@ impl<O: Write> Listing<O> for Values {
             return Ok(());
         }
         self.due = None;
+        let (notes, vr) = (self.notes, due.vr);
         let Some(note) = note_of(due, self.value.as_slice()) else {
             return Ok(());
         };
-        self.notes.add(&note, out)
+        // The rules of the VRs whose texts may be in another set come with `strict` alone.
+        let shown = notes.shown(vr, self.value.as_slice(), Repertoire::Ascii);
+        self.notes.add_value(&note, &shown, out)
     }
 
     fn on_end(&mut self, judgement: &Judgement, out: &mut O) -> io::Result<()> {
@@ -133,7 +136,9 @@ fn given_up<O: Write>(error: InspectionError, notes: Notes, out: &mut O) -> Insp
 }
 
 /// Checks the file that the reader gives, as `check_over` does, with these options. With `strict`, each value of
-/// at most 65,536 bytes is held to the table of VRs, too, and a longer one to the size of its numbers.
+/// at most 65,536 bytes is held to the table of VRs, too, and a longer one to the size of its numbers. With `values`, a
+/// line after that of a note has the keyword and the value, of more than 256 bytes how many it has, and one after that of
+/// a data set's fault the keyword.
 ///
 /// Fails if the file can't be read or the output can't be written.
 pub fn check_with<R: Read, O: Write>(
@@ -141,7 +146,7 @@ pub fn check_with<R: Read, O: Write>(
     options: CheckOptions,
     out: &mut O,
 ) -> Result<Inspected, InspectionError> {
-    let notes = Notes::new(options.form);
+    let notes = Notes::new(options);
     notes.begin(out).map_err(InspectionError::Write)?;
     let (outcome, notes) = if options.strict {
         check_all(input, options.syntaxes, notes, out)
@@ -167,6 +172,7 @@ pub fn check_over<R: Read, O: Write>(
 ) -> Result<Inspected, InspectionError> {
     let options = CheckOptions {
         strict: false,
+        values: false,
         form: OutputForm::Lines,
         syntaxes: Syntaxes::Native,
     };

@@ -1,7 +1,8 @@
 //! The elements of a file, as members of a JSON object.
-use crate::json::{JudgementJson, VrJson};
+use crate::followed_sets::FollowedSets;
+use crate::json::{JudgementJson, KeywordJson, VrJson};
 use crate::judgement::Judgement;
-use crate::keyword::{UNDEFINED, known_keyword};
+use crate::keyword::UNDEFINED;
 use crate::options::ShowOptions;
 use crate::shown_value::{ShownText, ShownValue};
 use crate::texts::{Printable, TagText};
@@ -26,19 +27,6 @@ impl fmt::Display for LengthJson {
     }
 }
 
-/// A keyword, or none.
-#[derive(Clone, Copy)]
-struct KeywordJson(Option<&'static str>);
-
-impl fmt::Display for KeywordJson {
-    fn fmt<W: fmt::Write>(&self, f: &mut fmt::Formatter<W>) -> fmt::Result {
-        match self.0 {
-            Some(keyword) => write!(f, "\"{keyword}\""),
-            None => f.write_str("null"),
-        }
-    }
-}
-
 /// Where the output stands.
 #[derive(Clone, Copy)]
 enum Written {
@@ -57,6 +45,7 @@ enum Written {
 pub(crate) struct ElementsJson<'a> {
     options: ShowOptions<'a>,
     value: ShownValue,
+    sets: FollowedSets,
     written: Written,
 }
 
@@ -68,7 +57,7 @@ fn write_element<O: Write>(
     out: &mut O,
 ) -> io::Result<()> {
     let Header { tag, length, vr } = *header;
-    let (vr, keyword) = (VrJson(vr.or(vr_of(tag))), KeywordJson(known_keyword(tag)));
+    let (vr, keyword) = (VrJson(vr.or(vr_of(tag))), KeywordJson(tag));
     let (tag, length) = (TagText(tag), LengthJson(length));
     write!(
         out,
@@ -82,6 +71,7 @@ impl<'a> ElementsJson<'a> {
         ElementsJson {
             options,
             value: ShownValue::new(options.form),
+            sets: FollowedSets::new(),
             written: Written::Nothing,
         }
     }
@@ -135,6 +125,7 @@ impl<O: Write> Listing<O> for ElementsJson<'_> {
         out: &mut O,
     ) -> io::Result<()> {
         self.value.begin(header);
+        self.sets.on_header(levels, header);
         let tag = header.tag;
         if !self.options.names(tag) {
             return Ok(());
@@ -143,12 +134,15 @@ impl<O: Write> Listing<O> for ElementsJson<'_> {
         write_element((place, levels), header, before, out)?;
         self.written = Written::Open;
         if self.options.values {
-            self.value.expect(levels, header);
+            let vr = header.vr.or(vr_of(tag));
+            self.value
+                .expect(levels, header, self.sets.repertoire_of(levels, vr));
         }
         Ok(())
     }
 
     fn on_bytes(&mut self, bytes: &[u8], out: &mut O) -> io::Result<()> {
+        self.sets.on_bytes(bytes);
         self.value.take(bytes);
         if !self.value.is_whole() {
             return Ok(());

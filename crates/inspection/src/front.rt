@@ -4,7 +4,7 @@ use std::io;
 use std::io::Read;
 
 /// How many bytes are kept.
-const KEPT: usize = 4096;
+pub(crate) const KEPT: usize = 4096;
 
 /// A reader that keeps the first 4096 bytes.
 #[derive(Drop)]

@@ -1,14 +1,28 @@
 //! What is found in a file, as members of a JSON object.
 use crate::judgement::{Judgement, place_of};
+use crate::keyword::known_keyword;
 use crate::texts::{TagText, VrText};
 use element::{Tag, Vr};
 use part10::MetaFault;
 use sequence::Fault;
 use std::fmt;
 
-/// A judgement: a note as an object, and any other as members of the file's object.
+/// A judgement as members of an object of JSON: of that of a note, or of that of the file.
 #[derive(Clone, Copy)]
 pub struct JudgementJson<'a>(pub &'a Judgement);
+
+/// The keyword of a tag, or none.
+#[derive(Clone, Copy)]
+pub(crate) struct KeywordJson(pub Tag);
+
+impl fmt::Display for KeywordJson {
+    fn fmt<W: fmt::Write>(&self, f: &mut fmt::Formatter<W>) -> fmt::Result {
+        match known_keyword(self.0) {
+            Some(keyword) => write!(f, "\"{keyword}\""),
+            None => f.write_str("null"),
+        }
+    }
+}
 
 /// The letters of a VR, or none.
 #[derive(Clone, Copy)]
@@ -26,16 +40,19 @@ impl fmt::Display for VrJson {
     }
 }
 
-/// Prints a note as an object.
+/// Prints the members of a note.
 fn write_note<W: fmt::Write>(
     f: &mut fmt::Formatter<W>,
     place: u64,
     (tag, vr): (Tag, Option<Vr>),
     (number, name): (u8, &str),
 ) -> fmt::Result {
-    let (tag, vr) = (TagText(tag), VrJson(vr));
-    write!(f, "{{\"place\":{place},\"tag\":\"{tag}\",\"vr\":{vr},")?;
-    write!(f, "\"number\":{number},\"name\":\"{name}\"}}")
+    let (keyword, tag, vr) = (KeywordJson(tag), TagText(tag), VrJson(vr));
+    write!(f, "\"place\":{place},\"tag\":\"{tag}\",\"vr\":{vr},")?;
+    write!(
+        f,
+        "\"number\":{number},\"name\":\"{name}\",\"keyword\":{keyword}"
+    )
 }
 
 /// Prints the fault of a file header.
@@ -53,13 +70,17 @@ fn write_bad_data<W: fmt::Write>(
     start: u64,
     fault: Fault,
 ) -> fmt::Result {
-    let (number, name, tag) = (fault.number, fault.name(), TagText(fault.tag));
+    let (number, name) = (fault.number, fault.name());
+    let (keyword, tag) = (KeywordJson(fault.tag), TagText(fault.tag));
     let place = start.saturating_add(fault.place);
     write!(
         f,
         "\"result\":\"fault\",\"number\":{number},\"name\":\"{name}\","
     )?;
-    write!(f, "\"place\":{place},\"tag\":\"{tag}\"")
+    write!(
+        f,
+        "\"place\":{place},\"tag\":\"{tag}\",\"keyword\":{keyword}"
+    )
 }
 
 impl fmt::Display for JudgementJson<'_> {

@@ -24,6 +24,19 @@ pub enum Judgement {
     Good(u64),
 }
 
+impl Judgement {
+    /// Returns the tag of a note, or of the fault of a data set.
+    pub(crate) fn tag(&self) -> Option<Tag> {
+        match *self {
+            Judgement::Note(_, tag, _, _) => Some(tag),
+            Judgement::FormNote(_, tag, _, _) => Some(tag),
+            Judgement::TableNote(_, tag, _, _) => Some(tag),
+            Judgement::BadData(_, fault) => Some(fault.tag),
+            Judgement::BadHeader(_) | Judgement::Good(_) => None,
+        }
+    }
+}
+
 /// Returns where a file's header breaks a rule: at the letters `DICM`, or after them.
 pub(crate) fn place_of(fault: MetaFault) -> u64 {
     match fault {

@@ -1,24 +1,68 @@
 //! The notes of a check, and its end.
 use crate::json::JudgementJson;
 use crate::judgement::Judgement;
-use crate::options::OutputForm;
+use crate::keyword::known_keyword;
+use crate::options::{CheckOptions, OutputForm};
+use crate::shown_value::ShownText;
+use crate::value_text::ValueText;
+use element::{Tag, Vr};
 use std::io;
 use std::io::Write;
+use values::Repertoire;
+
+/// The longest value that is written with its note.
+const LONGEST_NOTED: usize = 256;
 
 /// Writes the notes of a check and counts them.
 #[derive(Clone, Copy)]
 pub(crate) struct Notes {
     form: OutputForm,
+    /// Whether values are written, too.
+    values: bool,
     count: u64,
 }
 
+/// Writes the line of a keyword after that of a note or a fault.
+fn write_keyword<O: Write>(tag: Tag, out: &mut O) -> io::Result<()> {
+    let keyword = known_keyword(tag).unwrap_or("?");
+    writeln!(out, "           {keyword}")
+}
+
+/// Writes the line of a keyword and a value after that of a note.
+fn write_value<O: Write>(tag: Tag, value: &ShownText<'_>, out: &mut O) -> io::Result<()> {
+    let keyword = known_keyword(tag).unwrap_or("?");
+    writeln!(out, "           {keyword} = {value}")
+}
+
 impl Notes {
-    pub(crate) fn new(form: OutputForm) -> Notes {
-        Notes { form, count: 0 }
+    pub(crate) fn new(options: CheckOptions) -> Notes {
+        Notes {
+            form: options.form,
+            values: options.values,
+            count: 0,
+        }
     }
 
     pub(crate) fn count(&self) -> u64 {
         self.count
+    }
+
+    /// Returns what is written of a value of texts of this repertoire: of a long one, how many bytes it has.
+    pub(crate) fn shown<'a>(
+        &self,
+        vr: Vr,
+        value: &'a [u8],
+        repertoire: Repertoire,
+    ) -> ShownText<'a> {
+        if value.len() > LONGEST_NOTED {
+            return ShownText::Long(value.len());
+        }
+        ShownText::Value(ValueText {
+            vr: Some(vr),
+            value,
+            form: self.form,
+            repertoire,
+        })
     }
 
     /// Writes what stands before the first note.
@@ -29,23 +73,79 @@ impl Notes {
         }
     }
 
-    /// Writes a note.
-    pub(crate) fn add<O: Write>(&mut self, note: &Judgement, out: &mut O) -> io::Result<()> {
+    /// Writes the lines of a note or a fault: the keyword has one where values are written.
+    fn write_lines<O: Write>(&self, judgement: &Judgement, out: &mut O) -> io::Result<()> {
+        writeln!(out, "{judgement}")?;
+        match judgement.tag() {
+            Some(tag) if self.values => write_keyword(tag, out),
+            _ => Ok(()),
+        }
+    }
+
+    /// Writes the lines of a note of a value.
+    fn write_value_lines<O: Write>(
+        &self,
+        note: &Judgement,
+        value: &ShownText<'_>,
+        out: &mut O,
+    ) -> io::Result<()> {
+        writeln!(out, "{note}")?;
+        match note.tag() {
+            Some(tag) if self.values => write_value(tag, value, out),
+            _ => Ok(()),
+        }
+    }
+
+    /// Opens the object of a note.
+    fn open<O: Write>(&self, note: &Judgement, out: &mut O) -> io::Result<()> {
         let comma = if self.count > 0 { "," } else { "" };
-        self.count = self.count.saturating_add(1);
+        let note = JudgementJson(note);
+        write!(out, "{comma}{{{note}")
+    }
+
+    /// Closes the object of a note of a value.
+    fn close<O: Write>(&self, value: &ShownText<'_>, out: &mut O) -> io::Result<()> {
+        match value {
+            ShownText::Value(value) if self.values => { write!(out, ",\"value\":\"{value}\"}}") }
+            _ => write!(out, "}}"),
+        }
+    }
+
+    /// Writes a note that is not of a value.
+    pub(crate) fn add<O: Write>(&mut self, note: &Judgement, out: &mut O) -> io::Result<()> {
         match self.form {
-            OutputForm::Lines => writeln!(out, "{note}"),
+            OutputForm::Lines => self.write_lines(note, out)?,
             OutputForm::Json => {
-                let note = JudgementJson(note);
-                write!(out, "{comma}{note}")
+                self.open(note, out)?;
+                write!(out, "}}")?;
             }
         }
+        self.count = self.count.saturating_add(1);
+        Ok(())
+    }
+
+    /// Writes a note of a value, and the value where that is asked for.
+    pub(crate) fn add_value<O: Write>(
+        &mut self,
+        note: &Judgement,
+        value: &ShownText<'_>,
+        out: &mut O,
+    ) -> io::Result<()> {
+        match self.form {
+            OutputForm::Lines => self.write_value_lines(note, value, out)?,
+            OutputForm::Json => {
+                self.open(note, out)?;
+                self.close(value, out)?;
+            }
+        }
+        self.count = self.count.saturating_add(1);
+        Ok(())
     }
 
     /// Writes how the file ends.
     pub(crate) fn end<O: Write>(&self, judgement: &Judgement, out: &mut O) -> io::Result<()> {
         match self.form {
-            OutputForm::Lines => writeln!(out, "{judgement}"),
+            OutputForm::Lines => self.write_lines(judgement, out),
             OutputForm::Json => {
                 let judgement = JudgementJson(judgement);
                 writeln!(out, "],{judgement}}}")

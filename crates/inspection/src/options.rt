@@ -24,6 +24,8 @@ pub enum Syntaxes {
 pub struct CheckOptions {
     /// Whether values are held to the whole table of VRs.
     pub strict: bool,
+    /// Whether the keyword and the value are written with a note, and the keyword with a fault.
+    pub values: bool,
     pub form: OutputForm,
     pub syntaxes: Syntaxes,
 }

@@ -14,7 +14,7 @@ const TRANSFER_SYNTAX_UID: Tag = Tag(0x0002, 0x0010);
 
 /// Returns the header of the element that the bytes begin with, and its size, or `None` where they end
 /// before that.
-fn first_header(bytes: &[u8]) -> Option<(Header, usize)> {
+pub(crate) fn first_header(bytes: &[u8]) -> Option<(Header, usize)> {
     match need(Syntax::Explicit, bytes) {
         Need::More | Need::BadVr => None,
         Need::Size(size) => {
@@ -36,7 +36,7 @@ fn header_at(file: &[u8], place: usize) -> Option<(Header, usize)> {
 
 /// Returns the identifier that a file header has as the value of this tag (PS3.10 section 7.1), or `None`
 /// where it has none in the bytes, which are the beginning of the file.
-fn identifier_of(file: &[u8], tag: Tag) -> Option<Uid> {
+pub(crate) fn identifier_of(file: &[u8], tag: Tag) -> Option<Uid> {
     let mut place = PREFIX;
     for _ in 0..file.len() {
         let (header, start) = header_at(file, place)?;

@@ -13,6 +13,7 @@ use element::Header;
 use part10::Meta;
 use std::io::{Read, Write};
 use std::{fmt, io};
+use values::Repertoire;
 
 /// Lists each header, or those of some tags, and the values where they are asked for.
 #[derive(Drop)]
@@ -87,7 +88,7 @@ impl<O: Write> Listing<O> for Elements<'_> {
             return Ok(());
         }
         if self.options.values {
-            self.value.expect(levels, header);
+            self.value.expect(levels, header, Repertoire::Ascii);
         }
         self.write_line(place, levels, header, out)
     }

@@ -7,6 +7,7 @@ use arrayvec::ArrayVec;
 use dictionary::vr_of;
 use element::{Header, Tag, Vr};
 use std::fmt;
+use values::Repertoire;
 
 /// The longest value that is shown.
 const LONGEST_SHOWN: usize = 64;
@@ -46,13 +47,14 @@ pub(crate) struct ShownValue {
     has_begun: bool,
     table: Table,
     form: OutputForm,
+    repertoire: Repertoire,
 }
 
 /// A value, or its length where it is longer than what is shown.
 #[derive(Clone, Copy)]
 pub(crate) enum ShownText<'a> {
     Value(ValueText<'a>),
-    Long(u32),
+    Long(usize),
 }
 
 impl fmt::Display for ShownText<'_> {
@@ -74,6 +76,7 @@ impl ShownValue {
             has_begun: false,
             table: Table::Elsewhere,
             form,
+            repertoire: Repertoire::Ascii,
         }
     }
 
@@ -96,8 +99,8 @@ impl ShownValue {
         }
     }
 
-    /// Waits for the value of the header that it follows, if that has one.
-    pub(crate) fn expect(&mut self, levels: usize, header: &Header) {
+    /// Waits for the value of the header that it follows, if that has one; its texts are of this repertoire.
+    pub(crate) fn expect(&mut self, levels: usize, header: &Header, repertoire: Repertoire) {
         let Header { tag, length, .. } = *header;
         let vr = self.vr_of(header);
         let is_item = tag == Tag::ITEM && vr.is_none();
@@ -107,6 +110,7 @@ impl ShownValue {
         }
         self.vr = vr;
         self.levels = levels;
+        self.repertoire = repertoire;
         self.length = Some(length);
         self.bytes.clear();
         self.has_begun = false;
@@ -135,11 +139,12 @@ impl ShownValue {
     /// Returns what is shown.
     pub(crate) fn text(&self) -> ShownText<'_> {
         match self.length {
-            Some(length) if length as usize > LONGEST_SHOWN => ShownText::Long(length),
+            Some(length) if length as usize > LONGEST_SHOWN => ShownText::Long(length as usize),
             _ => ShownText::Value(ValueText {
                 vr: self.vr,
                 value: self.bytes.as_slice(),
                 form: self.form,
+                repertoire: self.repertoire,
             }),
         }
     }

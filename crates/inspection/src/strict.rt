@@ -1,9 +1,11 @@
 //! `dcmbox check --strict`: also the values that break the table of VRs.
+use crate::followed_sets::SPECIFIC_CHARACTER_SET;
 use crate::frame_tables::FrameTables;
 use crate::judgement::Judgement;
 use crate::limits::LONGEST;
 use crate::notes::Notes;
 use crate::sets::Sets;
+use crate::shown_value::ShownText;
 use crate::walk::Listing;
 use arrayvec::ArrayVec;
 use dictionary::vr_of;
@@ -11,10 +13,7 @@ use element::{Header, Tag, ValueFault, Vr, check_value};
 use part10::Meta;
 use std::io;
 use std::io::Write;
-use values::{CharacterSet, Reading, check_form, number_size};
-
-/// The tag of Specific Character Set.
-const SPECIFIC_CHARACTER_SET: Tag = Tag(0x0008, 0x0005);
+use values::{Reading, check_form, number_size};
 
 /// The tag of Number of Frames.
 const NUMBER_OF_FRAMES: Tag = Tag(0x0028, 0x0008);
@@ -77,16 +76,18 @@ impl StrictValues {
     /// Checks a value that is whole.
     fn check<O: Write>(&mut self, due: DueText, out: &mut O) -> io::Result<()> {
         if due.tag == SPECIFIC_CHARACTER_SET {
-            let set = CharacterSet::of_value(self.value.as_slice());
-            self.sets.name(due.level, set);
+            self.sets.name(due.level, self.value.as_slice());
         }
         if due.tag == NUMBER_OF_FRAMES && due.level == 0 {
             self.tables.set_frames(self.value.as_slice());
         }
-        match self.note_of(due) {
-            Some(note) => self.notes.add(&note, out),
-            None => Ok(()),
-        }
+        let Some(note) = self.note_of(due) else {
+            return Ok(());
+        };
+        let repertoire = self.sets.repertoire_of(due.level, due.vr);
+        let notes = self.notes;
+        let shown = notes.shown(due.vr, self.value.as_slice(), repertoire);
+        self.notes.add_value(&note, &shown, out)
     }
 
     /// Checks the length of a value that is too long to be kept.
@@ -96,7 +97,8 @@ impl StrictValues {
         }
         let fault = ValueFault::WrongSize;
         let note = Judgement::Note(due.place, due.tag, due.vr, fault);
-        self.notes.add(&note, out)
+        let shown = ShownText::Long(due.length);
+        self.notes.add_value(&note, &shown, out)
     }
 }
 

@@ -1,9 +1,11 @@
 //! Values as they are shown.
+use crate::json_text::write_json_text;
 use crate::options::OutputForm;
 use crate::texts::TagText;
 use element::{Tag, Vr, unpadded};
 use std::fmt;
 use std::num::{f32_from_bits_with_nan, f64_from_bits_with_nan};
+use values::Repertoire;
 
 /// How the values of a VR are shown.
 #[derive(Clone, Copy)]
@@ -66,33 +68,26 @@ fn notation_of_letters(letters: [u8; 2]) -> (Notation, usize) {
     }
 }
 
-/// Prints text, with `%` and two hexadecimal digits for each byte that is no printed ASCII character, and for `%`.
-fn write_text<W: fmt::Write>(
-    f: &mut fmt::Formatter<W>,
-    form: OutputForm,
-    text: &[u8],
-) -> fmt::Result {
+/// Prints text in a line, with `%` and two hexadecimal digits for each byte that is no printed ASCII character, and
+/// for `%`.
+fn write_text<W: fmt::Write>(f: &mut fmt::Formatter<W>, text: &[u8]) -> fmt::Result {
     for byte in text {
         let is_printable = byte.is_ascii_graphic() || *byte == b' ';
         if !is_printable || *byte == b'%' {
             write!(f, "%{:02x}", *byte)?;
         } else {
-            write_printable(f, form, *byte)?;
+            f.write_char(char::from(*byte))?;
         }
     }
     Ok(())
 }
 
-/// Prints a printed ASCII character, in a string of JSON as it has it.
-fn write_printable<W: fmt::Write>(
-    f: &mut fmt::Formatter<W>,
-    form: OutputForm,
-    byte: u8,
-) -> fmt::Result {
-    if form == OutputForm::Json && (byte == b'\\' || byte == b'"') {
-        f.write_char('\\')?;
+/// Prints what stands between two values, in a string of JSON as it has it.
+fn write_backslash<W: fmt::Write>(f: &mut fmt::Formatter<W>, form: OutputForm) -> fmt::Result {
+    match form {
+        OutputForm::Lines => f.write_str("\\"),
+        OutputForm::Json => f.write_str("\\\\"),
     }
-    f.write_char(char::from(byte))
 }
 
 /// Prints an unsigned number, the low byte first.
@@ -193,7 +188,7 @@ fn write_all<W: fmt::Write>(
         }
         let (one, others) = rest.split_at(size.min(rest.len()));
         if !is_first {
-            write_printable(f, form, b'\\')?;
+            write_backslash(f, form)?;
         }
         write_one(f, notation, one)?;
         is_first = false;
@@ -209,14 +204,24 @@ pub struct ValueText<'a> {
     pub vr: Option<Vr>,
     pub value: &'a [u8],
     pub form: OutputForm,
+    /// Of text in JSON; a line has ASCII alone.
+    pub repertoire: Repertoire,
 }
 
 impl fmt::Display for ValueText<'_> {
     fn fmt<W: fmt::Write>(&self, f: &mut fmt::Formatter<W>) -> fmt::Result {
-        let ValueText { vr, value, form } = *self;
-        match notation_of(vr) {
-            (Notation::Text, _) => write_text(f, form, unpadded(value)),
-            (notation, size) => write_all(f, (notation, size), form, value),
+        let ValueText {
+            vr,
+            value,
+            form,
+            repertoire,
+        } = *self;
+        match (notation_of(vr), form) {
+            ((Notation::Text, _), OutputForm::Lines) => write_text(f, unpadded(value)),
+            ((Notation::Text, _), OutputForm::Json) => {
+                write_json_text(f, repertoire, unpadded(value))
+            }
+            (notation, _) => write_all(f, notation, form, value),
         }
     }
 }

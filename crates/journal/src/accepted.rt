@@ -9,6 +9,13 @@ const BEFORE_ITEMS: usize = 68;
 /// information.
 const MOST_ITEMS: usize = 130;
 
+/// The result of a context that was not answered: none of PS3.8 Table 9-18.
+const UNANSWERED: u8 = 255;
+
+/// The results of the contexts that an A-ASSOCIATE-AC answers, by their IDs, which are odd.
+#[derive(Clone, Copy)]
+pub(crate) struct Results([u8; 128]);
+
 /// Returns the type and the content of the first item, and what follows it, or `None` if no whole item
 /// stands there.
 fn first_item(bytes: &[u8]) -> Option<(u8, &[u8], &[u8])> {
@@ -23,16 +30,43 @@ fn first_item(bytes: &[u8]) -> Option<(u8, &[u8], &[u8])> {
     Some((item[0], &item[4..], rest))
 }
 
-/// Returns the result of the context with this ID in the body of an A-ASSOCIATE-AC, or `None` if the body
-/// does not answer it.
-pub(crate) fn result_of(body: &[u8], id: u8) -> Option<u8> {
-    let mut rest = body.get(BEFORE_ITEMS..)?;
-    for _ in 0..MOST_ITEMS {
-        let (kind, content, more) = first_item(rest)?;
-        if kind == ANSWERED_CONTEXT && content.len() >= 3 && content[0] == id {
-            return Some(content[2]);
-        }
-        rest = more;
+impl Results {
+    /// Returns the results of no contexts.
+    pub(crate) fn new() -> Results {
+        Results([UNANSWERED; 128])
     }
-    None
+
+    /// Returns the results in the body of an A-ASSOCIATE-AC.
+    pub(crate) fn of(body: &[u8]) -> Results {
+        let mut results = Results::new();
+        let Some(items) = body.get(BEFORE_ITEMS..) else {
+            return results;
+        };
+        let mut rest = items;
+        for _ in 0..MOST_ITEMS {
+            let Some((kind, content, more)) = first_item(rest) else {
+                return results;
+            };
+            if kind == ANSWERED_CONTEXT && content.len() >= 3 {
+                results.0[usize::from(content[0] / 2)] = content[2];
+            }
+            rest = more;
+        }
+        results
+    }
+
+    /// Returns the result of the context with this ID, or `None` if it was not answered.
+    pub(crate) fn result(&self, id: u8) -> Option<u8> {
+        let result = self.0[usize::from(id / 2)];
+        if result == UNANSWERED || id % 2 == 0 {
+            None
+        } else {
+            Some(result)
+        }
+    }
+
+    /// Returns whether the context with this ID was accepted.
+    pub(crate) fn is_accepted(&self, id: u8) -> bool {
+        self.result(id) == Some(0)
+    }
 }

@@ -1,55 +1,103 @@
 //! How an association ended.
 use crate::cause::Cause;
-use crate::words::{abort_words, rejection_words};
-use connection::ReadEnd;
+use crate::words::{provider_words, rejection_words};
+use connection::{REQUEST, ReadEnd};
 use std::fmt;
+
+/// The bytes of the heads of a PDU and of a presentation data value, which a request leaves free.
+const HEADS: usize = 12;
+
+/// The least maximum length of a peer that leaves room for a fragment.
+const LEAST_MAXIMUM: u32 = 8;
+
+/// Why a request was rejected: the source and the reason of the A-ASSOCIATE-RJ, and what the request has to
+/// do with it.
+#[derive(Clone, Copy, Debug, PartialEq, Eq)]
+pub(crate) struct Rejection {
+    pub source: u8,
+    pub reason: u8,
+    pub about: About,
+}
+
+/// What a request has to do with its rejection.
+#[derive(Clone, Copy, Debug, PartialEq, Eq)]
+pub(crate) enum About {
+    /// Nothing that has a number.
+    Nothing,
+    /// Its body has so many bytes.
+    Length(u32),
+    /// The maximum length of a P-DATA-TF PDU that the peer receives.
+    Maximum(u32),
+}
+
+impl fmt::Display for Rejection {
+    fn fmt<W: fmt::Write>(&self, f: &mut fmt::Formatter<W>) -> fmt::Result {
+        f.write_str(rejection_words(self.source, self.reason))?;
+        match self.about {
+            About::Nothing => Ok(()),
+            About::Length(length) => {
+                let most = REQUEST - HEADS;
+                write!(f, " (request of {length} bytes, at most {most})")
+            }
+            About::Maximum(maximum) => {
+                write!(f, " (maximum length {maximum}, at least {LEAST_MAXIMUM})")
+            }
+        }
+    }
+}
+
+/// The source and the reason of an A-ABORT (PS3.8 section 9.3.8).
+#[derive(Clone, Copy, Debug, PartialEq, Eq)]
+pub(crate) struct Abort {
+    pub source: u8,
+    pub reason: u8,
+}
+
+/// Which side's user or provider aborted, and why, where the provider says so.
+impl fmt::Display for Abort {
+    fn fmt<W: fmt::Write>(&self, f: &mut fmt::Formatter<W>) -> fmt::Result {
+        match self.source {
+            0 => f.write_str("its user"),
+            2 => {
+                let why = provider_words(self.reason);
+                write!(f, "its provider: {why}")
+            }
+            _ => f.write_str("a reserved source"),
+        }
+    }
+}
 
 /// How an association ended.
 #[derive(Clone, Copy, Debug, PartialEq, Eq)]
 pub(crate) enum End {
     /// The peer released it.
     Released,
-    /// Its request was rejected, with this source and reason.
-    Rejected(u8, u8),
+    /// Its request was rejected.
+    Rejected(Rejection),
     /// The peer aborted it.
-    AbortedByPeer,
-    /// It was aborted with this source and reason; what was found in the peer's bytes.
-    Aborted(u8, u8, Option<Cause>),
+    AbortedByPeer(Abort),
+    /// The box aborted it, for what the peer had sent.
+    Aborted(Abort, Option<Cause>),
     /// Nothing more was read.
     Read(ReadEnd),
     /// A send failed.
     SendFailed,
 }
 
-impl End {
-    /// Returns the end after something was sent that ends the association. What had been found
-    /// before in bytes that the association had not yet taken counts no more; why the box itself gave the
-    /// association up does, since it is why the A-ABORT was sent.
-    pub(crate) fn after(before: Option<End>, sent: End) -> Option<End> {
-        match before {
-            Some(End::Read(ReadEnd::Idle | ReadEnd::Longest | ReadEnd::Stopped)) => before,
-            _ => Some(sent),
-        }
-    }
-}
-
 impl fmt::Display for End {
     fn fmt<W: fmt::Write>(&self, f: &mut fmt::Formatter<W>) -> fmt::Result {
         match *self {
             End::Released => f.write_str("released"),
-            End::Rejected(source, reason) => {
-                let why = rejection_words(source, reason);
-                write!(f, "rejected: {why}")
+            End::Rejected(rejection) => write!(f, "rejected: {rejection}"),
+            End::AbortedByPeer(abort) => {
+                let Abort { source, reason } = abort;
+                write!(
+                    f,
+                    "aborted by the peer, {abort} (source {source} reason {reason})"
+                )
             }
-            End::AbortedByPeer => f.write_str("aborted by the peer"),
-            End::Aborted(source, reason, None) => {
-                let why = abort_words(source, reason);
-                write!(f, "aborted: {why}")
-            }
-            End::Aborted(source, reason, Some(cause)) => {
-                let why = abort_words(source, reason);
-                write!(f, "aborted: {why} ({cause})")
-            }
+            End::Aborted(abort, None) => write!(f, "aborted by dcmbox, {abort}"),
+            End::Aborted(abort, Some(cause)) => write!(f, "aborted by dcmbox, {abort} ({cause})"),
             End::Read(ReadEnd::Closed) => f.write_str("closed by the peer"),
             End::Read(ReadEnd::Timer) => f.write_str("ARTIM timer expired"),
             End::Read(ReadEnd::Idle) => f.write_str("aborted: the peer was idle"),

@@ -1,11 +1,13 @@
 //! What the lines of the log tell.
-use crate::end::End;
+use crate::end::{End, Rejection};
 use crate::entry::{Entry, Event, Fields, Name};
 use crate::outcome::Counts;
+use crate::refusal::Reason;
+use crate::refused::RefusedClasses;
 use crate::reply::{Reply, Value};
 use crate::state::{State, Title};
 use crate::text::Text;
-use crate::words::{context_words, rejection_words};
+use crate::words::context_words;
 use log::Level;
 use part10::Place;
 use std::fmt::Write;
@@ -123,11 +125,17 @@ impl Entry for FilingFailed<'_> {
     }
 }
 
+/// Gives the calling title, where it is known.
+fn give_calling<F: Fields>(calling: &Title, out: &mut F) {
+    if calling.len() > 0 {
+        out.text(CALLING, calling.as_str());
+    }
+}
+
 /// An association request was rejected.
 #[derive(Clone, Copy)]
 pub(crate) struct Rejected<'a> {
-    pub source: u8,
-    pub reason: u8,
+    pub rejection: Rejection,
     pub called: &'a Title,
     pub calling: &'a Title,
 }
@@ -145,7 +153,9 @@ impl Entry for Rejected<'_> {
     }
 
     fn fields<F: Fields>(&self, out: &mut F) {
-        out.text(REASON, rejection_words(self.source, self.reason));
+        let mut reason = Words::new();
+        let _ = write!(reason, "{}", self.rejection);
+        out.text(REASON, reason.as_str());
         out.text(CALLING, self.calling.as_str());
         out.text(CALLED, self.called.as_str());
     }
@@ -153,9 +163,12 @@ impl Entry for Rejected<'_> {
 
 /// The association was aborted, and not by the peer.
 #[derive(Clone, Copy)]
-pub(crate) struct Aborted(pub Option<End>);
+pub(crate) struct Aborted<'a> {
+    pub end: Option<End>,
+    pub calling: &'a Title,
+}
 
-impl Entry for Aborted {
+impl Entry for Aborted<'_> {
     fn level(&self) -> Level {
         Level::Warn
     }
@@ -168,7 +181,41 @@ impl Entry for Aborted {
     }
 
     fn fields<F: Fields>(&self, out: &mut F) {
-        out.text(Name::new("end", ""), end_words(self.0).as_str());
+        out.text(Name::new("end", ""), end_words(self.end).as_str());
+        give_calling(self.calling, out);
+    }
+}
+
+/// No context of these classes was accepted: those that are named, and how many others there are.
+#[derive(Clone, Copy)]
+pub(crate) struct ClassesRefused<'a> {
+    pub refused: &'a RefusedClasses,
+    pub calling: &'a Title,
+}
+
+impl Entry for ClassesRefused<'_> {
+    fn level(&self) -> Level {
+        Level::Warn
+    }
+
+    fn event(&self) -> Event {
+        Event {
+            key: "classes refused",
+            words: "classes refused",
+        }
+    }
+
+    fn fields<F: Fields>(&self, out: &mut F) {
+        out.text(Name::new("classes", ": "), self.refused.named.as_str());
+        if self.refused.others > 0 {
+            let others = Name {
+                key: "others",
+                before: " and ",
+                after: " more",
+            };
+            out.number(others, self.refused.others);
+        }
+        give_calling(self.calling, out);
     }
 }
 
@@ -184,7 +231,7 @@ pub(crate) struct ContextRefused<'a> {
 
 impl Entry for ContextRefused<'_> {
     fn level(&self) -> Level {
-        Level::Debug
+        Level::Trace
     }
 
     fn event(&self) -> Event {
@@ -220,12 +267,22 @@ fn give_status<F: Fields>(reply: &Reply, out: &mut F) {
     }
 }
 
+/// Gives where a file stands, if there is one.
+fn give_place<F: Fields>(place: Option<Place>, out: &mut F) {
+    if let Some(place) = place {
+        let mut file = Text::<32>::new();
+        let _ = write!(file, "{place}");
+        out.text(FILE, file.as_str());
+    }
+}
+
 /// A store was answered.
 #[derive(Clone, Copy)]
 pub(crate) struct Answered<'a> {
     pub reply: &'a Reply,
     pub class: &'a Value,
-    pub bytes: Option<u64>,
+    /// How many bytes its data set has.
+    pub bytes: u64,
     pub place: Option<Place>,
 }
 
@@ -244,15 +301,9 @@ impl Entry for Answered<'_> {
     fn fields<F: Fields>(&self, out: &mut F) {
         out.text(CLASS, self.class.as_str());
         out.text(INSTANCE, self.reply.instance.as_str());
-        if let Some(bytes) = self.bytes {
-            out.number(BYTES, bytes);
-        }
+        out.number(BYTES, self.bytes);
         give_status(self.reply, out);
-        if let Some(place) = self.place {
-            let mut file = Text::<32>::new();
-            let _ = write!(file, "{place}");
-            out.text(FILE, file.as_str());
-        }
+        give_place(self.place, out);
     }
 }
 
@@ -261,6 +312,9 @@ impl Entry for Answered<'_> {
 pub(crate) struct NotStored<'a> {
     pub reply: &'a Reply,
     pub class: &'a Value,
+    /// What its status does not tell, if anything.
+    pub reason: &'a Reason,
+    pub calling: &'a Title,
 }
 
 impl Entry for NotStored<'_> {
@@ -277,8 +331,12 @@ impl Entry for NotStored<'_> {
 
     fn fields<F: Fields>(&self, out: &mut F) {
         give_status(self.reply, out);
+        if self.reason.len() > 0 {
+            out.text(Name::new("reason", " "), self.reason.as_str());
+        }
         out.text(CLASS, self.class.as_str());
         out.text(INSTANCE, self.reply.instance.as_str());
+        give_calling(self.calling, out);
     }
 }
 
@@ -289,6 +347,7 @@ pub(crate) struct Unanswered<'a> {
     pub count: u64,
     pub class: &'a Value,
     pub instance: &'a Value,
+    pub calling: &'a Title,
 }
 
 impl Entry for Unanswered<'_> {
@@ -308,6 +367,38 @@ impl Entry for Unanswered<'_> {
         out.text(CLASS, self.class.as_str());
         out.text(INSTANCE, self.instance.as_str());
         out.number(Name::new("stores", " stores "), self.count);
+        give_calling(self.calling, out);
+    }
+}
+
+/// A store was filed, and the association ended before its reply was sent.
+#[derive(Clone, Copy)]
+pub(crate) struct NotConfirmed<'a> {
+    pub end: Option<End>,
+    pub place: Option<Place>,
+    pub class: &'a Value,
+    pub instance: &'a Value,
+    pub calling: &'a Title,
+}
+
+impl Entry for NotConfirmed<'_> {
+    fn level(&self) -> Level {
+        Level::Warn
+    }
+
+    fn event(&self) -> Event {
+        Event {
+            key: "not confirmed",
+            words: "filed, but not confirmed:",
+        }
+    }
+
+    fn fields<F: Fields>(&self, out: &mut F) {
+        out.text(END, end_words(self.end).as_str());
+        give_place(self.place, out);
+        out.text(CLASS, self.class.as_str());
+        out.text(INSTANCE, self.instance.as_str());
+        give_calling(self.calling, out);
     }
 }
 

@@ -1,53 +1,59 @@
-//! Reads what the peer sends: its request and its commands are gathered, its data go by.
-ghost use Rattle.std.specs.Prelude.{◌≤◌, length};
+//! Reads what the association takes of its peer: its request and its commands are kept, its data go by.
+ghost use Rattle.std.specs.Prelude.{◌≡◌, ◌≤◌, length};
 
 use crate::cause::Cause;
+use crate::limits::Limits;
+use crate::message::{Message, Misplaced};
 use arrayvec::ArrayVec;
-use connection::{COMMAND, REQUEST};
-use pdu::pdu_type::{A_ABORT, A_ASSOCIATE_RQ, A_RELEASE_RQ, P_DATA_TF};
-use pdu::{Deframer, Event, PdvHead};
+use connection::REQUEST;
+use pdu::pdu_type::{A_ABORT, A_ASSOCIATE_RJ, A_ASSOCIATE_RQ, A_RELEASE_RQ, P_DATA_TF};
+use pdu::{Deframer, Event, PduFault, PduHead, PdvHead, read_request};
 use std::alloc::Global;
 
-/// What the peer's bytes make known.
+/// The bytes of an association request's body before its items.
+const BEFORE_ITEMS: u32 = 68;
+
+/// The bytes of the head of a presentation data value.
+const VALUE_HEAD: u32 = 6;
+
+/// The last thing that was taken which the association may answer.
 #[derive(Clone, Copy, Debug, PartialEq, Eq)]
 pub(crate) enum Heard {
-    /// Nothing that counts.
+    /// Nothing that it answers.
     Nothing,
-    /// The first request is whole, as far as its body was kept.
+    /// The head of a PDU.
+    Head,
+    /// A request is whole.
     Request,
+    /// The head of a presentation data value, and why it does not go on with the message, if it does not.
+    Value(Option<Misplaced>),
     /// A command set is whole.
     Command,
-    /// A data set of so many bytes is whole.
-    Data(u64),
+    /// A data set is whole.
+    Data,
+    /// A bad head of a presentation data value.
+    BadValue,
+    /// Bytes after the last presentation data value.
+    Leftover,
     /// The peer aborts.
     Abort,
-    /// What may be why the association is aborted.
-    Faulty(Cause),
 }
 
-/// What has come of the peer's bytes. The body of a request takes memory until it is given up; at most
+/// What has been taken of the peer's bytes. The body of a request takes memory until it is given up; at most
 /// the room of a request and of a command set is kept.
 #[derive(Drop)]
 pub(crate) struct Incoming {
     deframer: Deframer,
-    /// The body of the first request, or as much of it as has room. `None` once it was given up, or
-    /// where it got no memory.
+    /// The body of the request, or as much of it as has room. `None` once it was given up, or where it got
+    /// no memory.
     request: Option<Vec<u8>>,
-    has_request: bool,
-    /// The command set that has come so far, or as much of it as has room.
-    command: ArrayVec<u8, COMMAND>,
-    /// The bytes of the data set that have come so far.
-    data: u64,
+    /// The head of the PDU under way.
+    head: PduHead,
     /// The head of the last presentation data value.
-    pdv: Option<PdvHead>,
-    /// The type of the PDU under way.
-    kind: u8,
-}
-
-/// Appends as many of the bytes as there is room for.
-fn keep<const N: usize>(room: &mut ArrayVec<u8, N>, bytes: &[u8]) {
-    let count = room.remaining_capacity().min(bytes.len());
-    let _ = room.try_extend_from_slice(&bytes[..count]);
+    value: PdvHead,
+    pub message: Message,
+    /// The body of an A-ABORT, as far as it has come.
+    abort: ArrayVec<u8, 4>,
 }
 
 impl Incoming {
@@ -56,11 +62,15 @@ impl Incoming {
         Incoming {
             deframer: Deframer::new(),
             request: Some(Vec::new(alloc)),
-            has_request: false,
-            command: ArrayVec::new(),
-            data: 0,
-            pdv: None,
-            kind: 0,
+            head: PduHead { kind: 0, length: 0 },
+            value: PdvHead {
+                length: 0,
+                context: 0,
+                command: false,
+                last: false,
+            },
+            message: Message::new(),
+            abort: ArrayVec::new(),
         }
     }
 
@@ -78,6 +88,19 @@ impl Incoming {
         self.request = None;
     }
 
+    /// Returns the length of the PDU under way.
+    pub(crate) fn length(&self) -> u32 {
+        self.head.length
+    }
+
+    /// Returns the source and the reason of the peer's A-ABORT.
+    pub(crate) fn abort(&self) -> (u8, u8) {
+        match self.abort.as_slice() {
+            [_, _, source, reason] => (*source, *reason),
+            _ => (0, 0),
+        }
+    }
+
     /// Keeps a part of the request's body; without memory, none of it.
     fn keep_request(&mut self, bytes: &[u8]) {
         let is_kept = match &mut self.request {
@@ -92,25 +115,28 @@ impl Incoming {
         }
     }
 
-    /// Returns the command set that is whole, as far as it was kept.
-    pub(crate) fn command(&self) -> &[u8] {
-        self.command.as_slice()
-    }
-
-    /// Returns the context of the last presentation data value, or `None` if there was none.
-    pub(crate) fn context(&self) -> Option<u8> {
-        match &self.pdv {
-            Some(head) => Some(head.context),
-            None => None,
+    /// Takes bytes, and returns the last thing in them which the association may answer.
+    pub(crate) fn take(&mut self, bytes: &[u8]) -> Heard {
+        let mut heard = Heard::Nothing;
+        let mut rest = bytes;
+        for _ in 0..u64::MAX {
+            let (count, event) = self.next(rest);
+            rest = &rest[count..];
+            match event {
+                Some(Heard::Nothing) => {}
+                Some(event) => heard = event,
+                None => return heard,
+            }
         }
+        heard
     }
 
-    /// Takes the first bytes of the piece, and returns how many, and what they make known. `None` is
-    /// returned once all are taken.
-    pub(crate) fn next(&mut self, piece: &[u8]) -> (usize, Option<Heard>)
-        ensures within { result.0 ≤ length piece.now }
+    /// Takes the first of the bytes, and returns how many, and what they are. `None` is returned once all
+    /// are taken.
+    fn next(&mut self, bytes: &[u8]) -> (usize, Option<Heard>)
+        ensures within { result.0 ≤ length bytes.now }
     {
-        match self.deframer.next(piece) {
+        match self.deframer.next(bytes) {
             (count, Some(event)) => (count, Some(self.hear(event))),
             (count, None) => (count, None),
         }
@@ -119,79 +145,100 @@ impl Incoming {
     /// Takes note of an event.
     fn hear(&mut self, event: Event<'_>) -> Heard {
         match event {
-            Event::PduHead(head) => self.hear_head(head.kind),
+            Event::PduHead(head) => {
+                self.head = head;
+                Heard::Head
+            }
             Event::Body(bytes) => {
-                if self.kind == A_ASSOCIATE_RQ && !self.has_request {
-                    self.keep_request(bytes);
-                }
+                self.keep_body(bytes);
                 Heard::Nothing
             }
-            Event::PdvHead(head) => {
-                self.pdv = Some(head);
-                Heard::Nothing
-            }
+            Event::PdvHead(head) => self.hear_value(head),
             Event::Fragment(bytes) => {
-                self.keep_fragment(bytes);
+                self.message.keep(bytes);
                 Heard::Nothing
             }
-            Event::PdvEnd => self.hear_end(),
-            Event::BadPdv | Event::Leftover => Heard::Faulty(Cause::Value),
-            Event::PduEnd(kind) => self.hear_pdu(kind),
+            Event::PdvEnd => match (self.value.last, self.value.command) {
+                (true, true) => Heard::Command,
+                (true, false) => Heard::Data,
+                (false, _) => Heard::Nothing,
+            },
+            Event::BadPdv => Heard::BadValue,
+            Event::Leftover => Heard::Leftover,
+            Event::PduEnd(A_ASSOCIATE_RQ) => Heard::Request,
+            Event::PduEnd(A_ABORT) => Heard::Abort,
+            Event::PduEnd(_) => Heard::Nothing,
         }
     }
 
-    /// Takes note of the type of a PDU: the first one has to be a request, and no other one may be.
-    fn hear_head(&mut self, kind: u8) -> Heard {
-        self.kind = kind;
-        let is_due = match kind {
-            A_ASSOCIATE_RQ => !self.has_request,
-            P_DATA_TF | A_RELEASE_RQ => self.has_request,
-            A_ABORT => true,
-            _ => false,
-        };
-        if is_due {
-            Heard::Nothing
-        } else {
-            Heard::Faulty(Cause::Pdu(kind))
-        }
-    }
-
-    /// Takes note of a part of a fragment.
-    fn keep_fragment(&mut self, bytes: &[u8]) {
-        match &self.pdv {
-            Some(head) if head.command => keep(&mut self.command, bytes),
-            _ => self.data = self.data.saturating_add(bytes.len() as u64),
-        }
-    }
-
-    /// Takes note of the end of a presentation data value.
-    fn hear_end(&mut self) -> Heard {
-        match &self.pdv {
-            Some(head) if head.last && head.command => Heard::Command,
-            Some(head) if head.last => {
-                let data = self.data;
-                self.data = 0;
-                Heard::Data(data)
+    /// Takes note of a part of a body.
+    fn keep_body(&mut self, bytes: &[u8]) {
+        match self.head.kind {
+            A_ASSOCIATE_RQ => self.keep_request(bytes),
+            A_ABORT => {
+                let _ = self.abort.try_extend_from_slice(bytes);
             }
-            _ => Heard::Nothing,
+            _ => {}
         }
     }
 
-    /// Takes note of the end of a PDU.
-    fn hear_pdu(&mut self, kind: u8) -> Heard {
-        match kind {
-            A_ASSOCIATE_RQ if !self.has_request => {
-                self.has_request = true;
-                Heard::Request
-            }
-            A_ABORT => Heard::Abort,
-            _ => Heard::Nothing,
+    /// Takes note of the head of a presentation data value.
+    fn hear_value(&mut self, head: PdvHead) -> Heard {
+        let misplaced = self.message.misplaced(&head);
+        if misplaced.is_none() {
+            self.message.begin(&head);
+        }
+        self.value = head;
+        Heard::Value(misplaced)
+    }
+
+    /// Returns why what was heard last has the association aborted, as far as it can be told, of an
+    /// association that is established or not.
+    pub(crate) fn cause(
+        &self,
+        heard: Heard,
+        is_established: bool,
+        limits: Limits,
+    ) -> Option<Cause> {
+        match heard {
+            Heard::Nothing | Heard::Data | Heard::Abort => None,
+            Heard::Head => Some(head_cause(self.head, is_established, limits)),
+            Heard::Request => match read_request(self.request()?) {
+                Ok(_) => None,
+                Err(fault) => Some(Cause::Request(fault)),
+            },
+            Heard::Value(None) => Some(Cause::Context(self.value.context)),
+            Heard::Value(Some(misplaced)) => Some(Cause::Fragment(misplaced)),
+            Heard::Command => self.command_cause(),
+            Heard::BadValue => Some(Cause::Value),
+            Heard::Leftover => Some(Cause::Leftover),
         }
     }
 
-    /// Begins the next command set, once the last one was read.
-    pub(crate) fn clear_command(&mut self) {
-        self.command.clear();
-        self.data = 0;
+    /// Returns the fault of the command set that is whole.
+    fn command_cause(&self) -> Option<Cause> {
+        let (fault, field) = self.message.fault()?;
+        Some(Cause::Command(fault, field))
+    }
+
+    /// Returns the context of the last presentation data value.
+    pub(crate) fn context(&self) -> u8 {
+        self.value.context
+    }
+}
+
+/// Returns why the head of a PDU has the association aborted (PS3.8 section 9.2).
+fn head_cause(head: PduHead, is_established: bool, limits: Limits) -> Cause {
+    let PduHead { kind, length } = head;
+    match kind {
+        A_ASSOCIATE_RJ | A_RELEASE_RQ..=A_ABORT if length != 4 => Cause::Length(kind, length),
+        A_ASSOCIATE_RQ if !is_established && length < BEFORE_ITEMS => {
+            Cause::Request(PduFault::BadLength)
+        }
+        P_DATA_TF if is_established && length > limits.max_pdu => {
+            Cause::LongData(length, limits.max_pdu)
+        }
+        P_DATA_TF if is_established && length < VALUE_HEAD => Cause::ShortData(length),
+        _ => Cause::Pdu(kind),
     }
 }

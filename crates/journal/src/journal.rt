@@ -1,23 +1,30 @@
 //! Is shown what goes over one connection, and writes the lines that tell of it.
-use crate::accepted::result_of;
-use crate::end::End;
+use crate::accepted::Results;
+use crate::answer::Answer;
+use crate::end::{Abort, End};
 use crate::entries::{
-    Aborted, Answered, ContextRefused, Ended, FilingFailed, NotStored, Rejected, Served, Unanswered,
+    Aborted, Answered, ClassesRefused, ContextRefused, Ended, FilingFailed, NotConfirmed,
+    NotStored, Rejected, Served, Unanswered,
 };
+use crate::incoming::Heard;
+use crate::limits::Limits;
 use crate::outcome::Outcome;
-use crate::outgoing::Said;
-use crate::reply::Value;
+use crate::refusal::{Reason, resources_words};
+use crate::refused::{RefusedClasses, shown_class};
+use crate::reply::{Reply, Value, status_of};
 use crate::server_entries::NumbersLow;
-use crate::state::State;
+use crate::state::{Phase, State};
 use crate::teller::Teller;
 use crate::text::Text;
 use connection::{Observer, ReadEnd};
-use keywords::{class_keyword, syntax_keyword};
-use log::Log;
-use part10::DraftNotes;
-use pdu::{Proposal, read_request};
+use dimse::{read_command, status};
+use keywords::syntax_keyword;
+use log::{Level, Log};
+use part10::{DraftNotes, Place};
+use pdu::{Proposal, Request, read_request};
 use std::alloc::{Allocator, Global};
 use std::cell::RefCell;
+use std::fmt::Write;
 use std::io;
 use std::rc::Rc;
 use std::time::Clock;
@@ -29,17 +36,27 @@ pub struct Journal<'a, R: Log + Clock, A: Allocator> {
     teller: Teller<'a, R>,
     /// What became of the drafts of its filing.
     notes: Rc<DraftNotes, A>,
+    limits: Limits,
     state: RefCell<State>,
 }
 
-/// Returns a class by its keyword, where it has one, else its identifier.
-fn shown_class(uid: &[u8]) -> Value {
-    let mut class = Value::new();
-    match class_keyword(uid) {
-        Some(keyword) => class.add(keyword.as_bytes()),
-        None => class.add(uid),
-    }
-    class
+/// The class and the instance of a store, as they are shown.
+#[derive(Drop)]
+struct Asked {
+    class: Value,
+    instance: Value,
+}
+
+/// Returns the class and the instance of the last command, or `None` if it is not of a store.
+fn asked_in(state: &State) -> Option<Asked> {
+    let command = read_command(state.incoming.message.command()).ok()?;
+    let uid = command.instance()?;
+    let mut instance = Value::new();
+    instance.add(uid.as_bytes());
+    Some(Asked {
+        class: shown_class(command.class().as_bytes()),
+        instance,
+    })
 }
 
 /// Returns the transfer syntaxes of a proposed context by their keywords, where they have one, else
@@ -59,7 +76,8 @@ fn shown_syntaxes(proposal: &Proposal) -> Text<300> {
 }
 
 impl<'a, R: Log + Clock, A: Allocator> Journal<'a, R, A> {
-    /// Returns the journal of a new connection, whose files become what these notes say.
+    /// Returns the journal of a new connection that is held to these limits, whose files become what these
+    /// notes say.
     ///
     /// It takes memory for the peer's request, which it gives up once that is answered. Without memory
     /// it knows neither titles nor contexts.
@@ -67,90 +85,145 @@ impl<'a, R: Log + Clock, A: Allocator> Journal<'a, R, A> {
         alloc: Global,
         teller: Teller<'a, R>,
         notes: Rc<DraftNotes, A>,
+        limits: Limits,
     ) -> Journal<'a, R, A> {
         Journal {
             teller,
             notes,
+            limits,
             state: RefCell::new(State::new(alloc)),
         }
     }
 
     /// Writes the lines of an association that has ended.
     pub fn end(&self, served: Served) {
-        self.tell_filing();
-        let Ok(state) = self.state.try_borrow() else {
+        let Ok(mut state) = self.state.try_borrow_mut() else {
             return;
         };
-        let count = state.counts.unanswered();
-        if let (true, Some(asked)) = (count > 0, &state.asked) {
-            self.teller.tell(&Unanswered {
-                end: state.end,
-                count,
-                class: &shown_class(asked.class.as_str().as_bytes()),
-                instance: &asked.instance,
-            });
-        }
+        self.tell_filing(&mut state);
+        self.tell_unanswered(&state);
         self.teller.tell(&Ended {
             served,
             state: &state,
         });
     }
 
+    /// Writes of the store that was not answered, or whose reply was not all sent.
+    fn tell_unanswered(&self, state: &State) {
+        let count = state.counts.unanswered();
+        if count == 0 && state.unconfirmed.is_none() {
+            return;
+        }
+        let Some(asked) = asked_in(state) else {
+            return;
+        };
+        let calling = &state.calling;
+        if let Some(place) = state.unconfirmed {
+            self.teller.tell(&NotConfirmed {
+                end: state.end,
+                place,
+                class: &asked.class,
+                instance: &asked.instance,
+                calling,
+            });
+        } else {
+            self.teller.tell(&Unanswered {
+                end: state.end,
+                count,
+                class: &asked.class,
+                instance: &asked.instance,
+                calling,
+            });
+        }
+    }
+
     /// Writes the system's error of a failed filing, once.
-    fn tell_filing(&self) {
+    fn tell_filing(&self, state: &mut State) {
         if let Some(error) = self.notes.take_error() {
             self.teller.tell(&FilingFailed(&error));
+            state.folder_error = Text::new();
+            let _ = write!(state.folder_error, "{error}");
         }
     }
 
-    /// Takes note of what was sent, and writes its line.
-    fn tell(&self, state: &mut State, said: Said) {
-        match said {
-            Said::Nothing => {}
-            Said::Accepted => {
-                self.tell_contexts(state);
+    /// Takes note of what the association sends for what was heard last, and writes its lines.
+    fn tell(&self, state: &mut State, heard: Heard, answer: Answer, ahead: &[u8]) {
+        match answer {
+            Answer::Nothing => {}
+            Answer::Accepted(body) => {
+                state.phase = Phase::Established;
+                state.results = Results::of(body);
+                state.accepted = self.tell_contexts(state);
                 state.incoming.give_up_request();
             }
-            Said::Rejected(source, reason) => {
-                self.tell_rejection(state, source, reason);
-                state.incoming.give_up_request();
+            Answer::Rejected(source, reason) => {
+                let rejection = state.reject(source, reason, heard);
+                state.take_titles(ahead);
+                self.teller.tell(&Rejected {
+                    rejection,
+                    called: &state.called,
+                    calling: &state.calling,
+                });
             }
-            Said::Replied => self.tell_reply(state),
-            Said::Released => state.end = Some(End::Released),
-            Said::Aborted(source, reason) => {
-                let end = state.abort(source, reason);
-                self.teller.tell(&Aborted(end));
+            Answer::Replied(reply) => {
+                state.incoming.message.end();
+                if heard == Heard::Data {
+                    self.tell_reply(state, reply.as_slice());
+                }
+            }
+            Answer::Released => state.end(End::Released),
+            Answer::Aborted(source, reason) => {
+                let cause = state.cause(heard, self.limits);
+                state.end(End::Aborted(Abort { source, reason }, cause));
+                self.tell_abort(state);
             }
         }
     }
 
-    fn tell_rejection(&self, state: &mut State, source: u8, reason: u8) {
-        state.take_titles();
-        state.end = Some(End::Rejected(source, reason));
-        self.teller.tell(&Rejected {
-            source,
-            reason,
-            called: &state.called,
+    fn tell_abort(&self, state: &State) {
+        self.teller.tell(&Aborted {
+            end: state.end,
             calling: &state.calling,
         });
     }
 
-    /// Counts the accepted contexts, and writes a line for each other one.
-    fn tell_contexts(&self, state: &mut State) {
+    /// Returns how many contexts were accepted, and writes of the other ones.
+    fn tell_contexts(&self, state: &State) -> u64 {
         let Some(body) = state.incoming.request() else {
-            return;
+            return 0;
+        };
+        let Ok(request) = read_request(body) else {
+            return 0;
         };
         let mut accepted: u64 = 0;
-        if let Ok(request) = read_request(body) {
+        for proposal in request.contexts() {
+            if state.results.is_accepted(proposal.id()) {
+                accepted = accepted.saturating_add(1);
+            }
+        }
+        if accepted < state.proposed {
+            self.tell_refused(state, &request);
+        }
+        accepted
+    }
+
+    /// Writes of the contexts that were not accepted.
+    fn tell_refused(&self, state: &State, request: &Request) {
+        if self.teller.tells(Level::Trace) {
             for proposal in request.contexts() {
-                match result_of(state.outgoing.accepted(), proposal.id()) {
-                    Some(0) => accepted = accepted.saturating_add(1),
+                match state.results.result(proposal.id()) {
+                    None | Some(0) => {}
                     Some(answer) => self.tell_context(&proposal, answer),
-                    None => {}
                 }
             }
         }
-        state.accepted = accepted;
+        let refused = RefusedClasses::of(request, &state.results);
+        if !refused.is_empty() {
+            self.teller.tell(&ClassesRefused {
+                refused: &refused,
+                calling: &state.calling,
+            });
+        }
     }
 
     fn tell_context(&self, proposal: &Proposal, answer: u8) {
@@ -162,17 +235,43 @@ impl<'a, R: Log + Clock, A: Allocator> Journal<'a, R, A> {
         });
     }
 
-    /// Counts a store that was answered, and writes its lines.
-    fn tell_reply(&self, state: &mut State) {
-        let Some((reply, bytes)) = state.take_reply() else {
+    /// Counts a store that is answered, and writes its lines.
+    fn tell_reply(&self, state: &mut State, reply: &[u8]) {
+        let Some(status) = status_of(reply) else {
             return;
         };
+        let outcome = Outcome::of(status);
+        state.counts.answer(outcome);
         let place = self.notes.take_place();
+        if outcome == Outcome::Stored {
+            state.unconfirmed = Some(place);
+        }
+        if outcome != Outcome::Stored || self.teller.tells(Level::Debug) {
+            self.tell_store(state, reply, place);
+        }
+        if let Some(place) = self.notes.take_low() {
+            self.teller.tell(&NumbersLow(place));
+        }
+    }
+
+    /// Writes the lines of a store that is answered.
+    fn tell_store(&self, state: &State, reply: &[u8], place: Option<Place>) {
+        let Some(reply) = Reply::read(reply) else {
+            return;
+        };
         let class = shown_class(reply.class.as_str().as_bytes());
+        let bytes = state.incoming.message.data;
         if Outcome::of(reply.status) != Outcome::Stored {
+            let reason = if reply.status == status::OUT_OF_RESOURCES {
+                resources_words(&state.folder_error, bytes, self.limits)
+            } else {
+                Reason::new()
+            };
             self.teller.tell(&NotStored {
                 reply: &reply,
                 class: &class,
+                reason: &reason,
+                calling: &state.calling,
             });
         }
         self.teller.tell(&Answered {
@@ -181,49 +280,52 @@ impl<'a, R: Log + Clock, A: Allocator> Journal<'a, R, A> {
             bytes,
             place,
         });
-        if let Some(place) = self.notes.take_low() {
-            self.teller.tell(&NumbersLow(place));
-        }
     }
 }
 
 impl<R: Log + Clock, A: Allocator> Observer for Journal<'_, R, A> {
-    fn received(&self, bytes: &[u8]) {
-        self.tell_filing();
-        if let Ok(mut state) = self.state.try_borrow_mut() {
-            state.receive(bytes);
-        }
-    }
-
-    fn sent(&self, bytes: &[u8]) {
-        self.tell_filing();
+    fn took(&self, bytes: &[u8], ahead: &[u8], answer: &[u8]) {
         let Ok(mut state) = self.state.try_borrow_mut() else {
             return;
         };
-        let mut rest = bytes;
-        for _ in 0..u64::MAX {
-            let (count, said) = state.outgoing.next(rest);
-            rest = &rest[count..];
-            match said {
-                Some(said) => self.tell(&mut state, said),
-                None => return,
-            }
+        let was_over = state.phase == Phase::Over;
+        let heard = state.take(bytes);
+        if heard == Heard::Command && answer.is_empty() {
+            state.ask();
+        }
+        self.tell_filing(&mut state);
+        state.answer(answer.len());
+        if was_over {
+            return;
+        }
+        if heard == Heard::Abort {
+            state.end_by_peer();
+        }
+        self.tell(&mut state, heard, Answer::read(answer), ahead);
+    }
+
+    fn sent(&self, bytes: &[u8]) {
+        if let Ok(mut state) = self.state.try_borrow_mut() {
+            state.send(bytes.len());
         }
     }
 
-    fn read_ended(&self, end: ReadEnd) {
-        self.tell_filing();
-        if let Ok(mut state) = self.state.try_borrow_mut() {
-            state.end_reading(end);
+    fn read_ended(&self, why: ReadEnd, abort: &[u8]) {
+        let Ok(mut state) = self.state.try_borrow_mut() else {
+            return;
+        };
+        self.tell_filing(&mut state);
+        state.answer(abort.len());
+        state.end(End::Read(why));
+        if !abort.is_empty() {
+            self.tell_abort(&state);
         }
     }
 
     fn send_failed(&self, _error: &io::Error) {
-        self.tell_filing();
         if let Ok(mut state) = self.state.try_borrow_mut() {
-            if state.end.is_none() {
-                state.end = Some(End::SendFailed);
-            }
+            self.tell_filing(&mut state);
+            state.end(End::SendFailed);
         }
     }
 }

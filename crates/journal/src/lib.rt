@@ -1,23 +1,27 @@
-//! The log of served associations: what goes over a connection, read as it passes by, and the lines
-//! that tell of it. Nothing here can change what is received, sent or filed: it is lent the bytes.
+//! The log of served associations: what each takes and what it sends for that, read as it passes by, and the
+//! lines that tell of it. Nothing here can change what is received, sent or filed: it is lent the bytes.
 #![tactic(auto)]
 
 mod accepted;
+mod answer;
 mod cause;
 mod end;
 mod entries;
 mod entry;
+mod fields;
 mod form;
 mod incoming;
 mod journal;
+mod limits;
 mod line;
+mod message;
 mod outcome;
-mod outgoing;
 mod output;
+mod refusal;
+mod refused;
 mod reply;
 mod server_entries;
 mod state;
-mod store;
 mod teller;
 mod text;
 mod words;
@@ -25,11 +29,13 @@ mod words;
 pub use entries::Served;
 pub use form::Form;
 pub use journal::Journal;
+pub use limits::Limits;
 pub use line::{LINE, Line};
 pub use outcome::{Counts, Outcome};
 pub use output::Output;
 pub use server_entries::{
-    ConnectionFailed, Listening, NotAccepted, PeerFull, PlacesFull, Stopped, Stopping, TurnedAway,
+    ConnectionFailed, Listening, NotAccepted, PeerFull, PlacesFull, Started, Stopped, Stopping,
+    TurnedAway, Waited,
 };
 pub use teller::{TARGET, Teller};
 pub use text::Text;

@@ -3,7 +3,8 @@ use crate::form::Form;
 use log::kv::Source;
 use log::sink::Console;
 use log::span::Spans;
-use log::{Log, Metadata, Record};
+use log::{Level, Log, Metadata, Record};
+use std::fmt;
 use std::fmt::Display;
 
 /// Writes each line to standard error: a text with its level and its target before it, JSON as it is.
@@ -11,6 +12,36 @@ use std::fmt::Display;
 pub struct Output<R> {
     console: Console<R>,
     form: Form,
+    has_priorities: bool,
+}
+
+/// Returns the priority of a level among those of syslog (RFC 5424 section 6.2.1).
+fn priority(level: Level) -> u8 {
+    match level {
+        Level::Error => 3,
+        Level::Warn => 4,
+        Level::Info => 6,
+        Level::Debug | Level::Trace => 7,
+    }
+}
+
+/// A line after its priority, as systemd reads it.
+#[derive(Drop)]
+struct Prioritized<'a, D> {
+    level: Level,
+    /// The target, where the line is a text.
+    target: Option<&'a str>,
+    line: &'a D,
+}
+
+impl<D: Display> Display for Prioritized<'_, D> {
+    fn fmt<W: fmt::Write>(&self, f: &mut fmt::Formatter<W>) -> fmt::Result {
+        write!(f, "<{}>", priority(self.level))?;
+        if let Some(target) = self.target {
+            write!(f, "[{:<5} {target}] ", self.level.as_str())?;
+        }
+        self.line.fmt(f)
+    }
 }
 
 impl<R: Eprint> Output<R> {
@@ -19,6 +50,16 @@ impl<R: Eprint> Output<R> {
         Output {
             console: Console(rt),
             form,
+            has_priorities: false,
+        }
+    }
+
+    /// Returns an output that writes the priority of each line before it, as `<4>`, by which systemd's journal
+    /// knows it.
+    pub fn with_priorities(self) -> Output<R> {
+        Output {
+            has_priorities: true,
+            ..self
         }
     }
 }
@@ -29,11 +70,22 @@ impl<R: Eprint> Log for Output<R> {
     }
 
     fn log<D: Display, K: Source, S: Spans>(&self, record: &Record<'_, D, K, S>) {
-        match self.form {
-            Form::Text => self.console.log(record),
-            Form::Json(_) => {
-                let _ = self.console.0.eprintln(record.args());
+        let target = match self.form {
+            Form::Text if !self.has_priorities => {
+                self.console.log(record);
+                return;
             }
+            Form::Text => Some(record.target()),
+            Form::Json(_) => None,
+        };
+        if self.has_priorities {
+            let _ = self.console.0.eprintln(Prioritized {
+                level: record.level(),
+                target,
+                line: record.args(),
+            });
+        } else {
+            let _ = self.console.0.eprintln(record.args());
         }
     }
 

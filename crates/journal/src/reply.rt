@@ -40,6 +40,15 @@ fn tag_of(set: &CommandSet) -> Option<Tag> {
     Some(read_tag(bytes))
 }
 
+/// Returns the status of the reply to a C-STORE, or `None` if the command set is of no such reply.
+pub(crate) fn status_of(bytes: &[u8]) -> Option<u16> {
+    let set = CommandSet::read(bytes)?;
+    if set.number(FIELD).ok()? != C_STORE_RSP {
+        return None;
+    }
+    set.number(STATUS).ok()
+}
+
 impl Reply {
     /// Reads the command set of a reply. Returns `None` if it is not that of a reply to a C-STORE.
     pub(crate) fn read(bytes: &[u8]) -> Option<Reply> {

@@ -1,6 +1,7 @@
 //! What the lines of the log tell of the box itself, and not of one association.
 use crate::entries::{Words, give_error};
 use crate::entry::{Entry, Event, Fields, Name};
+use crate::limits::Limits;
 use log::Level;
 use part10::Place;
 use std::fmt::Write;
@@ -39,6 +40,53 @@ impl Entry for Listening {
         let mut address = Words::new();
         let _ = write!(address, "{}", self.0);
         out.text(Name::new("address", " on "), address.as_str());
+    }
+}
+
+/// The box begins: what it is, whom it serves, where its files go, and how many drafts it found and
+/// removed there.
+#[derive(Clone, Copy)]
+pub struct Started<'a> {
+    pub version: &'a str,
+    /// The AE title that a peer has to call.
+    pub title: &'a [u8],
+    pub folder: &'a str,
+    pub limits: Limits,
+    /// How many associations are served at once.
+    pub at_once: u64,
+    pub drafts: u64,
+}
+
+impl Entry for Started<'_> {
+    fn level(&self) -> Level {
+        Level::Info
+    }
+
+    fn event(&self) -> Event {
+        Event {
+            key: "started",
+            words: "dcmbox",
+        }
+    }
+
+    fn fields<F: Fields>(&self, out: &mut F) {
+        let mut title = Words::new();
+        title.add(self.title);
+        let mut folder = Words::new();
+        folder.add(self.folder.as_bytes());
+        let titled = Name {
+            key: "title",
+            before: " title \"",
+            after: "\"",
+        };
+        out.text(Name::new("version", " "), self.version);
+        out.text(titled, title.as_str());
+        out.text(Name::new("folder", " folder "), folder.as_str());
+        let max_pdu = u64::from(self.limits.max_pdu);
+        out.number(Name::new("max-pdu", " limits max-pdu "), max_pdu);
+        out.number(Name::new("max-data", " max-data "), self.limits.max_data);
+        out.number(Name::new("at-once", " at-once "), self.at_once);
+        out.number(Name::new("drafts", " removed drafts "), self.drafts);
     }
 }
 
@@ -140,6 +188,32 @@ impl Entry for TurnedAway {
     }
 
     fn fields<F: Fields>(&self, _out: &mut F) {}
+}
+
+/// A connection waited long for the one place, and has it: for how many seconds at least.
+#[derive(Clone, Copy)]
+pub struct Waited(pub u64);
+
+impl Entry for Waited {
+    fn level(&self) -> Level {
+        Level::Warn
+    }
+
+    fn event(&self) -> Event {
+        Event {
+            key: "waited",
+            words: "the connection waited",
+        }
+    }
+
+    fn fields<F: Fields>(&self, out: &mut F) {
+        let seconds = Name {
+            key: "seconds",
+            before: " ",
+            after: " s for the one place",
+        };
+        out.number(seconds, self.0);
+    }
 }
 
 /// A connection could not be accepted.

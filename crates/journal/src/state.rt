@@ -1,38 +1,59 @@
 //! What a log knows of an association.
 ghost use Rattle.std.specs.Prelude.{◌+◌, ◌≤◌, length};
 
-use crate::accepted::result_of;
+use crate::accepted::Results;
 use crate::cause::Cause;
-use crate::end::End;
+use crate::end::{Abort, About, End, Rejection};
 use crate::incoming::{Heard, Incoming};
-use crate::outcome::{Counts, Outcome};
-use crate::outgoing::Outgoing;
-use crate::reply::Reply;
-use crate::store::{Asked, Sizes};
+use crate::limits::Limits;
+use crate::outcome::Counts;
 use crate::text::Text;
-use connection::ReadEnd;
-use dimse::read_command;
+use arrayvec::ArrayVec;
 use element::AeTitle;
+use part10::Place;
 use pdu::read_request;
 use std::alloc::Global;
 
 /// An AE title, as it is shown.
 pub(crate) type Title = Text<16>;
 
+/// Why a file could not be written, as it is shown.
+pub(crate) type FolderError = Text<100>;
+
+/// The bytes of a request's body up to the end of its titles.
+const TITLES: usize = 36;
+
+/// How far an association has come.
+#[derive(Clone, Copy, Debug, PartialEq, Eq)]
+pub(crate) enum Phase {
+    /// A request is due.
+    Awaited,
+    Established,
+    /// It was rejected, released or aborted.
+    Over,
+}
+
 /// What a log knows of an association.
 #[derive(Drop)]
 pub(crate) struct State {
     pub incoming: Incoming,
-    pub outgoing: Outgoing,
+    pub phase: Phase,
+    /// The results of its presentation contexts.
+    pub results: Results,
     pub counts: Counts,
-    pub asked: Option<Asked>,
-    pub sizes: Sizes,
     pub called: Title,
     pub calling: Title,
     pub accepted: u64,
     pub proposed: u64,
     pub end: Option<End>,
-    pub cause: Option<Cause>,
+    /// Why a file could not be written, since a store was asked for last; empty where none failed.
+    pub folder_error: FolderError,
+    /// Where the file stands of a store whose reply was not all sent.
+    pub unconfirmed: Option<Option<Place>>,
+    /// How many bytes it was to send.
+    answered: u64,
+    /// How many of them were sent.
+    sent: u64,
 }
 
 /// Returns the title at this place of a request's body, without leading and trailing spaces.
@@ -55,118 +76,145 @@ impl State {
     pub(crate) fn new(alloc: Global) -> State {
         State {
             incoming: Incoming::new(alloc),
-            outgoing: Outgoing::new(),
+            phase: Phase::Awaited,
+            results: Results::new(),
             counts: Counts::default(),
-            asked: None,
-            sizes: Sizes::new(),
             called: Title::new(),
             calling: Title::new(),
             accepted: 0,
             proposed: 0,
             end: None,
-            cause: None,
+            folder_error: Text::new(),
+            unconfirmed: None,
+            answered: 0,
+            sent: 0,
         }
     }
 
-    /// Takes note of bytes that were received.
-    pub(crate) fn receive(&mut self, bytes: &[u8]) {
-        let mut rest = bytes;
-        for _ in 0..u64::MAX {
-            let (count, heard) = self.incoming.next(rest);
-            rest = &rest[count..];
-            match heard {
-                Some(heard) => self.hear(heard),
-                None => return,
+    /// Takes note of bytes that the association took, and returns the last thing in them which it may
+    /// answer. Once it is over, nothing counts but the titles of its request.
+    pub(crate) fn take(&mut self, bytes: &[u8]) -> Heard {
+        if self.phase == Phase::Over {
+            if self.incoming.request().is_some() {
+                self.incoming.take(bytes);
+                self.take_titles(&[]);
             }
+            return Heard::Nothing;
         }
+        let heard = self.incoming.take(bytes);
+        if heard == Heard::Request {
+            self.take_request();
+        }
+        heard
     }
 
-    fn hear(&mut self, heard: Heard) {
-        match heard {
-            Heard::Nothing => {}
-            Heard::Request => self.hear_request(),
-            Heard::Command => self.hear_command(),
-            Heard::Data(size) => self.sizes.push(size),
-            Heard::Abort => {
-                if self.end.is_none() {
-                    self.end = Some(End::AbortedByPeer);
-                }
-            }
-            Heard::Faulty(cause) => self.suspect(cause),
-        }
-    }
-
-    /// Keeps the first thing that was out of order.
-    fn suspect(&mut self, cause: Cause) {
-        if self.cause.is_none() {
-            self.cause = Some(cause);
-        }
-    }
-
-    /// Takes the titles of the request, as far as they were kept.
-    pub(crate) fn take_titles(&mut self) {
+    /// Takes the titles of the request, and counts its contexts.
+    fn take_request(&mut self) {
+        self.take_titles(&[]);
         let Some(body) = self.incoming.request() else {
             return;
         };
-        if body.len() >= 36 {
+        if let Ok(request) = read_request(body) {
+            for _context in request.contexts() {
+                self.proposed = self.proposed.saturating_add(1);
+            }
+        }
+    }
+
+    /// Takes the titles of the request, as far as they have come: what was taken, and what is read ahead of
+    /// that. The body of a request that is over is given up then.
+    pub(crate) fn take_titles(&mut self, ahead: &[u8]) {
+        let mut front = ArrayVec::<u8, TITLES>::new();
+        if let Some(body) = self.incoming.request() {
+            let count = body.len().min(TITLES);
+            let _ = front.try_extend_from_slice(&body[..count]);
+        }
+        let count = front.remaining_capacity().min(ahead.len());
+        let _ = front.try_extend_from_slice(&ahead[..count]);
+        let body = front.as_slice();
+        if body.len() == TITLES {
             self.called = title_at(body, 4);
             self.calling = title_at(body, 20);
+            if self.phase == Phase::Over {
+                self.incoming.give_up_request();
+            }
         }
     }
 
-    fn hear_request(&mut self) {
+    /// Takes note that the association is to send so many bytes.
+    pub(crate) fn answer(&mut self, count: usize) {
+        self.answered = self.answered.saturating_add(count as u64);
+    }
+
+    /// Takes note that so many bytes were sent.
+    pub(crate) fn send(&mut self, count: usize) {
+        self.sent = self.sent.saturating_add(count as u64);
+        if self.sent >= self.answered {
+            self.unconfirmed = None;
+        }
+    }
+
+    /// A store was asked for.
+    pub(crate) fn ask(&mut self) {
+        self.counts.ask();
+        self.folder_error = Text::new();
+        self.incoming.message.expect_data();
+    }
+
+    /// The association ended so, unless it had before. Only the titles of a request that was rejected may
+    /// come yet.
+    pub(crate) fn end(&mut self, end: End) {
+        self.phase = Phase::Over;
+        if self.end.is_none() {
+            self.end = Some(end);
+        }
+        if !matches!(self.end, Some(End::Rejected(_))) {
+            self.incoming.give_up_request();
+        }
+    }
+
+    /// The request was rejected with this source and reason.
+    pub(crate) fn reject(&mut self, source: u8, reason: u8, heard: Heard) -> Rejection {
+        let about = match (heard, source, reason) {
+            (Heard::Head, _, _) => About::Length(self.incoming.length()),
+            (_, 1, 1) => self.maximum(),
+            _ => About::Nothing,
+        };
+        let rejection = Rejection {
+            source,
+            reason,
+            about,
+        };
+        self.end(End::Rejected(rejection));
+        rejection
+    }
+
+    /// Returns the maximum length that the request names.
+    fn maximum(&self) -> About {
         let Some(body) = self.incoming.request() else {
-            return;
+            return About::Nothing;
         };
         match read_request(body) {
-            Ok(request) => {
-                for _context in request.contexts() {
-                    self.proposed = self.proposed.saturating_add(1);
-                }
+            Ok(request) => About::Maximum(request.maximum()),
+            Err(_) => About::Nothing,
+        }
+    }
+
+    /// Returns why what was heard last has the association aborted.
+    pub(crate) fn cause(&self, heard: Heard, limits: Limits) -> Option<Cause> {
+        let is_established = self.phase == Phase::Established;
+        match heard {
+            // The context is judged before the message.
+            Heard::Value(_) if !self.results.is_accepted(self.incoming.context()) => {
+                Some(Cause::Context(self.incoming.context()))
             }
-            Err(fault) => self.suspect(Cause::Request(fault)),
+            _ => self.incoming.cause(heard, is_established, limits),
         }
-        self.take_titles();
     }
 
-    fn hear_command(&mut self) {
-        match read_command(self.incoming.command()) {
-            Ok(command) => {
-                if let Some(asked) = Asked::of(&command) {
-                    self.asked = Some(asked);
-                    self.counts.ask();
-                }
-            }
-            Err(fault) => self.suspect(Cause::Command(fault)),
-        }
-        self.incoming.clear_command();
-    }
-
-    /// Reads the reply that was sent. Returns it and the size of its data set, or `None` if it does
-    /// not answer a store.
-    pub(crate) fn take_reply(&mut self) -> Option<(Reply, Option<u64>)> {
-        let reply = Reply::read(self.outgoing.reply());
-        self.outgoing.clear_reply();
-        let reply = reply?;
-        self.counts.answer(Outcome::of(reply.status));
-        Some((reply, self.sizes.take()))
-    }
-
-    /// Takes note of an A-ABORT that was sent; returns how the association ended.
-    pub(crate) fn abort(&mut self, source: u8, reason: u8) -> Option<End> {
-        if let (None, Some(id)) = (&self.cause, self.incoming.context()) {
-            if !matches!(result_of(self.outgoing.accepted(), id), Some(0)) {
-                self.cause = Some(Cause::Context(id));
-            }
-        }
-        self.end = End::after(self.end, End::Aborted(source, reason, self.cause));
-        self.end
-    }
-
-    /// Takes note that nothing more was read.
-    pub(crate) fn end_reading(&mut self, end: ReadEnd) {
-        if self.end.is_none() {
-            self.end = Some(End::Read(end));
-        }
+    /// The peer aborted the association.
+    pub(crate) fn end_by_peer(&mut self) {
+        let (source, reason) = self.incoming.abort();
+        self.end(End::AbortedByPeer(Abort { source, reason }));
     }
 }

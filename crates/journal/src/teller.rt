@@ -3,7 +3,7 @@ use crate::entry::Entry;
 use crate::form::Form;
 use crate::line::{Head, line_of};
 use jiff::Timestamp;
-use log::{Log, log, log_enabled};
+use log::{Level, Log, log, log_enabled};
 use std::net::SocketAddr;
 use std::time::Clock;
 
@@ -37,10 +37,15 @@ impl<'a, R: Log + Clock> Teller<'a, R> {
         }
     }
 
+    /// Returns whether lines of this level are written.
+    pub(crate) fn tells(&self, level: Level) -> bool {
+        log_enabled!(self.rt; target: TARGET, level)
+    }
+
     /// Writes a line, if lines of its level are written, with the time, if the clock can be read.
     pub fn tell<E: Entry>(&self, entry: &E) {
         let level = entry.level();
-        if log_enabled!(self.rt; target: TARGET, level) {
+        if self.tells(level) {
             let head = Head {
                 time: Timestamp::now(self.rt).ok(),
                 peer: self.peer,

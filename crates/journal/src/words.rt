@@ -16,17 +16,16 @@ pub(crate) fn rejection_words(source: u8, reason: u8) -> &'static str {
     }
 }
 
-/// Returns why an association was aborted, from the source and the reason of its A-ABORT (PS3.8
-/// Table 9-26). The service user gives no reason.
-pub(crate) fn abort_words(source: u8, reason: u8) -> &'static str {
-    match (source, reason) {
-        (0, _) => "by the service user",
-        (2, 0) => "reason not specified",
-        (2, 1) => "unrecognized PDU",
-        (2, 2) => "unexpected PDU",
-        (2, 4) => "unrecognized PDU parameter",
-        (2, 5) => "unexpected PDU parameter",
-        (2, 6) => "invalid PDU parameter value",
+/// Returns why a service provider aborted an association, from the reason of its A-ABORT (PS3.8
+/// Table 9-26).
+pub(crate) fn provider_words(reason: u8) -> &'static str {
+    match reason {
+        0 => "reason not specified",
+        1 => "unrecognized PDU",
+        2 => "unexpected PDU",
+        4 => "unrecognized PDU parameter",
+        5 => "unexpected PDU parameter",
+        6 => "invalid PDU parameter value",
         _ => "reserved reason",
     }
 }

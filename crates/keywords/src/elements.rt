@@ -1,5 +1,5 @@
-//! The keywords of data elements. A row of the tables is a tag of eight hexadecimal digits, of which `x` is any,
-//! a space and a keyword.
+//! The keywords of data elements. A row of a table is a line with a tag of eight hexadecimal digits,
+//! where `x` stands for any digit, a space and the keyword.
 mod part_1;
 mod part_10;
 mod part_11;
@@ -15,7 +15,7 @@ mod part_8;
 mod part_9;
 mod repeaters;
 
-/// The tables, by rising tags.
+/// The tables, in ascending order of tags.
 const TABLES: [&str; 13] = [
     part_1::ROWS,
     part_2::ROWS,
@@ -32,15 +32,15 @@ const TABLES: [&str; 13] = [
     part_13::ROWS,
 ];
 
-/// The digits of a tag, group before element.
+/// The eight hexadecimal digits of a tag, first those of the group.
 type Digits = [u8; 8];
 
-/// Returns the last digit of a number in hexadecimal.
+/// Returns the last hexadecimal digit of a number.
 fn digit(number: u16) -> u8 {
     b"0123456789abcdef"[usize::from(number & 15)]
 }
 
-/// Returns the digits of a tag.
+/// Returns the hexadecimal digits of a tag.
 fn digits_of(group: u16, element: u16) -> Digits {
     [
         digit(group >> 12),
@@ -54,7 +54,7 @@ fn digits_of(group: u16, element: u16) -> Digits {
     ]
 }
 
-/// Returns whether the digits of a row are those of the tag.
+/// Returns whether a row is that of the tag.
 fn are_of(row: &[u8], tag: &Digits) -> bool {
     row.len() == 8
         && row
@@ -63,7 +63,7 @@ fn are_of(row: &[u8], tag: &Digits) -> bool {
             .all(|(row, tag)| row == tag || *row == b'x')
 }
 
-/// Returns the keyword of a row, if it is of this tag.
+/// Returns the keyword of a row, or `None` if it is not that of the tag.
 fn keyword_of(row: &'static str, tag: &Digits) -> Option<&'static str> {
     let (digits, keyword) = row.split_once(' ')?;
     if are_of(digits.as_bytes(), tag) {
@@ -73,7 +73,7 @@ fn keyword_of(row: &'static str, tag: &Digits) -> Option<&'static str> {
     }
 }
 
-/// Returns the keyword of the row of this tag.
+/// Returns the keyword of a tag in a table, or `None` if the table does not have it.
 fn keyword_in(rows: &'static str, tag: &Digits) -> Option<&'static str> {
     for row in rows.split('\n') {
         if let Some(keyword) = keyword_of(row, tag) {
@@ -83,7 +83,7 @@ fn keyword_in(rows: &'static str, tag: &Digits) -> Option<&'static str> {
     None
 }
 
-/// Returns whether the first row is of a tag above this one.
+/// Returns whether the first row of a table has a tag above this one.
 fn is_above(rows: &str, tag: &Digits) -> bool {
     match rows.as_bytes().get(..8) {
         Some(first) => first > tag.as_slice(),
@@ -91,7 +91,7 @@ fn is_above(rows: &str, tag: &Digits) -> bool {
     }
 }
 
-/// Returns the table that a tag is in, if it is in one.
+/// Returns the only table that can have this tag.
 fn table_of(tag: &Digits) -> &'static str {
     let mut table = "";
     for rows in TABLES {
@@ -103,12 +103,43 @@ fn table_of(tag: &Digits) -> &'static str {
     table
 }
 
-/// Returns the keyword of a data element (PS3.6 sections 6 to 9), or `None` if the standard has none with this
-/// group and element number.
+/// Returns the keyword of the data element with this group and element number (PS3.6 sections 6 to 9),
+/// or `None` if the standard has none.
 pub fn element_keyword(group: u16, element: u16) -> Option<&'static str> {
     let tag = digits_of(group, element);
     match keyword_in(table_of(&tag), &tag) {
         Some(keyword) => Some(keyword),
         None => keyword_in(repeaters::ROWS, &tag),
     }
+}
+
+/// Returns the digits of a row that has this keyword, if they are those of one tag.
+fn digits_in(row: &'static str, keyword: &str) -> Option<&'static str> {
+    let (digits, named) = row.split_once(' ')?;
+    if named == keyword && !digits.as_bytes().contains(&b'x') {
+        Some(digits)
+    } else {
+        None
+    }
+}
+
+/// Returns the digits of the first of these rows that has this keyword.
+fn first_digits(rows: &'static str, keyword: &str) -> Option<&'static str> {
+    for row in rows.split('\n') {
+        if let Some(digits) = digits_in(row, keyword) {
+            return Some(digits);
+        }
+    }
+    None
+}
+
+/// Returns the tag of the data element with this keyword (PS3.6 sections 6 to 9): eight hexadecimal digits, group
+/// before element. `None` if the standard has no such keyword, or several tags with it.
+pub fn element_digits(keyword: &str) -> Option<&'static str> {
+    for rows in TABLES {
+        if let Some(digits) = first_digits(rows, keyword) {
+            return Some(digits);
+        }
+    }
+    None
 }

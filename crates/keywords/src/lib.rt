@@ -1,19 +1,20 @@
-//! The keywords by which people know unique identifiers and data elements (PS3.6). No decision rests on them.
+//! The keywords of data elements, SOP classes and transfer syntaxes (PS3.6), for output that people
+//! read. Nothing is decided by them.
 #![tactic(auto)]
 
 mod classes;
 mod elements;
 mod syntaxes;
 
-pub use elements::element_keyword;
+pub use elements::{element_digits, element_keyword};
 
-/// A row: what follows the standard's root in the identifier, and the keyword.
+/// A row of a table: the part of a UID after [`ROOT`], and the keyword.
 type Row = (&'static str, &'static str);
 
-/// The root of the identifiers of the standard.
+/// The root of the UIDs that the standard defines.
 const ROOT: &[u8] = b"1.2.840.10008.";
 
-/// Returns the keyword of the row with this identifier, less its root.
+/// Returns the keyword of the UID whose part after [`ROOT`] is `rest`, or `None` if no row has it.
 fn keyword_in(rows: &[Row], rest: &[u8]) -> Option<&'static str> {
     for (uid, keyword) in rows {
         if uid.as_bytes() == rest {
@@ -23,12 +24,12 @@ fn keyword_in(rows: &[Row], rest: &[u8]) -> Option<&'static str> {
     None
 }
 
-/// Returns the keyword of a SOP class, or `None` if the standard has no class with this identifier.
+/// Returns the keyword of the SOP class with this UID, or `None` if the standard has none.
 pub fn class_keyword(uid: &[u8]) -> Option<&'static str> {
     classes::keyword(uid.strip_prefix(ROOT)?)
 }
 
-/// Returns the keyword of a transfer syntax, or `None` if the standard has none with this identifier.
+/// Returns the keyword of the transfer syntax with this UID, or `None` if the standard has none.
 pub fn syntax_keyword(uid: &[u8]) -> Option<&'static str> {
     syntaxes::keyword(uid.strip_prefix(ROOT)?)
 }

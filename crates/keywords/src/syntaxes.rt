@@ -1,7 +1,7 @@
 //! The keywords of transfer syntaxes (PS3.6 annex A). Made by tools/keywords.
 use super::{Row, keyword_in};
 
-/// Returns the keyword of the row with this identifier, less its root.
+/// Returns the keyword of the UID whose part after `1.2.840.10008.` is `rest`.
 pub(super) fn keyword(rest: &[u8]) -> Option<&'static str> {
     if let Some(keyword) = part_1(rest) {
         return Some(keyword);

@@ -1,4 +1,4 @@
--- The first parts of an A-ASSOCIATE-AC, one after the other.
+-- The first parts of an A-ASSOCIATE-AC, one after the other, are its front (`front_is`). Stands on the definitions alone.
 use Rattle.std.proofs.Common.{◌≡◌, ℕ, List, [], ◌∷◌, ◌++◌, refl}
 use Rattle.element.specs.Numbers.{be}
 use Rattle.dictionary.specs.Syntaxes.{application_context}

@@ -1,4 +1,5 @@
--- Lists of titles, and what follows from an acceptance.
+-- A peer that is accepted takes fragments: its maximum length is 0 or at least 8 (`accepted_maximum`); a test of some item of
+-- a list is that of what the items are mapped to (`list_any-map`). Stands on the definitions alone.
 use Rattle.std.proofs.Common.{◌≡◌, ℕ, ◌≤◌, Bool, true, false, not, ◌&&◌, ◌||◌, ◌⊎◌, inl, inr, List, [], ◌∷◌, map, nat_le, if◌then◌else◌, refl, ap, arith}
 use Rattle.std.proofs.lemmas.Bool.Decides.{nat_tests}
 use Rattle.std.proofs.lemmas.Bool.{cases_lt}

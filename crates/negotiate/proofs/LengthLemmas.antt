@@ -1,4 +1,4 @@
--- How long an A-ASSOCIATE-AC is.
+-- An A-ASSOCIATE-AC has 4,620 bytes at most (`accepts_short`). Stands on the laws of `dictionary` and `pdu`.
 use Rattle.std.proofs.Common.{◌≡◌, ℕ, ◌+◌, ◌*◌, ◌≤◌, List, [], ◌∷◌, ◌++◌, length, drop, None, arith}
 use Rattle.std.specs.List.{flat_map}
 use Rattle.std.proofs.lemmas.List.{length-append, length-map, length-take}
@@ -9,7 +9,7 @@ use Rattle.pdu.specs.Items.{request_record}
 use Rattle.pdu.specs.Refusal.{request_fault}
 use Rattle.pdu.proofs.Public.{request_text, request_kept, few_ids}
 use Rattle.dictionary.specs.Syntaxes.{application_context}
-use Rattle.negotiate.specs.Accept.{item_text, context_text, user_text, before_contexts, accept_text}
+use Rattle.negotiate.specs.Accept.{item_text, context_text, user_text, before_contexts, accept_text, longest_accept}
 use Rattle.negotiate.specs.Contexts.{carried, offered, seen}
 use Rattle.negotiate.specs.Settings.{Settings}
 
@@ -39,7 +39,7 @@ few_contexts body bytes none =
     let kept = request_kept r body bytes (request_text body none) in
     omega (arith, few_ids _ kept.ids_odd kept.ids_distinct, length-map r.contexts (λ (p : Proposal). p.id))
 
-pub accepts_short : (s : Settings) (body : List ℕ) → IsBytes body → request_fault body ≡ None → length (accept_text s (request_record body)) ≤ 4620
+pub accepts_short : (s : Settings) (body : List ℕ) → IsBytes body → request_fault body ≡ None → length (accept_text s (request_record body)) ≤ longest_accept
 accepts_short s body bytes none =
     let short = accept_short s (request_record body) (omega (arith, length-take 16 (drop 4 body))) (omega (arith, length-take 16 (drop 20 body))) (omega (arith, length-take 32 (drop 36 body))) in
     omega (arith, short, few_contexts body bytes none)

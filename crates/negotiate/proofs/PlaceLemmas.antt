@@ -1,4 +1,5 @@
--- The places of further storage classes.
+-- A search for the place of a further storage class finds it (`is_here`), goes on (`not_here`) or ends (`none_here`,
+-- `none_left`). Stands on ServiceLemmas and the laws of `dictionary`.
 use Rattle.std.proofs.Common.{◌≡◌, ℕ, suc, ◌+◌, ◌≤◌, Bool, true, false, cond, List, [], ◌∷◌, ◌++◌, length, map, drop, Some, None, slice_get, refl, ap, sym, subst, ◌∙◌, arith}
 use Rattle.std.specs.List.{position_from}
 use Rattle.dictionary.specs.StorageClasses.{storage_classes}
@@ -27,11 +28,11 @@ length-mapped : {A B : Type 0} (f : A → B) (xs : List A) → length (map f xs)
 length-mapped f [] = refl
 length-mapped f (x ∷ xs) = ap suc (length-mapped f xs)
 
-few_registered : (all : Bool) → length (registered all) ≤ 157
-few_registered true = subst (λ n. n ≤ 157) (sym (length-mapped (λ row. row.uid) storage_classes ∙ length-storage_classes)) (omega arith)
+few_registered : (all : Bool) → length (registered all) ≤ 177
+few_registered true = subst (λ n. n ≤ 177) (sym (length-mapped (λ row. row.uid) storage_classes ∙ length-storage_classes)) (omega arith)
 few_registered false = omega arith
 
-pub none_left : (t : List ℕ → Bool) (c : Config) (n : ℕ) → length c.named.items ≤ 16 → 173 ≤ n → position_from t n (drop n (settings_of c).further.classes) ≡ None
+pub none_left : (t : List ℕ → Bool) (c : Config) (n : ℕ) → length c.named.items ≤ 16 → 193 ≤ n → position_from t n (drop n (settings_of c).further.classes) ≡ None
 none_left t c n named h =
     let both = length-append (map (λ u. u.items) c.named.items) (registered c.all_storage) in
     let first = length-mapped (λ u. u.items) c.named.items in

@@ -7,7 +7,7 @@ use Rattle.element.specs.declared.syntax.Syntax.{Syntax}
 use Rattle.pdu.specs.Record.{Proposal, RequestRecord, ids}
 use Rattle.pdu.specs.Items.{request_record}
 use Rattle.pdu.specs.Refusal.{request_fault}
-use Rattle.negotiate.specs.Accept.{accept_text}
+use Rattle.negotiate.specs.Accept.{accept_text, longest_accept}
 use Rattle.negotiate.specs.ContextRows.{context_in, context_rows}
 use Rattle.negotiate.specs.Settings.{Settings}
 use Rattle.negotiate.specs.Taken.{Taken, nothing_further}
@@ -24,7 +24,7 @@ pub context_in-context_rows : (further : Taken) (r : RequestRecord) → IsDistin
     context_in further (context_rows further (offered further r)) id ≡ context_of (offered further r) id
 context_in-context_rows = table.context_in-context_rows
 
-pub accepts_short : (s : Settings) (body : List ℕ) → IsBytes body → request_fault body ≡ None → length (accept_text s (request_record body)) ≤ 4620
+pub accepts_short : (s : Settings) (body : List ℕ) → IsBytes body → request_fault body ≡ None → length (accept_text s (request_record body)) ≤ longest_accept
 accepts_short = length_of.accepts_short
 
 pub default_result : (p : Proposal) → result_of (seen nothing_further p) ≡ result_by (class_of p.abstract_syntax) (chosen p.transfer_syntaxes)

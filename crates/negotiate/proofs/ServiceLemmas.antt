@@ -1,4 +1,6 @@
--- Which services are taken, and how they stand in a table's rows.
+-- The service of an abstract syntax is the class that it names (`known_service`), a further one at its place
+-- (`placed_service`), or none (`unread_service`, `unplaced_service`), and stands so in a table's rows (`context_kept`); by
+-- default it is that of the dictionary (`default_result`, `default_context`). Stands on TransferLemmas.
 use Rattle.std.proofs.Common.{◌≡◌, ℕ, zero, suc, ◌+◌, ◌≤◌, Bool, true, false, ◌&&◌, ◌||◌, cond, List, [], ◌∷◌, length, drop, map, nat_eq, Option, Some, None, option_map, option_and_then, slice_get, if◌then◌else◌, arith, refl, ap, sym, subst, ◌∙◌}
 use Rattle.std.proofs.lemmas.Bool.Decides.{nat_tests}
 use Rattle.std.specs.Cmp.Lexicographic.{pointwise}

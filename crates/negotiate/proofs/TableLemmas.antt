@@ -1,4 +1,5 @@
--- The table of the accepted contexts of a request.
+-- The table has just the accepted contexts of the request (`context_in-table`), as many as there are (`length-table`). Stands
+-- on ServiceLemmas.
 use Rattle.std.proofs.Common.{◌≡◌, ℕ, ◌+◌, Bool, true, false, cond, eqb, List, [], ◌∷◌, ◌++◌, length, nat_eq, Option, Some, None, option_map, option_and_then, map, arith, refl, ap, sym, ◌∙◌}
 use Rattle.std.proofs.lemmas.Bool.{eqb-false}
 use Rattle.std.proofs.lemmas.Bool.Decides.{nat_tests}

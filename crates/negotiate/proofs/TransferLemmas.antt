@@ -1,4 +1,6 @@
--- Which transfer syntaxes are taken, and which of them is chosen.
+-- A native transfer syntax is chosen where one is proposed (`agreed_native`), else the first proposed that is taken
+-- (`agreed_further`); with none taken the native two decide (`native_result`, `native_context`). Stands on the laws of
+-- `dictionary`.
 use Rattle.std.proofs.Common.{◌≡◌, ℕ, Bool, true, false, ◌||◌, cond, List, [], ◌∷◌, Option, Some, None, option_map, option_and_then, if◌then◌else◌, refl, ap, sym, ◌∙◌}
 use Rattle.std.specs.List.{filter, list_any}
 use Rattle.element.specs.declared.syntax.Syntax.{Syntax}

@@ -1,6 +1,6 @@
 -- The answer's bytes: A-ASSOCIATE-AC (PS3.8 section 9.3.3 and annex D.1, PS3.7 annex D.3.3.2) or A-ASSOCIATE-RJ (PS3.8
 -- section 9.3.4). Reserved bytes are zeros.
-use Rattle.std.specs.Prelude.{ℕ, List, ◌∷◌, ◌++◌, length}
+use Rattle.std.specs.Prelude.{ℕ, ◌+◌, ◌*◌, List, ◌∷◌, ◌++◌, length}
 use Rattle.std.specs.List.{flat_map}
 use Rattle.element.specs.Numbers.{be}
 use Rattle.dictionary.specs.Implementation.{implementation_class_uid, implementation_version_name}
@@ -42,6 +42,10 @@ accept_body s r = before_contexts r ++ flat_map context_text (offered s.further 
 
 abbrev pub accept_text : Settings → RequestRecord → List ℕ
 accept_text s r = pdu_text associate_ac (accept_body s r)
+
+-- an A-ASSOCIATE-AC has so many bytes at most: 140, and 35 for each of 128 contexts
+abbrev pub longest_accept : ℕ
+longest_accept = 140 + 35 * 128
 
 abbrev pub text_by : Answer → Settings → RequestRecord → List ℕ
 text_by Accept s r = accept_text s r

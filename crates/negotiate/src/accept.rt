@@ -3,7 +3,7 @@ ghost use Rattle.std.specs.Prelude.{◌≡◌, ◌+◌, ◌*◌, ◌≤◌, [], 
 ghost use Rattle.std.specs.List.{flat_map};
 ghost use Rattle.arrayvec.specs.ArrayVec.{array_vec_len};
 ghost use Rattle.element.specs.Numbers.{be};
-ghost use Rattle.negotiate.specs.Accept.{accept_text, before_contexts, context_text};
+ghost use Rattle.negotiate.specs.Accept.{accept_text, before_contexts, context_text, longest_accept};
 ghost use Rattle.negotiate.specs.Contexts.{offered};
 ghost use Rattle.negotiate.specs.Settings.{settings_of};
 
@@ -23,13 +23,13 @@ const BARE: usize = 76;
 const CONTEXT: usize = 12;
 
 /// The bytes of the longest A-ASSOCIATE-AC: 140, and 35 for each of 128 contexts.
-const LONGEST: usize = 4620;
+const LONGEST: usize = 140 + 35 * 128;
 
 /// Returns the size of the A-ASSOCIATE-AC that answers the request.
 pub(crate) fn accept_size(config: &Config, request: &Request) -> usize
     ensures value { result ≡ length (accept_text (settings_of config.now) request.now) }
     ensures least { 6 ≤ result }
-    ensures most { result ≤ 4620 }
+    ensures most { result ≤ longest_accept }
 {
     let mut size = BARE
         + request.called().0.len()

@@ -8,8 +8,8 @@ use arrayvec::ArrayVec;
 use dictionary::{Transfer, storage_class};
 use element::{AeTitle, Uid};
 
-/// How many further storage classes can be taken: 16 that are named, and the 157 of the standard.
-const MOST_FURTHER: usize = 173;
+/// How many further storage classes can be taken: 16 that are named, and the 177 of the standard.
+const MOST_FURTHER: usize = 193;
 
 /// How many further transfer syntaxes can be taken: those of the dictionary in which Pixel Data is encapsulated.
 const MOST_TRANSFERS: usize = 24;
@@ -26,8 +26,8 @@ pub struct Config {
     pub max_pdu: u32,
     /// The maximum length of a data set that it accepts, in bytes; from 1024 to 2^48.
     pub max_data: u64,
-    /// Whether every storage class of the standard is taken (PS3.4 Table B.5-1), and not the dictionary's
-    /// own alone.
+    /// Whether every storage class of the standard is taken (PS3.4 Table B.5-1), those that are retired (PS3.6
+    /// annex A) among them, and not the dictionary's own alone.
     pub all_storage: bool,
     /// Further storage classes that are taken, by the text of their unique identifiers.
     pub named: ArrayVec<ArrayVec<u8, 64>, 16>,
@@ -46,6 +46,7 @@ fn text_of(bytes: &[u8]) -> ArrayVec<u8, 64>
     ensures { result.items ≡ bytes.now }
 {
     let mut text = ArrayVec::new();
+    // They fit, by the contract.
     let _ = text.try_extend_from_slice(bytes);
     text
 }
@@ -58,6 +59,7 @@ fn texts_of(uids: &[Uid]) -> ArrayVec<ArrayVec<u8, 64>, 16>
 {
     let mut texts = ArrayVec::new();
     for uid in uids {
+        // For its contract, by which the prover knows that the text fits: it is an identifier.
         let _ = uid.len();
         texts.push(text_of(uid.as_bytes()));
     }
@@ -84,6 +86,7 @@ fn copied_transfers(transfers: &[Transfer]) -> ArrayVec<Transfer, MOST_TRANSFERS
     ensures few { array_vec_len result ≤ 24 }
 {
     let mut copies = ArrayVec::new();
+    // They fit, by `few`.
     let _ = copies.try_extend_from_slice(transfers);
     copies
 }

@@ -8,7 +8,7 @@ ghost use Rattle.element.specs.declared.syntax.Syntax.{Syntax};
 ghost use Rattle.pdu.specs.Items.{request_record};
 ghost use Rattle.pdu.specs.Record.{Proposal, RequestRecord, ids};
 ghost use Rattle.pdu.specs.Refusal.{request_fault};
-ghost use Rattle.negotiate.specs.Accept.{accept_text};
+ghost use Rattle.negotiate.specs.Accept.{accept_text, longest_accept};
 ghost use Rattle.negotiate.specs.ContextRows.{accepted_count, context_in, context_rows};
 ghost use Rattle.negotiate.specs.Contexts.{accepted, accepted_by, agreed, carried, carried_by, chosen, context_of, offered, result_by, result_of, seen, service_of, taken_syntax};
 ghost use Rattle.negotiate.specs.Rejections as spelling;
@@ -64,7 +64,7 @@ pub fn accepted_peers_take_fragments()
 
 /// An A-ASSOCIATE-AC has 4,620 bytes at most: 140, and 35 for each of at most 128 contexts.
 pub fn acceptances_are_short()
-    ensures { (s : Settings) (body : List ℕ) → IsBytes body → request_fault body ≡ None → length (accept_text s (request_record body)) ≤ 4620 }
+    ensures { (s : Settings) (body : List ℕ) → IsBytes body → request_fault body ≡ None → length (accept_text s (request_record body)) ≤ longest_accept }
 {}
 
 /// The default settings are those of the definitions.

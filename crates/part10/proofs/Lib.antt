@@ -14,3 +14,4 @@ pub mod GroupLemmas
 pub mod WholeLemmas
 pub mod NativeLemmas
 pub mod Verdicts
+pub mod NamingLemmas

@@ -1,5 +1,5 @@
--- The file of a stored instance (PS3.10 section 7.1). Which optional elements stand in its header, and what
--- names this implementation, is this product's own profile.
+-- The file of a stored instance (PS3.10 section 7.1). Which optional elements its File Meta Information has, and the
+-- names of this implementation, are this product's own profile.
 use Rattle.std.specs.Prelude.{ℕ, List, [], ◌∷◌, ◌++◌, length, replicate, Some, if◌then◌else◌, codes}
 use Rattle.element.specs.Numbers.{le}
 use Rattle.element.specs.Header.{header_bytes}
@@ -10,7 +10,7 @@ use Rattle.dictionary.specs.Implementation.{implementation_class_uid, implementa
 use Rattle.dictionary.specs.Transfers.{transfer_uid}
 use Rattle.part10.specs.declared.meta.Meta.{Meta}
 
--- 128 zero bytes and the four letters
+-- the preamble of 128 zero bytes and the prefix DICM
 abbrev pub prefix : List ℕ
 prefix = replicate 128 0 ++ codes "DICM"
 
@@ -21,7 +21,7 @@ meta_element number vr value = header_bytes (record { tag = record { 0 = 2; 1 = 
 abbrev pub uid_element : ℕ → List ℕ → List ℕ
 uid_element number text = meta_element number (codes "UI") (even_uid text)
 
--- the version of the header, the class, the instance and its transfer syntax
+-- File Meta Information Version, Media Storage SOP Class UID, Media Storage SOP Instance UID, Transfer Syntax UID
 unfoldable pub identity_elements : Meta → List ℕ
 identity_elements meta =
     meta_element 0x0001 (codes "OB") (0 ∷ 1 ∷ [])
@@ -34,22 +34,22 @@ unfoldable pub implementation_elements : List ℕ
 implementation_elements =
     uid_element 0x0012 implementation_class_uid ++ meta_element 0x0013 (codes "SH") implementation_version_name
 
--- Source Application Entity Title, left out where nothing remains of the title
+-- Source Application Entity Title, left out if the title is empty
 unfoldable pub title_element : List ℕ → List ℕ
 title_element text = if is_empty text then [] else meta_element 0x0016 (codes "AE") (padded 32 text)
 
--- the elements of group 0002 after its length; of the calling title, what is left without spaces at both ends
+-- the elements of group 0002 after its length; the calling title is without spaces at both ends
 abbrev pub meta_group : Meta → List ℕ
 meta_group meta = identity_elements meta ++ implementation_elements ++ title_element (title_text meta.calling.0)
 
--- File Meta Information Group Length: the bytes of the group after it
+-- File Meta Information Group Length: the number of bytes of the group after it
 abbrev pub length_element : ℕ → List ℕ
 length_element bytes = meta_element 0x0000 (codes "UL") (le bytes 4)
 
--- what stands before the data set
+-- the bytes of a file before the data set
 abbrev pub head : Meta → List ℕ
 head meta = prefix ++ length_element (length (meta_group meta)) ++ meta_group meta
 
--- the file: its head, and the data set as it was sent
+-- the file of an instance: preamble, prefix and File Meta Information, then the data set as it was received
 abbrev pub File : Meta → List ℕ → List ℕ
 File meta data_set = head meta ++ data_set

@@ -1,3 +1,6 @@
+pub mod Places
+pub mod Numbers
+pub mod Naming
 pub mod Store
 pub mod EntryNames
 pub mod File

@@ -1,5 +1,6 @@
--- The file header as it is read, and what is wrong with a file that has none (PS3.10 section 7.1). That the
--- preamble is not looked at, and that the VRs after the first element are not, is this product's own profile.
+-- File Meta Information as it is read, and the fault of a file without it (PS3.10 section 7.1). That the preamble is
+-- not checked, and the VRs after the first element are not, is this product's own profile. A file header is the
+-- preamble, the prefix DICM and the File Meta Information.
 use Rattle.std.specs.Prelude.{◌≡◌, ◌≢◌, ℕ, ◌%◌, ◌^◌, ◌<◌, List, [], ◌∷◌, ◌++◌, length, take, drop, Option, Some, None, IfSome, ⊤, ◌⊎◌, nat_eq, if◌then◌else◌, codes}
 use Rattle.std.specs.Io.KnownBytes.{Consumes}
 use Rattle.element.specs.declared.syntax.Syntax.{Syntax}
@@ -24,8 +25,8 @@ pub record MetaElement : Type 0 where
 abbrev pub meta_element_of : Header → List ℕ → MetaElement
 meta_element_of h v = record { number = h.tag.1; value = v }
 
--- b spells these elements of group 0002, whose numbers rise and are above `last`: each is a header and as
--- many bytes as its even, so defined, length says
+-- the bytes b are these elements of group 0002, with strictly ascending element numbers above `last`: each is a
+-- header and as many bytes as its even, and so defined, length says
 pub data MetaElements : ℕ → List MetaElement → List ℕ → Type 0 where
   no_more : {last : ℕ} → MetaElements last [] []
   element_then : {last : ℕ} {h : Header} {hb v : List ℕ} {es : List MetaElement} {b : List ℕ}
@@ -33,23 +34,23 @@ pub data MetaElements : ℕ → List MetaElement → List ℕ → Type 0 where
       → MetaElements h.tag.1 es b
       → MetaElements last (meta_element_of h v ∷ es) (hb ++ (v ++ b))
 
--- the unique identifier in the element with this number, where it is there and can be read
+-- the UID in the element with this element number; none if the element is missing or has no valid UID
 abbrev pub uid_at : ℕ → List MetaElement → Option (List ℕ)
 uid_at number [] = None
 uid_at number (e ∷ es) = if nat_eq e.number number then uid_of e.value else uid_at number es
 
--- what a file header says of its instance
+-- what a file header says of its instance: SOP class, SOP instance and transfer syntax
 pub record Said : Type 0 where
   pub class : List ℕ
   pub instance : List ℕ
   pub syntax : List ℕ
 
--- what is written for an instance
+-- what the file header that is written for an instance says
 abbrev pub said_of : Meta → Said
 said_of meta = record { class = meta.class; instance = meta.instance; syntax = transfer_uid meta.syntax }
 
--- b is a file header: any preamble, the letters, and group 0002, which begins with the count of its bytes and
--- says the class, the instance and the transfer syntax
+-- the bytes b are a file header that says this: any preamble, the prefix DICM, and group 0002, which begins with its
+-- length and has the SOP class, the SOP instance and the transfer syntax
 pub record SpellsMeta (said : Said) (b : List ℕ) : Type 0 where
   pub preamble : List ℕ
   pub group : List ℕ
@@ -62,7 +63,7 @@ pub record SpellsMeta (said : Said) (b : List ℕ) : Type 0 where
   pub instance : uid_at 0x0003 elements ≡ Some said.instance
   pub syntax : uid_at 0x0010 elements ≡ Some said.syntax
 
--- the file is a file header and what follows
+-- the file begins with a file header that says this
 pub record HasMeta (said : Said) (file : List ℕ) : Type 0 where
   pub front : List ℕ
   pub back : List ℕ
@@ -72,46 +73,47 @@ pub record HasMeta (said : Said) (file : List ℕ) : Type 0 where
 abbrev pub HasLetters : List ℕ → Type 0
 HasLetters file = take 4 (drop 128 file) ≡ codes "DICM"
 
--- a fault's number
+-- the number of a fault
 abbrev pub fault_number : MetaFault → ℕ
 fault_number NotPart10 = 50
 fault_number BadMeta = 51
 fault_number OtherSyntax = 53
 fault_number ReadFailed = 54
 
--- and its name
+-- the name of a fault
 abbrev pub fault_name : MetaFault → List ℕ
 fault_name NotPart10 = codes "NotPart10"
 fault_name BadMeta = codes "BadMeta"
 fault_name OtherSyntax = codes "OtherSyntax"
 fault_name ReadFailed = codes "ReadFailed"
 
--- what is first wrong with a file: the letters do not stand after 128 bytes; it has no file header; its transfer
--- syntax is not one that is taken. That a read fails is no fault of the file
+-- the fault of a file: no prefix DICM after 128 bytes; no file header; a transfer syntax other than the two native
+-- ones. A failed read is no fault of the file
 abbrev pub MetaFaultOf : List ℕ → MetaFault → Type 0
 MetaFaultOf file NotPart10 = ¬ HasLetters file
 MetaFaultOf file BadMeta = HasLetters file × ((said : Said) → ¬ HasMeta said file)
 MetaFaultOf file OtherSyntax = (said : Said) × HasMeta said file × ((s : Syntax) → said.syntax ≢ syntax_uid s)
 MetaFaultOf file ReadFailed = ⊥
 
--- reading took just a file header that says this
+-- reading consumed exactly a file header that says this
 abbrev pub TakesMeta : Said → Option (List ℕ) → Option (List ℕ) → Type 0
 TakesMeta said old new = (header : List ℕ) × SpellsMeta said header × Consumes old new header
 
--- reading took just a file header with a transfer syntax that is not taken
+-- reading consumed exactly a file header with a transfer syntax other than the two native ones
 abbrev pub NamesOther : Option (List ℕ) → Option (List ℕ) → Type 0
 NamesOther old new = (said : Said) × TakesMeta said old new × ((s : Syntax) → said.syntax ≢ syntax_uid s)
 
--- reading fails with this fault: a read failed, or it is the fault of the bytes that were left, where they are known
+-- reading fails with this fault: a read failed, or it is the fault of the bytes that the reader had, if they are
+-- known
 abbrev pub FailsToRead : MetaFault → Option (List ℕ) → Type 0
 FailsToRead ReadFailed old = ⊤
 FailsToRead NotPart10 old = IfSome old (λ file. MetaFaultOf file NotPart10)
 FailsToRead BadMeta old = IfSome old (λ file. MetaFaultOf file BadMeta)
 FailsToRead OtherSyntax old = IfSome old (λ file. MetaFaultOf file OtherSyntax)
 
--- the same where each transfer syntax of the dictionary is taken
+-- the same if each transfer syntax of the dictionary is supported
 
--- a file header names a transfer syntax that the dictionary does not have
+-- the file has a file header with a transfer syntax that is not in the dictionary
 abbrev pub NamesNone : List ℕ → Type 0
 NamesNone file = (said : Said) × HasMeta said file × ((t : Transfer) → said.syntax ≢ transfer_uid t)
 
@@ -124,19 +126,19 @@ FailsToReadAny NotPart10 old = IfSome old (λ file. MetaFaultOf file NotPart10)
 FailsToReadAny BadMeta old = IfSome old (λ file. MetaFaultOf file BadMeta)
 FailsToReadAny OtherSyntax old = IfSome old NamesNone
 
--- the file has a file header with a transfer syntax that is taken
+-- the file has a file header with one of the two native transfer syntaxes
 abbrev pub IsTaken : List ℕ → Type 0
 IsTaken file = (said : Said) × HasMeta said file × ((s : Syntax) × (said.syntax ≡ syntax_uid s))
 
--- no file has two file headers that say different things, or that end at different places
+-- a file determines its file header: what it says and where it ends
 abbrev pub OneHeader : Type 0
 OneHeader = (file : List ℕ) (said told : Said) (has : HasMeta said file) (also : HasMeta told file) → (said ≡ told) × (has.front ≡ also.front)
 
--- every file is taken or has a fault
+-- every file is accepted or has a fault
 abbrev pub TakenOrFaulty : Type 0
 TakenOrFaulty = (file : List ℕ) → IsBytes file → IsTaken file ⊎ ((fault : MetaFault) × MetaFaultOf file fault)
 
--- none is taken and has a fault, and none has two faults
+-- no file with a fault is accepted, and no file has two faults
 abbrev pub OneVerdict : Type 0
 OneVerdict =
     ((file : List ℕ) (fault : MetaFault) → IsTaken file → ¬ MetaFaultOf file fault)

@@ -1,48 +1,51 @@
--- What contracts see of a filing, and what each of its calls leaves. This product's own profile.
+-- The state of a filing (storage for received files) as contracts see it, and the state after each of its calls. This
+-- product's own profile.
 use Rattle.std.specs.Prelude.{◌≡◌, ℕ, ◌+◌, Bool, false, List, [], ◌∷◌, ◌++◌, Option, Some, None, Result, Ok, Err, is_some}
+use Rattle.part10.specs.Naming.{Naming}
 
--- the files, oldest first, and the draft's bytes; these are none where there is no draft
+-- the contents of a filing: its files, oldest first, and the draft's bytes, which are empty if there is no draft
 pub record Shelf : Type 0 where
   pub files : List (List ℕ)
   pub draft : List ℕ
 
--- a filing: its shelf, where it is known; whether there is a draft; how many calls failed
+-- the state of a filing: its contents, if they are known; whether there is a draft; the number of failed calls
 pub record Store : Type 0 where
   pub told : Option Shelf
   pub has_draft : Bool
   pub failures : ℕ
 
--- a step of the shelf, where the shelf is known
+-- the contents after this step, if they are known
 abbrev pub told_after : (Shelf → Shelf) → Option Shelf → Option Shelf
 told_after step None = None
 told_after step (Some shelf) = Some (step shelf)
 
--- the files alone: the draft is empty or gone
+-- the contents with an empty draft, or none
 abbrev pub without_draft : Shelf → Shelf
 without_draft shelf = record { files = shelf.files; draft = [] }
 
--- these bytes are added at the draft's end
+-- the contents with these bytes appended to the draft
 abbrev pub appended : List ℕ → Shelf → Shelf
 appended bytes shelf = record { files = shelf.files; draft = shelf.draft ++ bytes }
 
--- the draft is the last file
+-- the contents with the draft as the last file
 abbrev pub committed : Shelf → Shelf
 committed shelf = record { files = shelf.files ++ shelf.draft ∷ []; draft = [] }
 
--- the filing after this step of its shelf, with a draft or without one
+-- the state of a filing after this step of its contents, with a draft (true) or without one
 abbrev pub stepped : (Shelf → Shelf) → Bool → Store → Store
 stepped step drafting store = record { told = told_after step store.told; has_draft = drafting; failures = store.failures }
 
--- the filing after a failed call: no draft, the files as they were, one failure more
+-- the state of a filing after a failed call: no draft, the same files, one more failure
 abbrev pub failed : Store → Store
 failed store = record { told = told_after without_draft store.told; has_draft = false; failures = store.failures + 1 }
 
--- what a call with this result leaves: `Ok`, the step is done, and there is a draft or not; `Err`, the call failed
+-- the state after a call with this result: for `Ok` that after the step, with a draft or without one; for `Err` that
+-- after a failed call
 abbrev pub LeavesStore : {T E : Type 0} → (Shelf → Shelf) → Bool → Result T E → Store → Store → Type 0
 LeavesStore step drafting (Ok _) old new = new ≡ stepped step drafting old
 LeavesStore step drafting (Err _) old new = new ≡ failed old
 
--- what contracts see of a filing over memory or over a folder
+-- the files, the draft and the number of failed calls of a filing over memory or over a folder
 pub record MemoryState : Type 0 where
   pub files : List (List ℕ)
   pub draft : Option (List ℕ)
@@ -55,15 +58,17 @@ or_nothing (Some bytes) = bytes
 abbrev pub store_of : MemoryState → Store
 store_of kept = record { told = Some (record { files = kept.files; draft = or_nothing kept.draft }); has_draft = is_some kept.draft; failures = kept.failures }
 
--- no file, no draft, and no call that failed
+-- a new filing: no file, no draft, no failed call
 abbrev pub nothing_filed : MemoryState
 nothing_filed = record { files = []; draft = None; failures = 0 }
 
--- what contracts see of a filing over a folder: the number of its draft, and what it has filed itself
+-- the state of a filing over a folder, as contracts see it: the number of its draft, the files that it has committed
+-- itself, and the names that it has given
 pub record FolderState : Type 0 where
   pub number : ℕ
   pub contents : MemoryState
+  pub names : Naming
 
--- what contracts see of the writer of a folder: how many filings it has handed out
+-- the state of the writer of a folder, as contracts see it: how many filings it has made
 pub record WriterState : Type 0 where
   pub filings : ℕ

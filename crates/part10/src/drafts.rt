@@ -1,14 +1,14 @@
-//! The names of the drafts of a folder.
+//! The file names of drafts, the files that are being received.
 ghost use Rattle.std.specs.Prelude.{◌≡◌};
 ghost use Rattle.part10.specs.EntryNames as entry_names;
 
 use std::fmt;
 
-/// The name of a draft: `DRAFT` of the first filing of a folder, `DRAFT2` of the second, `DRAFT3`
-/// and so on.
+/// The file name of a filing's draft: `DRAFT` for the first filing of a folder, `DRAFT2` for the
+/// second, `DRAFT3` and so on.
 #[derive(Clone, Copy)]
 pub(crate) struct DraftName {
-    /// Which filing of its folder has the draft, counted from 1.
+    /// The number of the filing in its folder, from 1.
     pub(crate) number: u32,
 }
 
@@ -28,7 +28,8 @@ fn are_digits(bytes: &[u8]) -> bool
     bytes.iter().all(|byte| byte.is_ascii_digit())
 }
 
-/// Returns whether a name is `DRAFT` and decimal digits, as that of a draft after the first.
+/// Returns whether a name is `DRAFT` followed by at least one decimal digit: that of a draft of any
+/// filing but the first.
 pub(crate) fn is_further_draft(name: &str) -> bool
     ensures { result ≡ entry_names.is_further_draft name.now }
 {

@@ -1,41 +1,46 @@
-//! A filing over a folder.
-ghost use Rattle.std.specs.Prelude.{◌≡◌, ◌≤◌, ◌+◌, [], ◌∷◌, ◌++◌, None, Some, IfOk, OnOk, OnErr, is_some, true};
-ghost use Rattle.part10.specs.Store.{nothing_filed, or_nothing, store_of};
+//! A [`Filing`] that stores files in a folder.
+ghost use Rattle.std.specs.Prelude.{◌≡◌, ◌≤◌, ◌<◌, ◌+◌, [], ◌∷◌, ◌++◌, None, Some, IfOk, OnOk, OnErr, is_some, true, false};
+ghost use Rattle.part10.specs.Naming.{IsOneMore, IsOrderly, LeavesNames, WasRefused, refusals, standing};
+ghost use Rattle.part10.specs.Store.{LeavesStore, appended, committed, nothing_filed, or_nothing, stepped, store_of, without_draft};
+ghost use Rattle.part10.specs.declared.call.Call.TheVariants as seen;
 
 use crate::filing::{Filing, FilingFailed};
 use crate::folder_writer::FolderWriter;
+use crate::given_names::GivenNames;
 use crate::locked_folder::LockedFolder;
 use crate::notes::DraftNotes;
+use crate::numbers::NumbersFile;
 use crate::stored_file::StoredFile;
+use crate::writeback::Writeback;
 use element::count::Count;
 use element::trace::Traces;
 use element::traced::Traced;
 use std::alloc::AllocError;
 use std::io;
-use std::io::{Error, ErrorKind, Write};
+use std::io::{Error, ErrorKind};
 use std::marker::Model;
 use std::rc::Rc;
 use std::rt::Files;
 
-/// Keeps each committed draft as a file of its own: `I` and seven digits.
+/// A [`Filing`] that stores each committed draft as a file of a folder, named `I` and seven digits.
 ///
-/// The draft is a file of the folder that no other filing of it has: `DRAFT` of a filing that has the
-/// folder alone, or is the first one that its `FolderWriter` has handed out. The folder has one writer:
-/// it stays locked until this value is dropped, as its writer and its other filings. No file is ever
-/// written over.
+/// The draft is a file of the same folder: `DRAFT` for the first filing of a [`FolderWriter`], `DRAFT2`
+/// for the second and so on. The folder stays locked against other writers until this value, its
+/// `FolderWriter` and all other filings of that are dropped. No file is ever overwritten.
 ///
-/// Once the folder was renamed and another one has its name, which may have a writer of its own, each
-/// `begin` and `commit` fails, and neither they nor `discard` change anything there. Each looks at the
-/// path before it does: a folder that is replaced after that look is noticed by the next call.
+/// If the folder is renamed and another one gets its path, which may have a writer of its own, each
+/// `begin` and `commit` fails, and neither they nor `discard` change anything there. Each checks the
+/// path first; a folder that is replaced after that check is noticed by the next call.
 ///
-/// A commit writes the draft to the disk (`sync_all`) before it gives it its name, and the folder
-/// after that, so that a file that was committed survives a loss of power. The name is made by a hard
-/// link, which fails where the name is taken; on a file system without hard links the draft is renamed
-/// once the name was seen to be free.
+/// A commit syncs the draft to the disk (`sync_all`) before it gives it its name, and the folder after
+/// that, so that a committed file survives a loss of power. The name is made by a hard link, which
+/// fails if the name is in use. On a file system without hard links the draft is renamed, after a check
+/// that the name is free.
 ///
-/// What contracts see of a filing is the number of its draft; what was written into each file that it
-/// has committed, and into the draft; whether there is a draft; and how many calls failed. Under which
-/// names the files stand, and that they survive a loss of power, is tested.
+/// Contracts see the number of the draft; the bytes that were written to each committed file and to the
+/// draft; whether there is a draft; the number of failed calls; and the names given, with the system
+/// calls that gave them. How a [`Place`](crate::Place) is spelled as a file name, and that files
+/// survive a loss of power, is tested.
 #[derive(Drop)]
 pub struct FolderFiling<R: Files + Alloc + Clone + Drop>
 where
@@ -45,12 +50,15 @@ where
     number: u32,
     draft_path: String<R::A>,
     draft: Option<Traced<R::File>>,
-    /// What contracts see of the files that this filing has committed, oldest first: the bytes that
-    /// were written into each.
+    /// The writeback of the draft.
+    writeback: Writeback,
+    /// For contracts: the bytes that were written to each file that this filing has committed, oldest
+    /// first.
     kept: Traces,
     committed: u32,
     dropped: u32,
     failures: Count,
+    names: GivenNames<R::A>,
     notes: Rc<DraftNotes, R::A>,
 }
 
@@ -59,30 +67,33 @@ where
     R::File: StoredFile,
 {
     ghost use Rattle.std.specs.Prelude.{option_map};
+    ghost use Rattle.part10.specs.Naming.{IsOrderly};
     ghost use Rattle.part10.specs.Store.{FolderState};
 
     ghost Value = { FolderState };
 
-    ghost view = { λ f. record { number = f.number; contents = record { files = f.kept.all; draft = option_map (λ d. d.trace.bytes) f.draft; failures = f.failures.total } } };
+    ghost view = { λ f. record { number = f.number; contents = record { files = f.kept.all; draft = option_map (λ d. d.trace.bytes) f.draft; failures = f.failures.total }; names = f.names } };
+
+    ghost invariant = { λ f. ∥ IsOrderly f.names ∥₁ };
 }
 
 impl<R: Files + Alloc + Clone + Drop> FolderFiling<R>
 where
     R::File: StoredFile,
 {
-    /// Opens a folder whose files all stand in it, for one filing alone. The folder must be there.
+    /// Opens an existing folder for a single filing, which stores all files in the folder itself.
     ///
-    /// Fails with `WouldBlock` if another writer has the folder open.
+    /// Fails with `WouldBlock` if another writer has locked the folder, and as the system does.
     pub fn open(rt: R, dir: &str) -> io::Result<FolderFiling<R>>
         ensures empty { IfOk result (λ filing. filing.contents ≡ nothing_filed) }
     {
         FolderWriter::open(rt, dir)?.filing()
     }
 
-    /// Opens a folder whose files stand in folders of `per` files: `S` and seven digits, for one
-    /// filing alone. The folder must be there.
+    /// Opens an existing folder for a single filing, which stores the files in subfolders of `per`
+    /// files each, 1 to 9,999, named `S` and seven digits.
     ///
-    /// Fails with `WouldBlock` if another writer has the folder open.
+    /// Fails with `WouldBlock` if another writer has locked the folder, and as the system does.
     pub fn open_levels(rt: R, dir: &str, per: u32) -> io::Result<FolderFiling<R>>
         requires some { 1 ≤ per }
         requires most { per ≤ 9999 }
@@ -91,31 +102,36 @@ where
         FolderWriter::open_levels(rt, dir, per)?.filing()
     }
 
-    /// Creates a filing over this folder, with the draft of this number.
+    /// Creates a filing over this folder. `number`, from 1, names its draft; `numbers` is the file of
+    /// numbers, if there is one.
     pub(crate) fn over(
         folder: Rc<LockedFolder<R>, R::A>,
         number: u32,
+        numbers: Option<NumbersFile<R::A>>,
     ) -> io::Result<FolderFiling<R>>
         ensures number { IfOk result (λ filing. filing.number ≡ number) }
         ensures empty { IfOk result (λ filing. filing.contents ≡ nothing_filed) }
     {
         let draft_path = folder.draft_path(number)?;
         let notes = Rc::new(folder.runtime().alloc(), DraftNotes::new())?;
+        let names = folder.names(numbers);
         Ok(FolderFiling {
             folder,
             number,
             draft_path,
             draft: None,
+            writeback: Writeback::new(None),
             kept: Traces::new(),
             committed: 0,
             dropped: 0,
             failures: Count::new(),
+            names,
             notes,
         })
     }
 
-    /// Commits without writing to the disk: faster, and a loss of power may lose files that were
-    /// committed. So does each other filing of the folder.
+    /// Turns off syncing to the disk, for all filings of the folder: commits are faster, and a loss of
+    /// power may lose committed files.
     pub fn without_sync(self) -> FolderFiling<R>
         ensures same { result ≡ self }
     {
@@ -123,71 +139,84 @@ where
         self
     }
 
-    /// Returns how many drafts this filing has committed.
-    pub fn committed(&self) -> u32 {
+    /// Returns how many drafts this filing has committed, at most `u32::MAX`.
+    pub fn committed(&self) -> u32
+        ensures orderly { ∥ IsOrderly self.now.names ∥₁ }
+    {
         self.committed
     }
 
-    /// Returns how many drafts this filing has not committed: discarded, replaced by another, or
-    /// lost by a failed call. It stops at the greatest `u32`.
+    /// Returns how many drafts of this filing ended without a commit, at most `u32::MAX`: discarded,
+    /// replaced by `begin`, or dropped by a failed call.
     pub fn dropped(&self) -> u32 {
         self.dropped
     }
 
-    /// Returns the notes of what became of the last draft. They are shared with this value, which
-    /// goes on writing them.
+    /// Returns the notes that this filing writes for the log: the place of the last committed file and
+    /// the error of the last failed call. They are shared: later calls of the filing change them.
     ///
-    /// Fails if the notes have too many readers to be counted.
+    /// Fails if the reference count of the notes would overflow.
     pub fn notes(&self) -> Result<Rc<DraftNotes, R::A>, AllocError> {
         self.notes.clone()
     }
 
     fn drop_draft(&mut self)
+        ensures same_names { self.new.names ≡ self.old.names }
         ensures draft { self.new.contents.draft ≡ None }
         ensures same_files { self.new.contents.files ≡ self.old.contents.files }
         ensures same_count { self.new.contents.failures ≡ self.old.contents.failures }
     {
         if self.draft.take().is_some() {
             self.dropped = self.dropped.saturating_add(1);
-            // What stays there is removed when the next draft is begun.
-            let _ = self.folder.discard_draft(self.draft_path.as_str());
+            self.folder.discard_draft(self.draft_path.as_str());
         }
     }
 
     fn begin_draft(&mut self) -> io::Result<()>
+        ensures created { OnOk result (self.new.names.calls ≡ seen.Created ∷ self.old.names.calls) }
+        ensures refused { OnErr result (refusals self.old.names.calls < refusals self.new.names.calls) }
+        ensures same_names { standing self.new.names.calls ≡ standing self.old.names.calls }
         ensures draft { OnOk result (self.new.contents.draft ≡ Some []) }
         ensures same_files { self.new.contents.files ≡ self.old.contents.files }
         ensures same_count { self.new.contents.failures ≡ self.old.contents.failures }
     {
         self.drop_draft();
-        let file = self.folder.create_draft(self.draft_path.as_str())?;
+        let path = self.draft_path.as_str();
+        let file = self.folder.create_draft(path, &mut self.names.calls)?;
+        self.writeback = Writeback::new(file.descriptor());
         self.draft = Some(Traced::new(file));
         Ok(())
     }
 
-    fn sync_draft(&self) -> io::Result<()> {
+    fn sync_draft(&mut self) -> io::Result<()>
+        ensures same { self.new.contents ≡ self.old.contents }
+        ensures taken { OnOk result (self.new.names ≡ self.old.names) }
+        ensures refused { OnErr result (self.new.names ≡ record self.old.names { calls = seen.Refused ∷ self.old.names.calls }) }
+    {
         match &self.draft {
-            Some(draft) if self.folder.has_sync() => draft.sync_all(),
+            Some(draft) if self.folder.has_sync() => self.names.calls.sync_draft(draft),
             _ => Ok(()),
         }
     }
 
-    /// Gives the draft its name. This is the one place where contracts see a file more.
+    /// Gives the draft its name, which makes it a file for contracts, too.
     fn name_draft(&mut self) -> io::Result<()>
         requires draft { is_some self.old.contents.draft ≡ true }
+        ensures next { OnOk result (IsOneMore (standing self.old.names.calls) (standing self.new.names.calls)) }
+        ensures settled { OnOk result (refusals self.new.names.calls ≡ refusals self.old.names.calls) }
+        ensures left { OnErr result (LeavesNames (standing self.old.names.calls) (standing self.new.names.calls)) }
+        ensures refused { OnErr result (WasRefused self.old.names self.new.names) }
         ensures named { OnOk result (self.new.contents.files ≡ self.old.contents.files ++ or_nothing self.old.contents.draft ∷ []) }
         ensures failed { OnErr result (self.new.contents.files ≡ self.old.contents.files) }
         ensures same_count { self.new.contents.failures ≡ self.old.contents.failures }
     {
-        let Some(committed) = self.committed.checked_add(1) else {
-            return Err(Error::new(ErrorKind::StorageFull, "all commits are counted"));
-        };
-        let place = self.folder.name_draft(self.draft_path.as_str())?;
+        let path = self.draft_path.as_str();
+        let place = self.folder.name_draft(path, &mut self.names)?;
         self.notes.committed(place);
         if self.folder.runs_low(place) {
             self.notes.ran_low(place);
         }
-        self.committed = committed;
+        self.committed = self.committed.saturating_add(1);
         if let Some(draft) = &self.draft {
             self.kept.push(draft.trace());
         }
@@ -196,6 +225,10 @@ where
 
     fn commit_draft(&mut self) -> io::Result<()>
         requires draft { is_some self.old.contents.draft ≡ true }
+        ensures next { OnOk result (IsOneMore (standing self.old.names.calls) (standing self.new.names.calls)) }
+        ensures settled { OnOk result (refusals self.new.names.calls ≡ refusals self.old.names.calls) }
+        ensures left { OnErr result (LeavesNames (standing self.old.names.calls) (standing self.new.names.calls)) }
+        ensures refused { OnErr result (WasRefused self.old.names self.new.names) }
         ensures committed { OnOk result (self.new.contents.files ≡ self.old.contents.files ++ or_nothing self.old.contents.draft ∷ []) }
         ensures failed { OnErr result (self.new.contents.files ≡ self.old.contents.files) }
         ensures draft { OnOk result (self.new.contents.draft ≡ None) }
@@ -204,12 +237,13 @@ where
         self.sync_draft()?;
         self.name_draft()?;
         self.draft = None;
-        let _ = self.folder.remove_old_name(self.draft_path.as_str());
+        self.folder.remove_old_name(self.draft_path.as_str());
         Ok(())
     }
 
-    /// Notes the error, drops the draft and counts a failure.
+    /// Records the error in the notes, drops the draft and counts one failure.
     fn fail(&mut self, error: Error)
+        ensures same_names { self.new.names ≡ self.old.names }
         ensures draft { self.new.contents.draft ≡ None }
         ensures same_files { self.new.contents.files ≡ self.old.contents.files }
         ensures counted { self.new.contents.failures ≡ self.old.contents.failures + 1 }
@@ -226,7 +260,14 @@ where
 {
     ghost store = { λ f. store_of f.contents };
 
-    fn begin(&mut self) -> Result<(), FilingFailed> {
+    /// Starts an empty draft, as a new file. Fails only if a system call failed, memory ran out, or the
+    /// path of the folder leads to another folder.
+    fn begin(&mut self) -> Result<(), FilingFailed>
+        ensures leaves { LeavesStore without_draft true result (store_of self.old.contents) (store_of self.new.contents) }
+        ensures created { OnOk result (self.new.names.calls ≡ seen.Created ∷ self.old.names.calls) }
+        ensures refused { OnErr result (refusals self.old.names.calls < refusals self.new.names.calls) }
+        ensures same_names { standing self.new.names.calls ≡ standing self.old.names.calls }
+    {
         if let Err(error) = self.begin_draft() {
             self.fail(error);
             return Err(FilingFailed);
@@ -234,19 +275,39 @@ where
         Ok(())
     }
 
-    fn append(&mut self, bytes: &[u8]) -> Result<(), FilingFailed> {
+    /// Appends the bytes to the file of the draft. Fails only if a system call failed.
+    fn append(&mut self, bytes: &[u8]) -> Result<(), FilingFailed>
+        requires { (store_of self.old.contents).has_draft ≡ true }
+        ensures leaves { LeavesStore (appended bytes.now) true result (store_of self.old.contents) (store_of self.new.contents) }
+        ensures taken { OnOk result (self.new.names ≡ self.old.names) }
+        ensures refused { OnErr result (refusals self.old.names.calls < refusals self.new.names.calls) }
+        ensures same_names { standing self.new.names.calls ≡ standing self.old.names.calls }
+    {
         let written = match &mut self.draft {
-            Some(draft) => draft.write_all(bytes),
+            Some(draft) => self.names.calls.write_all(draft, bytes),
             None => Err(Error::from(ErrorKind::NotFound)),
         };
         if let Err(error) = written {
             self.fail(error);
             return Err(FilingFailed);
         }
+        if self.folder.has_sync() {
+            self.writeback.appended(bytes.len());
+        }
         Ok(())
     }
 
-    fn commit(&mut self) -> Result<(), FilingFailed> {
+    /// Gives the draft a name that no file of this filing had before and that no other file has. Fails
+    /// only if a system call failed, memory ran out, the path of the folder leads to another folder, or
+    /// all numbers are in use.
+    fn commit(&mut self) -> Result<(), FilingFailed>
+        requires { (store_of self.old.contents).has_draft ≡ true }
+        ensures leaves { LeavesStore committed false result (store_of self.old.contents) (store_of self.new.contents) }
+        ensures next { OnOk result (IsOneMore (standing self.old.names.calls) (standing self.new.names.calls)) }
+        ensures settled { OnOk result (refusals self.new.names.calls ≡ refusals self.old.names.calls) }
+        ensures left { OnErr result (LeavesNames (standing self.old.names.calls) (standing self.new.names.calls)) }
+        ensures refused { OnErr result (WasRefused self.old.names self.new.names) }
+    {
         if let Err(error) = self.commit_draft() {
             self.fail(error);
             return Err(FilingFailed);
@@ -254,7 +315,10 @@ where
         Ok(())
     }
 
-    fn discard(&mut self) {
+    fn discard(&mut self)
+        ensures leaves { store_of self.new.contents ≡ stepped without_draft false (store_of self.old.contents) }
+        ensures same_names { self.new.names ≡ self.old.names }
+    {
         self.drop_draft();
     }
 }

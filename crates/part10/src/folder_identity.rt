@@ -1,4 +1,4 @@
-//! Which folder a path leads to.
+//! Tells whether a path still leads to the same folder.
 
 use std::fs::Metadata;
 use std::io::Error;
@@ -6,7 +6,7 @@ use std::os::unix::fs::MetadataExt;
 use std::rt::Files;
 use std::{fs, io};
 
-/// The device and the inode of a folder. While the folder is open no other one has both.
+/// The device and inode numbers of a folder. While the folder is open, no other folder has the same.
 #[derive(Clone, Copy, PartialEq, Eq)]
 pub(crate) struct FolderIdentity {
     device: u64,
@@ -21,11 +21,21 @@ impl FolderIdentity {
         }
     }
 
-    /// Fails if the path leads to another folder than this one, or can't be looked at.
+    /// Returns the identity of the folder at a path. Fails if its metadata cannot be read.
+    pub(crate) fn at<R: Files>(rt: &R, path: &str) -> io::Result<FolderIdentity> {
+        Ok(FolderIdentity::of(&fs::metadata(rt, path)?))
+    }
+
+    /// Returns the error for a path that leads to another folder.
+    pub(crate) fn replaced() -> Error {
+        Error::other("the folder was replaced by another one")
+    }
+
+    /// Fails if the path leads to another folder than this one, or if its metadata cannot be read.
     pub(crate) fn check_at<R: Files>(self, rt: &R, path: &str) -> io::Result<()> {
-        if FolderIdentity::of(&fs::metadata(rt, path)?) == self {
+        if FolderIdentity::at(rt, path)? == self {
             return Ok(());
         }
-        Err(Error::other("the folder was replaced by another one"))
+        Err(FolderIdentity::replaced())
     }
 }

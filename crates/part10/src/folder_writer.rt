@@ -1,9 +1,10 @@
-//! The writer of a folder, and the filings that it hands out.
+//! The writer of a folder, from which its filings are made.
 ghost use Rattle.std.specs.Prelude.{◌≡◌, ◌≤◌, ◌+◌, IfOk, OnOk, OnErr};
 ghost use Rattle.part10.specs.Store.{nothing_filed};
 
 use crate::folder_filing::FolderFiling;
 use crate::locked_folder::LockedFolder;
+use crate::numbers::NumbersFile;
 use crate::place::Layout;
 use crate::stored_file::StoredFile;
 use std::io;
@@ -12,19 +13,22 @@ use std::marker::Model;
 use std::rc::Rc;
 use std::rt::Files;
 
-/// The one writer of a folder. It hands out filings that keep their files in it, each with a draft of
-/// its own, so that several drafts are written at a time: `DRAFT`, `DRAFT2`, `DRAFT3` and so on. What
-/// contracts see of it is how many it has handed out.
+/// The only writer of a folder. It makes the [`FolderFiling`]s that store files there. Each has a draft
+/// of its own, `DRAFT`, `DRAFT2`, `DRAFT3` and so on, so that several files can be received at a time.
+/// Contracts see how many filings it has made.
 ///
 /// The files of all filings are numbered in the order of their commits. The folder stays locked until
-/// this value and each of its filings are dropped. Drafts that a writer left which was killed are
-/// removed when the folder is opened: `DRAFT`, and each name that is `DRAFT` and decimal digits.
+/// this value and all of its filings are dropped. Opening the folder removes the drafts that a killed
+/// writer has left: `DRAFT`, and each name of `DRAFT` and decimal digits.
 #[derive(Drop)]
 pub struct FolderWriter<R: Files + Alloc + Clone + Drop>
 where
     R::File: StoredFile,
 {
     folder: Rc<LockedFolder<R>, R::A>,
+    /// The file that has the greatest numbers given so far, if one is in use (see
+    /// [`FolderWriter::with_numbers`]).
+    numbers: Option<NumbersFile<R::A>>,
     filings: u32,
 }
 
@@ -43,19 +47,19 @@ impl<R: Files + Alloc + Clone + Drop> FolderWriter<R>
 where
     R::File: StoredFile,
 {
-    /// Opens a folder whose files all stand in it. The folder must be there.
+    /// Opens an existing folder. All files are stored in the folder itself.
     ///
-    /// Fails with `WouldBlock` if another writer has the folder open.
+    /// Fails with `WouldBlock` if another writer has locked the folder, and as the system does.
     pub fn open(rt: R, dir: &str) -> io::Result<FolderWriter<R>>
         ensures none { IfOk result (λ writer. writer.filings ≡ 0) }
     {
         FolderWriter::with_layout(rt, dir, Layout::Flat)
     }
 
-    /// Opens a folder whose files stand in folders of `per` files: `S` and seven digits. The folder
-    /// must be there.
+    /// Opens an existing folder. The files are stored in subfolders of `per` files each, 1 to 9,999,
+    /// named `S` and seven digits.
     ///
-    /// Fails with `WouldBlock` if another writer has the folder open.
+    /// Fails with `WouldBlock` if another writer has locked the folder, and as the system does.
     pub fn open_levels(rt: R, dir: &str, per: u32) -> io::Result<FolderWriter<R>>
         requires some { 1 ≤ per }
         requires most { per ≤ 9999 }
@@ -69,11 +73,15 @@ where
     {
         let alloc = rt.alloc();
         let folder = Rc::new(alloc, LockedFolder::open(rt, dir, layout)?)?;
-        Ok(FolderWriter { folder, filings: 0 })
+        Ok(FolderWriter {
+            folder,
+            numbers: None,
+            filings: 0,
+        })
     }
 
-    /// Has each filing of the folder commit without writing to the disk: faster, and a loss of power
-    /// may lose files that were committed.
+    /// Turns off syncing to the disk, for all filings of the folder: commits are faster, and a loss of
+    /// power may lose committed files.
     pub fn without_sync(self) -> FolderWriter<R>
         ensures same { result ≡ self }
     {
@@ -81,26 +89,31 @@ where
         self
     }
 
-    /// Keeps the greatest numbers that files and folders of files were given in the file of this path, which is
-    /// made if it is not there, and gives greater ones alone. So no number comes again, also once the files
-    /// were moved away and the folder is opened anew. In folders of files a new one begins.
+    /// Keeps the greatest numbers that files and subfolders were given in a file at this path, which is
+    /// created if it does not exist, and gives only greater ones. So no number is given twice, even if
+    /// the files are moved away and the folder is opened again. With subfolders, the next file goes to
+    /// a new one.
     ///
-    /// It is written, up to the disk, before a number is given that it does not cover: for every hundredth file
-    /// of a flat folder, else for each folder of files.
+    /// The file is written and synced before a number is given that it does not cover: for every
+    /// hundredth file of a folder without subfolders, else for each new subfolder.
     ///
-    /// Fails with `InvalidData` if the file has anything but a line of numbers, as `I0000100 S0000007`, and if
-    /// it can't be read or made.
+    /// Fails with `InvalidData` if the file is anything but one line of two numbers, as `I0000100
+    /// S0000007`, and if it cannot be read or created.
     pub fn with_numbers(self, path: &str) -> io::Result<FolderWriter<R>>
         ensures same { IfOk result (λ writer. writer ≡ self) }
     {
-        self.folder.keep_numbers(path)?;
-        Ok(self)
+        let file = NumbersFile::open(self.folder.runtime(), path)?;
+        self.folder.go_on_behind(file.kept());
+        Ok(FolderWriter {
+            numbers: Some(file),
+            ..self
+        })
     }
 
-    /// Returns a filing over the folder. Its draft has a number that no other filing of the folder
-    /// has: the first filing has 1, and each further one the number after the last.
+    /// Makes a new filing over the folder. The filings are numbered from 1, and the number names the
+    /// draft.
     ///
-    /// Fails if memory runs out, or with `StorageFull` if 4,294,967,295 filings were handed out.
+    /// Fails if memory runs out, and with `StorageFull` after 4,294,967,295 filings.
     pub fn filing(&mut self) -> io::Result<FolderFiling<R>>
         ensures counted { OnOk result (self.new.filings ≡ self.old.filings + 1) }
         ensures failed { OnErr result (self.new.filings ≡ self.old.filings) }
@@ -110,7 +123,11 @@ where
         let Some(number) = self.filings.checked_add(1) else {
             return Err(Error::new(ErrorKind::StorageFull, "all numbers of drafts are in use"));
         };
-        let filing = FolderFiling::over(self.folder.clone()?, number)?;
+        let numbers = match &self.numbers {
+            Some(file) => Some(file.duplicate(self.folder.runtime().alloc())?),
+            None => None,
+        };
+        let filing = FolderFiling::over(self.folder.clone()?, number, numbers)?;
         self.filings = number;
         Ok(filing)
     }

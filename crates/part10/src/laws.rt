@@ -1,49 +1,65 @@
-//! Laws of the definitions, each the contract of a function that does nothing.
+//! Lemmas on the definitions of this crate and examples, each stated as the contract of a function with
+//! an empty body.
 ghost use Rattle.std.specs.Prelude.{◌≡◌, ◌^◌, ◌<◌, ◌≤◌, ℕ, List, length, true};
 ghost use Rattle.element.specs.Uid.{is_uid};
 ghost use Rattle.part10.specs.declared.meta.Meta as meta;
 ghost use Rattle.part10.specs.File.{head, meta_group};
 ghost use Rattle.part10.specs.MetaText.{OneHeader, OneVerdict, SpellsMeta, TakenOrFaulty, said_of};
-ghost use Rattle.part10.specs.Examples.{OneCtStore, NoHeaders, SyntaxIsSaid, least_group, least_header, least_said};
+ghost use Rattle.part10.specs.declared.place.Place as place;
+ghost use Rattle.part10.specs.Naming.{AreApart, Rises};
+ghost use Rattle.part10.specs.Examples.{OneCtStore, NoHeaders, WorkedNames, SyntaxIsSaid, least_group, least_header, least_said};
 
-/// The file of one CT store has the lengths that the standard's layout gives it.
+/// Example: the file of a CT image has the lengths that the layout of the standard gives it.
 pub fn one_ct_store()
     ensures { OneCtStore }
 {}
 
-/// Files without the letters, and files that end right after them, have no file header.
+/// Examples: files without `DICM` after the preamble, and files that end right after it, have no File
+/// Meta Information.
 pub fn no_headers()
     ensures { NoHeaders }
 {}
 
-/// The file header that is written is one, and says what it was written for.
+/// The bytes that `meta_bytes` writes are valid File Meta Information with the contents for which they
+/// were written.
 pub fn written_headers_are_read()
     ensures { (m : meta.Meta) → is_uid m.class ≡ true → is_uid m.instance ≡ true → length m.calling.0 ≡ 16 → length (meta_group m) ≤ 360
         → SpellsMeta (said_of m) (head m) }
 {}
 
-/// A file header without the elements that are optional is one, for each transfer syntax.
+/// File Meta Information with the required elements alone is valid, for each transfer syntax.
 pub fn least_headers_are_read()
     ensures { (syntax : List ℕ) → is_uid syntax ≡ true → length (least_group syntax) < 2 ^ 32 → SpellsMeta (least_said syntax) (least_header syntax) }
 {}
 
-/// A file header without the elements that are optional is one, and a compressed transfer syntax is
-/// a fault of its own.
+/// Example: File Meta Information with the required elements alone is accepted in Explicit VR Little
+/// Endian, and has the fault `OtherSyntax` with JPEG Baseline, for a reader of the native transfer
+/// syntaxes.
 pub fn other_syntax_is_a_fault()
     ensures { SyntaxIsSaid }
 {}
 
-/// No file has two file headers that say different things or are of different lengths.
+/// A file determines its File Meta Information: its contents and its length.
 pub fn one_header()
     ensures { OneHeader }
 {}
 
-/// Every file has a file header that is taken, or a fault.
+/// Every file has File Meta Information that is accepted, or a fault.
 pub fn taken_or_faulty()
     ensures { TakenOrFaulty }
 {}
 
-/// No file is both, and none has two faults.
+/// No file with a fault is accepted, and no file has two faults.
 pub fn one_verdict()
     ensures { OneVerdict }
+{}
+
+/// In a list of places in strictly ascending order no place occurs twice: no number is given twice.
+pub fn places_that_rise_differ()
+    ensures { (places : List place.Place) → Rises places → AreApart places }
+{}
+
+/// Examples: the system calls that name three files, and lists of calls that would lose a file.
+pub fn worked_names()
+    ensures { WorkedNames }
 {}

@@ -1,11 +1,15 @@
-//! DICOM files (PS3.10 section 7.1): their headers, and where received files are kept.
+//! DICOM files (PS3.10 section 7.1): their File Meta Information, and the storage that received files
+//! go to.
 #![tactic(auto)]
 
+mod call;
 mod drafts;
 mod filing;
+mod folder_calls;
 mod folder_filing;
 mod folder_identity;
 mod folder_writer;
+mod given_names;
 pub mod laws;
 mod listing;
 mod locked_folder;
@@ -19,6 +23,7 @@ mod numbers;
 mod place;
 mod reading;
 mod stored_file;
+mod writeback;
 mod writing;
 
 pub use filing::{Filing, FilingFailed};

@@ -1,4 +1,4 @@
-//! What stands in a folder of received files.
+//! Lists a folder of received files, to continue its numbering.
 
 use crate::drafts::is_further_draft;
 use crate::names::{EntryKind, EntryName};
@@ -8,18 +8,19 @@ use std::io::ErrorKind;
 use std::rt::Files;
 use std::{fs, io};
 
-/// The entries of a folder.
+/// The result of listing a folder.
 #[derive(Drop)]
 struct Entries<A: Allocator> {
-    /// The greatest number in a name of one kind, if there is one.
+    /// The greatest number among the names of the kind looked for, if there is one.
     highest: Option<u32>,
-    /// The names of drafts after the first.
+    /// The names of the drafts of all filings but the first: `DRAFT2` and so on.
     drafts: Vec<String<A>, A>,
 }
 
-/// Goes over the entries of a folder, for the greatest number in a name of this kind.
+/// Lists a folder for the greatest number in a name of this kind and for drafts. Other names are
+/// ignored.
 ///
-/// Fails if the folder can't be listed to its end.
+/// Fails if the folder cannot be listed to its end, or memory runs out.
 fn entries_of<R: Files + Alloc + Clone + Drop>(
     rt: &R,
     dir: &str,
@@ -43,7 +44,7 @@ fn entries_of<R: Files + Alloc + Clone + Drop>(
     Ok(Entries { highest, drafts })
 }
 
-/// Returns the path of a folder of files.
+/// Returns the path of the subfolder with this number.
 pub(crate) fn folder_path<A: Allocator>(
     alloc: A,
     dir: &str,
@@ -56,7 +57,7 @@ pub(crate) fn folder_path<A: Allocator>(
     format!(in alloc; "{dir}/{name}")
 }
 
-/// Returns the path of a file in this folder.
+/// Returns the path of the file with this number in the folder `dir`.
 pub(crate) fn file_path<A: Allocator>(
     alloc: A,
     dir: &str,
@@ -69,23 +70,24 @@ pub(crate) fn file_path<A: Allocator>(
     format!(in alloc; "{dir}/{name}")
 }
 
-/// What was found in a folder.
+/// What a folder of received files contains, as far as its writer needs it.
 #[derive(Drop)]
 pub(crate) struct FolderContents<A: Allocator> {
-    /// Where the last file stands; 0 is the number of a file that is not there.
+    /// The place of the last file; file number 0 if there is none.
     pub(crate) last: Place,
-    /// The names of the drafts that were left there, but for that of the first filing.
+    /// The names of the drafts that were left there, except that of the first filing.
     pub(crate) drafts: Vec<String<A>, A>,
 }
 
-/// Returns where the last file stands of a folder in levels, by the greatest number of its folders.
+/// Returns the place of the last file of a folder with subfolders of `per` files. `highest` is the
+/// greatest number of a subfolder.
 fn last_in_levels<R: Files + Alloc + Clone + Drop>(
     rt: &R,
     dir: &str,
     per: u32,
     highest: Option<u32>,
 ) -> io::Result<Place> {
-    // Without a folder, as if one before the first were full.
+    // Without a subfolder, as if one before the first were full: the next file opens the first.
     let Some(folder) = highest else {
         return Ok(Place {
             folder: 0,
@@ -98,7 +100,7 @@ fn last_in_levels<R: Files + Alloc + Clone + Drop>(
     Ok(Place { folder, file })
 }
 
-/// Returns what stands in a folder.
+/// Lists a folder of received files. Fails if it, or its last subfolder, cannot be listed.
 pub(crate) fn contents_of<R: Files + Alloc + Clone + Drop>(
     rt: &R,
     dir: &str,

@@ -1,27 +1,35 @@
-//! A folder that is locked for its writer, in which drafts get their names.
+//! A locked folder, in which the filings of its writer create drafts and give them their names.
+ghost use Rattle.std.specs.Prelude.{◌≡◌, ◌≤◌, ◌<◌, ◌+◌, [], ◌∷◌, None, IfOk, OnOk, OnErr};
+ghost use Rattle.part10.specs.Naming.{Asks, IsKept, IsOrderly, KeepsAll, LeavesNames, LosesNone, WasRefused, refusals, standing};
+ghost use Rattle.part10.specs.Places.{next_place, order};
+ghost use Rattle.part10.specs.declared.call.Call.TheVariants as seen;
+ghost use Rattle.part10.specs.declared.place.Layout.TheVariants as layout;
+ghost use Rattle.part10.specs.machine.Naming.{NameLeaves, PlaceLeaves, SameTerms};
 
 use crate::drafts::DraftName;
+use crate::folder_calls::{FolderCalls, remove_left};
 use crate::folder_identity::FolderIdentity;
+use crate::given_names::GivenNames;
 use crate::listing::{contents_of, file_path, folder_path};
 use crate::names::{EntryKind, EntryName};
-use crate::naming::{Named, name_file};
-use crate::numbers::NumbersFile;
-use crate::place::{Layout, Place};
+use crate::naming::{Attempt, Named, Obstacle, Target, name_file};
+use crate::numbers::{Numbers, NumbersFile};
+use crate::place::{GREATEST, Layout, Place};
 use crate::stored_file::StoredFile;
 use std::alloc::{AllocError, Allocator};
-use std::cell::{Cell, RefCell};
-use std::fs::{File, OpenFile, TryLockError};
+use std::cell::Cell;
+use std::fs::{OpenFile, TryLockError};
 use std::io::{Error, ErrorKind};
 use std::rt::Files;
 use std::{fs, io};
 
-/// A folder that stays locked until this value is dropped. What it has of its files is shared by all
-/// filings over it: each number is given once, in the order of the commits.
+/// A folder that stays locked until this value is dropped. All filings over it share it, so that each
+/// number is given once, in the order of the commits.
 ///
-/// The lock is of the folder that was opened, and files are reached by its path. Before a draft is
-/// begun, named or discarded, the path is looked at: if it leads to another folder, since this one was
-/// renamed and another one has its name, the call fails and changes nothing. A folder that is
-/// replaced after that look is noticed by the next one.
+/// The lock belongs to the folder that was opened, but its files are reached by its path. So the path
+/// is checked before a draft is created, named or discarded: if it leads to another folder, as after a
+/// rename, the call fails and changes nothing. A folder that is replaced after that check is noticed by
+/// the next one.
 #[derive(Drop)]
 pub(crate) struct LockedFolder<R: Files + Alloc + Clone + Drop>
 where
@@ -29,26 +37,26 @@ where
 {
     rt: R,
     dir: String<R::A>,
-    /// The opened folder, which holds the lock.
+    /// The open folder, which has the lock.
     folder: R::File,
     identity: FolderIdentity,
     layout: Layout,
-    /// Of the last file that was found or committed.
+    /// The place of the last file that was found or committed, by any filing.
     last: Cell<Place>,
-    /// What keeps the greatest numbers, where something does.
-    numbers: RefCell<Option<NumbersFile<R::A>>>,
+    /// The numbers that any filing last wrote to the file of numbers; `NONE` without such a file.
+    kept: Cell<Numbers>,
     has_sync: Cell<bool>,
-    /// Whether it was told that few numbers are left.
+    /// Whether the warning that few numbers are left was given.
     has_run_low: Cell<bool>,
 }
 
-/// From this number on few are left in a flat folder.
+/// In a folder without subfolders, from this number on about a million are left: a warning is given.
 const LOW: u32 = 9_000_000;
 
-/// Why a file gets no name once the greatest number is in use, and what helps.
+/// The error message once the greatest number is in use, with the remedy.
 const NO_NUMBER: &str = "no number up to 9999999 is left: move the files away and start again";
 
-/// Returns the error of a folder of files that can't be made, with its name in the text.
+/// Returns the error for a subfolder that cannot be created, with its name in the message.
 fn unmade<A: Allocator>(alloc: A, folder: u32, error: &Error) -> Error {
     let name = EntryName {
         kind: EntryKind::Folder,
@@ -60,7 +68,17 @@ fn unmade<A: Allocator>(alloc: A, folder: u32, error: &Error) -> Error {
     }
 }
 
-/// Opens the folder and locks it.
+/// Returns the error for a folder whose last place has no place after it, in either layout.
+fn none_left(per: u32, folder: u32, file: u32) -> Error
+    requires far { 18446744073709551615 ≤ order (record { folder = folder; file = file }) }
+    ensures flat { next_place layout.Flat (record { folder = folder; file = file }) ≡ None }
+    ensures levels { next_place (layout.Levels per) (record { folder = folder; file = file }) ≡ None }
+{
+    let _is_last = folder >= GREATEST && file >= per;
+    Error::new(ErrorKind::StorageFull, NO_NUMBER)
+}
+
+/// Opens a folder and locks it. Fails with `WouldBlock` if another writer has locked it.
 fn lock<R: Files>(rt: &R, dir: &str) -> io::Result<R::File>
 where
     R::File: StoredFile,
@@ -82,15 +100,7 @@ fn draft_path<A: Allocator>(alloc: A, dir: &str, number: u32) -> Result<String<A
     format!(in alloc; "{dir}/{name}")
 }
 
-/// Removes a file, if it is there.
-fn remove_left<R: Files>(rt: &R, path: &str) -> io::Result<()> {
-    match fs::remove_file(rt, path) {
-        Err(error) if error.kind() == ErrorKind::NotFound => Ok(()),
-        result => result,
-    }
-}
-
-/// Removes the drafts that a writer left which was killed: that of its first filing, and these.
+/// Removes the drafts that a killed writer has left: that of its first filing, and these.
 fn remove_drafts<R: Files + Alloc>(rt: &R, dir: &str, further: &[String<R::A>]) -> io::Result<()> {
     remove_left(rt, draft_path(rt.alloc(), dir, 1)?.as_str())?;
     for name in further {
@@ -104,10 +114,10 @@ impl<R: Files + Alloc + Clone + Drop> LockedFolder<R>
 where
     R::File: StoredFile,
 {
-    /// Opens a folder, which must be there, and removes the drafts that were left in it.
+    /// Opens and locks an existing folder, and removes the drafts that were left in it.
     ///
-    /// Fails with `WouldBlock` if another writer has the folder open, and if the folder was replaced
-    /// before it was locked.
+    /// Fails with `WouldBlock` if another writer has locked it, and if the folder was replaced by
+    /// another one before it was locked.
     pub(crate) fn open(rt: R, dir: &str, layout: Layout) -> io::Result<LockedFolder<R>> {
         let folder = lock(&rt, dir)?;
         let identity = FolderIdentity::of(&folder.metadata()?);
@@ -122,44 +132,57 @@ where
             identity,
             layout,
             last: Cell::new(contents.last),
-            numbers: RefCell::new(None),
+            kept: Cell::new(Numbers::NONE),
             has_sync: Cell::new(true),
             has_run_low: Cell::new(false),
         })
     }
 
-    /// Returns the runtime whose files stand in the folder.
+    /// Returns the runtime that gives access to the files of the folder.
     pub(crate) fn runtime(&self) -> &R {
         &self.rt
     }
 
-    /// Returns whether a commit is written to the disk.
+    /// Returns whether commits are synced to the disk.
     pub(crate) fn has_sync(&self) -> bool {
         self.has_sync.get()
     }
 
-    /// Writes no commit to the disk from now on.
+    /// Turns off syncing of commits to the disk.
     pub(crate) fn stop_sync(&self) {
         self.has_sync.set(false);
     }
 
-    /// Keeps the greatest numbers in the file of this path from now on, and goes on behind those that it has.
-    ///
-    /// Fails with `InvalidData` if it has anything but numbers, and if it can't be read or made.
-    pub(crate) fn keep_numbers(&self, path: &str) -> io::Result<()> {
-        let file = NumbersFile::open(&self.rt, path)?;
-        self.last
-            .set(file.kept().last(self.layout, self.last.get()));
-        *self.numbers.try_borrow_mut()? = Some(file);
-        Ok(())
+    /// Continues the numbering after the numbers that a file of numbers has.
+    pub(crate) fn go_on_behind(&self, kept: Numbers) {
+        self.last.set(kept.last(self.layout, self.last.get()));
+        self.kept.set(kept);
     }
 
-    /// Has the number of this place kept before it is given.
-    fn keep_number(&self, place: Place) -> io::Result<()> {
-        match &mut *self.numbers.try_borrow_mut()? {
-            Some(file) => file.keep(&self.rt, self.layout, place),
-            None => Ok(()),
-        }
+    /// Returns the numbering state of a new filing.
+    pub(crate) fn names(&self, numbers: Option<NumbersFile<R::A>>) -> GivenNames<R::A>
+        ensures none { result.calls ≡ [] }
+        ensures orderly { IsOrderly result }
+    {
+        GivenNames::new(self.layout, self.last.get(), numbers)
+    }
+
+    /// Makes sure that the file of numbers, if there is one, covers the number of this place.
+    fn keep_number(&self, place: Place, names: &mut GivenNames<R::A>) -> io::Result<()>
+        ensures kept { OnOk result (IsKept names.old.layout names.new.kept place) }
+        ensures keeps { KeepsAll names.old.kept names.new.kept }
+        ensures same { (names.new.layout ≡ names.old.layout) × (names.new.last ≡ names.old.last) }
+        ensures taken { OnOk result (names.new.calls ≡ names.old.calls) }
+        ensures refused { OnErr result (names.new.calls ≡ seen.Refused ∷ names.old.calls) }
+    {
+        let layout = names.layout;
+        let Some(file) = &mut names.numbers else {
+            return Ok(());
+        };
+        file.take_over(self.kept.get());
+        names.calls.keep(&self.rt, file, layout, place)?;
+        self.kept.set(file.kept());
+        Ok(())
     }
 
     /// Returns the path of the draft with this number.
@@ -168,53 +191,58 @@ where
     }
 
     /// Fails if the path leads to another folder than the one that is locked.
-    fn check_path(&self) -> io::Result<()> {
-        self.identity.check_at(&self.rt, self.dir.as_str())
+    fn check_path(&self, calls: &mut FolderCalls) -> io::Result<()>
+        ensures taken { OnOk result (calls.new.all ≡ calls.old.all) }
+        ensures refused { OnErr result (Asks (standing calls.old.all) (refusals calls.old.all + 1) calls.old.all calls.new.all) }
+    {
+        calls.check_at(&self.rt, self.identity, self.dir.as_str())
     }
 
-    /// Creates the file of a draft, in place of one that could not be removed before.
-    pub(crate) fn create_draft(&self, draft: &str) -> io::Result<R::File> {
-        self.check_path()?;
-        match File::create_new(&self.rt, draft) {
-            Err(error) if error.kind() == ErrorKind::AlreadyExists => {
-                remove_left(&self.rt, draft)?;
-                File::create_new(&self.rt, draft)
-            }
-            result => result,
+    /// Returns whether the path is known to lead to the folder that is locked.
+    fn is_there(&self) -> bool {
+        self.identity.check_at(&self.rt, self.dir.as_str()).is_ok()
+    }
+
+    /// Creates the file of a draft. A file that an earlier draft left under this name is removed first.
+    /// Fails if the path leads to another folder, or a system call fails.
+    pub(crate) fn create_draft(&self, draft: &str, calls: &mut FolderCalls) -> io::Result<R::File>
+        ensures created { OnOk result (calls.new.all ≡ seen.Created ∷ calls.old.all) }
+        ensures refused { OnErr result (Asks (standing calls.old.all) (refusals calls.old.all + 1) calls.old.all calls.new.all) }
+    {
+        self.check_path(calls)?;
+        calls.create_draft(&self.rt, draft)
+    }
+
+    /// Removes the file of a draft that is not committed, if the path still leads to this folder.
+    pub(crate) fn discard_draft(&self, draft: &str) {
+        if self.is_there() {
+            // A file that cannot be removed is removed when the next draft is created.
+            let _ = remove_left(&self.rt, draft);
         }
     }
 
-    /// Removes the file of a draft that gets no name, if it is there.
-    pub(crate) fn discard_draft(&self, draft: &str) -> io::Result<()> {
-        self.check_path()?;
-        remove_left(&self.rt, draft)
+    /// Removes the draft name of a file that was just committed, if it still has it after a hard link,
+    /// so that nothing is written to a committed file under that name.
+    pub(crate) fn remove_old_name(&self, draft: &str) {
+        let _ = remove_left(&self.rt, draft);
     }
 
-    /// Removes the old name of a draft that was just named, if it still has it, so that nothing is
-    /// written into a file that has a name.
-    pub(crate) fn remove_old_name(&self, draft: &str) -> io::Result<()> {
-        remove_left(&self.rt, draft)
-    }
-
-    /// Removes a file whose name could not be written to the disk.
-    fn remove_named(&self, path: &str) -> io::Result<()> {
-        self.check_path()?;
-        fs::remove_file(&self.rt, path)
-    }
-
-    /// Makes a folder for files, unless something has its name.
+    /// Creates the subfolder with this number, unless something has its name, and syncs the folder.
     ///
-    /// Fails with the folder's name in the text if the system refuses it.
-    fn make_folder(&self, folder: u32) -> io::Result<()> {
-        let path = folder_path(self.rt.alloc(), self.dir.as_str(), folder)?;
-        match fs::create_dir(&self.rt, path.as_str()) {
-            Ok(()) => {}
-            Err(error) if error.kind() == ErrorKind::AlreadyExists => return Ok(()),
+    /// Fails, with the subfolder's name in the message, if the system call fails.
+    fn make_folder(&self, folder: u32, calls: &mut FolderCalls) -> io::Result<()>
+        ensures taken { OnOk result (calls.new.all ≡ calls.old.all) }
+        ensures refused { OnErr result (calls.new.all ≡ seen.Refused ∷ calls.old.all) }
+    {
+        let path = calls.text(folder_path(self.rt.alloc(), self.dir.as_str(), folder))?;
+        match calls.create_folder(&self.rt, path.as_str()) {
+            Ok(true) => {}
+            Ok(false) => return Ok(()),
             Err(error) => return Err(unmade(self.rt.alloc(), folder, &error)),
         }
         if self.has_sync() {
-            if let Err(error) = self.folder.sync_all() {
-                if self.check_path().is_ok() {
+            if let Err(error) = calls.sync(&self.folder) {
+                if self.is_there() {
                     let _ = fs::remove_dir(&self.rt, path.as_str());
                 }
                 return Err(error);
@@ -223,111 +251,169 @@ where
         Ok(())
     }
 
-    /// Writes to the disk what names a file: its folder and, after a rename, the folder that had it.
-    fn sync_name(&self, place: Place, named: Named) -> io::Result<()> {
+    /// Syncs the folder of a file that was just named and, after a rename, the folder of the draft.
+    fn sync_name(&self, place: Place, named: Named, calls: &mut FolderCalls) -> io::Result<()>
+        ensures taken { OnOk result (calls.new.all ≡ calls.old.all) }
+        ensures refused { OnErr result (calls.new.all ≡ seen.Refused ∷ calls.old.all) }
+    {
         if !self.has_sync() {
             return Ok(());
         }
         if matches!(self.layout, Layout::Flat) {
-            return self.folder.sync_all();
+            return calls.sync(&self.folder);
         }
-        let path = folder_path(self.rt.alloc(), self.dir.as_str(), place.folder)?;
-        fs::open(&self.rt, path)?.sync_all()?;
+        let path = calls.text(folder_path(self.rt.alloc(), self.dir.as_str(), place.folder))?;
+        let folder = calls.open(&self.rt, path.as_str())?;
+        calls.sync(&folder)?;
         match named {
             Named::Linked => Ok(()),
-            Named::Renamed => self.folder.sync_all(),
+            Named::Renamed => calls.sync(&self.folder),
         }
     }
 
-    fn path_of(&self, place: Place) -> io::Result<String<R::A>> {
+    fn path_of(&self, place: Place) -> Result<String<R::A>, AllocError> {
         let dir = self.dir.as_str();
         if matches!(self.layout, Layout::Flat) {
-            return Ok(file_path(self.rt.alloc(), dir, place.file)?);
+            return file_path(self.rt.alloc(), dir, place.file);
         }
         let folder = folder_path(self.rt.alloc(), dir, place.folder)?;
-        Ok(file_path(self.rt.alloc(), folder.as_str(), place.file)?)
+        file_path(self.rt.alloc(), folder.as_str(), place.file)
     }
 
-    /// Gives a draft this path. A folder of files that was moved or removed is made again.
-    fn link(&self, draft: &str, place: Place, path: &str) -> io::Result<Named> {
-        match name_file(&self.rt, draft, path) {
-            Err(error)
-                if error.kind() == ErrorKind::NotFound
-                    && matches!(self.layout, Layout::Levels { .. }) => {
-                self.make_folder(place.folder)?;
-                name_file(&self.rt, draft, path)
-            }
-            named => named,
+    /// Gives a draft the target name. A subfolder that was moved or removed is created again.
+    fn link(&self, draft: &str, target: Target<'_>, calls: &mut FolderCalls) -> io::Result<Attempt>
+        ensures left { NameLeaves target.entry.place result calls.old.all calls.new.all }
+    {
+        match name_file(&self.rt, draft, target, calls)? {
+            Attempt::Met(Obstacle::Missing) => {}
+            attempt => return Ok(attempt),
         }
+        self.make_folder(target.place.folder, calls)?;
+        let again = Target {
+            may_miss: false,
+            ..target
+        };
+        name_file(&self.rt, draft, again, calls)
     }
 
-    /// Gives a draft the name of this place. After an error it has its old name alone.
-    fn name_at(&self, draft: &str, place: Place) -> io::Result<()> {
-        let path = self.path_of(place)?;
-        let named = self.link(draft, place, path.as_str())?;
-        if let Err(error) = self.sync_name(place, named) {
-            if self.remove_named(path.as_str()).is_err() {
-                self.last.set(place);
+    /// Sets the place of the last file, for this filing and the folder.
+    fn go_on(&self, place: Place, names: &mut GivenNames<R::A>)
+        ensures last { names.new ≡ record names.old { last = place } }
+    {
+        self.last.set(place);
+        names.last = place;
+    }
+
+    /// Gives a draft the name of this place, which the file of numbers covers, and syncs the folder.
+    /// After an error the file has its draft name alone, unless the new name could not be removed.
+    fn name_at(
+        &self,
+        draft: &str,
+        place: Place,
+        names: &mut GivenNames<R::A>,
+    ) -> io::Result<Attempt>
+        requires kept { IsKept names.old.layout names.old.kept place }
+        requires behind { order names.old.last < order place }
+        ensures left { PlaceLeaves place result names.old names.new }
+        ensures same { SameTerms names.old names.new }
+        ensures loses { LosesNone names.old.calls → LosesNone names.new.calls }
+    {
+        let path = names.calls.text(self.path_of(place))?;
+        let target = Target {
+            place,
+            path: path.as_str(),
+            layout: self.layout,
+            may_miss: true,
+        };
+        let named = match self.link(draft, target, &mut names.calls)? {
+            Attempt::Named(named) => named,
+            attempt => return Ok(attempt),
+        };
+        if let Err(error) = self.sync_name(place, named, &mut names.calls) {
+            if !self.is_there() || names.calls.remove(&self.rt, target).is_err() {
+                self.go_on(place, names);
             }
             return Err(error);
         }
-        self.last.set(place);
-        Ok(())
+        self.go_on(place, names);
+        Ok(Attempt::Named(named))
     }
 
-    /// Returns where the file after the last one stands, in a folder that is made if it is the next one.
+    /// Returns the place after that of the last file, which the file of numbers covers then. If it is
+    /// in the next subfolder, that is created.
     ///
-    /// Fails with `StorageFull` if no number is left.
-    fn next_place(&self) -> io::Result<Place> {
-        let last = self.last.get();
-        let Some(place) = last.next(self.layout) else {
+    /// Fails with `StorageFull` if all numbers are in use.
+    fn next_place(&self, names: &mut GivenNames<R::A>) -> io::Result<Place>
+        ensures kept { IfOk result (λ place. IsKept names.new.layout names.new.kept place) }
+        ensures behind { IfOk result (λ place. order names.new.last < order place) }
+        ensures rises { order names.old.last ≤ order names.new.last }
+        ensures calls { OnOk result (names.new.calls ≡ names.old.calls) }
+        ensures names { standing names.new.calls ≡ standing names.old.calls }
+        ensures refused { OnErr result (WasRefused names.old names.new) }
+        ensures orderly { IsOrderly names.old → IsOrderly names.new }
+    {
+        let last = names.last;
+        let Some(place) = last.next(names.layout) else {
             return Err(Error::new(ErrorKind::StorageFull, NO_NUMBER));
         };
-        self.keep_number(place)?;
+        self.keep_number(place, names)?;
         if place.folder != last.folder {
-            self.make_folder(place.folder)?;
-            self.last.set(Place {
+            self.make_folder(place.folder, &mut names.calls)?;
+            let before = Place {
                 folder: place.folder,
                 file: 0,
-            });
+            };
+            self.go_on(before, names);
         }
         Ok(place)
     }
 
-    /// Goes on after a place that another program has put something at, or after a folder whose name it gave
-    /// to a file.
-    ///
-    /// Fails with the error that the place met if it is another one.
-    fn pass_over(&self, place: Place, error: Error) -> io::Result<()> {
-        match (error.kind(), self.layout) {
-            (ErrorKind::AlreadyExists, _) => self.last.set(place),
-            (ErrorKind::NotADirectory, Layout::Levels { per }) => self.last.set(Place {
+    /// Continues after a place, or a subfolder, whose name another program has used.
+    fn pass_over(&self, place: Place, obstacle: Obstacle, names: &mut GivenNames<R::A>)
+        ensures behind { order place ≤ order names.new.last }
+        ensures same { SameTerms names.old names.new }
+        ensures calls { names.new.calls ≡ names.old.calls }
+    {
+        let last = match (obstacle, self.layout) {
+            (Obstacle::Blocked, Layout::Levels { per }) => Place {
                 folder: place.folder,
-                file: per,
-            }),
-            _ => return Err(error),
-        }
-        Ok(())
+                file: place.file.max(per),
+            },
+            _ => place,
+        };
+        self.go_on(last, names);
     }
 
-    /// Returns whether few numbers are left after this place, the first time that it is so. Folders of files are
-    /// so many that it is of no concern.
+    /// Returns whether few numbers are left after this place: `true` only once, for the first such
+    /// place. With subfolders it is always `false`, as there are far more numbers.
     pub(crate) fn runs_low(&self, place: Place) -> bool {
         matches!(self.layout, Layout::Flat) && place.file >= LOW && !self.has_run_low.replace(true)
     }
 
-    /// Gives a draft the next name that is free, and returns where its file stands.
+    /// Gives a draft the next free name, after those that the filings of the folder gave, and returns
+    /// the place of the file.
     ///
-    /// Fails with `StorageFull` if no number is left.
-    pub(crate) fn name_draft(&self, draft: &str) -> io::Result<Place> {
-        self.check_path()?;
-        for _ in 0..u64::MAX {
-            let place = self.next_place()?;
-            match self.name_at(draft, place) {
-                Ok(()) => return Ok(place),
-                Err(error) => self.pass_over(place, error)?,
+    /// Fails with `StorageFull` if all numbers are in use.
+    pub(crate) fn name_draft(&self, draft: &str, names: &mut GivenNames<R::A>) -> io::Result<Place>
+        ensures named { IfOk result (λ place. standing names.new.calls ≡ place ∷ standing names.old.calls) }
+        ensures settled { OnOk result (refusals names.new.calls ≡ refusals names.old.calls) }
+        ensures left { OnErr result (LeavesNames (standing names.old.calls) (standing names.new.calls)) }
+        ensures refused { OnErr result (WasRefused names.old names.new) }
+        ensures orderly { IsOrderly names.old → IsOrderly names.new }
+    {
+        self.check_path(&mut names.calls)?;
+        names.last = names.last.later(self.last.get());
+        for _turn in 0..u64::MAX {
+            let place = self.next_place(names)?;
+            match self.name_at(draft, place, names)? {
+                Attempt::Named(_) => return Ok(place),
+                Attempt::Met(obstacle) => self.pass_over(place, obstacle, names),
             }
         }
-        Err(Error::new(ErrorKind::StorageFull, NO_NUMBER))
+        let per = match names.layout {
+            Layout::Flat => GREATEST,
+            Layout::Levels { per } => per,
+        };
+        Err(none_left(per, names.last.folder, names.last.file))
     }
 }

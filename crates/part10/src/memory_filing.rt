@@ -1,4 +1,4 @@
-//! A filing over memory.
+//! A [`Filing`] that stores files in memory.
 ghost use Rattle.std.specs.Prelude.{◌≡◌, ◌+◌, [], None, map};
 ghost use Rattle.part10.specs.Store.{store_of};
 
@@ -7,7 +7,7 @@ use element::count::Count;
 use std::alloc::Allocator;
 use std::marker::Model;
 
-/// Keeps the files in memory. A growth that the allocator refuses is a failed call.
+/// A [`Filing`] that stores files in memory. A call fails if the allocator refuses the memory.
 #[derive(Drop)]
 pub struct MemoryFiling<A: Allocator + Copy> {
     alloc: A,
@@ -26,7 +26,7 @@ impl<A: Allocator + Copy> Model for MemoryFiling<A> {
 }
 
 impl<A: Allocator + Copy> MemoryFiling<A> {
-    /// Returns a filing without files and without a draft, of which no call has failed.
+    /// Creates a filing without files and without a draft. Allocates nothing.
     pub fn new(alloc: A) -> MemoryFiling<A>
         ensures files { result.files ≡ [] }
         ensures draft { result.draft ≡ None }
@@ -47,7 +47,7 @@ impl<A: Allocator + Copy> MemoryFiling<A> {
         self.files.as_slice()
     }
 
-    /// Drops the draft and counts a failure.
+    /// Drops the draft and counts one failure.
     fn fail(&mut self)
         ensures files { self.new.files ≡ self.old.files }
         ensures draft { self.new.draft ≡ None }

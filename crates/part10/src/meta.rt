@@ -1,16 +1,17 @@
-//! The contents of a file header.
+//! The contents of File Meta Information.
 use dictionary::Transfer;
 use element::{AeTitle, Uid};
 
-/// The part of a file header that describes its instance (PS3.10 section 7.1).
+/// The File Meta Information elements that describe the instance in a file (PS3.10 section 7.1).
 #[derive(Debug, Drop)]
 pub struct Meta {
-    /// The SOP class of the instance.
+    /// Media Storage SOP Class UID (0002,0002).
     pub class: Uid,
-    /// The SOP instance.
+    /// Media Storage SOP Instance UID (0002,0003).
     pub instance: Uid,
-    /// The transfer syntax of the data set.
+    /// Transfer Syntax UID (0002,0010), that of the data set.
     pub syntax: Transfer,
-    /// The title of the sender; not written if it is all spaces.
+    /// Source Application Entity Title (0002,0016), the title of the sender. Not written if it is all
+    /// spaces.
     pub calling: AeTitle,
 }

@@ -1,26 +1,28 @@
-//! Why a file header cannot be read.
+//! Why File Meta Information cannot be read.
 ghost use Rattle.std.specs.Prelude.{◌≡◌};
 ghost use Rattle.part10.specs.MetaText.{fault_name, fault_number};
 
 use std::fmt;
 
-/// Why no file header was read (PS3.10 section 7.1).
+/// Why the File Meta Information of a file cannot be read (PS3.10 section 7.1). Each variant has a
+/// number that is printed.
 #[derive(Clone, Copy, Debug, PartialEq, Eq)]
 pub enum MetaFault {
-    /// 50: the letters `DICM` do not stand after 128 bytes.
+    /// 50: the file has no prefix `DICM` after the preamble of 128 bytes.
     NotPart10,
-    /// 51: group 0002 does not begin with its length, ends before or after it, or an element of it is
-    /// out of order, of an odd or undefined length or of another group; or the class, the instance or
-    /// the transfer syntax is missing or unreadable.
+    /// 51: group 0002 does not begin with File Meta Information Group Length, does not end where that
+    /// says, or has an element out of order, of odd or undefined length, or of another group; or the
+    /// SOP class, SOP instance or transfer syntax UID is missing or invalid.
     BadMeta,
-    /// 53: a transfer syntax other than the two that are taken.
+    /// 53: the transfer syntax is not accepted: `read_meta` accepts the two native ones,
+    /// `read_any_meta` all of the dictionary.
     OtherSyntax,
-    /// 54: a read failed.
+    /// 54: a read of the file failed.
     ReadFailed,
 }
 
 impl MetaFault {
-    /// Returns its number, from 50 to 54.
+    /// Returns the number of the fault: 50, 51, 53 or 54.
     pub fn number(self) -> u8
         ensures { result ≡ fault_number self }
     {
@@ -32,7 +34,7 @@ impl MetaFault {
         }
     }
 
-    /// Returns its name.
+    /// Returns the name of the fault, that of the variant.
     pub fn name(self) -> &'static str
         ensures { result.now ≡ fault_name self }
     {
@@ -45,7 +47,7 @@ impl MetaFault {
     }
 }
 
-/// The number and the name, as `51 BadMeta`.
+/// Prints the number and the name, as `51 BadMeta`.
 impl fmt::Display for MetaFault {
     fn fmt<W: fmt::Write>(&self, f: &mut fmt::Formatter<W>) -> fmt::Result {
         write!(f, "{} {}", self.number(), self.name())

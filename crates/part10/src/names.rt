@@ -1,4 +1,4 @@
-//! The names of received files and of their folders: a letter and seven digits.
+//! The names of received files and of their subfolders: a letter and seven digits.
 ghost use Rattle.std.specs.Prelude.{◌≡◌, ◌≤◌, IfSome, length};
 ghost use Rattle.part10.specs.EntryNames.{entry_number, first_letter, number_after};
 
@@ -7,16 +7,16 @@ use std::fs::DirEntry;
 use std::rt::Files;
 use std::{fmt, io};
 
-/// What a name stands for.
+/// The kind of a name.
 #[derive(Clone, Copy)]
 pub enum EntryKind {
     /// A received file: `I` and seven digits.
     File,
-    /// A folder of received files: `S` and seven digits.
+    /// A subfolder of received files: `S` and seven digits.
     Folder,
 }
 
-/// Returns the number that seven digits spell, or `None` if one of the bytes is no digit.
+/// Returns the value of seven decimal digits, or `None` if one of the bytes is no digit.
 fn number_of(digits: &[u8]) -> Option<u32>
     requires seven { length digits.now ≡ 7 }
     ensures number { result ≡ number_after 0 digits.now }
@@ -43,7 +43,8 @@ impl EntryKind {
         }
     }
 
-    /// Returns the number in a name of this kind, or `None` if it is no such name.
+    /// Returns the number in a name of this kind, at most 9,999,999, or `None` if the name has another
+    /// form.
     pub fn number_in(self, name: &str) -> Option<u32>
         ensures number { result ≡ entry_number self name.now }
         ensures most { IfSome result (λ n. n ≤ 9999999) }
@@ -51,7 +52,7 @@ impl EntryKind {
         self.number_in_bytes(name.as_bytes())
     }
 
-    /// Returns the number in a name of this kind, as `number_in` does.
+    /// Returns the number in a name of this kind, as `number_in` does, from its bytes.
     pub(crate) fn number_in_bytes(self, name: &[u8]) -> Option<u32>
         ensures number { result ≡ entry_number self name.now }
         ensures most { IfSome result (λ n. n ≤ 9999999) }
@@ -63,10 +64,10 @@ impl EntryKind {
         number_of(digits)
     }
 
-    /// Returns the number of an entry of a folder, or `None` if it is not of this kind: by its name
-    /// and, for a folder, by what it is.
+    /// Returns the number of a directory entry of this kind, or `None` if its name has another form or,
+    /// for a subfolder, the entry is no directory.
     ///
-    /// Fails if what an entry is can't be read.
+    /// Fails if the file type of the entry cannot be read.
     pub fn number_of<R: Files + Drop, A: Allocator>(
         self,
         entry: &DirEntry<R, A>,
@@ -79,15 +80,15 @@ impl EntryKind {
     }
 }
 
-/// The name of a received file or of a folder of them.
+/// The name of a received file or of a subfolder.
 #[derive(Clone, Copy)]
 pub struct EntryName {
     pub kind: EntryKind,
-    /// At most 9,999,999.
+    /// The number in the name, at most 9,999,999.
     pub number: u32,
 }
 
-/// The letter and the seven digits, as `I0000001`.
+/// Prints the letter and the seven digits, as `I0000001`.
 impl fmt::Display for EntryName {
     fn fmt<W: fmt::Write>(&self, f: &mut fmt::Formatter<W>) -> fmt::Result {
         let letter = char::from(self.kind.letter());

@@ -1,29 +1,76 @@
-//! Gives a file the name that it keeps.
+//! Gives a committed file its name.
+ghost use Rattle.part10.specs.machine.Naming.{NameLeaves};
 
+use crate::folder_calls::FolderCalls;
+use crate::place::{Layout, Place};
 use std::io::{Error, ErrorKind};
 use std::rt::Files;
 use std::{fs, io};
 
-/// The operating system's number for `EPERM`, by which Linux refuses a hard link on vfat and exFAT.
+/// The number of the system error `EPERM`, with which Linux rejects hard links on vfat and exFAT.
 const NOT_PERMITTED: i32 = 1;
 
-/// How a file got its name.
+/// How a file got its new name.
 #[derive(Clone, Copy, PartialEq, Eq)]
 pub(crate) enum Named {
-    /// It has the name beside its old one.
+    /// By a hard link: it has the old name, too.
     Linked,
-    /// It has the name in place of its old one.
+    /// By a rename: it has the new name alone.
     Renamed,
 }
 
-/// Returns whether an error of `hard_link` says that the file system has no hard links: `EPERM`,
-/// `EOPNOTSUPP` or `ENOSYS`. The kind of `EPERM` is also that of `EACCES`, which says nothing of links.
-fn is_without_links(error: &Error) -> bool {
+/// Why a file did not get a name, if another name or another attempt can succeed.
+#[derive(Clone, Copy, PartialEq, Eq)]
+pub(crate) enum Obstacle {
+    /// The name is in use.
+    Taken,
+    /// The subfolder in the path does not exist.
+    Missing,
+    /// The subfolder in the path is no directory.
+    Blocked,
+    /// The file system has no hard links.
+    NoLinks,
+}
+
+/// The outcome of an attempt to name a file.
+#[derive(Clone, Copy)]
+pub(crate) enum Attempt {
+    Named(Named),
+    Met(Obstacle),
+}
+
+/// The name that a file is to get: its place, and the path of that.
+#[derive(Clone, Copy)]
+pub(crate) struct Target<'a> {
+    pub(crate) place: Place,
+    pub(crate) path: &'a str,
+    pub(crate) layout: Layout,
+    /// Whether a missing subfolder is an obstacle, after which it is created and the attempt repeated,
+    /// rather than an error.
+    pub(crate) may_miss: bool,
+}
+
+/// Returns whether an error of `hard_link` means that the file system has no hard links: `EPERM`,
+/// `EOPNOTSUPP` or `ENOSYS`. `EPERM` is compared by its number, as its `ErrorKind` is also that of
+/// `EACCES`, which does not mean that.
+pub(crate) fn is_without_links(error: &Error) -> bool {
     error.kind() == ErrorKind::Unsupported || error.raw_os_error() == Some(NOT_PERMITTED)
 }
 
-/// Fails with `AlreadyExists` if something has this path, and if that can't be found out.
-fn check_free<R: Files>(rt: &R, path: &str) -> io::Result<()> {
+/// Returns the obstacle that an error stands for, or `None` if another name or attempt would not help.
+pub(crate) fn obstacle_of(error: &Error, target: Target<'_>) -> Option<Obstacle> {
+    let in_levels = matches!(target.layout, Layout::Levels { .. });
+    match error.kind() {
+        ErrorKind::AlreadyExists => Some(Obstacle::Taken),
+        ErrorKind::NotFound if in_levels && target.may_miss => Some(Obstacle::Missing),
+        ErrorKind::NotADirectory if in_levels => Some(Obstacle::Blocked),
+        _ => None,
+    }
+}
+
+/// Fails with `AlreadyExists` if something exists at this path, and with the system's error if that
+/// cannot be checked.
+pub(crate) fn check_free<R: Files>(rt: &R, path: &str) -> io::Result<()> {
     match fs::symlink_metadata(rt, path) {
         Ok(_) => Err(Error::from(ErrorKind::AlreadyExists)),
         Err(error) if error.kind() == ErrorKind::NotFound => Ok(()),
@@ -31,18 +78,28 @@ fn check_free<R: Files>(rt: &R, path: &str) -> io::Result<()> {
     }
 }
 
-/// Gives a file a free name: by a hard link or, on a file system without them, by a rename once the
-/// name was seen to be free, which writes over nothing while the folder has no other writer.
+/// Gives a file the target name: by a hard link or, on a file system without them, by a rename after a
+/// check that the name is free, which overwrites nothing while the folder has no other writer.
 ///
-/// Fails with `AlreadyExists` if the name is taken. After an error the file has its old name alone.
-pub(crate) fn name_file<R: Files>(rt: &R, file: &str, name: &str) -> io::Result<Named> {
-    match fs::hard_link(rt, file, name) {
-        Ok(()) => Ok(Named::Linked),
-        Err(error) if is_without_links(&error) => {
-            check_free(rt, name)?;
-            fs::rename(rt, file, name)?;
-            Ok(Named::Renamed)
-        }
-        Err(error) => Err(error),
+/// After an error or an obstacle the file has its old name alone.
+pub(crate) fn name_file<R: Files>(
+    rt: &R,
+    file: &str,
+    target: Target<'_>,
+    calls: &mut FolderCalls,
+) -> io::Result<Attempt>
+    ensures left { NameLeaves target.entry.place result calls.old.all calls.new.all }
+{
+    match calls.link(rt, file, target)? {
+        None => return Ok(Attempt::Named(Named::Linked)),
+        Some(Obstacle::NoLinks) => {}
+        Some(obstacle) => return Ok(Attempt::Met(obstacle)),
+    }
+    if let Some(obstacle) = calls.look(rt, target)? {
+        return Ok(Attempt::Met(obstacle));
+    }
+    match calls.rename(rt, file, target)? {
+        None => Ok(Attempt::Named(Named::Renamed)),
+        Some(obstacle) => Ok(Attempt::Met(obstacle)),
     }
 }

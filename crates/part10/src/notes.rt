@@ -1,12 +1,11 @@
-//! What became of the drafts of a folder, for its log.
+//! What a filing tells its log about its drafts.
 
 use crate::place::Place;
 use std::cell::Cell;
 use std::io::Error;
 
-/// Where the last committed draft of a folder stands, the error of the last call that failed, and whether few
-/// numbers are left.
-/// Each is handed out once.
+/// Notes of a [`FolderFiling`](crate::FolderFiling) for its log: the place of the last committed file,
+/// the error of the last failed call, and a warning that few numbers are left. Each is returned once.
 #[derive(Drop)]
 pub struct DraftNotes {
     place: Cell<Option<Place>>,
@@ -15,7 +14,7 @@ pub struct DraftNotes {
 }
 
 impl DraftNotes {
-    /// Creates notes with no place and no error.
+    /// Creates empty notes.
     pub(crate) fn new() -> DraftNotes {
         DraftNotes {
             place: Cell::new(None),
@@ -24,35 +23,35 @@ impl DraftNotes {
         }
     }
 
-    /// Notes that a draft was committed, and where its file stands.
+    /// Records that a draft was committed as the file at this place.
     pub(crate) fn committed(&self, place: Place) {
         self.place.set(Some(place));
     }
 
-    /// Notes why a call failed.
+    /// Records the error of a failed call.
     pub(crate) fn failed(&self, error: Error) {
         self.error.set(Some(error));
     }
 
-    /// Notes that few numbers are left after this place.
+    /// Records the warning that few numbers are left after this place.
     pub(crate) fn ran_low(&self, place: Place) {
         self.low.set(Some(place));
     }
 
-    /// Takes the place after which few numbers are left, or returns `None` unless the folder's last commit was
-    /// the first one that was given so great a number.
+    /// Takes the warning that few numbers are left after a place, or returns `None` if there is none.
+    /// It is given once for a folder.
     pub fn take_low(&self) -> Option<Place> {
         self.low.take()
     }
 
-    /// Takes the place of the last committed draft, or returns `None` if no draft was committed
-    /// since the last call.
+    /// Takes the place of the last committed file, or returns `None` if none was committed since the
+    /// last call.
     pub fn take_place(&self) -> Option<Place> {
         self.place.take()
     }
 
-    /// Takes the error of the last call that failed, or returns `None` if no call failed since the
-    /// last time it was taken.
+    /// Takes the error of the last failed call of the filing, or returns `None` if none failed since it
+    /// was last taken.
     pub fn take_error(&self) -> Option<Error> {
         self.error.take()
     }

@@ -1,29 +1,30 @@
-//! The greatest numbers that a folder's files and folders were given, kept in a file beside the folder, so that none comes
-//! again once its file was moved away.
-ghost use Rattle.std.specs.Prelude.{◌≡◌, OnOk, OnErr, true, false};
+//! The file of numbers: the greatest numbers that the files and subfolders of a folder were given, so
+//! that no number is given again after its file was moved away.
+ghost use Rattle.std.specs.Prelude.{◌≡◌, IfOk, OnOk, OnErr, true, false};
 
 use crate::names::{EntryKind, EntryName};
 use crate::place::{GREATEST, Layout, Place};
-use std::alloc::Allocator;
+use std::alloc::{AllocError, Allocator};
 use std::fs::OpenFile;
 use std::io::{Error, ErrorKind, Read, Write};
 use std::rt::Files;
 use std::{fmt, fs, io};
 
-/// How many numbers of files are kept ahead: so many files get their names between two writes.
+/// How many numbers of files are reserved with one write of the file of numbers.
 const AHEAD: u32 = 100;
 
-/// How many bytes the line of numbers has: two names, a space between them, and a line feed.
+/// The size in bytes of the line in the file: two names, a space between them, and a line feed.
 const LINE: usize = 18;
 
-/// The greatest numbers that may have been given, of a file of a flat folder and of a folder of files.
+/// The greatest numbers that may have been given: to a file of a folder without subfolders, and to a
+/// subfolder.
 #[derive(Clone, Copy, Debug, PartialEq, Eq)]
 pub(crate) struct Numbers {
     file: u32,
     folder: u32,
 }
 
-/// Its line, as `I0000100 S0000007`.
+/// Prints the line of the file of numbers, as `I0000100 S0000007`.
 impl fmt::Display for Numbers {
     fn fmt<W: fmt::Write>(&self, f: &mut fmt::Formatter<W>) -> fmt::Result {
         let file = EntryName {
@@ -39,12 +40,12 @@ impl fmt::Display for Numbers {
 }
 
 impl Numbers {
-    ghost use Rattle.part10.specs.machine.Numbers.{Continues, Keeps, is_covered, numbers_of};
+    ghost use Rattle.part10.specs.Numbers.{Continues, Keeps, is_covered, numbers_of};
 
-    /// No number was given.
-    const NONE: Numbers = Numbers { file: 0, folder: 0 };
+    /// Before any number is given.
+    pub(crate) const NONE: Numbers = Numbers { file: 0, folder: 0 };
 
-    /// Reads a line of numbers, whole.
+    /// Reads the line of the file of numbers. Returns `None` if it has any other form.
     fn of_line(line: &[u8]) -> Option<Numbers>
         ensures { result ≡ numbers_of line.now }
     {
@@ -56,8 +57,8 @@ impl Numbers {
         Some(Numbers { file, folder })
     }
 
-    /// Returns whether the number of this place may be given with these numbers kept: that of its file or, in
-    /// a layout of levels, that of its folder.
+    /// Returns whether these numbers cover that of this place: that of its file or, with subfolders,
+    /// that of its subfolder. Only covered numbers are given.
     fn covers(self, layout: Layout, place: Place) -> bool
         ensures { result ≡ is_covered layout self place }
     {
@@ -67,7 +68,8 @@ impl Numbers {
         }
     }
 
-    /// Returns the numbers that are kept before the number of this place is given, which these don't cover.
+    /// Returns the numbers to write before the number of this place, which these do not cover, is
+    /// given. Without subfolders they reserve 100 numbers from it on.
     fn with(self, layout: Layout, place: Place) -> Numbers
         requires uncovered { is_covered layout self place ≡ false }
         ensures covers { is_covered layout result place ≡ true }
@@ -87,8 +89,20 @@ impl Numbers {
         }
     }
 
-    /// Returns the place after which the next file comes, where the last one that is there stands at this
-    /// place: behind every number that may have been given. In a layout of levels a new folder begins.
+    /// Returns the greater file number and the greater folder number of two pairs.
+    pub(crate) fn max(self, other: Numbers) -> Numbers
+        ensures keeps { Keeps self result }
+        ensures other { Keeps other result }
+    {
+        Numbers {
+            file: self.file.max(other.file),
+            folder: self.folder.max(other.folder),
+        }
+    }
+
+    /// Returns the place after which the next file comes, given the place of the last file that was
+    /// found: not before any number that may have been given. With subfolders, it is the end of one, so
+    /// that a new one is opened.
     pub(crate) fn last(self, layout: Layout, found: Place) -> Place
         ensures { Continues layout self found result }
     {
@@ -105,14 +119,14 @@ impl Numbers {
     }
 }
 
-/// The file of numbers, and what it has.
+/// The file of numbers: its path and its contents.
 #[derive(Drop)]
 pub(crate) struct NumbersFile<A: Allocator> {
     path: String<A>,
     kept: Numbers,
 }
 
-/// Returns the folder that a path names a file in.
+/// Returns the folder part of a path: `.` if it has none.
 fn folder_of(path: &str) -> &str {
     match path.rsplit_once('/') {
         Some(("", _)) => "/",
@@ -121,7 +135,8 @@ fn folder_of(path: &str) -> &str {
     }
 }
 
-/// Writes the line in place of the file, up to the disk.
+/// Replaces the file by one with these numbers, and syncs it and its folder. It is written beside it,
+/// with `.new` appended to its name, and renamed.
 fn replace<R: Files + Alloc>(rt: &R, path: &str, numbers: Numbers) -> io::Result<()> {
     let draft = format!(in rt.alloc(); "{path}.new")?;
     let line = format!(in rt.alloc(); "{numbers}")?;
@@ -132,9 +147,9 @@ fn replace<R: Files + Alloc>(rt: &R, path: &str, numbers: Numbers) -> io::Result
     fs::open(rt, folder_of(path))?.sync_all()
 }
 
-/// Reads the line of the file, or `None` if there is no file.
+/// Reads the file, or returns `None` if it does not exist.
 ///
-/// Fails with `InvalidData` if the file has anything else.
+/// Fails with `InvalidData` if it is anything but one line of two numbers.
 fn read<R: Files + Alloc>(rt: &R, path: &str) -> io::Result<Option<Numbers>> {
     let file = match fs::open(rt, path) {
         Ok(file) => file,
@@ -150,11 +165,12 @@ fn read<R: Files + Alloc>(rt: &R, path: &str) -> io::Result<Option<Numbers>> {
 }
 
 impl<A: Allocator> NumbersFile<A> {
-    ghost use Rattle.part10.specs.machine.Numbers.{Keeps, is_covered};
+    ghost use Rattle.part10.specs.Numbers.{Keeps, is_covered};
 
-    /// Reads the file of numbers, which is made if it is not there.
+    /// Reads the file of numbers, which is created if it does not exist.
     ///
-    /// Fails with `InvalidData` if it has anything but a line of two numbers.
+    /// Fails with `InvalidData` if it is anything but one line of two numbers, and if it cannot be read
+    /// or created.
     pub(crate) fn open<R: Files + Alloc<A = A>>(rt: &R, path: &str) -> io::Result<NumbersFile<A>> {
         let kept = match read(rt, path)? {
             Some(numbers) => numbers,
@@ -167,6 +183,25 @@ impl<A: Allocator> NumbersFile<A> {
         Ok(NumbersFile { path, kept })
     }
 
+    /// Returns a copy for another filing of the folder. Fails if memory runs out.
+    pub(crate) fn duplicate(&self, alloc: A) -> Result<NumbersFile<A>, AllocError>
+        ensures same { IfOk result (λ file. file.kept ≡ self.now.kept) }
+    {
+        let path = String::from_str(alloc, self.path.as_str())?;
+        Ok(NumbersFile {
+            path,
+            kept: self.kept,
+        })
+    }
+
+    /// Takes over the numbers that another filing of the folder has written to the file.
+    pub(crate) fn take_over(&mut self, kept: Numbers)
+        ensures keeps { Keeps self.old.kept self.new.kept }
+        ensures taken { Keeps kept self.new.kept }
+    {
+        self.kept = self.kept.max(kept);
+    }
+
     /// Returns the greatest numbers that may have been given.
     pub(crate) fn kept(&self) -> Numbers
         ensures { result ≡ self.now.kept }
@@ -174,9 +209,9 @@ impl<A: Allocator> NumbersFile<A> {
         self.kept
     }
 
-    /// Has the file keep the number of this place, up to the disk, before it is given.
+    /// Makes sure that the file covers the number of this place: writes and syncs it if it does not.
     ///
-    /// Fails, and keeps what it kept, if the file can't be written.
+    /// Fails if the file cannot be written; the numbers stay as they were.
     pub(crate) fn keep<R: Files + Alloc<A = A>>(
         &mut self,
         rt: &R,

@@ -1,33 +1,47 @@
-//! Where the files of a folder stand.
-ghost use Rattle.std.specs.Prelude.{◌≡◌};
-ghost use Rattle.part10.specs.machine.Places.{next_place};
+//! The places of files in a folder.
+ghost use Rattle.std.specs.Prelude.{◌≡◌, ◌≤◌};
+ghost use Rattle.part10.specs.Places.{next_place, order};
 
 use crate::names::{EntryKind, EntryName};
 use std::fmt;
 
-/// The greatest number that seven digits spell.
+/// The greatest number of seven digits.
 pub(crate) const GREATEST: u32 = 9_999_999;
 
-/// How a folder keeps its files.
+/// The layout of a folder of received files.
 #[derive(Clone, Copy)]
 pub enum Layout {
-    /// All files stand in the folder itself.
+    /// All files are in the folder itself.
     Flat,
-    /// The files stand in folders, so many in each.
+    /// The files are in subfolders of `per` files each.
     Levels { per: u32 },
 }
 
-/// Where a file stands.
+/// The place of a file in a folder of received files: the numbers in its path. Places are in the order
+/// of their folders, then of their files.
 #[derive(Clone, Copy)]
 pub struct Place {
-    /// The number of its folder; 0 in a flat layout.
+    /// The number of the file's subfolder; 0 in a layout without subfolders.
     pub folder: u32,
     /// The number of the file.
     pub file: u32,
 }
 
 impl Place {
-    /// Returns where the file after this one stands, or `None` if the numbers are used up.
+    /// Returns the later of two places.
+    pub(crate) fn later(self, other: Place) -> Place
+        ensures own { order self ≤ order result }
+        ensures other { order other ≤ order result }
+    {
+        if self.folder > other.folder || self.folder == other.folder && self.file > other.file {
+            self
+        } else {
+            other
+        }
+    }
+
+    /// Returns the place after this one in the layout, or `None` if all numbers are in use. After the
+    /// last file of a subfolder comes the first of the next.
     pub(crate) fn next(self, layout: Layout) -> Option<Place>
         ensures { result ≡ next_place layout self }
     {
@@ -52,7 +66,7 @@ impl Place {
     }
 }
 
-/// The name of the file in its folder, as `I0000001` or `S0000001/I0000001`.
+/// Prints the path of the file in the folder, as `I0000001` or `S0000001/I0000001`.
 impl fmt::Display for Place {
     fn fmt<W: fmt::Write>(&self, f: &mut fmt::Formatter<W>) -> fmt::Result {
         let Place { folder, file } = *self;

@@ -1,4 +1,4 @@
-//! Reads file headers.
+//! Reads File Meta Information.
 ghost use Rattle.std.specs.Prelude.{◌≡◌, ◌^◌, ◌<◌, ◌≤◌, ℕ, List, ◌++◌, length, take, replicate, OnOk, IfOk, IfErr};
 ghost use Rattle.std.specs.Io.KnownBytes.{Consumes, IsAtEnd};
 ghost use Rattle.std.specs.Str.{bytes_eq};
@@ -19,7 +19,8 @@ use element::again::read_again;
 use element::{AeTitle, Header, Need, Syntax, Tag, Uid, need, read_header, unpadded};
 use std::io::Read;
 
-/// Fills the room, and returns how many bytes the reader had for it.
+/// Fills the buffer from the reader, and returns how many bytes were read: fewer than its size only at
+/// the end of the input. Fails with `ReadFailed`.
 fn fill<R: Read>(input: &mut R, room: &mut [u8]) -> Result<usize, MetaFault>
     ensures size { length room.new ≡ length room.old }
     ensures within { IfOk result (λ n. n ≤ length room.new) }
@@ -40,7 +41,8 @@ fn fill<R: Read>(input: &mut R, room: &mut [u8]) -> Result<usize, MetaFault>
     Ok(at)
 }
 
-/// Fills the room, or fails with `BadMeta` if the reader ends before.
+/// Fills the buffer from the reader. Fails with `BadMeta` if the input ends before, or with
+/// `ReadFailed`.
 fn read_whole<R: Read>(input: &mut R, room: &mut [u8]) -> Result<(), MetaFault>
     ensures size { length room.new ≡ length room.old }
     ensures took { OnOk result (Consumes (R.remaining input.old) (R.remaining input.new) room.new) }
@@ -52,14 +54,15 @@ fn read_whole<R: Read>(input: &mut R, room: &mut [u8]) -> Result<(), MetaFault>
     Ok(())
 }
 
-/// Returns whether the bytes are this text.
+/// Returns whether the bytes equal this text.
 fn is_text(bytes: &[u8], text: &[u8]) -> bool
     ensures { result ≡ bytes_eq bytes.now text.now }
 {
     bytes == text
 }
 
-/// Reads the preamble and the letters after it.
+/// Reads the preamble of 128 bytes and the prefix `DICM`. Fails with `NotPart10` if the prefix is
+/// missing, or with `ReadFailed`.
 fn read_letters<R: Read>(input: &mut R) -> Result<(), MetaFault>
     ensures read { OnOk result (part.Reads (R.remaining input.old) (R.remaining input.new) part.IsPrefix) }
     ensures none { IfErr result (λ fault. part.NoLetters fault (R.remaining input.old)) }
@@ -75,7 +78,7 @@ fn read_letters<R: Read>(input: &mut R) -> Result<(), MetaFault>
     Ok(())
 }
 
-/// Returns the number that four bytes spell, the least significant byte first.
+/// Returns the little endian number in four bytes.
 fn read_number(bytes: &[u8]) -> u32
     requires { length bytes.now ≡ 4 }
     ensures { le result 4 ≡ bytes.now }
@@ -83,7 +86,8 @@ fn read_number(bytes: &[u8]) -> u32
     LittleEndian::read_u32(bytes)
 }
 
-/// Reads the element that counts the bytes of the group after it.
+/// Reads File Meta Information Group Length (0002,0000), and returns its value: the number of bytes of
+/// the group after it. Fails with `BadMeta` if the input begins otherwise, or with `ReadFailed`.
 fn read_group_size<R: Read>(input: &mut R) -> Result<u32, MetaFault>
     ensures read { IfOk result (λ n. Consumes (R.remaining input.old) (R.remaining input.new) (length_element n)) }
     ensures range { IfOk result (λ n. n < 2 ^ 32) }
@@ -107,7 +111,8 @@ fn joined(front: &[u8; 8], back: &[u8]) -> ArrayVec<u8, 12>
     whole
 }
 
-/// Reads a header, and returns it with its size; fails if that is more than `left`.
+/// Reads the header of an element in Explicit VR, and returns it with its size in bytes. Fails with
+/// `BadMeta` if it is invalid or longer than `left` bytes, or with `ReadFailed`.
 #[tactic(auto, using(crate::proofs::HeaderLemmas::need_bounds, crate::proofs::HeaderLemmas::whole_at))]
 fn read_short_header<R: Read>(input: &mut R, left: u32) -> Result<(Header, u32), MetaFault>
     ensures read { IfOk result (λ r. part.HeaderRead left r.0 r.1 (R.remaining input.old) (R.remaining input.new)) }
@@ -128,14 +133,15 @@ fn read_short_header<R: Read>(input: &mut R, left: u32) -> Result<(Header, u32),
     Ok((read_header(Syntax::Explicit, whole.as_slice()), size as u32))
 }
 
-/// Returns whether the bytes are padding alone.
+/// Returns whether all bytes are padding: zero bytes or spaces.
 fn are_padding(bytes: &[u8]) -> bool
     ensures { result ≡ padding.is_empty (padding.without_trailing padding.is_padding bytes.now) }
 {
     unpadded(bytes).is_empty()
 }
 
-/// Reads this many bytes, and returns whether they are padding alone.
+/// Reads this many bytes, and returns whether all are padding. Fails with `BadMeta` if the input ends
+/// before, or with `ReadFailed`.
 fn read_padding<R: Read>(input: &mut R, size: u32) -> Result<bool, MetaFault>
     ensures read { IfOk result (λ is_padding. part.Reads (R.remaining input.old) (R.remaining input.new) (part.IsPart size is_padding)) }
     ensures short { IfErr result (λ fault. part.Breaks fault (R.remaining input.old) (λ rest. length rest < size)) }
@@ -153,7 +159,7 @@ fn read_padding<R: Read>(input: &mut R, size: u32) -> Result<bool, MetaFault>
     Ok(is_padding)
 }
 
-/// Reads a value through, and returns the unique identifier that it holds.
+/// Reads a value of this size to its end, and returns the UID in it, or `None` if it is no valid UID.
 fn read_value<R: Read>(input: &mut R, size: u32) -> Result<Option<Uid>, MetaFault>
     ensures read { IfOk result (λ uid. part.Reads (R.remaining input.old) (R.remaining input.new) (part.IsValue size uid)) }
     ensures short { IfErr result (λ fault. part.Breaks fault (R.remaining input.old) (λ rest. length rest < size)) }
@@ -173,14 +179,14 @@ fn read_value<R: Read>(input: &mut R, size: u32) -> Result<Option<Uid>, MetaFaul
 #[derive(Drop)]
 struct Element {
     number: u16,
-    /// The bytes of its header and its value.
+    /// The size of its header and its value, in bytes.
     size: u32,
-    /// The unique identifier that its value holds.
+    /// The UID in its value, if it is a valid one.
     uid: Option<Uid>,
 }
 
-/// Returns whether the header is that of an element of group 0002 with a greater number than `last`,
-/// and with an even, so defined, length.
+/// Returns whether the header is that of an element of group 0002 with an element number above `last`,
+/// and with an even, and so defined, length.
 fn is_next(header: Header, last: u16) -> bool
     ensures { result ≡ part.is_next header last }
 {
@@ -188,7 +194,8 @@ fn is_next(header: Header, last: u16) -> bool
     group == 2 && last < number && header.length % 2 == 0
 }
 
-/// Reads an element of group 0002 with a greater number than `last` and at most `left` bytes.
+/// Reads an element of group 0002 with an element number above `last`, of at most `left` bytes with its
+/// header. Fails with `BadMeta` if none is there, or with `ReadFailed`.
 fn read_element<R: Read>(input: &mut R, last: u16, left: u32) -> Result<Element, MetaFault>
     ensures read { IfOk result (λ e. part.ElementRead last left e (R.remaining input.old) (R.remaining input.new)) }
     ensures none { IfErr result (λ fault. part.Breaks fault (R.remaining input.old) (part.NoElement last left)) }
@@ -210,7 +217,8 @@ fn read_element<R: Read>(input: &mut R, last: u16, left: u32) -> Result<Element,
     })
 }
 
-/// The elements that a file header must have, as far as they were found.
+/// The UIDs that File Meta Information must have, as far as they were found: SOP class, SOP instance
+/// and transfer syntax.
 #[derive(Drop)]
 struct Found {
     class: Option<Uid>,
@@ -229,7 +237,7 @@ impl Found {
         }
     }
 
-    /// Keeps the element's identifier if it is one of the three.
+    /// Records the UID of the element, if it is one of the three.
     fn note(&mut self, element: Element)
         ensures { self.new ≡ part.noted element.number element.uid self.old }
     {
@@ -241,7 +249,8 @@ impl Found {
         }
     }
 
-    /// Returns the contents of the header, or why it is not accepted.
+    /// Returns the contents of the File Meta Information. Fails with `BadMeta` if one of the three is
+    /// missing, or with `OtherSyntax` if the transfer syntax is not in the dictionary.
     fn meta(self) -> Result<Meta, MetaFault>
         ensures { part.IsMeta self result }
     {
@@ -258,7 +267,7 @@ impl Found {
     }
 }
 
-/// Reads the elements of a group of this many bytes.
+/// Reads the elements of group 0002 after its length: `size` bytes of them.
 fn read_group<R: Read>(input: &mut R, size: u32) -> Result<Found, MetaFault>
     ensures read { IfOk result (λ found. part.GroupRead size found (R.remaining input.old) (R.remaining input.new)) }
     ensures none { IfErr result (λ fault. part.Breaks fault (R.remaining input.old) (part.NoGroup size)) }
@@ -275,15 +284,16 @@ fn read_group<R: Read>(input: &mut R, size: u32) -> Result<Found, MetaFault>
     Ok(found)
 }
 
-/// Reads the file header that the reader begins with (PS3.10 section 7.1), and no byte after it.
+/// Reads the preamble, the prefix and the File Meta Information at the start of the input (PS3.10
+/// section 7.1), and no byte after it.
 ///
-/// Any preamble is accepted. Group 0002 must begin with its length, end where that says, have rising
-/// tags and even, defined lengths, and name the class, the instance and one of the transfer
-/// syntaxes of the dictionary; other elements are skipped. The calling title is not read: it is all spaces. The room
-/// that this takes is fixed, whatever a length says.
+/// Any preamble is accepted. Group 0002 must begin with its length, end where that says, have strictly
+/// ascending tags and even, defined lengths, and contain the SOP class, the SOP instance and a transfer
+/// syntax of the dictionary. Other elements are skipped. Source Application Entity Title is not read:
+/// `calling` is all spaces. The memory is fixed, whatever a length says.
 ///
-/// After `OtherSyntax` just the header was read, too; after any other error the reader's position is
-/// not determined.
+/// Fails as [`MetaFault`] says. After `OtherSyntax` exactly the File Meta Information was read; after
+/// any other error the position of the reader is unspecified.
 pub fn read_any_meta<R: Read>(input: &mut R) -> Result<Meta, MetaFault>
     ensures header { IfOk result (λ meta. TakesMeta (said_of meta) (R.remaining input.old) (R.remaining input.new)) }
     ensures calling { IfOk result (λ meta. meta.calling.0 ≡ replicate 16 32) }
@@ -295,8 +305,9 @@ pub fn read_any_meta<R: Read>(input: &mut R) -> Result<Meta, MetaFault>
     read_group(input, size)?.meta()
 }
 
-/// Reads the file header that the reader begins with as `read_any_meta` does, and takes the two native transfer
-/// syntaxes alone: any other one is `OtherSyntax`, after which just the header was read.
+/// Reads the File Meta Information at the start of the input as [`read_any_meta`] does, but accepts
+/// only the two native transfer syntaxes, Implicit and Explicit VR Little Endian. Any other one is
+/// `OtherSyntax`, after which exactly the File Meta Information was read.
 pub fn read_meta<R: Read>(input: &mut R) -> Result<Meta, MetaFault>
     ensures header { IfOk result (λ meta. TakesMeta (said_of meta) (R.remaining input.old) (R.remaining input.new)) }
     ensures native { IfOk result (λ meta. meta.syntax ≡ native (syntax_in meta.syntax)) }

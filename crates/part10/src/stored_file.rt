@@ -1,17 +1,28 @@
-//! A file of a folder that keeps received files.
+//! Locks on files and folders, and the descriptors of files.
 use std::fs::{File, TryLockError};
+use std::os::fd::{AsRawFd, RawFd};
 
-/// An open file, or an open folder, that its writer can lock. It is read, written and synced as each
-/// file of `Files` is.
+/// An open file or folder that can be locked. `FolderWriter` requires it of the runtime's files, for
+/// the lock on its folder and for the writeback of its drafts.
 pub trait StoredFile {
-    /// Locks the file for its writer until it is closed.
+    /// Locks the file or folder until it is closed, without waiting.
     ///
-    /// Fails with `WouldBlock` if another open of the file has it locked.
+    /// Fails with `WouldBlock` if it is locked through another open handle.
     fn try_lock(&self) -> Result<(), TryLockError>;
+
+    /// Returns the descriptor by which the system knows the file, or `None` if it is no file of the
+    /// system: then no writeback is started before it is synced.
+    fn descriptor(&self) -> Option<RawFd> {
+        None
+    }
 }
 
 impl StoredFile for File {
     fn try_lock(&self) -> Result<(), TryLockError> {
         File::try_lock(self)
+    }
+
+    fn descriptor(&self) -> Option<RawFd> {
+        Some(self.as_raw_fd())
     }
 }

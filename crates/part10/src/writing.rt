@@ -1,4 +1,4 @@
-//! Writes file headers.
+//! Writes File Meta Information.
 ghost use Rattle.std.specs.Prelude.{◌≡◌, ◌+◌, ◌^◌, ◌<◌, ◌≤◌, ◌∷◌, ◌++◌, [], ℕ, true, Some, length};
 ghost use Rattle.arrayvec.specs.ArrayVec.{array_vec_len};
 ghost use Rattle.element.specs.Header.{header_bytes};
@@ -24,7 +24,7 @@ fn put(head: &mut Head, bytes: &[u8])
     head.try_extend_from_slice(bytes).unwrap();
 }
 
-/// Appends the header of an element of group 0002.
+/// Appends the header of an element of group 0002, in Explicit VR.
 fn put_header(head: &mut Head, number: u16, vr: Vr, size: u32)
     requires room { array_vec_len head.old + 12 ≤ 512 }
     requires short { size < 2 ^ 16 }
@@ -43,7 +43,8 @@ fn put_header(head: &mut Head, number: u16, vr: Vr, size: u32)
     put(head, &room[..len]);
 }
 
-/// Appends an element of group 0002 with a VR whose length takes two bytes.
+/// Appends an element of group 0002 with a VR whose length field has two bytes. The value is padded to
+/// an even length.
 fn put_element(head: &mut Head, number: u16, vr: Vr, value: &[u8], padding: u8)
     requires room { array_vec_len head.old + length value.now + 12 ≤ 512 }
     requires short { is_short_vr vr ≡ true }
@@ -68,7 +69,8 @@ fn put_uid(head: &mut Head, number: u16, text: &[u8])
     put_element(head, number, Vr::UI, text, 0);
 }
 
-/// Returns the elements with the version of the header, the class, the instance and the syntax.
+/// Returns the elements File Meta Information Version, Media Storage SOP Class UID, Media Storage SOP
+/// Instance UID and Transfer Syntax UID, at most 240 bytes.
 #[tactic(auto, using(crate::proofs::Bounds::transfer_uid_short), unfolding(element::specs::Vr::is_short, crate::specs::File::identity_elements))]
 fn identity_elements(meta: &Meta) -> Head
     ensures items { result.items ≡ file.identity_elements meta.now }
@@ -88,7 +90,7 @@ fn identity_elements(meta: &Meta) -> Head
     group
 }
 
-/// Appends the elements that name this implementation.
+/// Appends Implementation Class UID and Implementation Version Name.
 #[tactic(auto, unfolding(element::specs::Vr::is_short, crate::specs::File::implementation_elements))]
 fn put_implementation(group: &mut Head)
     requires room { array_vec_len group.old ≤ 240 }
@@ -99,7 +101,7 @@ fn put_implementation(group: &mut Head)
     put_element(group, 0x0013, Vr::SH, IMPLEMENTATION_VERSION_NAME, b' ');
 }
 
-/// Appends the element with the sender's title, if anything remains of the title without spaces.
+/// Appends Source Application Entity Title, unless the title is all spaces.
 #[tactic(auto, using(crate::proofs::Bounds::title_text_short), unfolding(element::specs::Vr::is_short, crate::specs::File::title_element))]
 fn put_title(group: &mut Head, calling: AeTitle)
     requires room { array_vec_len group.old ≤ 330 }
@@ -145,8 +147,8 @@ fn file_header(meta: &Meta) -> Head
     head
 }
 
-/// Returns the file header: the bytes before the data set (PS3.10 section 7.1). They are 128 zero
-/// bytes, `DICM`, and group 0002 in Explicit VR Little Endian.
+/// Returns the bytes of a file before its data set (PS3.10 section 7.1), at most 512: a preamble of 128
+/// zero bytes, the prefix `DICM`, and the File Meta Information in Explicit VR Little Endian.
 pub fn meta_bytes(meta: &Meta) -> ArrayVec<u8, 512>
     ensures bytes { result.items ≡ file.head meta.now }
     ensures reads_back { SpellsMeta (said_of meta.now) result.items }

@@ -1,4 +1,6 @@
--- What one more part of a piece marks, by where the unfinished frame stands.
+-- What one more part of a piece marks, and where the frame stands then, by where it stood: in a head (`head_part`,
+-- `head_done`), a body (`plain_part`), the head of a value (`pdv_head_part`, `pdv_head_done`, `pdv_head_bad`) or its fragment
+-- (`fragment_part`, `fragment_done`). Stands on ChunkLemmas, FrameLemmas, LaterLemmas and PdvLemmas.
 use Rattle.std.proofs.Common.{◌⊎◌, ◌≡◌, ℕ, ◌+◌, ◌-◌, ◌<◌, ◌≤◌, true, false, nat_eq, List, [], ◌∷◌, ◌++◌, length, drop, refl, sym, ap, ◌∙◌, arith, inl, inr}
 use Rattle.std.proofs.lemmas.Bool.{cases_lt, cases_Bool, lt-ltb, le-ltb}
 use Rattle.std.proofs.lemmas.List.{length-append, length-drop, drop_all}

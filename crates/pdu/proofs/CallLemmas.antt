@@ -1,4 +1,5 @@
--- What a call of a deframer reports.
+-- What a call of a deframer reports is what the stream marks there (`took_mark`, `took_part`, `took_none`, `took_due`), at
+-- each position; a PDU that is skipped there is skipped (`skip_at`). Stands on DeframerLemmas and FrameLemmas.
 use Rattle.std.proofs.Common.{◌⊎◌, ◌≡◌, ℕ, ◌+◌, ◌-◌, ◌<◌, ◌≤◌, true, false, nat_eq, List, [], ◌∷◌, ◌++◌, length, map, take, Some, None, refl, sym, ap, subst, ◌∙◌, arith, inl, inr}
 use Rattle.std.proofs.lemmas.Bool.{cases_lt, cases_Bool, eqb-true}
 use Rattle.std.proofs.lemmas.List.{append-nil}

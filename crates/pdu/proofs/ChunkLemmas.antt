@@ -1,5 +1,6 @@
--- What one more chunk of a stream marks, by where the stream stands: in the head of a PDU, in its body, and inside
--- P-DATA-TF in the head or in the fragment of a presentation data value.
+-- What one more chunk of a stream marks, by where the stream stands: in the head of a PDU (`head_within`, `head_whole`,
+-- `head_ends`), in its body (`other_within`, `other_ends`), and inside P-DATA-TF (`data_within`, `data_ends`). Stands on
+-- FrameLemmas and LaterLemmas.
 use Rattle.std.proofs.Common.{◌≡◌, ℕ, ◌-◌, ◌<◌, ◌≤◌, Bool, true, false, nat_eq, if◌then◌else◌, List, [], ◌∷◌, ◌++◌, length, drop, refl, sym, ap, subst, ◌∙◌, append_assoc, arith, inl, inr}
 use Rattle.std.proofs.lemmas.Bool.{cases_Bool, lt-ltb, le-ltb}
 use Rattle.std.proofs.lemmas.List.{length-append, drop_all}

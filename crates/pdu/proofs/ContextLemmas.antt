@@ -1,4 +1,6 @@
--- Which items spell which proposals.
+-- Items without a fault spell the contexts that are read of them (`texts_from`, `proposals_are`), those alone (`texts_are`,
+-- `texts_fit`), with odd IDs that are distinct where theirs are (`ids_odd`, `distinct_from`). Stands on FitLemmas and
+-- PartLemmas.
 use Rattle.std.proofs.Common.{◌≡◌, ℕ, ◌≤◌, ◌<◌, ◌%◌, true, false, not, eqb, nat_eq, nat_le, List, [], ◌∷◌, length, map, drop, get_or, None, refl, sym, ap, subst, ◌∙◌, arith, inl, inr}
 use Rattle.std.proofs.lemmas.Bool.{cases_Bool, eqb-true, eqb-false, ne_eqb, eq-eqb, and_from, and_parts, le-leb, leb-true, not-true, not_from_false}
 use Rattle.std.proofs.lemmas.List.{length-map, length-drop}

@@ -1,4 +1,6 @@
--- What a call of a deframer does, by where it stands.
+-- At each position a deframer stands, after a chunk, where the stream then stands: after a head (`head_comes`), a body
+-- (`body_comes`), the head of a value (`pdv_good`, `pdv_bad`) and its fragment (`fragment_comes`). Stands on BegunLemmas,
+-- FrameLemmas, PdvLemmas and TokenLemmas.
 use Rattle.std.proofs.Common.{◌⊎◌, ◌≡◌, ℕ, ◌+◌, ◌-◌, ◌<◌, ◌≤◌, true, false, nat_eq, List, [], ◌∷◌, ◌++◌, length, map, drop, refl, sym, ap, subst, ◌∙◌, append_assoc, arith, inl, inr}
 use Rattle.std.proofs.lemmas.Bool.{cases_lt, cases_Bool, eqb-true}
 use Rattle.std.proofs.lemmas.List.{append-nil, length-append}

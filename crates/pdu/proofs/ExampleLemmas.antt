@@ -1,4 +1,5 @@
--- The marks of short streams, computed.
+-- The marks of short streams are these: they compute (`unknown_type`, `good_before_bad`, `two_releases` and others). Stands
+-- on the definitions alone.
 use Rattle.std.proofs.Common.{◌≡◌, [], ◌∷◌, ◌++◌, take, drop, refl, sym, ◌∙◌}
 use Rattle.pdu.specs.Pieces.{pieces_of}
 use Rattle.pdu.specs.Frames.{frames_of, rest_of}

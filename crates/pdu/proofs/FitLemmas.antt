@@ -1,4 +1,5 @@
--- Items that have failed fault one after the other are those that fit a request, and the other way round.
+-- Items of which none has a fault fit a request (`faultless_fits`), and those that fit have none (`fit_faultless`). Stands on
+-- the definitions alone.
 use Rattle.std.proofs.Common.{◌⊎◌, ◌≡◌, ℕ, zero, suc, ◌+◌, ◌≤◌, Bool, true, false, ◌&&◌, nat_eq, List, [], ◌∷◌, length, Option, Some, None, refl, sym, ap, subst, ◌∙◌, arith, inl, inr, if◌then◌else◌}
 use Rattle.std.proofs.lemmas.Bool.{cases_Bool, eqb-true, eqb-false, ne_eqb, or_parts, or_from, and_right, and_from, and_parts, true≢false}
 use Rattle.std.specs.List.{AllByRecursion, list_any}

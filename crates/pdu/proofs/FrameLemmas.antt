@@ -1,4 +1,5 @@
--- Each stream has one list of whole frames and one rest, and what comes later depends on the rest alone.
+-- Each stream has one list of whole frames and one rest (`one_split`); marks are only appended (`marks_grow`), by the rest
+-- alone (`new_rest`), whatever the cuts (`same_marks`). Stands on LaterLemmas and PieceLemmas.
 use Rattle.std.proofs.Common.{◌≡◌, ℕ, ◌≤◌, nat_eq, List, [], ◌∷◌, ◌++◌, length, drop, refl, sym, ap, ◌∙◌, append_assoc, arith, inl, inr}
 use Rattle.std.proofs.lemmas.Bool.{cases_lt, cases_Bool, lt-ltb, le-ltb}
 use Rattle.std.proofs.lemmas.List.{length-append, append-nil}

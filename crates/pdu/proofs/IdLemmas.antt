@@ -1,4 +1,5 @@
--- Lists of bytes, and how many presentation context IDs there are.
+-- Distinct presentation context IDs are 128 at most (`few_ids`), so a request has no more contexts (`kept_few`). Stands on
+-- FitLemmas.
 use Rattle.std.proofs.Common.{◌≡◌, ℕ, zero, suc, ◌<◌, ◌≤◌, ◌/◌, true, false, eqb, List, [], ◌∷◌, ◌++◌, length, map, drop, sym, ap, subst, arith, inl, inr}
 use Rattle.std.proofs.lemmas.Bool.{cases_Bool, eqb-true, eqb-false, ne_eqb}
 use Rattle.std.proofs.lemmas.List.{length-map}

@@ -1,4 +1,5 @@
--- The items of a text, the first after the other.
+-- A text begins with one whole item (`begins_with`, `begins_cut`), or with none (`begins_short`, `begins_begun`). Stands on
+-- PieceLemmas.
 use Rattle.std.proofs.Common.{◌≡◌, ℕ, ◌+◌, ◌<◌, ◌≤◌, List, [], ◌∷◌, ◌++◌, length, take, drop, refl, sym, ap, subst, arith}
 use Rattle.std.proofs.lemmas.List.{length-append, take-append-drop}
 use Rattle.std.specs.List.{AllByRecursion}

@@ -1,4 +1,5 @@
--- What comes later in an unfinished P-DATA frame depends on where it stands alone.
+-- What comes later in an unfinished P-DATA-TF PDU depends on where it stands alone: within a value (`within_later`), or past
+-- a bad one (`dropped_later`). Stands on PdvLemmas.
 use Rattle.std.proofs.Common.{◌≡◌, ℕ, ◌+◌, ◌-◌, ◌≤◌, true, false, List, [], ◌∷◌, ◌++◌, length, drop, refl, sym, ap, subst, ◌∙◌, arith, inl, inr}
 use Rattle.std.proofs.lemmas.List.{append-nil, length-append, length-drop, drop-append-le}
 use Rattle.std.proofs.Math.Seq.{drop-append-add, drop-length}

@@ -1,4 +1,5 @@
--- How much a call of a deframer takes of a body or of a fragment.
+-- A call of a deframer takes as much of a body or a fragment as is there (`longest_body`, `longest_fragment`), and of a head
+-- what is due (`longest_head`, `longest_pdv_head`). Stands on BegunLemmas.
 use Rattle.std.proofs.Common.{◌≡◌, ℕ, ◌-◌, min, List, [], ◌∷◌, length, sym, ap, subst, ◌∙◌, arith}
 use Rattle.pdu.specs.Marks.{Pdv, Leftover, End, pdv_size}
 use Rattle.pdu.specs.Spot.{Opening, Plain, InPdv, spot}

@@ -1,4 +1,4 @@
--- Calls of a deframer, one after another, report the stream.
+-- Calls of a deframer, one after another, report the stream (`tokens_reported`, `marks_reported`). Stands on TokenLemmas.
 use Rattle.std.proofs.Common.{◌≡◌, ℕ, List, [], ◌++◌, map, refl, sym, ap, ◌∙◌, append_assoc}
 use Rattle.std.proofs.lemmas.List.{append-nil}
 use Rattle.pdu.specs.Pieces.{pieces_of}

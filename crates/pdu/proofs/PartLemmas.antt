@@ -1,4 +1,5 @@
--- User information and proposed contexts: those that spell something are those without a fault of their own.
+-- User information and a proposed context without a fault of their own spell something (`information_text`, `context_fine`),
+-- and those that spell something have none (`information_fits`, `fine_context`). Stands on ItemLemmas and PieceLemmas.
 use Rattle.std.proofs.Common.{◌≡◌, ℕ, ◌%◌, true, false, nat_eq, List, [], ◌∷◌, ◌++◌, length, drop, Some, None, refl, sym, ap, ◌∙◌, arith, inl, inr}
 use Rattle.std.proofs.lemmas.Bool.{cases_Bool, eqb-true, eq-eqb}
 use Rattle.std.proofs.lemmas.List.{append-nil}

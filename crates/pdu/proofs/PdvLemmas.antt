@@ -1,4 +1,5 @@
--- The marks inside a P-DATA frame: the relation and the function are one.
+-- The marks inside a P-DATA-TF PDU by the relation are those that are computed (`marked`, `marks_are`, `spot_is`). Stands on
+-- the definitions alone.
 use Rattle.std.proofs.Common.{◌≡◌, ℕ, zero, suc, ◌-◌, ◌<◌, ◌≤◌, true, false, List, [], ◌∷◌, ◌++◌, length, take, drop, get_or, refl, sym, ap, subst, ◌∙◌, arith, inl, inr, if◌then◌else◌}
 use Rattle.std.proofs.lemmas.Bool.{cases_lt, cases_Bool, lt-ltb, le-ltb}
 use Rattle.std.proofs.lemmas.List.{length-append, length-drop, take-append-le}

@@ -1,4 +1,5 @@
--- Each text has one list of whole pieces and one rest.
+-- Each text has one list of whole pieces and one rest (`pieces_split`, `pieces_unique`), and more of it goes on from the rest
+-- (`splits_more`). Stands on the definitions alone.
 use Rattle.std.proofs.Common.{◌⊎◌, ◌≡◌, ℕ, zero, suc, ◌+◌, ◌<◌, ◌≤◌, List, [], ◌∷◌, ◌++◌, length, take, drop, Some, None, refl, sym, ap, subst, ◌∙◌, append_assoc, arith, inl, inr}
 use Rattle.std.proofs.lemmas.Bool.{cases_lt, lt-ltb, le-ltb}
 use Rattle.std.proofs.lemmas.List.{take_at, drop_at, take-append-drop, take-append-le, length-append, length-take, append-nil}

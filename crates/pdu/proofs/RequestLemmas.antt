@@ -1,4 +1,5 @@
--- A body spells a request exactly where it has no fault, and then just the one that is read.
+-- A body without a fault spells the request that is read of it (`request_text`), no other (`one_request`, `request_is`), and
+-- one that spells a request has no fault (`request_fits`). Stands on ContextLemmas, FitLemmas, IdLemmas and PartLemmas.
 use Rattle.std.proofs.Common.{◌≡◌, ℕ, ◌+◌, ◌≤◌, nat_lt, eqb, List, [], ◌∷◌, ◌++◌, length, take, drop, Option, Some, None, Ok, Err, refl, sym, ap, subst, ◌∙◌, arith, inl, inr}
 use Rattle.std.proofs.lemmas.Bool.{cases_Bool, ltb-false, le-ltb}
 use Rattle.std.proofs.lemmas.List.{length-append, length-map, length-take, length-drop, take-append-drop, drop-drop, take_at, drop_at}

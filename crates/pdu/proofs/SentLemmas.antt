@@ -1,4 +1,5 @@
--- Sending one part after another.
+-- Sending one part after another sends both (`sends_then`), or a front of both where a send fails (`sends_part`). Stands on
+-- the definitions alone.
 use Rattle.std.proofs.Common.{◌≡◌, ℕ, ◌+◌, List, [], ◌++◌, Option, Some, None, Result, Ok, Err, append_assoc, length, take, refl, sym, ap, ◌∙◌, arith}
 use Rattle.std.proofs.lemmas.List.{append-nil, length-append, take-append-le}
 use Rattle.std.proofs.Math.Seq.{take-append-add}

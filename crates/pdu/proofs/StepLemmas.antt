@@ -1,4 +1,5 @@
--- What a call of a deframer reports, as marks.
+-- What a call of a deframer reports, as marks, is what was due and what is new, but for what is due later (`marks_taken`,
+-- `mark_taken`). Stands on TokenLemmas.
 use Rattle.std.proofs.Common.{◌≡◌, ℕ, List, [], ◌∷◌, ◌++◌, map, Option, Some, sym, refl, ap, ◌∙◌}
 use Rattle.pdu.specs.declared.position.Position.{Position}
 use Rattle.pdu.specs.declared.event.Event.{Event}

@@ -1,4 +1,5 @@
--- A P-DATA-TF PDU of one presentation data value is twelve bytes and its fragment.
+-- A P-DATA-TF PDU of one presentation data value is twelve bytes and its fragment (`data_parts`). Stands on the definitions
+-- alone.
 use Rattle.std.proofs.Common.{◌≡◌, ℕ, ◌+◌, Bool, List, [], ◌∷◌, ◌++◌, length, ap, ◌∙◌, arith}
 use Rattle.element.specs.Numbers.{be}
 use Rattle.pdu.specs.Texts.{pdv_text, data_text, control_of}

@@ -1,4 +1,5 @@
--- The tokens of a stream: cut anywhere, by the unfinished frame alone, and with the marks of the stream.
+-- The tokens of a stream, cut anywhere, are those of its parts (`tokens_then`), by the unfinished frame alone
+-- (`tokens_rest`), and have the marks of the stream (`marks_of_tokens`). Stands on BegunLemmas, FrameLemmas and PdvLemmas.
 use Rattle.std.proofs.Common.{◌≡◌, ℕ, suc, ◌+◌, ◌-◌, ◌<◌, ◌≤◌, List, [], ◌∷◌, ◌++◌, length, map, refl, sym, ap, ◌∙◌, append_assoc, arith, inl, inr}
 use Rattle.std.proofs.lemmas.List.{append-nil, length-append}
 use Rattle.std.proofs.lemmas.Bool.{cases_Bool, lt-ltb, le-ltb}

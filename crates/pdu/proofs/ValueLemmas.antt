@@ -1,4 +1,5 @@
--- The marks inside a P-DATA-TF PDU that is whole presentation data values and nothing else.
+-- The marks inside a P-DATA-TF PDU that is whole presentation data values and nothing else are theirs (`values_marked`).
+-- Stands on LaterLemmas and PdvLemmas.
 use Rattle.std.proofs.Common.{◌≡◌, ℕ, ◌-◌, ◌≤◌, false, leb, ltb, List, [], ◌∷◌, ◌++◌, length, drop, refl, sym, ap, subst, ◌∙◌, arith}
 use Rattle.std.proofs.lemmas.Bool.{le-ltb, and_right}
 use Rattle.std.proofs.lemmas.List.{length-append, drop_all}

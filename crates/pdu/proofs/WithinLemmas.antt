@@ -1,4 +1,5 @@
--- Further bytes of a frame whose head came before have marks within it alone, and where they complete it, its end.
+-- Further bytes of a frame whose head came before have marks within it alone, and where they complete it, its end
+-- (`marks_within`). Stands on ChunkLemmas, FrameLemmas and PdvLemmas.
 use Rattle.std.proofs.Common.{◌≡◌, ℕ, zero, suc, ◌≤◌, nat_eq, List, [], ◌∷◌, ◌++◌, length, drop, sym, ap, subst, ◌∙◌, inl, inr}
 use Rattle.std.proofs.lemmas.Bool.{cases_Bool}
 use Rattle.pdu.specs.Frames.{IsRest}

@@ -1,5 +1,6 @@
--- Where a deframer stands in a stream, and what a call of it does. The stream counts by its unfinished frame alone, and
--- by the marks that its last byte completed and that no event has reported yet: those are due.
+-- The position of a deframer in a stream, and what a call of it does. A position depends on the bytes of the
+-- unfinished PDU (frame) alone, and on the marks that are due: those that the last byte completed and no event has
+-- reported yet.
 use Rattle.std.specs.Prelude.{◌≡◌, ℕ, ◌+◌, ◌-◌, ◌<◌, ◌≤◌, min, true, false, List, [], ◌∷◌, ◌++◌, length, map, Option, Some, None, nat_lt, if◌then◌else◌}
 use Rattle.arrayvec.specs.ArrayVec.{array_vec_len}
 use Rattle.pdu.specs.declared.position.Position.{Position}
@@ -14,7 +15,8 @@ use Rattle.pdu.specs.Spot.{Spot, Opening, Plain, InPdv, spot, room_left}
 use Rattle.pdu.specs.Parts.{end_mark}
 use Rattle.pdu.specs.Events.{Token, Completes, tokens, Reports}
 
--- less than a frame of this type, whose head has come, of which this much is to come
+-- r are the first bytes of a PDU of this type, its head included; `left` bytes of it are still to come, and r ends at
+-- the spot s
 pub record Inside (kind left : ℕ) (r : List ℕ) (s : Spot) : Type 0 where
   pub rest : IsRest r
   pub headed : head_size ≤ length r
@@ -22,7 +24,7 @@ pub record Inside (kind left : ℕ) (r : List ℕ) (s : Spot) : Type 0 where
   pub left_is : left ≡ room_left r
   pub spot_is : spot r ≡ s
 
--- a frame of this type is whole, and its end is due
+-- a PDU of this type is complete, and the mark of its end is due
 pub record IsOver (kind left : ℕ) (r : List ℕ) (due : List Mark) : Type 0 where
   pub none_left : left ≡ 0
   pub rest : r ≡ []
@@ -48,7 +50,7 @@ pub record AtLeftover (left : ℕ) (r : List ℕ) (due : List Mark) : Type 0 whe
   pub some : 0 < left
   pub due_is : due ≡ Leftover ∷ []
 
--- what follows the mark of a presentation data value
+-- the position after a presentation data value: the end of the PDU, bytes left over, or the head of another value
 pub data AfterPdv (left : ℕ) (r : List ℕ) (due : List Mark) : Type 0 where
   over : IsOver p_data_tf left r due → AfterPdv left r due
   leftover : is_leftover left ≡ true → AtLeftover left r due → AfterPdv left r due
@@ -73,7 +75,7 @@ pub data AtFragment (left more : ℕ) (r : List ℕ) (due : List Mark) : Type 0 
   in_fragment : 0 < more → InFragment left more r due → AtFragment left more r due
   after_fragment : more ≡ 0 → AfterFragment left r due → AtFragment left more r due
 
--- the unfinished frame is r, and these marks are due
+-- the position is that at the end of the bytes r of an unfinished PDU, with these marks due
 abbrev pub At : Position → List ℕ → List Mark → Type 0
 At (position.Head bytes) r due = AtHead bytes.items r due
 At (position.Body kind left) r due = AtBody kind left r due
@@ -82,8 +84,8 @@ At (position.Fragment left more) r due = AtFragment left more r due
 At (position.Leftover left) r due = AtLeftover left r due
 At (position.Skipped kind left) r due = IsOver kind left r due
 
--- Some bytes were taken, and an event was returned: what was due, and what the bytes complete, is what the event reports,
--- and what is due then. No byte is taken while a mark is due.
+-- A call took some bytes and returned an event or none: the marks that were due and the tokens of the bytes are what
+-- the event reports and the marks that are due then. No byte is taken while a mark is due.
 pub record Took (new : Position) (r : List ℕ) (due : List Mark) (taken : List ℕ) (e : Option Event) : Type 0 where
   pub reported : List Token
   pub later : List Mark
@@ -93,24 +95,25 @@ pub record Took (new : Position) (r : List ℕ) (due : List Mark) (taken : List 
   pub prompt : 0 < length taken → due ≡ []
   pub at_once : e ≡ None → later ≡ []
 
--- Of a body or a fragment, a call takes as many bytes as there are and as are to come of it.
+-- Of a body or a fragment, a call takes all bytes that the piece has of it.
 pub record Longest (r : List ℕ) (there taken : ℕ) : Type 0 where
   pub body : spot r ≡ Plain → taken ≡ min there (room_left r)
   pub fragment : (part : List ℕ) → spot r ≡ InPdv part → pdv_head_size ≤ length part → taken ≡ min there (pdv_size part - length part)
 
--- ---- a frame that is skipped
+-- ---- a PDU that is skipped
 
--- of the unfinished frame r, this much is to come
+-- the position is inside a PDU that is skipped, of which the bytes r were read
 abbrev pub SkipsAt : Position → List ℕ → Type 0
 SkipsAt (position.Skipped kind left) r = (0 < left) × IsRest r × (head_size ≤ length r) × (frame_kind r ≡ kind) × (left ≡ room_left r)
 SkipsAt other r = ⊥
 
--- what these bytes do in a frame that is skipped: it goes on, or its end is reported
+-- what a call does that takes these bytes of a PDU that is skipped: the PDU is still unfinished, or its end is
+-- reported
 pub data Skipped (new : Position) (r taken : List ℕ) (e : Option Event) : Type 0 where
   goes_on : e ≡ None → SkipsAt new (r ++ taken) → Skipped new r taken e
   ends : e ≡ Some (event.PduEnd (frame_kind r)) → IsFrame (r ++ taken) → At new [] [] → Skipped new r taken e
 
--- a mark within a frame: neither its head nor its end
+-- a mark inside a PDU: neither its head nor its end
 abbrev pub IsInner : Mark → Type 0
 IsInner (Head kind n) = ⊥
 IsInner (End kind body) = ⊥
@@ -120,7 +123,7 @@ abbrev pub AreInner : List Mark → Type 0
 AreInner [] = Unit {0}
 AreInner (m ∷ ms) = IsInner m × AreInner ms
 
--- further bytes of a frame whose head came before have marks within it alone, and where they complete it, its end
+-- the bytes c complete the PDU: they have marks inside it, and last the mark of its end
 pub record EndsWithin (r c : List ℕ) : Type 0 where
   pub inner : List Mark
   pub are_inner : AreInner inner
@@ -131,8 +134,8 @@ pub record MarksWithin (r c : List ℕ) : Type 0 where
   pub goes_on : IsRest (r ++ c) → AreInner (new_marks r c)
   pub ends : IsFrame (r ++ c) → EndsWithin r c
 
--- What the rest of a frame is skipped for: nothing before its head is whole; of a whole frame the end alone is due; else
--- the frame is skipped. The marks that were due and are not are those within the frame.
+-- What `Deframer::skip_frame` does: nothing before the head of a PDU is complete; of a complete PDU the mark of the
+-- end alone stays due; any other PDU is skipped. The marks that are no longer due are marks inside the PDU.
 pub data Skip (new : Position) (r : List ℕ) (due : List Mark) : Type 0 where
   no_frame : length r < head_size → due ≡ [] → At new r [] → Skip new r due
   end_alone : (before : List Mark) (kind : ℕ) (body : List ℕ) → AreInner before → (0 < length before → kind ≡ p_data_tf) → due ≡ before ++ End kind body ∷ [] → At new r (End kind body ∷ []) → Skip new r due

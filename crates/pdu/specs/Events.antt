@@ -1,4 +1,4 @@
--- What a stream of PDUs makes known byte by byte, and the events that report it (PS3.8 section 9.3).
+-- The tokens of a stream of PDUs, byte by byte, and the events that report them (PS3.8 section 9.3).
 use Rattle.std.specs.Prelude.{◌≡◌, ℕ, ◌<◌, List, [], ◌∷◌, ◌++◌, length, map, Option, Some, None, nat_lt, if◌then◌else◌}
 use Rattle.pdu.specs.declared.event.Event.{Event}
 use Rattle.pdu.specs.declared.event.Event.TheVariants as event
@@ -16,18 +16,19 @@ pub data Token : Type 0 where
   -- a mark, after the byte that completes it
   Completes : (mark : Mark) → Token
 
--- the bytes of bodies and of fragments are lent, those of heads are not
+-- the tokens of these bytes themselves, at this spot: bytes of bodies and fragments are tokens, those of heads are
+-- not
 abbrev pub lent : Spot → List ℕ → List Token
 lent Opening bytes = []
 lent Plain bytes = map OfBody bytes
 lent (InPdv part) bytes = if nat_lt (length part) pdv_head_size then [] else map OfFragment bytes
 
--- what the bytes of a piece make known, after a stream
+-- the tokens of the bytes of a piece that follows this stream
 abbrev pub tokens : List ℕ → List ℕ → List Token
 tokens stream [] = []
 tokens stream (b ∷ piece) = lent (spot (rest_of stream)) (b ∷ []) ++ (map Completes (new_marks stream (b ∷ [])) ++ tokens (stream ++ b ∷ []) piece)
 
--- the marks among them
+-- the marks among these tokens
 abbrev pub marks_among : List Token → List Mark
 marks_among [] = []
 marks_among (OfBody byte ∷ ts) = marks_among ts
@@ -49,7 +50,7 @@ pub record ReportsMark (e : Event) (ts : List Token) : Type 0 where
   pub one : ts ≡ Completes mark ∷ []
   pub same : e ≡ event_of mark
 
--- a part is these bytes, at least one, and they are these tokens
+-- the slice `part` that the event has is these bytes, at least one, and the event reports them as the tokens ts
 pub record Lends (part bytes : List ℕ) (all ts : List Token) : Type 0 where
   pub part_is : part ≡ bytes
   pub some : 0 < length bytes

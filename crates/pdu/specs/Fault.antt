@@ -1,4 +1,4 @@
--- The numbers and the names of the refusals of requests (this product's own profile).
+-- The numbers and the names of the faults of association requests (this product's own profile).
 use Rattle.std.specs.Prelude.{ℕ, List, codes}
 use Rattle.pdu.specs.declared.fault.PduFault.{PduFault}
 use Rattle.pdu.specs.declared.fault.PduFault.TheVariants.{BadLength, BadItem, BadContextId, DoubleContext, Missing}

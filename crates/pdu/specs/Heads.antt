@@ -6,7 +6,7 @@ use Rattle.pdu.specs.declared.head.PduHead.{PduHead}
 use Rattle.pdu.specs.declared.head.PdvHead.{PdvHead}
 use Rattle.pdu.specs.Pdvs.{pdv_length, pdv_context, pdv_control}
 
--- type 1, reserved 1, length 4; the reserved byte is ignored
+-- the head of a PDU, from its six bytes: one byte type, one reserved, which is ignored, four bytes length
 abbrev pub pdu_head_of : List ℕ → PduHead
 pdu_head_of b = record { kind = get_or b 0 0; length = big_number 4 (drop 2 b) }
 
@@ -18,7 +18,8 @@ is_command control = nat_eq (control % 2) 1
 abbrev pub is_last : ℕ → Bool
 is_last control = nat_eq (control / 2 % 2) 1
 
--- length 4 (of what follows it), context 1, control 1
+-- the head of a presentation data value, from its six bytes: four bytes length of what follows them, one byte context
+-- ID, one byte control
 abbrev pub pdv_head_of : List ℕ → PdvHead
 pdv_head_of b = record {
   length = pdv_length b;

@@ -8,7 +8,7 @@ use Rattle.pdu.specs.Sizes.{request_head_size, title_size, item_head_size, conte
 use Rattle.pdu.specs.Pieces.{Layout, pieces_of}
 use Rattle.pdu.specs.Record.{Proposal, RequestRecord}
 
--- type 1, reserved 1, length 2 of the content that follows
+-- the layout of an item: one byte type, one reserved, two bytes length, and content of that length
 abbrev pub item : Layout
 item = record { head = item_head_size; body = λ text. big_number 2 (drop 2 text) }
 
@@ -16,11 +16,11 @@ item = record { head = item_head_size; body = λ text. big_number 2 (drop 2 text
 unfoldable pub items_of : List ℕ → List (List ℕ)
 items_of text = (pieces_of item text).0
 
--- the bytes after them, which begin with no whole item
+-- the bytes after the whole items at the front of a text
 unfoldable pub left_over : List ℕ → List ℕ
 left_over text = (pieces_of item text).1
 
--- the text begins with the whole item f, and t follows it
+-- the text is the whole item f, followed by t
 pub record Begins (text f t : List ℕ) : Type 0 where
   pub items : items_of text ≡ f ∷ items_of t
   pub rest : left_over text ≡ left_over t
@@ -59,18 +59,18 @@ unpadded bytes = without_trailing is_padding bytes
 abbrev pub is_context : List ℕ → Bool
 is_context i = is_kind proposed_context_item i && nat_le context_head_size (length i)
 
--- its sub-items, after the ID and the reserved bytes
+-- the sub-items of a proposed presentation context, after the ID and the reserved bytes
 abbrev pub parts : List ℕ → List (List ℕ)
 parts i = items_of (drop context_head_size i)
 
 abbrev pub identifier : List ℕ → List ℕ
 identifier i = unpadded (item_content i)
 
--- the identifiers of the 40H among these items, in their order
+-- the UIDs of the items of type 40H, transfer syntax, in their order
 abbrev pub syntaxes : List (List ℕ) → List (List ℕ)
 syntaxes items = map identifier (of_kind transfer_syntax_item items)
 
--- one 30H abstract syntax, one or more 40H transfer syntaxes
+-- the presentation context that an item proposes: its ID, the abstract syntax (30H) and the transfer syntaxes (40H)
 abbrev pub proposal_of : List ℕ → Proposal
 proposal_of i = record {
   id = get_or i 4 0;
@@ -81,7 +81,8 @@ proposal_of i = record {
 abbrev pub proposals : List (List ℕ) → List Proposal
 proposals items = map proposal_of (filter is_context items)
 
--- 51H in 50H, of four bytes (PS3.8 annex D.1.1); 0 where it is absent
+-- the number of four bytes, or 0 for any other number of bytes: the peer's maximum length, 51H in 50H (PS3.8 annex
+-- D.1.1)
 abbrev pub four_or_none : List ℕ → ℕ
 four_or_none bytes = if nat_eq (length bytes) 4 then big_number 4 bytes else 0
 

@@ -1,4 +1,4 @@
--- What the bytes of a stream of PDUs complete, one after the other (PS3.8 section 9.3).
+-- The marks of a stream of PDUs: what its bytes complete, one after the other (PS3.8 section 9.3).
 use Rattle.std.specs.Prelude.{ℕ, List, [], ◌∷◌, ◌++◌, length, drop, get_or, nat_eq, nat_lt, if◌then◌else◌}
 use Rattle.std.specs.List.{flat_map}
 use Rattle.byteorder.specs.Endian.{big_number}
@@ -8,26 +8,26 @@ use Rattle.pdu.specs.Frames.{frames_of, rest_of}
 pub use Rattle.pdu.specs.Pdvs.{Mark, Head, PdvHead, Pdv, BadPdv, Leftover, End, pdv_length, pdv_context, pdv_control, pdv_content, pdv_size, head_mark, pdv_mark, IsPdv, marks_of_values, is_leftover}
 unfoldable pub use Rattle.pdu.specs.Pdvs.{pdv_marks}
 
--- type 1, reserved 1, length 4
+-- the type of a PDU, the first byte of its head
 abbrev pub frame_kind : List ℕ → ℕ
 frame_kind f = get_or f 0 0
 
 abbrev pub frame_length : List ℕ → ℕ
 frame_length f = big_number 4 (drop 2 f)
 
--- what follows the head
+-- the body of a PDU, after its head
 abbrev pub frame_body : List ℕ → List ℕ
 frame_body f = drop head_size f
 
--- what P-DATA marks inside a frame
+-- the marks inside a PDU, between its head and its end: those of the presentation data values of a P-DATA-TF
 abbrev pub inner_marks : List ℕ → List Mark
 inner_marks f = if nat_eq (frame_kind f) p_data_tf then pdv_marks (frame_length f) (frame_body f) else []
 
--- the marks of a whole frame
+-- the marks of a whole PDU: its head, those inside it, its end
 abbrev pub whole_marks : List ℕ → List Mark
 whole_marks f = Head (frame_kind f) (frame_length f) ∷ (inner_marks f ++ End (frame_kind f) (frame_body f) ∷ [])
 
--- the marks of an unfinished frame
+-- the marks of an unfinished PDU
 abbrev pub unfinished_marks : List ℕ → List Mark
 unfinished_marks r = if nat_lt (length r) head_size then [] else Head (frame_kind r) (frame_length r) ∷ inner_marks r
 

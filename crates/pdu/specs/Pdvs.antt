@@ -1,71 +1,74 @@
--- What the bytes of a P-DATA-TF PDU complete (PS3.8 section 9.3.5 and annex E.2): the marks of its presentation data
--- values, and where the PDU stands after the bytes so far.
+-- The marks of the presentation data values of a P-DATA-TF PDU, and the position inside the PDU after the bytes so
+-- far (PS3.8 section 9.3.5 and annex E.2).
 use Rattle.std.specs.Prelude.{◌⊎◌, ◌≡◌, ℕ, zero, suc, ◌+◌, ◌-◌, ◌<◌, ◌≤◌, Bool, true, false, ◌&&◌, ◌||◌, List, [], ◌∷◌, ◌++◌, length, take, drop, get_or, nat_le, nat_lt, if◌then◌else◌}
 use Rattle.std.specs.List.{flat_map}
 use Rattle.byteorder.specs.Endian.{big_number}
 use Rattle.pdu.specs.Sizes.{pdv_head_size, pdv_least}
 
--- Each mark belongs to the byte that completes it. Marks of one byte come in the order of the list
+-- What a byte of a stream completes. Marks of the same byte come in the order of these lines
 pub data Mark : Type 0 where
-  -- a PDU's type and the length of its body, at its sixth byte
+  -- the head of a PDU, at its sixth byte: its type and the length of its body
   Head : (kind n : ℕ) → Mark
-  -- in P-DATA, the head of a presentation data value, at its sixth byte
+  -- the head of a presentation data value, at its sixth byte: its length, context ID and control byte
   PdvHead : (n context control : ℕ) → Mark
   -- a presentation data value, at its last byte
   Pdv : (context control : ℕ) (fragment : List ℕ) → Mark
-  -- the head of one whose length is below 2 or passes the frame, at its sixth byte: the rest of the frame has no marks
+  -- the head of a presentation data value whose length is below 2 or passes the PDU, at its sixth byte; the rest of
+  -- the PDU has no marks but its end
   BadPdv : Mark
-  -- one to five bytes of the frame are left after a presentation data value: they have no marks
+  -- one to five bytes of the PDU follow a presentation data value, at the last byte of the value; they have no marks
+  -- but the PDU's end
   Leftover : Mark
   -- a whole PDU, at its last byte
   End : (kind : ℕ) (body : List ℕ) → Mark
 
--- where a P-DATA frame stands after these bytes
+-- the position inside a P-DATA-TF PDU
 pub data DataSpot : Type 0 where
-  -- a bad head or left over bytes came: the rest of this PDU is dropped
+  -- after an invalid head or bytes left over: the rest of this PDU is dropped
   Dropped : DataSpot
-  -- all presentation data values so far are whole, but the last, of which these bytes came, possibly none; from its
-  -- first byte on, the frame has this room
+  -- in a presentation data value, with the bytes of it so far, possibly none; from its first byte on, the PDU has
+  -- `room` bytes
   Within : (room : ℕ) (part : List ℕ) → DataSpot
 
 -- ---- one presentation data value
 
--- the length, which counts what follows it
+-- the length of a presentation data value: the number of bytes after this field of four
 abbrev pub pdv_length : List ℕ → ℕ
 pdv_length bytes = big_number 4 bytes
 
--- the presentation context ID
+-- the presentation context ID of a presentation data value
 abbrev pub pdv_context : List ℕ → ℕ
 pdv_context bytes = get_or bytes 4 0
 
--- the control byte
+-- the control byte of a presentation data value
 abbrev pub pdv_control : List ℕ → ℕ
 pdv_control bytes = get_or bytes 5 0
 
--- what follows the head
+-- what follows the head of a presentation data value
 abbrev pub pdv_content : List ℕ → List ℕ
 pdv_content bytes = drop pdv_head_size bytes
 
--- four bytes of its length, and as many as the length counts
+-- the size of a presentation data value in bytes: the four of its length field, and as many as that says
 abbrev pub pdv_size : List ℕ → ℕ
 pdv_size bytes = 4 + pdv_length bytes
 
--- a good head, at the front of bytes for which the frame has this room
+-- the bytes begin with a valid head of a presentation data value, where the PDU has `room` bytes left
 pub record IsGoodHead (room : ℕ) (bytes : List ℕ) : Type 0 where
   pub headed : pdv_head_size ≤ length bytes
   pub least : pdv_least ≤ pdv_length bytes
   pub fits : pdv_size bytes ≤ room
 
--- a bad one: its length is below 2, or passes the frame
+-- the bytes begin with an invalid head of a presentation data value: its length is below 2 or passes the `room` bytes
+-- left in the PDU
 pub record IsBadHead (room : ℕ) (bytes : List ℕ) : Type 0 where
   pub headed : pdv_head_size ≤ length bytes
   pub why : (pdv_length bytes < pdv_least) ⊎ (room < pdv_size bytes)
 
--- its length, context and control byte
+-- the mark of the head of a presentation data value
 abbrev pub head_mark : List ℕ → Mark
 head_mark bytes = PdvHead (pdv_length bytes) (pdv_context bytes) (pdv_control bytes)
 
--- its context, control byte and fragment
+-- the mark of a whole presentation data value
 abbrev pub pdv_mark : List ℕ → Mark
 pdv_mark bytes = Pdv (pdv_context bytes) (pdv_control bytes) (take (pdv_length bytes - pdv_least) (pdv_content bytes))
 
@@ -74,23 +77,24 @@ pub record IsPdv (v : List ℕ) : Type 0 where
   pub headed : pdv_head_size ≤ length v
   pub filled : length v ≡ pdv_size v
 
--- the two marks of each
+-- the marks of whole presentation data values, two each: the head and the whole value
 abbrev pub marks_of_values : List (List ℕ) → List Mark
 marks_of_values vs = flat_map (λ v. head_mark v ∷ pdv_mark v ∷ []) vs
 
--- one to five bytes
+-- one to five bytes left in the PDU: too few for the head of a presentation data value
 abbrev pub is_leftover : ℕ → Bool
 is_leftover room = nat_le 1 room && nat_lt room pdv_head_size
 
 -- ---- what is marked
 
--- these bytes, of which the frame has room for this many, have these marks, and the frame stands there after them
+-- these bytes after the head of a P-DATA-TF, where it has so many bytes left, have these marks and end at this
+-- position
 pub data Marked : ℕ → List ℕ → List Mark → DataSpot → Type 0 where
   -- less than a head
   too_short : {room : ℕ} {bytes : List ℕ} → length bytes < pdv_head_size → Marked room bytes [] (Within room bytes)
-  -- a bad head
+  -- an invalid head
   bad : {room : ℕ} {bytes : List ℕ} → IsBadHead room bytes → Marked room bytes (BadPdv ∷ []) Dropped
-  -- a good head, and less than a whole presentation data value
+  -- a valid head, and less than a whole presentation data value
   unfinished : {room : ℕ} {bytes : List ℕ} → IsGoodHead room bytes → length bytes < pdv_size bytes → Marked room bytes (head_mark bytes ∷ []) (Within room bytes)
   -- a whole presentation data value, after which one to five bytes of the frame are left
   whole_and_leftover : {room : ℕ} {bytes : List ℕ} → IsGoodHead room bytes → pdv_size bytes ≤ length bytes → is_leftover (room - pdv_size bytes) ≡ true
@@ -111,7 +115,8 @@ pub record Pdvs : Type 0 where
 abbrev pub with_pdv : List ℕ → Pdvs → Pdvs
 with_pdv bytes later = record { marks = head_mark bytes ∷ pdv_mark bytes ∷ later.marks; spot = later.spot }
 
--- those of at most k values: less than a head, a bad head, less than a whole value, or a whole one and what follows it
+-- the marks of at most k presentation data values, and the position after them: of less than a head, an invalid head,
+-- less than a whole value, or a whole one and what follows it
 abbrev pub pdvs_in : ℕ → ℕ → List ℕ → Pdvs
 pdvs_in zero room bytes = record { marks = []; spot = Within room bytes }
 pdvs_in (suc k) room bytes =
@@ -121,7 +126,7 @@ pdvs_in (suc k) room bytes =
     else with_pdv bytes (if is_leftover (room - pdv_size bytes) then record { marks = Leftover ∷ []; spot = Dropped }
     else pdvs_in k (room - pdv_size bytes) (drop (pdv_size bytes) bytes))))
 
--- no text has more of them than bytes
+-- the marks of all presentation data values, and the position after them; there are at most as many values as bytes
 abbrev pub pdvs : ℕ → List ℕ → Pdvs
 pdvs room bytes = pdvs_in (length bytes) room bytes
 
@@ -131,6 +136,6 @@ pdv_marks room bytes = (pdvs room bytes).marks
 unfoldable pub data_spot : ℕ → List ℕ → DataSpot
 data_spot room bytes = (pdvs room bytes).spot
 
--- the marks in the frame that the bytes of a piece complete
+-- the marks of the bytes of a piece that follow these bytes in a P-DATA-TF
 unfoldable pub new_pdv_marks : ℕ → List ℕ → List ℕ → List Mark
 new_pdv_marks room bytes piece = drop (length (pdv_marks room bytes)) (pdv_marks room (bytes ++ piece))

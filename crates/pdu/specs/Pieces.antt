@@ -1,9 +1,9 @@
--- A text that is a list of pieces, one after the other, each with its length in its head: PDUs (PS3.8 section 9.3.1) and
--- the items of an association request (PS3.8 section 9.3.2).
+-- Byte strings that are lists of pieces, each with its length in its head: PDUs (PS3.8 section 9.3.1) and the items
+-- of an association request (PS3.8 section 9.3.2).
 use Rattle.std.specs.Prelude.{◌≡◌, ℕ, zero, suc, ◌+◌, ◌<◌, ◌≤◌, List, [], ◌∷◌, ◌++◌, length, take, drop, Option, Some, None, nat_lt, if◌then◌else◌}
 use Rattle.std.specs.List.{flat_map, AllByRecursion}
 
--- a kind of piece: the size of its head, and the length of its body, which stands in the head
+-- the layout of a piece: the size of its head, and how to read the length of its body from the head
 pub record Layout : Type 0 where
   pub head : ℕ
   pub body : List ℕ → ℕ

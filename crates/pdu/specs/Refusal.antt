@@ -1,5 +1,6 @@
--- What is wrong with the body of an A-ASSOCIATE-RQ (PS3.8 section 9.3.2; the numbers and their order are this
--- product's own profile). Items are checked in their order, each by the smallest number that it breaks.
+-- The fault of the body of an A-ASSOCIATE-RQ (PS3.8 section 9.3.2; the numbers of the faults and their order are this
+-- product's own profile). Items are checked in their order; of an item that has several faults, that of the smallest
+-- number counts.
 use Rattle.std.specs.Prelude.{◌≡◌, ℕ, ◌%◌, Bool, true, false, not, ◌&&◌, List, [], ◌∷◌, length, drop, get_or, nat_eq, nat_lt, Option, Some, None, Result, Ok, Err, if◌then◌else◌}
 use Rattle.std.specs.List.{list_any}
 use Rattle.std.specs.Option.{option_or}
@@ -10,39 +11,40 @@ use Rattle.pdu.specs.declared.fault.PduFault.{PduFault}
 use Rattle.pdu.specs.declared.fault.PduFault.TheVariants.{BadLength, BadItem, BadContextId, DoubleContext, Missing}
 use Rattle.pdu.specs.Items.{items_of, left_over, is_kind, of_kind, item_content, parts, is_context}
 
--- whole items and nothing else: no item passes the end
+-- the bytes are whole items and nothing else
 abbrev pub are_whole_items : List ℕ → Bool
 are_whole_items text = is_empty (left_over text)
 
--- a second application context is 32
+-- the fault of an application context item after these items: a second one is 32
 abbrev pub application_fault : List (List ℕ) → Option PduFault
 application_fault before = if list_any (is_kind application_context_item) before then Some BadItem else None
 
--- at most one maximum length, of four bytes
+-- there is at most one maximum length item, and it is of four bytes
 abbrev pub is_maximum : List (List ℕ) → Bool
 is_maximum [] = true
 is_maximum (m ∷ []) = nat_eq (length (item_content m)) 4
 is_maximum (m ∷ n ∷ ms) = false
 
--- the sub-items of user information
+-- the fault of the sub-items of user information
 abbrev pub information_part_fault : List ℕ → Option PduFault
 information_part_fault text =
     if not (are_whole_items text) then Some BadLength
     else (if not (is_maximum (of_kind maximum_length_item (items_of text))) then Some BadItem
     else None)
 
--- a second user information is 32
+-- the fault of a user information item after these items: that of its sub-items, or 32 for a second one
 abbrev pub information_fault : List (List ℕ) → List ℕ → Option PduFault
 information_fault before i = option_or (information_part_fault (item_content i)) (if list_any (is_kind user_information_item) before then Some BadItem else None)
 
--- one abstract syntax and one or more transfer syntaxes
+-- there is one abstract syntax and at least one transfer syntax
 abbrev pub has_syntaxes : List (List ℕ) → Bool
 has_syntaxes items = nat_eq (length (of_kind abstract_syntax_item items)) 1 && not (nat_eq (length (of_kind transfer_syntax_item items)) 0)
 
 abbrev pub id_of : List ℕ → ℕ
 id_of i = get_or i 4 0
 
--- a proposed context by itself: 31 without its ID and reserved bytes, 32 by its sub-items, 33 by an even ID
+-- the fault of the contents of a proposed presentation context: 31 without its ID and reserved bytes, 32 by its
+-- sub-items, 33 by an even ID
 abbrev pub context_part_fault : List ℕ → Option PduFault
 context_part_fault i =
     if not (is_context i) then Some BadLength
@@ -54,11 +56,12 @@ context_part_fault i =
 abbrev pub has_id : ℕ → List ℕ → Bool
 has_id id i = is_kind proposed_context_item i && nat_eq (id_of i) id
 
--- an ID that came before is 34
+-- the fault of a proposed presentation context after these items: that of its contents, or 34 for the ID of an
+-- earlier one
 abbrev pub context_fault : List (List ℕ) → List ℕ → Option PduFault
 context_fault before i = option_or (context_part_fault i) (if list_any (has_id (id_of i)) before then Some DoubleContext else None)
 
--- the fault of the smallest number of an item, where these items came before it; unknown items are ignored
+-- the fault of an item after these items; items of other types are ignored
 unfoldable pub item_fault : List (List ℕ) → List ℕ → Option PduFault
 item_fault before i =
     if is_kind application_context_item i then application_fault before
@@ -66,7 +69,7 @@ item_fault before i =
     else (if is_kind user_information_item i then information_fault before i
     else None))
 
--- what has to be there at the end
+-- an application context, a proposed presentation context and user information are among the items
 abbrev pub has_all : List (List ℕ) → Bool
 has_all items = list_any (is_kind application_context_item) items && (list_any (is_kind proposed_context_item) items && list_any (is_kind user_information_item) items)
 
@@ -76,7 +79,8 @@ ending_fault items rest =
     else (if has_all items then None
     else Some Missing)
 
--- the first fault of these items and what is left after them; those before them, the last one first, have none
+-- the first fault of these items and of the bytes after them; `before` are the items before them, the last one first,
+-- which have no fault
 abbrev pub list_fault : List (List ℕ) → List (List ℕ) → List ℕ → Option PduFault
 list_fault before [] rest = ending_fault before rest
 list_fault before (i ∷ is) rest = option_or (item_fault before i) (list_fault (i ∷ before) is rest)
@@ -84,7 +88,7 @@ list_fault before (i ∷ is) rest = option_or (item_fault before i) (list_fault 
 unfoldable pub items_fault : List ℕ → Option PduFault
 items_fault text = list_fault [] (items_of text) (left_over text)
 
--- the fault of a body; none where it spells a request
+-- the fault of the body of a request; none where it is valid
 abbrev pub request_fault : List ℕ → Option PduFault
 request_fault b = if nat_lt (length b) request_head_size then Some BadLength else items_fault (drop request_head_size b)
 

@@ -1,4 +1,4 @@
--- The body of an A-ASSOCIATE-RQ: which bytes spell which request (PS3.8 section 9.3.2 and annex D.1).
+-- The body of an A-ASSOCIATE-RQ: which bytes are the encoding of which request (PS3.8 section 9.3.2 and annex D.1).
 use Rattle.std.specs.Prelude.{◌≡◌, ℕ, ◌≤◌, ◌<◌, ◌%◌, eqb, List, [], ◌∷◌, length}
 use Rattle.std.specs.List.{AllByRecursion, IsDistinct}
 use Rattle.byteorder.specs.Endian.{big_number}
@@ -8,13 +8,13 @@ use Rattle.pdu.specs.Record.{Proposal, RequestRecord, ids}
 use Rattle.pdu.specs.Pieces.{IsWholePiece, joined}
 use Rattle.pdu.specs.Items.{item, item_content, of_kind, identifier, syntaxes}
 
--- there is exactly one, and P holds of it
+-- the list has exactly one element, and P holds of it
 abbrev pub One : (List ℕ → Type 0) → List (List ℕ) → Type 0
 One P [] = ⊥
 One P (i ∷ []) = P i
 One P (i ∷ j ∷ is) = ⊥
 
--- at most one 51H, of four bytes
+-- the items of type 51H give this maximum length: there is at most one, of four bytes; without one it is 0
 abbrev pub MaximumText : ℕ → List (List ℕ) → Type 0
 MaximumText maximum [] = maximum ≡ 0
 MaximumText maximum (m ∷ []) = (length (item_content m) ≡ 4) × (maximum ≡ big_number 4 (item_content m))
@@ -41,15 +41,15 @@ pub record ContextText (p : Proposal) (i : List ℕ) : Type 0 where
   pub some : 1 ≤ length p.transfer_syntaxes
   pub odd : p.id % 2 ≡ 1
 
--- item by item they spell these proposals
+-- item by item, the items are the encodings of these proposed presentation contexts
 abbrev pub ContextTexts : List Proposal → List (List ℕ) → Type 0
 ContextTexts [] [] = Unit {0}
 ContextTexts [] (i ∷ is) = ⊥
 ContextTexts (p ∷ ps) [] = ⊥
 ContextTexts (p ∷ ps) (i ∷ is) = ContextText p i × ContextTexts ps is
 
--- the body b spells the request r: version, two reserved bytes, titles, 32 reserved bytes, and items in any order,
--- one of them 10H, one 50H, one or more 20H; others are ignored
+-- the body b is an encoding of the request r: version, two reserved bytes, titles, 32 reserved bytes, and items in
+-- any order, one of them 10H, one 50H, one or more 20H; others are ignored
 pub record RequestText (r : RequestRecord) (b : List ℕ) : Type 0 where
   pub version : List ℕ
   pub unused : List ℕ

@@ -1,4 +1,4 @@
--- Where an unfinished frame stands (PS3.8 section 9.3).
+-- The position inside an unfinished PDU, or frame (PS3.8 section 9.3).
 use Rattle.std.specs.Prelude.{ℕ, ◌+◌, ◌-◌, List, length, nat_eq, nat_lt, if◌then◌else◌}
 use Rattle.pdu.specs.Types.{p_data_tf}
 use Rattle.pdu.specs.Sizes.{head_size}
@@ -8,9 +8,10 @@ use Rattle.pdu.specs.Pdvs.{DataSpot, Dropped, Within, data_spot}
 pub data Spot : Type 0 where
   -- in the head
   Opening : Spot
-  -- in a body that has no further mark before its end: one that is no P-DATA, or after a bad head or left over bytes
+  -- in a body with no further mark before its end: of a PDU other than P-DATA-TF, or after an invalid head or bytes
+  -- left over
   Plain : Spot
-  -- in P-DATA, with these bytes of an unfinished presentation data value, possibly none
+  -- in a presentation data value of a P-DATA-TF, with the bytes of it so far, possibly none
   InPdv : (part : List ℕ) → Spot
 
 abbrev pub spot_of : DataSpot → Spot

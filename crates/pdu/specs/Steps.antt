@@ -1,4 +1,4 @@
--- How a call moves a deframer, wherever it stands: by how many bytes it takes, which they are, and the event.
+-- How a call of `Deframer::next` changes the position: by the bytes that it takes and the event that it returns.
 use Rattle.std.specs.Prelude.{◌≡◌, ℕ, ◌+◌, ◌-◌, ◌≤◌, min, List, ◌++◌, length, Option, Some, None, nat_eq, if◌then◌else◌}
 use Rattle.arrayvec.specs.ArrayVec.{array_vec_len}
 use Rattle.pdu.specs.declared.head.PduHead.{PduHead}
@@ -13,22 +13,22 @@ use Rattle.pdu.specs.Heads.{pdu_head_of, pdv_head_of}
 
 -- ---- what is to come
 
--- the type of the frame whose body is lent
+-- the type of the PDU whose body is reported; 0 outside a body
 abbrev pub body_kind : Position → ℕ
 body_kind (position.Body kind left) = kind
 body_kind other = 0
 
--- how many bytes of that body are to come
+-- how many bytes of the body are still to come; 0 outside a body
 abbrev pub body_due : Position → ℕ
 body_due (position.Body kind left) = left
 body_due other = 0
 
--- how many bytes of a fragment are to come
+-- how many bytes of the fragment are still to come; 0 outside a fragment
 abbrev pub fragment_due : Position → ℕ
 fragment_due (position.Fragment left more) = more
 fragment_due other = 0
 
--- how many bytes are to come of the part that has begun: a head, a body, a fragment, or a frame that is skipped
+-- how many bytes are missing from the unfinished part: a head, a body, a fragment, or a PDU that is skipped
 abbrev pub bytes_due : Position → ℕ
 bytes_due (position.Head bytes) = head_size - array_vec_len bytes
 bytes_due (position.Body kind left) = left
@@ -37,7 +37,7 @@ bytes_due (position.Fragment left more) = more
 bytes_due (position.Leftover left) = 0
 bytes_due (position.Skipped kind left) = left
 
--- how many events may come before the next byte is taken, at most
+-- the greatest number of events before the next byte is taken
 abbrev pub events_due : Position → ℕ
 events_due (position.Head bytes) = 0
 events_due (position.Body kind left) = if nat_eq left 0 then 1 else 0
@@ -48,7 +48,7 @@ events_due (position.Skipped kind left) = if nat_eq left 0 then 1 else 0
 
 -- ---- where it stands then
 
--- where the rest of a frame is skipped
+-- the position after `skip_frame`
 abbrev pub skip_of : Position → Position
 skip_of (position.Head bytes) = position.Head bytes
 skip_of (position.Body kind left) = position.Skipped kind left
@@ -80,7 +80,8 @@ FollowsPdv (position.PdvHead left bytes) = Unit {0}
 FollowsPdv (position.Leftover left) = Unit {0}
 FollowsPdv other = ⊥
 
--- after the head of a presentation data value, of whose frame this much is to come
+-- the event of the head of a presentation data value and the position after it, where `left` bytes of the PDU are
+-- still to come
 abbrev pub FollowsPdvHead : PdvHead → ℕ → Event → Position → Type 0
 FollowsPdvHead head left event.BadPdv new = new ≡ position.Body p_data_tf left
 FollowsPdvHead head left (event.PdvHead told) new = (told ≡ head) × (pdv_least ≤ head.length) × (head.length ≤ left + pdv_least) × (new ≡ position.Fragment left (head.length - pdv_least))
@@ -88,7 +89,7 @@ FollowsPdvHead head left other new = ⊥
 
 -- ---- a call
 
--- the six bytes of a head are there
+-- the six bytes are this head of a PDU, and the position follows it
 pub record HeadIsWhole (six : List ℕ) (head : PduHead) (new : Position) : Type 0 where
   pub all : length six ≡ head_size
   pub head_is : head ≡ pdu_head_of six
@@ -99,7 +100,7 @@ pub record PdvHeadIsWhole (left n : ℕ) (six : List ℕ) (e : Event) (new : Pos
   pub within : n ≤ left
   pub follows : FollowsPdvHead (pdv_head_of six) (left - n) e new
 
--- a part is lent, of which this much was to come
+-- the slice in the event is the n bytes taken, of at most `most` that were still to come
 pub record IsLent (part taken : List ℕ) (n most : ℕ) (new next : Position) : Type 0 where
   pub part_is : part ≡ taken
   pub within : n ≤ most

@@ -4,7 +4,7 @@ use Rattle.element.specs.Numbers.{be}
 use Rattle.pdu.specs.Types.{associate_rj, p_data_tf, release_rp, abort}
 use Rattle.pdu.specs.Sizes.{pdv_least}
 
--- type, reserved byte, length, body
+-- a PDU of this type with this body: type, reserved byte, length of four bytes, body
 abbrev pub pdu_text : ℕ → List ℕ → List ℕ
 pdu_text kind body = kind ∷ 0 ∷ (be (length body) 4 ++ body)
 

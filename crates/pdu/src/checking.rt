@@ -8,7 +8,8 @@ use crate::fault::PduFault;
 use crate::item::{Item, content_in, count_of, first_item, is_whole};
 use crate::item_type;
 
-/// What the check remembers of the items so far.
+/// Which items a request has had so far, as far as the check of the next ones depends on them: an
+/// application context, user information, a proposed presentation context, and the IDs of these.
 #[derive(Drop)]
 pub struct ItemsSoFar {
     application: bool,
@@ -20,7 +21,7 @@ pub struct ItemsSoFar {
 impl ItemsSoFar {
     ghost use Rattle.pdu.specs.machine.SoFar.{Knows};
 
-    /// Returns what is remembered before the first item: nothing.
+    /// Returns the state before the first item.
     pub fn new() -> ItemsSoFar
         ensures { Knows result [] }
     {
@@ -32,7 +33,8 @@ impl ItemsSoFar {
         }
     }
 
-    /// Checks the next item, and remembers it. Fails with the fault of the smallest number.
+    /// Checks the next item and records it. The error is the fault of the smallest number that the item
+    /// has. Items of other types are ignored.
     #[tactic(auto, unfolding(crate::specs::Refusal::item_fault))]
     pub fn check_item(&mut self, item: Item<'_>) -> Result<(), PduFault>
         ensures fault { (before : List (List ℕ)) → Knows self.old before → result ≡ as_result (item_fault before item.entry.bytes.now) }
@@ -46,7 +48,7 @@ impl ItemsSoFar {
         }
     }
 
-    /// Checks that no application context came before.
+    /// Checks that the application context item is the first one; a second one is `BadItem`.
     fn check_application(&mut self, item: Item<'_>) -> Result<(), PduFault>
         requires { kind item.bytes.now ≡ application_context_item }
         ensures fault { (before : List (List ℕ)) → Knows self.old before → result ≡ as_result (application_fault before) }
@@ -59,7 +61,8 @@ impl ItemsSoFar {
         Ok(())
     }
 
-    /// Checks user information: its sub-items, and that none came before.
+    /// Checks the user information item: its sub-items, and that it is the first one. A second one is
+    /// `BadItem`.
     fn check_information(&mut self, item: Item<'_>) -> Result<(), PduFault>
         requires { kind item.bytes.now ≡ user_information_item }
         ensures fault { (before : List (List ℕ)) → Knows self.old before → result ≡ as_result (information_fault before item.entry.bytes.now) }
@@ -73,7 +76,8 @@ impl ItemsSoFar {
         Ok(())
     }
 
-    /// Checks a proposed presentation context: by itself, and that its ID did not come before.
+    /// Checks the item of a proposed presentation context: its contents, and that its ID is new. An ID
+    /// that an earlier item has is `DoubleContext`.
     fn check_context(&mut self, item: Item<'_>) -> Result<(), PduFault>
         requires { kind item.bytes.now ≡ proposed_context_item }
         ensures fault { (before : List (List ℕ)) → Knows self.old before → result ≡ as_result (context_fault before item.entry.bytes.now) }
@@ -89,7 +93,8 @@ impl ItemsSoFar {
         Ok(())
     }
 
-    /// Checks that all that is required has come, and that no byte is left after the last item.
+    /// Checks the end of the items: bytes after the last whole item are `BadLength`; an absent
+    /// application context, proposed presentation context or user information is `Missing`.
     pub fn check_end(&self, rest: &[u8]) -> Result<(), PduFault>
         ensures { (before : List (List ℕ)) → Knows self.now before → result ≡ as_result (ending_fault before rest.now) }
     {
@@ -103,7 +108,8 @@ impl ItemsSoFar {
     }
 }
 
-/// Checks the sub-items of user information (PS3.8 annex D.1).
+/// Checks the sub-items of user information (PS3.8 annex D.1). A sub-item that passes the end is
+/// `BadLength`; a second maximum length, or one that is not of four bytes, is `BadItem`.
 fn check_information_parts(parts: &[u8]) -> Result<(), PduFault>
     ensures { result ≡ as_result (information_part_fault parts.now) }
 {
@@ -118,7 +124,9 @@ fn check_information_parts(parts: &[u8]) -> Result<(), PduFault>
     }
 }
 
-/// Checks a proposed presentation context by itself.
+/// Checks the contents of a proposed presentation context (PS3.8 section 9.3.2.2). Without its ID and
+/// three reserved bytes, or with a sub-item that passes the end, it is `BadLength`; without exactly one
+/// abstract syntax and at least one transfer syntax `BadItem`; with an even ID `BadContextId`.
 fn check_context_parts(item: Item<'_>) -> Result<(), PduFault>
     requires { kind item.bytes.now ≡ proposed_context_item }
     ensures { result ≡ as_result (context_part_fault item.entry.bytes.now) }
@@ -142,7 +150,8 @@ fn check_context_parts(item: Item<'_>) -> Result<(), PduFault>
     Ok(())
 }
 
-/// Checks the items in their order, and then that none is missing.
+/// Checks the items of a request in their order, and then that none is missing. The error is the first
+/// fault.
 pub fn check_items(text: &[u8]) -> Result<(), PduFault>
     ensures { result ≡ as_result (items_fault text.now) }
 {

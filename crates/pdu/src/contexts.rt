@@ -15,7 +15,7 @@ pub struct Contexts<'a> {
 impl<'a> Contexts<'a> {
     ghost use Rattle.pdu.specs.Left.{proposals_left};
 
-    /// Iterates over those among the items in these bytes.
+    /// Returns the iterator over the proposed presentation contexts among the items in these bytes.
     pub(crate) fn of(text: &'a [u8]) -> Contexts<'a>
         ensures { proposals_left result ≡ proposals (items_of text.now) }
     {

@@ -1,4 +1,4 @@
-//! Cuts a stream of PDUs into events, in pieces that end anywhere.
+//! Divides a stream of PDUs, which comes in pieces of any size, into events.
 ghost use Rattle.std.specs.Prelude.{◌≡◌, ◌≤◌, ◌<◌, ◌-◌, ◌+◌, ◌*◌, ◌++◌, ◌⊎◌, [], ℕ, List, length, take, Option, None, Some, IfSome};
 ghost use Rattle.pdu.specs.Deframing.{bytes_held};
 ghost use Rattle.pdu.specs.machine.Positions.{left_least, left_of, fragment_due};
@@ -10,8 +10,8 @@ use crate::pdu_type::P_DATA_TF;
 use crate::position::{Position, find};
 use arrayvec::ArrayVec;
 
-/// Cuts a stream of PDUs into events (PS3.8 section 9.3). Takes no memory: it lends the bytes of bodies
-/// and fragments, and holds those of an unfinished head.
+/// Divides a stream of PDUs into events (PS3.8 section 9.3). It allocates nothing: bodies and fragments
+/// are slices of the pieces that it is given, and of an unfinished head it holds at most five bytes.
 #[derive(Drop)]
 pub struct Deframer {
     position: Position,
@@ -27,7 +27,7 @@ impl Deframer {
     ghost use Rattle.pdu.specs.Deframed.{IsAt, Skips, position_of};
     ghost use Rattle.pdu.specs.Steps.{Steps, body_kind, bytes_due, events_due, skip_of};
 
-    /// Creates the deframer of a stream of which nothing has come.
+    /// Creates a deframer at the start of a stream.
     pub fn new() -> Self
         ensures { IsAt result [] [] }
     {
@@ -36,7 +36,9 @@ impl Deframer {
         }
     }
 
-    /// Takes the first bytes of the piece, and returns how many, and what they make known.
+    /// Reads the first bytes of the piece. Returns how many, and the next event; `None` only where the
+    /// whole piece is read and completes nothing. Some events take no byte, so call it until it returns
+    /// `None`.
     pub fn next<'p>(&mut self, piece: &'p [u8]) -> (usize, Option<Event<'p>>)
         ensures within { result.0 ≤ length piece.now }
         ensures used_up { result.1 ≡ None → result.0 ≡ length piece.now }
@@ -55,13 +57,15 @@ impl Deframer {
         }
     }
 
-    /// Lets the rest of the PDU whose head has been reported go by: its end is the next event.
+    /// Skips the rest of the PDU whose head was the last `PduHead` event: `PduEnd` is the next event.
+    /// Does nothing between PDUs.
     pub fn skip_frame(&mut self)
         ensures skip { (r : List ℕ) (due : List Mark) → IsAt self.old r due → Skip (position_of self.new) r due }
         ensures skips { (r : List ℕ) → Skips self.old r → Skips self.new r }
         ensures fewer { events_due (position_of self.new) ≤ events_due (position_of self.old) }
         ensures moves { position_of self.new ≡ skip_of (position_of self.old) }
     {
+        // An arm for each position, as the proof answers each for itself.
         let (kind, left) = match &self.position {
             Position::Head(_) => return,
             Position::Body { kind, left } => (*kind, *left),
@@ -73,7 +77,7 @@ impl Deframer {
         self.position = Position::Skipped { kind, left };
     }
 
-    /// Returns the type of the PDU whose body is lent, and 0 where none is.
+    /// Returns the type of the PDU whose body is reported by `Event::Body`, or 0 outside such a body.
     pub fn kind(&self) -> u8
         ensures { result ≡ body_kind (position_of self.now) }
     {
@@ -84,8 +88,8 @@ impl Deframer {
         }
     }
 
-    /// Returns how many bytes are to come of the part that is unfinished: a head, a body, a
-    /// fragment, or a PDU that is skipped; and 0 where an event comes first.
+    /// Returns how many bytes are missing from the unfinished part of the stream: a head, a body, a
+    /// fragment, or a PDU that is skipped. It is 0 if `next` returns an event before it reads a byte.
     pub fn due(&self) -> usize
         ensures { result ≡ bytes_due (position_of self.now) }
     {
@@ -99,7 +103,7 @@ impl Deframer {
         }
     }
 
-    /// Returns how many received bytes are held: those of an unfinished head.
+    /// Returns how many received bytes are held: those of an unfinished head, at most five.
     pub fn held(&self) -> usize
         ensures held { (r : List ℕ) (due : List Mark) → IsAt self.now r due → result ≡ unfinished_heads r }
         ensures skipping { (r : List ℕ) → Skips self.now r → result ≡ 0 }

@@ -1,26 +1,27 @@
-//! What the bytes of a stream of PDUs make known.
+//! The events of a stream of PDUs.
 use crate::head::{PduHead, PdvHead};
 
-/// What the next bytes of a stream complete, or a part of them that is lent (PS3.8 section 9.3).
+/// What the next bytes of a stream of PDUs are or complete (PS3.8 section 9.3).
 #[derive(Clone, Copy, Debug, PartialEq, Eq)]
 pub enum Event<'p> {
-    /// The head of a PDU is whole.
+    /// The end of the head of a PDU, its sixth byte.
     PduHead(PduHead),
-    /// A part of a body that has no further event before its end: of a PDU that is no P-DATA-TF, or
-    /// after `BadPdv` or `Leftover`.
+    /// Bytes of the body of a PDU other than P-DATA-TF, or of the rest of a P-DATA-TF after `BadPdv` or
+    /// `Leftover`. Only `Body` events and `PduEnd` follow until the PDU ends.
     Body(&'p [u8]),
-    /// The head of a presentation data value is whole, and good.
+    /// The end of a valid head of a presentation data value: its length is at least 2 and does not pass
+    /// the PDU.
     PdvHead(PdvHead),
-    /// A part of a fragment.
+    /// Bytes of a fragment of a command set or a data set.
     Fragment(&'p [u8]),
-    /// A presentation data value is whole.
+    /// The end of a presentation data value.
     PdvEnd,
-    /// The head of a presentation data value is whole, and its length is below 2 or passes the PDU:
-    /// what is left of the PDU is a body without presentation data values.
+    /// The end of an invalid head of a presentation data value: its length is below 2 or passes the
+    /// PDU. The rest of the PDU is reported as `Body`.
     BadPdv,
-    /// One to five bytes of the PDU are left after a presentation data value: they are a body without
-    /// presentation data values.
+    /// One to five bytes of the PDU follow a presentation data value, too few for another. They are
+    /// reported as `Body`.
     Leftover,
-    /// A PDU of this type is whole.
+    /// The end of a PDU of this type.
     PduEnd(u8),
 }

@@ -6,8 +6,9 @@ use std::fmt;
 /// Why an A-ASSOCIATE-RQ is invalid.
 #[derive(Clone, Copy, Debug, PartialEq, Eq)]
 pub enum PduFault {
-    /// 31: a body of a request below 68 bytes, an item or sub-item that passes the end of what holds
-    /// it, one to three bytes left over, or a proposed context without its id and reserved bytes.
+    /// 31: a body of fewer than 68 bytes, an item or sub-item that passes the end of the body or item
+    /// around it, one to three bytes after the last item, or a proposed presentation context without
+    /// its ID and reserved bytes.
     BadLength,
     /// 32: a second application context, user information or maximum length, a maximum length that
     /// is not of four bytes, or a proposed context without exactly one abstract syntax and at least
@@ -15,7 +16,7 @@ pub enum PduFault {
     BadItem,
     /// 33: an even presentation context ID.
     BadContextId,
-    /// 34: a presentation context ID that came before.
+    /// 34: the presentation context ID of an earlier proposed presentation context.
     DoubleContext,
     /// 35: no application context, no proposed context or no user information.
     Missing,
@@ -24,7 +25,7 @@ pub enum PduFault {
 impl PduFault {
     ghost use Rattle.pdu.specs.Fault.{fault_name, fault_number};
 
-    /// Returns its number, from 31 to 35.
+    /// Returns the number of the fault, from 31 to 35.
     pub fn number(self) -> u8
         ensures { result ≡ fault_number self }
     {
@@ -37,7 +38,7 @@ impl PduFault {
         }
     }
 
-    /// Returns its name.
+    /// Returns the name of the fault, that of the variant.
     pub fn name(self) -> &'static str
         ensures { result.now ≡ fault_name self }
     {
@@ -51,7 +52,7 @@ impl PduFault {
     }
 }
 
-/// The number and the name, as `31 BadLength`.
+/// Prints the number and the name, as `31 BadLength`.
 impl fmt::Display for PduFault {
     fn fmt<W: fmt::Write>(&self, f: &mut fmt::Formatter<W>) -> fmt::Result {
         write!(f, "{} {}", self.number(), self.name())

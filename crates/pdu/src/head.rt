@@ -1,22 +1,22 @@
-//! Heads of PDUs and of presentation data values.
+//! The heads of PDUs and of presentation data values, of six bytes each.
 ghost use Rattle.std.specs.Prelude.{◌≡◌};
 ghost use Rattle.pdu.specs.Heads.{pdu_head_of, pdv_head_of};
 
 use byteorder::{BigEndian, ByteOrder};
 
-/// The head of a PDU (PS3.8 section 9.3.1).
+/// The head of a PDU, its first six bytes (PS3.8 section 9.3.1).
 #[derive(Clone, Copy, Debug, PartialEq, Eq)]
 pub struct PduHead {
-    /// The type of the PDU, one of `pdu_type`; others are unknown.
+    /// The type of the PDU: one of [`pdu_type`](crate::pdu_type), or an unrecognized one.
     pub kind: u8,
     /// The number of bytes that follow the head.
     pub length: u32,
 }
 
-/// The head of a presentation data value (PS3.8 section 9.3.5.1 and annex E.2).
+/// The head of a presentation data value, its first six bytes (PS3.8 section 9.3.5.1 and annex E.2).
 #[derive(Clone, Copy, Debug, PartialEq, Eq)]
 pub struct PdvHead {
-    /// The number of bytes that follow the length: two of this head, and the fragment.
+    /// The number of bytes that follow this field: context ID, control byte and fragment.
     pub length: u32,
     /// The presentation context ID.
     pub context: u8,

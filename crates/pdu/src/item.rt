@@ -8,7 +8,7 @@ ghost use Rattle.pdu.specs.Items.{item, items_of, left_over, Begins, BeginsNone}
 use crate::item_type;
 use byteorder::{BigEndian, ByteOrder};
 
-/// Returns the length of an item's content, from its head.
+/// Returns the length of an item's content in bytes, from its head.
 fn content_length(head: &[u8]) -> u16
     requires { 4 ≤ length head.now }
     ensures { result ≡ item.body head.now }
@@ -16,7 +16,8 @@ fn content_length(head: &[u8]) -> u16
     BigEndian::read_u16(&head[2..])
 }
 
-/// A whole item or sub-item: type 1, reserved 1, length 2, content (PS3.8 section 9.3.2).
+/// A whole item or sub-item of an association request: one byte type, one reserved, two bytes length,
+/// then the content (PS3.8 section 9.3.2).
 #[derive(Clone, Copy)]
 pub struct Item<'a> {
     bytes: &'a [u8],
@@ -24,28 +25,29 @@ pub struct Item<'a> {
 }
 
 impl<'a> Item<'a> {
-    /// Returns its type.
+    /// Returns the type of the item, its first byte.
     pub fn kind(self) -> u8
         ensures { result ≡ spelling.kind self.entry.bytes.now }
     {
         self.bytes[0]
     }
 
-    /// Returns all of its bytes, with its head of four.
+    /// Returns all bytes of the item, including its head of four.
     pub fn bytes(self) -> &'a [u8]
         ensures { result.now ≡ self.entry.bytes.now }
     {
         self.bytes
     }
 
-    /// Returns whether it is a proposed presentation context with its id and three reserved bytes.
+    /// Returns whether the item is a proposed presentation context and has its ID and three reserved
+    /// bytes.
     pub fn is_context(self) -> bool
         ensures { result ≡ spelling.is_context self.entry.bytes.now }
     {
         self.kind() == item_type::PROPOSED_CONTEXT && self.bytes.len() >= 8
     }
 
-    /// Returns its content, which follows the head.
+    /// Returns the content of the item, which follows the head.
     pub fn content(self) -> &'a [u8]
         ensures { result.now ≡ spelling.item_content self.entry.bytes.now }
     {
@@ -60,7 +62,7 @@ pub struct Items<'a> {
 }
 
 impl<'a> Items<'a> {
-    /// Iterates over the items of these bytes.
+    /// Returns the iterator over the items of these bytes.
     pub fn of(text: &'a [u8]) -> Items<'a>
         ensures { items_of result.rest.now ≡ items_of text.now }
     {
@@ -68,7 +70,8 @@ impl<'a> Items<'a> {
     }
 }
 
-/// Returns the first item, where it is whole, and the bytes after it.
+/// Returns the first item and the bytes after it, or `None` if the bytes do not begin with a whole
+/// item.
 #[tactic(auto, using(crate::proofs::ItemLemmas::begins_short, crate::proofs::ItemLemmas::begins_begun, crate::proofs::ItemLemmas::begins_cut))]
 pub fn first_item<'a>(text: &'a [u8]) -> Option<(Item<'a>, &'a [u8])>
     ensures { MatchOption result (BeginsNone text.now) (λ p. Begins text.now p.0.bytes.now p.1.now) }
@@ -102,7 +105,7 @@ impl<'a> Iterator for Items<'a> {
     }
 }
 
-/// Returns the content of the first item of this type; empty where there is none.
+/// Returns the content of the first item of this type, or an empty slice if there is none.
 pub fn content_in<'a>(kind: u8, text: &'a [u8]) -> &'a [u8]
     ensures { result.now ≡ spelling.content_in kind (items_of text.now) }
 {
@@ -114,7 +117,7 @@ pub fn content_in<'a>(kind: u8, text: &'a [u8]) -> &'a [u8]
     &[]
 }
 
-/// Returns how many items of this type there are.
+/// Returns the number of items of this type.
 pub fn count_of(kind: u8, text: &[u8]) -> usize
     ensures { result ≡ length (spelling.of_kind kind (items_of text.now)) }
 {

@@ -1,4 +1,6 @@
-//! Laws of the definitions, each the contract of a function that does nothing.
+//! Lemmas on the definitions of this crate, each stated as the contract of a function with an empty
+//! body. A mark is what a byte of a stream completes: the head or the end of a PDU or of a presentation
+//! data value. A frame is a PDU as a part of the stream.
 ghost use Rattle.std.specs.Prelude.{◌≡◌, eqb, ◌≤◌, ◌++◌, [], ◌∷◌, ℕ, List, length, take, drop, Option, Result, Ok, Err};
 ghost use Rattle.std.specs.List.{AllByRecursion, IsDistinct};
 ghost use Rattle.std.specs.Io.KnownBytes.{append_known};
@@ -27,7 +29,7 @@ use crate::pdu_type::{
     A_ABORT, A_ASSOCIATE_AC, A_ASSOCIATE_RJ, A_ASSOCIATE_RQ, A_RELEASE_RP, A_RELEASE_RQ, P_DATA_TF,
 };
 
-/// The types of PDUs are the standard's.
+/// The constants of [`pdu_type`](crate::pdu_type) equal the types in the definitions.
 pub fn pdu_types()
     ensures associate_rq { A_ASSOCIATE_RQ ≡ associate_rq }
     ensures associate_ac { A_ASSOCIATE_AC ≡ associate_ac }
@@ -38,7 +40,7 @@ pub fn pdu_types()
     ensures abort { A_ABORT ≡ abort }
 {}
 
-/// The types of items are the standard's.
+/// The constants of [`item_type`](crate::item_type) equal the types in the definitions.
 pub fn item_types()
     ensures application_context { APPLICATION_CONTEXT ≡ application_context_item }
     ensures proposed_context { PROPOSED_CONTEXT ≡ proposed_context_item }
@@ -51,29 +53,31 @@ pub fn item_types()
     ensures implementation_version { IMPLEMENTATION_VERSION_NAME ≡ implementation_version_item }
 {}
 
-/// No body spells two requests (PS3.8 section 9.3.2).
+/// A body is the encoding of at most one association request (PS3.8 section 9.3.2).
 pub fn body_has_one_request()
     ensures { (r q : RequestRecord) (b : List ℕ) → RequestText r b → RequestText q b → r ≡ q }
 {}
 
-/// Each request has 32 reserved bytes, and IDs that are odd and distinct.
+/// Each association request has 32 reserved bytes, and presentation context IDs that are odd and
+/// distinct.
 pub fn requests_keep_their_form()
     ensures { (r : RequestRecord) (b : List ℕ) → IsBytes b → RequestText r b → IsRequest r }
 {}
 
-/// There are 128 odd numbers of one byte, so a request proposes at most 128 contexts.
+/// A request proposes at most 128 presentation contexts, as there are 128 odd numbers of one byte.
 pub fn ids_are_few()
     ensures { (ns : List ℕ) → AllByRecursion IsContextId ns → IsDistinct eqb ns → length ns ≤ 128 }
 {}
 
-/// A body has no fault exactly where it spells a request, and then it spells the one that is read.
+/// A body has no fault exactly if it is the encoding of a request, and then it is that of the request
+/// that `read_request` returns.
 pub fn body_without_fault_is_a_request()
     ensures text { (b : List ℕ) → request_fault b ≡ None → RequestText (request_record b) b }
     ensures none { (r : RequestRecord) (b : List ℕ) → RequestText r b → request_fault b ≡ None }
 {}
 
-/// Texts that are sent one after the other are one text: nothing sends nothing, and a send that failed
-/// in the first failed in the whole.
+/// Sending two byte strings one after the other is sending them joined. Sending none changes nothing,
+/// and if the first send fails, so does the whole.
 pub fn sends_are_joined()
     ensures known_nothing { (old : Option (List ℕ)) → append_known old [] ≡ old }
     ensures known { (old : Option (List ℕ)) (a b : List ℕ) → append_known (append_known old a) b ≡ append_known old (a ++ b) }
@@ -83,17 +87,17 @@ pub fn sends_are_joined()
     ensures both { (a b : List ℕ) (result : Result (Unit {0}) wire.WireFailed) (old now new : Line) → Sends a (Ok tt) old now → Sends b result now new → Sends (a ++ b) result old new }
 {}
 
-/// Every stream is whole frames and a rest shorter than a frame (PS3.8 section 9.3.1).
+/// Every stream of bytes is a list of whole PDUs and a rest shorter than a PDU (PS3.8 section 9.3.1).
 pub fn stream_has_frames()
     ensures { (s : List ℕ) → Splits s (frames_of s) (rest_of s) }
 {}
 
-/// A stream has one list of frames at most, and one rest.
+/// A stream determines its list of whole PDUs and its rest.
 pub fn stream_has_one_list_of_frames()
     ensures { (s : List ℕ) (fs gs : List (List ℕ)) (r t : List ℕ) → Splits s fs r → Splits s gs t → (fs ≡ gs) × (r ≡ t) }
 {}
 
-/// Marks never change: further bytes only append to them.
+/// The marks of a stream never change: further bytes only append marks.
 pub fn marks_only_grow()
     ensures { (s p : List ℕ) → marks (s ++ p) ≡ marks s ++ new_marks s p }
 {}
@@ -103,54 +107,56 @@ pub fn marks_do_not_show_the_cut()
     ensures { (s : List ℕ) (ps qs : List (List ℕ)) → joined ps ≡ joined qs → marks_by s ps ≡ marks_by s qs }
 {}
 
-/// What is left of a stream is less than a whole frame, and a stream of such bytes is its own rest.
+/// The rest of a stream is shorter than a PDU, and a stream shorter than a PDU is its own rest.
 pub fn rests_are_unfinished()
     ensures rest { (s : List ℕ) → IsRest (rest_of s) }
     ensures alone { (r : List ℕ) → IsRest r → rest_of r ≡ r }
 {}
 
-/// No bytes mark nothing, and two pieces mark what each of them marks where it comes.
+/// An empty piece has no marks, and two pieces together have the marks of the first and then those of
+/// the second.
 pub fn pieces_mark_one_after_another()
     ensures nothing { (s : List ℕ) → new_marks s [] ≡ [] }
     ensures both { (s p q : List ℕ) → new_marks s (p ++ q) ≡ new_marks s p ++ new_marks (s ++ p) q }
 {}
 
-/// What further bytes mark depends on the unfinished frame alone.
+/// The marks of further bytes depend on the unfinished PDU alone.
 pub fn marks_depend_on_the_rest()
     ensures marks { (s p : List ℕ) → new_marks s p ≡ new_marks (rest_of s) p }
     ensures rest { (s p : List ℕ) → rest_of (s ++ p) ≡ rest_of (rest_of s ++ p) }
 {}
 
-/// The bytes of a P-DATA-TF PDU after its head have one list of marks, and end at one place in a
-/// value: those that `pdv_marks` and `data_spot` compute (PS3.8 section 9.3.5 and annex E.2).
+/// The bytes of a P-DATA-TF PDU after its head determine their marks and the position inside the PDU
+/// after them: those that `pdv_marks` and `data_spot` compute (PS3.8 section 9.3.5 and annex E.2).
 pub fn marks_of_data_are_one()
     ensures some { (room : ℕ) (bytes : List ℕ) → Marked room bytes (pdv_marks room bytes) (data_spot room bytes) }
     ensures marks { (room : ℕ) (bytes : List ℕ) (ms : List Mark) (s : DataSpot) → Marked room bytes ms s → pdv_marks room bytes ≡ ms }
     ensures spot { (room : ℕ) (bytes : List ℕ) (ms : List Mark) (s : DataSpot) → Marked room bytes ms s → data_spot room bytes ≡ s }
 {}
 
-/// Inside a P-DATA-TF PDU that is whole presentation data values and nothing else, each has its two
-/// marks (PS3.8 section 9.3.5).
+/// In a P-DATA-TF PDU of whole presentation data values alone, each value has two marks, its head and
+/// its end (PS3.8 section 9.3.5).
 pub fn whole_values_are_marked()
     ensures { (vs : List (List ℕ)) → AllByRecursion IsPdv vs → pdv_marks (length (joined vs)) (joined vs) ≡ marks_of_values vs }
 {}
 
-/// Bytes that are no PDU have a head at the sixth byte, and nothing before.
+/// Example: the first mark of an HTTP request is the head of a PDU of unrecognized type, at its sixth
+/// byte.
 pub fn bytes_that_are_no_pdu()
     ensures sixth { marks no_pdu ≡ Head 0x47 0x54202F20 ∷ [] }
     ensures fifth { marks (take 5 no_pdu) ≡ [] }
 {}
 
-/// A good presentation data value is marked at its last byte, whatever follows it in its PDU: a
-/// receiver that waits for the whole PDU has other marks.
+/// Example: the mark of a valid presentation data value is at its last byte, though the next one in the
+/// same PDU is invalid. A receiver that waits for the whole PDU would have other marks.
 pub fn a_good_value_before_a_bad_one()
     ensures whole { marks good_then_bad ≡ good_then_bad_marks }
     ensures at_once { marks (take 14 good_then_bad) ≡ good_marks }
     ensures no_waiting { marks good_then_bad ≡ Head 4 14 ∷ End 4 (drop 6 good_then_bad) ∷ [] → ⊥ }
 {}
 
-/// From one to five bytes after a presentation data value are left over, and are dropped; six may
-/// be a head.
+/// Examples: one to five bytes after a presentation data value are left over and dropped; six may be
+/// the head of another.
 pub fn bytes_left_over()
     ensures one { marks (empty_pdv 7) ≡ Head 4 7 ∷ PdvHead 2 1 2 ∷ Pdv 1 2 [] ∷ Leftover ∷ [] }
     ensures five { marks (empty_pdv 11) ≡ Head 4 11 ∷ PdvHead 2 1 2 ∷ Pdv 1 2 [] ∷ Leftover ∷ [] }
@@ -158,12 +164,13 @@ pub fn bytes_left_over()
     ensures six { marks (empty_pdv 12) ≡ Head 4 12 ∷ PdvHead 2 1 2 ∷ Pdv 1 2 [] ∷ [] }
 {}
 
-/// A presentation data value that passes the end of its PDU is bad.
+/// Example: a presentation data value that passes the end of its PDU is invalid.
 pub fn a_value_past_its_frame()
     ensures { marks past_the_end ≡ Head 4 6 ∷ BadPdv ∷ End 4 (drop 6 past_the_end) ∷ [] }
 {}
 
-/// Two PDUs, the second of which has no body yet: a head, its end, and a head.
+/// Example: of two PDUs, of which only the head of the second was received, the marks are a head, an
+/// end and a head.
 pub fn two_frames()
     ensures { marks release_twice ≡ Head 5 4 ∷ End 5 (0 ∷ 0 ∷ 0 ∷ 0 ∷ []) ∷ Head 5 4 ∷ [] }
 {}

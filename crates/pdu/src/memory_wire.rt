@@ -1,4 +1,4 @@
-//! A wire that keeps its bytes in memory.
+//! A [`Wire`] that appends to a buffer in memory.
 ghost use Rattle.std.specs.Prelude.{◌≡◌, ◌<◌, ◌↔◌, [], IsTrue};
 ghost use Rattle.pdu.specs.Sent.{line_of};
 
@@ -7,7 +7,8 @@ use element::count::Count;
 use std::alloc::Allocator;
 use std::marker::Model;
 
-/// Keeps what is sent. Where the allocator has no room for it, the send fails and sends nothing.
+/// A [`Wire`] that appends the sent bytes to a vector. A send fails if the allocator refuses the
+/// memory, and has sent none of its bytes then.
 #[derive(Drop)]
 pub struct MemoryWire<A: Allocator> {
     bytes: Vec<u8, A>,
@@ -27,7 +28,7 @@ impl<A: Allocator> Model for MemoryWire<A> {
 }
 
 impl<A: Allocator> MemoryWire<A> {
-    /// Creates a wire that has sent nothing.
+    /// Creates a wire with an empty vector. Allocates nothing.
     pub fn new(alloc: A) -> MemoryWire<A>
         ensures nothing { result.sent ≡ [] }
         ensures never { result.failures ≡ 0 }

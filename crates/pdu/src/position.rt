@@ -1,4 +1,4 @@
-//! Where a stream of PDUs stands, and what the next bytes find there.
+//! The position of a deframer in its stream of PDUs, and the event that the next bytes give there.
 ghost use Rattle.std.specs.Prelude.{◌≡◌, ◌≤◌, ◌<◌, ◌-◌, ◌+◌, ◌*◌, ◌++◌, ◌⊎◌, min, [], ℕ, List, length, take, Option, None, Some, IfSome, MatchOption, true, false};
 ghost use Rattle.arrayvec.specs.ArrayVec.{array_vec_len};
 ghost use Rattle.pdu.specs.declared.event.Event.TheVariants as event;
@@ -16,25 +16,29 @@ use crate::head::{PduHead, PdvHead, read_pdu_head, read_pdv_head};
 use crate::pdu_type::P_DATA_TF;
 use arrayvec::ArrayVec;
 
-/// Where a stream of PDUs stands. A count of zero says that what it counts is whole, and that its end
-/// has not been reported.
+/// The position of a deframer in its stream of PDUs. A count of zero says that the PDU or the fragment
+/// is complete and that the event of its end is the next.
 #[derive(Drop)]
 pub(crate) enum Position {
-    /// In the head of a PDU, of which these bytes have come.
+    /// In the head of a PDU, with the bytes of it that were received: none to five.
     Head(ArrayVec<u8, 6>),
-    /// In a body that has no further event before its end, of which `left` bytes are to come.
+    /// In the body of a PDU other than P-DATA-TF, or in the rest of a P-DATA-TF after an invalid
+    /// presentation data value or bytes left over. Of the PDU `left` bytes are still to come.
     Body { kind: u8, left: u32 },
-    /// In a P-DATA-TF of which `left` bytes are to come, and in the head of a presentation data value.
+    /// In the head of a presentation data value, with the bytes of it that were received. Of the
+    /// P-DATA-TF `left` bytes are still to come.
     PdvHead { left: u32, bytes: ArrayVec<u8, 6> },
-    /// In a P-DATA-TF of which `left` bytes are to come, and in a fragment of which `more` are.
+    /// In a fragment of which `more` bytes are still to come, and `left` of the P-DATA-TF.
     Fragment { left: u32, more: u32 },
-    /// In a P-DATA-TF of which one to five bytes are left over, and that has not been reported.
+    /// After a presentation data value, where one to five bytes of the P-DATA-TF are left, before the
+    /// event `Leftover`.
     Leftover { left: u32 },
-    /// In a PDU that is skipped, of which `left` bytes are to come.
+    /// In a PDU that is skipped, of which `left` bytes are still to come.
     Skipped { kind: u8, left: u32 },
 }
 
-/// Appends bytes of a piece, at most `most`, to the beginning of a head of six bytes. Returns how many.
+/// Appends the first bytes of a piece to an unfinished head, until it has six, at most `most` of them.
+/// Returns how many.
 fn fill(bytes: &mut ArrayVec<u8, 6>, most: usize, piece: &[u8]) -> usize
     requires short { array_vec_len bytes.old < 6 }
     ensures within { result ≤ length piece.now }
@@ -48,7 +52,7 @@ fn fill(bytes: &mut ArrayVec<u8, 6>, most: usize, piece: &[u8]) -> usize
     count
 }
 
-/// Reads the head of a PDU once its six bytes are there.
+/// Reads the head of a PDU. Returns `None` if it has fewer than six bytes.
 fn pdu_head(bytes: &ArrayVec<u8, 6>) -> Option<PduHead>
     ensures { MatchOption result (array_vec_len bytes.now < 6) (λ head. (array_vec_len bytes.now ≡ 6) × (head ≡ pdu_head_of bytes.now.items)) }
 {
@@ -58,7 +62,7 @@ fn pdu_head(bytes: &ArrayVec<u8, 6>) -> Option<PduHead>
     }
 }
 
-/// Reads the head of a presentation data value once its six bytes are there.
+/// Reads the head of a presentation data value. Returns `None` if it has fewer than six bytes.
 fn pdv_head(bytes: &ArrayVec<u8, 6>) -> Option<PdvHead>
     ensures { MatchOption result (array_vec_len bytes.now < 6) (λ head. (array_vec_len bytes.now ≡ 6) × (head ≡ pdv_head_of bytes.now.items)) }
 {
@@ -68,7 +72,7 @@ fn pdv_head(bytes: &ArrayVec<u8, 6>) -> Option<PdvHead>
     }
 }
 
-/// After the head of a PDU.
+/// Returns the position after the head of a PDU.
 fn after_head(head: PduHead) -> Position
     ensures values { head.kind ≡ 4 → 0 < head.length → (r : List ℕ) (due : List Mark) → AtPdvHead head.length [] r due → At result r due }
     ensures other { (head.kind ≡ 4 → head.length ≡ 0) → result ≡ position.Body head.kind head.length }
@@ -87,7 +91,7 @@ fn after_head(head: PduHead) -> Position
     }
 }
 
-/// After a presentation data value, of whose PDU `left` bytes are to come.
+/// Returns the position after a presentation data value; `left` bytes of its PDU are still to come.
 fn after_pdv(left: u32) -> Position
     ensures over { left ≡ 0 → result ≡ position.Body 4 0 }
     ensures leftover { spelling.is_leftover left ≡ true → result ≡ position.Leftover left }
@@ -109,7 +113,8 @@ fn after_pdv(left: u32) -> Position
     }
 }
 
-/// After the head of a presentation data value, of whose PDU `left` bytes are to come.
+/// Returns the position after the head of a presentation data value, and the event of the head, valid
+/// or not; `left` bytes of its PDU are still to come.
 fn after_pdv_head<'p>(head: PdvHead, left: u32) -> (Position, Event<'p>)
     ensures bad { (head.length < 2) ⊎ (left + 2 < head.length) → result ≡ (position.Body 4 left, event.BadPdv) }
     ensures good { 2 ≤ head.length → head.length ≤ left + 2 → result ≡ (position.Fragment left (head.length - 2), event.PdvHead head) }
@@ -124,7 +129,8 @@ fn after_pdv_head<'p>(head: PdvHead, left: u32) -> (Position, Event<'p>)
     (Position::Fragment { left, more }, Event::PdvHead(head))
 }
 
-/// In the head of a PDU.
+/// Reads bytes of the head of a PDU. Returns how many, and where they complete it, the new position and
+/// the event.
 fn take_head<'p>(
     bytes: &mut ArrayVec<u8, 6>,
     piece: &'p [u8],
@@ -145,7 +151,8 @@ fn take_head<'p>(
     }
 }
 
-/// In the head of a presentation data value.
+/// Reads bytes of the head of a presentation data value. Returns how many, and where they complete it
+/// or end the PDU inside it, the new position and the event.
 fn take_pdv_head<'p>(
     left: &mut u32,
     bytes: &mut ArrayVec<u8, 6>,
@@ -177,7 +184,8 @@ fn take_pdv_head<'p>(
     (count, None)
 }
 
-/// In a body.
+/// Reads bytes of a body. Returns how many, and the new position with the event: the bytes, or the end
+/// of the PDU if `left` is 0. There is no event if the piece is empty.
 fn take_body<'p>(kind: u8, left: u32, piece: &'p [u8]) -> (usize, Option<(Position, Event<'p>)>)
     ensures within { result.0 ≤ length piece.now }
     ensures used_up { result.1 ≡ None → result.0 ≡ length piece.now }
@@ -204,7 +212,8 @@ fn take_body<'p>(kind: u8, left: u32, piece: &'p [u8]) -> (usize, Option<(Positi
     )
 }
 
-/// In a fragment.
+/// Reads bytes of a fragment. Returns how many, and the new position with the event: the bytes, or the
+/// end of the presentation data value if `more` is 0. There is no event if the piece is empty.
 fn take_fragment<'p>(
     left: u32,
     more: u32,
@@ -237,7 +246,8 @@ fn take_fragment<'p>(
     )
 }
 
-/// In a PDU that is skipped.
+/// Reads bytes of a PDU that is skipped. Returns how many, and after the last one, the new position
+/// with the event of the PDU's end.
 fn take_skipped<'p>(
     kind: u8,
     left: &mut u32,
@@ -266,8 +276,8 @@ fn take_skipped<'p>(
     (count, None)
 }
 
-/// Takes the first bytes of a piece. Returns how many, and the event with the position after it; without
-/// an event the position itself is moved.
+/// Reads the first bytes of a piece. Returns how many, and the event with the position after it. If
+/// there is no event, the new position is in `place` instead.
 #[tactic(auto, using(crate::proofs::CallLemmas::leftover_told, crate::proofs::LongestLemmas::longest_head, crate::proofs::LongestLemmas::longest_body, crate::proofs::LongestLemmas::longest_pdv_head, crate::proofs::LongestLemmas::longest_fragment, crate::proofs::LongestLemmas::longest_leftover, crate::proofs::LongestLemmas::longest_over))]
 pub(crate) fn find<'p>(
     place: &mut Position,

@@ -1,4 +1,4 @@
-//! One proposed presentation context.
+//! A proposed presentation context.
 ghost use Rattle.std.specs.Prelude.{◌≡◌, true};
 ghost use Rattle.pdu.specs.Items.{is_context, proposal_of};
 
@@ -8,7 +8,8 @@ use crate::syntaxes::TransferSyntaxes;
 use element::unpadded;
 use std::marker::Model;
 
-/// A proposed presentation context (PS3.8 section 9.3.2.2), as a view of its item.
+/// A presentation context that a request proposes (PS3.8 section 9.3.2.2). It borrows from the body of
+/// the request.
 #[derive(Drop)]
 pub struct Proposal<'a> {
     id: u8,
@@ -26,7 +27,7 @@ impl<'a> Model for Proposal<'a> {
 }
 
 impl<'a> Proposal<'a> {
-    /// Returns the one that this item of type 20H proposes.
+    /// Returns the presentation context of this item of type 20H.
     pub(crate) fn of(item: Item<'a>) -> Proposal<'a>
         requires { is_context item.bytes.now ≡ true }
         ensures { result ≡ proposal_of item.entry.bytes.now }

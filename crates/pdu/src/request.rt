@@ -14,7 +14,7 @@ use byteorder::{BigEndian, ByteOrder};
 use element::{AeTitle, unpadded};
 use std::marker::Model;
 
-/// An A-ASSOCIATE-RQ (PS3.8 section 9.3.2), as a view of its body.
+/// A valid A-ASSOCIATE-RQ (PS3.8 section 9.3.2). It borrows from the body of the PDU.
 #[derive(Drop)]
 pub struct Request<'a> {
     version: u16,
@@ -40,12 +40,13 @@ impl<'a> Model for Request<'a> {
 }
 
 impl<'a> Request<'a> {
-    /// Does nothing; its contract is what the type guarantees: 32 reserved bytes, and presentation
-    /// context IDs that are odd and distinct, so at most 128 contexts.
+    /// Does nothing. Its contract states what the type guarantees: there are 32 reserved bytes, and the
+    /// presentation context IDs are odd and distinct, so that there are at most 128 contexts.
     pub fn keeps(&self)
         ensures request { IsRequest self.now }
         ensures few { length self.now.contexts ≤ 128 }
     {
+        // The prover looks up what the type guarantees where one of its fields is named.
         let _ = &self.reserved;
     }
 
@@ -104,11 +105,12 @@ impl<'a> Request<'a> {
     }
 }
 
-/// The number of bytes in a request's body before its first item.
+/// The number of bytes in the body of an A-ASSOCIATE-RQ before its first item.
 const BEFORE_ITEMS: usize = 68;
 
-/// Reads the body of an A-ASSOCIATE-RQ (PS3.8 section 9.3.2). It allocates nothing, and takes time
-/// linear in the body. An invalid body fails with the first fault of its items (see `PduFault`).
+/// Reads the body of an A-ASSOCIATE-RQ (PS3.8 section 9.3.2), the bytes after the head of the PDU. It
+/// allocates nothing, and its time is linear in the body. If the body is invalid, the error is the
+/// first fault, in the order of its items.
 pub fn read_request(body: &[u8]) -> Result<Request<'_>, PduFault>
     ensures record { IfOk result (λ r. r ≡ request_record body.now) }
     ensures text { IfOk result (λ r. RequestText r body.now) }
@@ -125,7 +127,7 @@ pub fn read_request(body: &[u8]) -> Result<Request<'_>, PduFault>
     }
 }
 
-/// Returns the view of a valid body.
+/// Returns the request of a valid body.
 fn view<'a>(body: &'a [u8]) -> Request<'a>
     requires { request_fault body.now ≡ None }
     ensures { result ≡ request_record body.now }
@@ -142,7 +144,7 @@ fn view<'a>(body: &'a [u8]) -> Request<'a>
     }
 }
 
-/// Returns the title of 16 bytes at this place.
+/// Returns the AE title in the 16 bytes from this offset on.
 fn title_at(body: &[u8], place: usize) -> AeTitle
     requires { place + 16 ≤ length body.now }
     ensures { result.0 ≡ take 16 (drop place body.now) }
@@ -152,7 +154,7 @@ fn title_at(body: &[u8], place: usize) -> AeTitle
     AeTitle(title)
 }
 
-/// Returns the maximum length in the user information; 0 where it is absent.
+/// Returns the maximum length in the user information, in bytes, or 0 if it is absent.
 fn maximum_of(items: &[u8]) -> u32
     ensures { result ≡ maximum_in (items_of items.now) }
 {

@@ -17,7 +17,7 @@ pub struct TransferSyntaxes<'a> {
 impl<'a> TransferSyntaxes<'a> {
     ghost use Rattle.pdu.specs.Left.{syntaxes_left};
 
-    /// Iterates over those among the items in these bytes.
+    /// Returns the iterator over the transfer syntaxes among the sub-items in these bytes.
     pub(crate) fn of(text: &'a [u8]) -> TransferSyntaxes<'a>
         ensures { syntaxes_left result ≡ syntaxes (items_of text.now) }
     {

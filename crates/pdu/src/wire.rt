@@ -1,18 +1,18 @@
 //! The outgoing half of a transport connection.
 ghost use Rattle.pdu.specs.Sent.{Line, Sends};
 
-/// A send failed.
+/// The error of a send that failed: the connection is broken, or a buffer in memory cannot grow.
 #[derive(Clone, Copy, Debug, PartialEq, Eq)]
 pub struct WireFailed;
 
 /// The outgoing half of a transport connection: a socket, or memory.
 pub trait Wire {
-    /// The bytes sent so far, where the wire can show them, and how often a send failed.
+    /// For contracts: the bytes sent so far, if the implementation can tell them, and the number of
+    /// failed sends.
     ghost line: { Self → Line };
 
-    /// Sends all of the bytes.
-    ///
-    /// A send that fails counts once, and has sent a prefix of the bytes, from none to all of them.
+    /// Sends all of the bytes. If it fails, some of the first bytes may have been sent: none, a part or
+    /// all.
     fn send(&mut self, bytes: &[u8]) -> Result<(), WireFailed>
         ensures sends { Sends bytes.now result (line self.old) (line self.new) };
 }

@@ -123,10 +123,10 @@ a class by its name, twice | SCANNER1 private private | mixed | | 1 Known(Ct) Ex
 rows have places | SCANNER1 all private | mixed | | 1 Known(Ct) Explicit, \
     3 1.2.840.10008.5.1.4.1.1.88.33 Explicit, 5 1.2.826.0.1.3680043.2.1143.1 Explicit | 3 | | \
     [ContextRow { id: 1, class: Known(Ct), syntax: Explicit }, \
-    ContextRow { id: 3, class: Further(104), syntax: Explicit }, \
+    ContextRow { id: 3, class: Further(122), syntax: Explicit }, \
     ContextRow { id: 5, class: Further(0), syntax: Explicit }]
 as many classes as contexts | SCANNER1 all | fixed application first-classes user | | | 128 | |
-the eleven of as many classes | SCANNER1 | fixed application first-classes user | | | 11 | |
+ten of the eleven in as many classes | SCANNER1 | fixed application first-classes user | | | 10 | |
 no compressed syntax | SCANNER1 | compressed | | 3 Known(Ct) Implicit | 1 | |
 a compressed syntax by its name | SCANNER1 jpeg | compressed | | 1 Known(Ct) JpegBaseline8Bit, \
     3 Known(Ct) Implicit, 5 Known(Ct) JpegBaseline8Bit | 3 | |

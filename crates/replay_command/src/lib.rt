@@ -1,4 +1,4 @@
-//! `dcmbox replay`: a recorded association runs again.
+//! `dcmbox replay`: runs an association with the recorded bytes of a peer.
 #![tactic(auto)]
 
 mod hexadecimal;

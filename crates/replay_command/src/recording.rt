@@ -1,4 +1,4 @@
-//! `dcmbox replay`: a recorded association runs again.
+//! `dcmbox replay`: runs an association with the recorded bytes of a peer.
 ghost use Rattle.std.specs.Prelude.{◌<◌};
 
 use crate::hexadecimal;
@@ -15,7 +15,8 @@ use std::fs::File;
 use std::io::{BufWriter, Read, Write};
 use std::{fs, io};
 
-/// The recording in pieces of `cut` bytes, and then the transport's close.
+/// Returns the inputs of a recording: its bytes in pieces of `cut` bytes, then the close of the
+/// transport connection.
 fn inputs_of<'a, A: Allocator>(
     alloc: A,
     recording: &'a [u8],
@@ -31,8 +32,8 @@ fn inputs_of<'a, A: Allocator>(
     Ok(inputs)
 }
 
-/// Runs the inputs over a wire in memory and the filing; writes what was sent in hexadecimal, and returns
-/// how the association ended.
+/// Runs an association with these inputs, a wire in memory and the filing. Writes the sent bytes in
+/// hexadecimal, and returns the state in which the association ended.
 fn replay_inputs<A: Allocator + Copy, F: Filing, O: Write>(
     alloc: A,
     inputs: &[ListedInput<'_>],
@@ -57,7 +58,7 @@ fn replay_inputs<A: Allocator + Copy, F: Filing, O: Write>(
     Ok(report)
 }
 
-/// Runs a recording in pieces of `cut` bytes, as `replay_inputs` does.
+/// Runs an association with a recording in pieces of `cut` bytes, as [`replay_inputs`] does.
 fn replay_recording<A: Allocator + Copy, F: Filing, O: Write>(
     alloc: A,
     recording: &[u8],
@@ -72,11 +73,12 @@ fn replay_recording<A: Allocator + Copy, F: Filing, O: Write>(
     replay_inputs(alloc, inputs.as_slice(), config, filing, out)
 }
 
-/// Runs the recording that the reader gives, in pieces of `cut` bytes, over a wire in memory and the
-/// filing; writes what was sent in hexadecimal, and returns how the association ended.
+/// Runs an association with the recording in the input, in pieces of `cut` bytes, with a wire in memory
+/// and the filing. Writes the sent bytes in hexadecimal, and returns the state in which the association
+/// ended.
 ///
-/// Fails if the recording can't be read, the output can't be written, or memory runs out. If the wire
-/// failed, nothing is written.
+/// Fails if the recording cannot be read, the output cannot be written, or memory runs out. If it runs
+/// out for the sent bytes, nothing is written.
 pub fn replay_over<A: Allocator + Copy, R: Read, F: Filing, O: Write>(
     alloc: A,
     input: &mut R,
@@ -91,7 +93,8 @@ pub fn replay_over<A: Allocator + Copy, R: Read, F: Filing, O: Write>(
     replay_recording(alloc, recording.as_slice(), cut, config, filing, out)
 }
 
-/// Writes what the recording's association sent, and how it ended.
+/// Runs the recording, and writes the sent bytes and a last line: the state of the association, the
+/// number of held bytes and of stored files.
 fn write_replay<O: Write>(
     alloc: Global,
     settings: &Replay,
@@ -104,7 +107,7 @@ fn write_replay<O: Write>(
     writeln!(out, "{standing} held {held} files {files}").map_err(ProgramError::of_output)
 }
 
-/// Prints what the recording's association sent, and how it ended.
+/// Runs the recording, and prints the sent bytes and the last line to the standard output.
 fn print_replay(
     rt: &HostRuntime,
     settings: &Replay,
@@ -116,7 +119,10 @@ fn print_replay(
     out.flush().map_err(ProgramError::of_output)
 }
 
-/// Runs the recording of a file, and prints what was sent and how it ended.
+/// Runs an association with the recorded file of the settings. Prints the sent bytes in hexadecimal,
+/// and the state in which it ended.
+///
+/// Fails if the file or the folder cannot be opened, the output cannot be written, or memory runs out.
 pub fn replay(rt: &HostRuntime, settings: &Replay) -> Result<(), ProgramError> {
     let mut input = match fs::open(rt, settings.file) {
         Ok(input) => input,

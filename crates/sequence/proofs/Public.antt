@@ -5,18 +5,18 @@ use Rattle.sequence.specs.Ending.{WholeBreaksNoRule}
 use Rattle.sequence.specs.Examples.{PastItsItem, TooDeep, UnknownContent, OneStore}
 use Rattle.sequence.specs.Laws.{FaultStays, RefusalStays, RefusedStands, OneTree, OnePath, OneFault, SomeTelling, HeldHasABound, NothingIsUnbroken, NoHeader, LeastHeader, BytesAreJoined, NativeInside, NativeHasNone}
 use Rattle.sequence.specs.machine.Machine.{run}
-use Rattle.sequence.proofs.Arriving as arriving
-use Rattle.sequence.proofs.Bounds as bounds
-use Rattle.sequence.proofs.Examples as examples
-use Rattle.sequence.proofs.Native as native
-use Rattle.sequence.proofs.Once as once
-use Rattle.sequence.proofs.Quiet as quiet
-use Rattle.sequence.proofs.Refused as refused
-use Rattle.sequence.proofs.Staying as staying
-use Rattle.sequence.proofs.Stepping as stepping
-use Rattle.sequence.proofs.Tales as tales
-use Rattle.sequence.proofs.Tellings as tellings
-use Rattle.sequence.proofs.Whole as whole
+use Rattle.sequence.proofs.MachineStands.HeaderDue as arriving
+use Rattle.sequence.proofs.HeldIsBounded as bounds
+use Rattle.sequence.proofs.WorkedTexts as examples
+use Rattle.sequence.proofs.NativeData as native
+use Rattle.sequence.proofs.OneReading.OneTree as once
+use Rattle.sequence.proofs.CodeIsMachine.WhereRulesBreak as quiet
+use Rattle.sequence.proofs.StepsStand.RefusedStands as refused
+use Rattle.sequence.proofs.StepsStand.FaultStays as staying
+use Rattle.sequence.proofs.StepsStand.StepTakes as stepping
+use Rattle.sequence.proofs.MachineReports.AnyText as tales
+use Rattle.sequence.proofs.OneReading.OneReport as tellings
+use Rattle.sequence.proofs.WholeDataSet.WholeHasNoFault as whole
 
 -- ---- data sets and their fronts
 

@@ -1,4 +1,4 @@
--- Texts on which the definitions of data sets are tried (PS3.5 sections 7.5 and A.4), each beside one that comes out otherwise.
+-- Example data sets for the definitions (PS3.5 sections 7.5 and A.4), each beside one with another result.
 use Rattle.std.specs.Prelude.{ℕ, ◌^◌, List, [], ◌∷◌, ◌++◌, take, drop, Some, None, codes}
 use Rattle.sequence.specs.declared.coding.Coding.{Coding}
 use Rattle.element.specs.declared.header.Header.{Header}
@@ -11,19 +11,20 @@ use Rattle.element.specs.declared.tag.Tag.{Tag}
 use Rattle.sequence.specs.Rules.{Limits, no_tag}
 use Rattle.sequence.specs.Walk.{Told, Tells}
 
--- these tags are wanted, and so many levels may be open
+-- limits: these tags are wanted, at most `depth` levels are open, and the data set has at most 2^40 bytes
 abbrev pub wanting : List Want → ℕ → Limits
 wanting wanted depth = record { wanted = wanted; depth = depth; bytes = 2 ^ 40 }
 
--- no tag is wanted, and so many levels may be open
+-- limits: no tag is wanted, and at most `depth` levels are open
 abbrev pub levels_of : ℕ → Limits
 levels_of depth = wanting [] depth
 
--- no rule is broken: so many levels are open after so many bytes, and as much is held
+-- a walker's report without a fault: the number of open levels, of bytes read and of bytes held
 abbrev pub going_on : ℕ → ℕ → ℕ → Told
 going_on levels place held = record { fault = None; levels = levels; place = place; held = held; kept = [] }
 
--- the rule of this number is broken by the header at this place, after which so many levels are open
+-- a walker's report of a fault: the number of the rule, the position and the tag of the header; then the number of
+-- open levels, of bytes read and of bytes held
 abbrev pub faulty : ℕ → ℕ → Tag → ℕ → ℕ → ℕ → Told
 faulty number at tag levels place held = record { fault = Some (record { number = number; place = at; tag = tag }); levels = levels; place = place; held = held; kept = [] }
 
@@ -63,7 +64,7 @@ abbrev pub pixels : List ℕ
 pixels =
     224 ∷ 127 ∷ 16 ∷ 0 ∷ 79 ∷ 66 ∷ 0 ∷ 0 ∷ 255 ∷ 255 ∷ 255 ∷ 255 ∷ []
 
--- the two identifiers of a CT image
+-- the data set of a CT image: SOP Class UID and SOP Instance UID
 abbrev pub one_store : List ℕ
 one_store =
     8 ∷ 0 ∷ 22 ∷ 0 ∷ 85 ∷ 73 ∷ 26 ∷ 0 ∷ 49 ∷ 46 ∷ 50 ∷ 46 ∷ 56 ∷ 52 ∷ 48 ∷ 46 ∷ 49 ∷ 48 ∷ 48 ∷ 48 ∷ 56 ∷ 46 ∷ 53 ∷ 46 ∷ 49 ∷ 46 ∷ 52 ∷ 46 ∷ 49 ∷ 46 ∷ 49 ∷ 46 ∷ 50 ∷ 0 ∷ 8 ∷ 0 ∷ 24 ∷ 0 ∷ 85 ∷ 73 ∷ 6 ∷ 0 ∷ 49 ∷ 46 ∷ 50 ∷ 46 ∷ 51 ∷ 0 ∷ []
@@ -72,14 +73,15 @@ one_store =
 abbrev pub TwoOpenLevels : Type 0
 TwoOpenLevels = Tells Implicit (levels_of 64) two_levels (going_on 2 19 35)
 
--- four levels that end together: all are open before their last byte, and one after it; then nothing is open
+-- four levels, of which three have defined length and end with the same byte: four are open before it, one after it,
+-- and none after the delimitation
 abbrev pub FourLevels : Type 0
 FourLevels =
     Tells Implicit (levels_of 64) (take 41 four_levels) (going_on 4 41 64)
     × Tells Implicit (levels_of 64) (take 42 four_levels) (going_on 1 42 16)
     × Tells Implicit (levels_of 64) four_levels (going_on 0 60 0)
 
--- an item that ends where no header fits, in an item and in a sequence inside it; a byte earlier nothing is wrong
+-- an item whose last bytes are too few for a header; one byte before, the text has no fault
 abbrev pub PastItsItem : Type 0
 PastItsItem =
     (wanted : List Want)
@@ -87,25 +89,25 @@ PastItsItem =
     × Tells Implicit (wanting wanted 64) (take 25 past_item) (going_on 2 25 32)
     × Tells Implicit (wanting wanted 64) level_past_item (faulty 17 24 no_tag 3 24 48)
 
--- a third level where two may be open; an empty one opens none
+-- a third level where two may be open; an empty sequence opens no level
 abbrev pub TooDeep : Type 0
 TooDeep =
     (wanted : List Want)
     → Tells Implicit (wanting wanted 2) third_level (faulty 18 16 (record { 0 = 0x0040; 1 = 0xa730 }) 2 24 32)
     × Tells Implicit (wanting wanted 2) empty_third (going_on 2 24 32)
 
--- unknown content of undefined length has items in Implicit; pixel data of undefined length is not allowed
+-- an element of VR UN and undefined length has items in Implicit; native Pixel Data may not have undefined length
 abbrev pub UnknownContent : Type 0
 UnknownContent =
     (wanted : List Want)
     → Tells Explicit (wanting wanted 64) unknown (going_on 0 38 0)
     × Tells Explicit (wanting wanted 64) pixels (faulty 14 0 (record { 0 = 0x7fe0; 1 = 0x0010 }) 0 12 0)
 
--- the class and the instance, each with a room of 64 bytes
+-- SOP Class UID and SOP Instance UID are wanted, each of at most 64 bytes
 abbrev pub identifiers : List Want
 identifiers = record { tag = record { 0 = 0x0008; 1 = 0x0016 }; room = 64 } ∷ record { tag = record { 0 = 0x0008; 1 = 0x0018 }; room = 64 } ∷ []
 
--- the data set of one CT store breaks no rule, and both identifiers are kept
+-- the data set of the CT image breaks no rule, and both identifiers are kept
 abbrev pub OneStore : Type 0
 OneStore =
     Tells Explicit (wanting identifiers 64) one_store (record {
@@ -120,7 +122,7 @@ OneStore =
 abbrev pub Steps : Coding → ℕ → List ℕ → ℕ → ℕ → Step → Type 0
 Steps s depth text from size step = Answers s (levels_of depth) (take from text) (drop from text) (take size (drop from text)) step
 
--- it lends these bytes of a value
+-- after the first `from` bytes of the text, a step takes `size` bytes of a value and returns them
 abbrev pub StepsRun : Coding → ℕ → List ℕ → ℕ → ℕ → Type 0
 StepsRun s depth text from size = (step : Step) → IsRun (take size (drop from text)) step → Steps s depth text from size step
 
@@ -130,7 +132,7 @@ plain_header group number length = record { tag = record { 0 = group; 1 = number
 abbrev pub identifier_header : ℕ → ℕ → Header
 identifier_header number length = record { tag = record { 0 = 0x0008; 1 = number }; vr = Some (codes "UI"); length = length }
 
--- along the data set of one CT store: a header, a value, a header, a value
+-- the steps of the data set of the CT image: a header, a value, a header, a value
 abbrev pub AlongOneStore : Type 0
 AlongOneStore =
     Steps Explicit 64 one_store 0 8 (Element (identifier_header 0x0016 26))
@@ -138,7 +140,7 @@ AlongOneStore =
     × Steps Explicit 64 one_store 34 8 (Element (identifier_header 0x0018 6))
     × StepsRun Explicit 64 one_store 42 6
 
--- along four levels, of which three end with the value and one by a delimitation
+-- the steps of four levels, of which three end with the value and one by a delimitation
 abbrev pub AlongFourLevels : Type 0
 AlongFourLevels =
     Steps Implicit 64 four_levels 0 8 (Element (plain_header 0x0040 0x0275 0xffffffff))
@@ -156,28 +158,28 @@ AlongFourLevels =
 abbrev pub pixel_data_header : List ℕ
 pixel_data_header = 224 ∷ 127 ∷ 16 ∷ 0 ∷ 79 ∷ 66 ∷ 0 ∷ 0 ∷ 255 ∷ 255 ∷ 255 ∷ 255 ∷ []
 
--- a frame of three fragments behind an empty offset table
+-- a frame of three fragments after an empty Basic Offset Table
 abbrev pub one_frame : List ℕ
 one_frame =
     224 ∷ 127 ∷ 16 ∷ 0 ∷ 79 ∷ 66 ∷ 0 ∷ 0 ∷ 255 ∷ 255 ∷ 255 ∷ 255 ∷ 254 ∷ 255 ∷ 0 ∷ 224 ∷ 0 ∷ 0 ∷ 0 ∷ 0
     ∷ 254 ∷ 255 ∷ 0 ∷ 224 ∷ 4 ∷ 0 ∷ 0 ∷ 0 ∷ 255 ∷ 216 ∷ 254 ∷ 255 ∷ 254 ∷ 255 ∷ 0 ∷ 224 ∷ 2 ∷ 0 ∷ 0 ∷ 0 ∷ 221 ∷ 224
     ∷ 254 ∷ 255 ∷ 0 ∷ 224 ∷ 2 ∷ 0 ∷ 0 ∷ 0 ∷ 255 ∷ 217 ∷ 254 ∷ 255 ∷ 221 ∷ 224 ∷ 0 ∷ 0 ∷ 0 ∷ 0 ∷ []
 
--- two frames of three fragments, of which the offset table says where they begin
+-- two frames of three fragments, with their offsets in the Basic Offset Table
 abbrev pub two_frames : List ℕ
 two_frames =
     224 ∷ 127 ∷ 16 ∷ 0 ∷ 79 ∷ 66 ∷ 0 ∷ 0 ∷ 255 ∷ 255 ∷ 255 ∷ 255 ∷ 254 ∷ 255 ∷ 0 ∷ 224 ∷ 8 ∷ 0 ∷ 0 ∷ 0 ∷ 0 ∷ 0 ∷ 0 ∷ 0 ∷ 22 ∷ 0 ∷ 0 ∷ 0
     ∷ 254 ∷ 255 ∷ 0 ∷ 224 ∷ 4 ∷ 0 ∷ 0 ∷ 0 ∷ 255 ∷ 216 ∷ 1 ∷ 2 ∷ 254 ∷ 255 ∷ 0 ∷ 224 ∷ 2 ∷ 0 ∷ 0 ∷ 0 ∷ 255 ∷ 217
     ∷ 254 ∷ 255 ∷ 0 ∷ 224 ∷ 4 ∷ 0 ∷ 0 ∷ 0 ∷ 255 ∷ 216 ∷ 255 ∷ 217 ∷ 254 ∷ 255 ∷ 221 ∷ 224 ∷ 0 ∷ 0 ∷ 0 ∷ 0 ∷ []
 
--- in an item of Icon Image Sequence
+-- encapsulated Pixel Data in an item of Icon Image Sequence
 abbrev pub icon : List ℕ
 icon =
     136 ∷ 0 ∷ 0 ∷ 2 ∷ 83 ∷ 81 ∷ 0 ∷ 0 ∷ 255 ∷ 255 ∷ 255 ∷ 255 ∷ 254 ∷ 255 ∷ 0 ∷ 224 ∷ 38 ∷ 0 ∷ 0 ∷ 0
     ∷ 224 ∷ 127 ∷ 16 ∷ 0 ∷ 79 ∷ 87 ∷ 0 ∷ 0 ∷ 255 ∷ 255 ∷ 255 ∷ 255 ∷ 254 ∷ 255 ∷ 0 ∷ 224 ∷ 0 ∷ 0 ∷ 0 ∷ 0
     ∷ 254 ∷ 255 ∷ 0 ∷ 224 ∷ 2 ∷ 0 ∷ 0 ∷ 0 ∷ 1 ∷ 2 ∷ 254 ∷ 255 ∷ 221 ∷ 224 ∷ 0 ∷ 0 ∷ 0 ∷ 0 ∷ 254 ∷ 255 ∷ 221 ∷ 224 ∷ 0 ∷ 0 ∷ 0 ∷ 0 ∷ []
 
--- fragments open one level; in Explicit their Pixel Data is not allowed
+-- encapsulated Pixel Data opens one level; in Explicit it is not allowed
 abbrev pub OneFrame : Type 0
 OneFrame =
     (wanted : List Want)
@@ -190,7 +192,7 @@ OneFrame =
 abbrev pub TwoFrames : Type 0
 TwoFrames = (wanted : List Want) → Tells Encapsulated (wanting wanted 1) two_frames (going_on 0 70 0)
 
--- in an item they open the third level, and end with it
+-- encapsulated Pixel Data in an item opens the third level, and ends with that item
 abbrev pub AnIcon : Type 0
 AnIcon =
     (wanted : List Want)
@@ -198,8 +200,8 @@ AnIcon =
     × Tells Encapsulated (wanting wanted 3) (take 49 icon) (going_on 3 49 48)
     × Tells Encapsulated (wanting wanted 3) (take 58 icon) (going_on 1 58 16)
 
--- after the header of Pixel Data, what no fragment is: an undefined length, an odd one, another tag, a delimitation of
--- another length than 0
+-- headers after that of encapsulated Pixel Data that break a rule: an item of undefined length, one of odd length,
+-- another tag, a delimitation whose length is not 0
 abbrev pub NoFragment : Type 0
 NoFragment =
     (wanted : List Want)
@@ -209,7 +211,7 @@ NoFragment =
     × Tells Encapsulated (wanting wanted 64) (pixel_data_header ++ (8 ∷ 0 ∷ 96 ∷ 0 ∷ [])) (faulty 15 12 (record { 0 = 0x0008; 1 = 0x0060 }) 1 16 16)
     × Tells Encapsulated (wanting wanted 64) (pixel_data_header ++ (254 ∷ 255 ∷ 221 ∷ 224 ∷ 2 ∷ 0 ∷ 0 ∷ 0 ∷ [])) (faulty 16 12 (record { 0 = 0xfffe; 1 = 0xe0dd }) 1 20 16)
 
--- along one frame: each fragment's header opens it, its bytes are lent, and the delimitation closes the last
+-- the steps of one frame: for each fragment its header and its bytes, then the delimitation
 abbrev pub AlongOneFrame : Type 0
 AlongOneFrame =
     Steps Encapsulated 64 one_frame 0 12 (Element (record { tag = record { 0 = 0x7fe0; 1 = 0x0010 }; vr = Some (codes "OB"); length = 0xffffffff }))

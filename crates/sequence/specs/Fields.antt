@@ -1,4 +1,5 @@
--- What is kept of levels, of values and of what is unfinished, in the words of the definitions.
+-- What the fields of a walker say, in terms of the definitions: its open levels, its wanted values, and the header or
+-- value that is unfinished.
 use Rattle.std.specs.Prelude.{ℕ, Bool, false, List, [], ◌∷◌, Option, Some, None, take, drop, nat_eq, if◌then◌else◌}
 use Rattle.sequence.specs.declared.coding.Coding.{Coding}
 use Rattle.sequence.specs.declared.coding.Coding.TheVariants.{Implicit, Explicit, Encapsulated, Fragments}
@@ -12,11 +13,11 @@ use Rattle.sequence.specs.declared.wanted.Want.{Want}
 use Rattle.sequence.specs.Wanted.{Values}
 use Rattle.sequence.specs.Holding.{Pending, header_begun, value_due}
 
--- the coding that a level is in
+-- the encoding of a level, from the number in its field
 abbrev pub coding_by : ℕ → Coding
 coding_by n = if nat_eq n 1 then Implicit else (if nat_eq n 2 then Encapsulated else (if nat_eq n 3 then Fragments else Explicit))
 
--- a level: the end FFFFFFFFFFFFFFFFH is that of an undefined length
+-- a level, from its fields: the end FFFFFFFFFFFFFFFFH stands for undefined length
 abbrev pub scope_of : Level → Scope
 scope_of l = record {
   in_sequence = nat_eq l.kind 1;
@@ -25,25 +26,25 @@ scope_of l = record {
   last = l.last;
 }
 
--- levels, of which the innermost comes last, and what is round them, of which it comes first
+-- the levels of a list with the innermost last, put before those of a list with the innermost first
 abbrev pub scopes_in : List Scope → List Level → List Scope
 scopes_in round [] = round
 scopes_in round (l ∷ ls) = scopes_in (scope_of l ∷ round) ls
 
--- FFFFFFFFH, the length of a value that did not come
+-- FFFFFFFFH stands in place of the length of a wanted value that was not read
 abbrev pub absent : ℕ
 absent = 0xffffffff
 
 abbrev pub is_absent : ℕ → Bool
 is_absent n = nat_eq n absent
 
--- values: their lengths in the order of the wanted tags, and their bytes one after another
+-- the wanted values, from their lengths, in the order of the wanted tags, and their bytes one after another
 abbrev pub stored : List Want → List ℕ → List ℕ → Values
 stored [] lengths bytes = []
 stored (w ∷ ws) [] bytes = []
 stored (w ∷ ws) (n ∷ lengths) bytes = if is_absent n then stored ws lengths bytes else (number w.tag, take n bytes) ∷ stored ws lengths (drop n bytes)
 
--- whether the last of them has begun and is not whole
+-- whether the walker is inside a wanted value
 abbrev pub is_kept : Stage → Bool
 is_kept Heading = false
 is_kept (Value tag left kept) = kept
@@ -54,7 +55,7 @@ but_last [] = []
 but_last (one ∷ []) = []
 but_last (one ∷ two ∷ values) = one ∷ but_last (two ∷ values)
 
--- those that are whole
+-- the values that are whole: `begun` says that the last one is not
 abbrev pub told_values : Bool → Values → Values
 told_values begun values = if begun then but_last values else values
 
@@ -63,7 +64,7 @@ fault_by Heading = None
 fault_by (Value tag left kept) = None
 fault_by (Stopped fault) = Some fault
 
--- what is unfinished: after a refusal no byte of a header is kept
+-- the unfinished header or value; after a fault, a header without bytes
 abbrev pub pending_by : Stage → List ℕ → Pending
 pending_by Heading header = header_begun header
 pending_by (Value tag left kept) header = value_due tag left

@@ -1,4 +1,4 @@
--- What a walker holds of the bytes that it took, and goes on from (this product's own profile).
+-- The state of a walker as a function of the bytes that it has read (this product's own profile).
 use Rattle.std.specs.Prelude.{ℕ, ◌+◌, ◌-◌, false, List, [], ◌∷◌, ◌++◌, length, Option, Some, None, if◌then◌else◌}
 use Rattle.sequence.specs.declared.coding.Coding.{Coding}
 use Rattle.element.specs.declared.tag.Tag.{Tag}
@@ -12,12 +12,13 @@ use Rattle.sequence.specs.Wanted.{Values, is_wanted, kept_of}
 use Rattle.sequence.specs.Rules.{Limits}
 use Rattle.sequence.specs.FirstFault.{IsUnbroken, FirstFault}
 
--- the place where a level ends that lacks so much after n bytes
+-- the position of the end of a level that still lacks so many bytes after n; none where its length is undefined
 abbrev pub stop_at : ℕ → Option ℕ → Option ℕ
 stop_at n None = None
 stop_at n (Some left) = Some (n + left)
 
--- the level of an entry after n bytes: the entry, with its end in place of what it lacks
+-- the level of a path entry after n bytes: it has the position of its end instead of the number of bytes that it
+-- lacks
 abbrev pub scope_at : ℕ → PathEntry → Scope
 scope_at n e = record { in_sequence = e.in_sequence; syntax = e.syntax; stop = stop_at n e.left; last = e.last }
 
@@ -26,28 +27,29 @@ abbrev pub levels_at : ℕ → List PathEntry → Coding → ℕ → List Scope
 levels_at n [] s last = record { in_sequence = false; syntax = s; stop = None; last = last } ∷ []
 levels_at n (e ∷ path) s last = scope_at n e ∷ levels_at n path s last
 
--- an element that has begun is the last one of the innermost data set; a fragment is none
+-- the level with the tag of this header as its last one, if it is that of an element; a fragment has no tag of its
+-- own
 abbrev pub begun_in : Scope → Header → Scope
 begun_in f h = if is_marker h.tag then f else record f { last = number h.tag }
 
--- the levels where a value or a fragment has begun
+-- the levels, with the tag of the unfinished value as the last one of the innermost level
 abbrev pub with_begun : Tail → List Scope → List Scope
 with_begun (in_header t) levels = levels
 with_begun (in_value h v) [] = []
 with_begun (in_value h v) (f ∷ levels) = begun_in f h ∷ levels
 
--- what is unfinished
+-- the unfinished header or value
 pub data Pending : Type 0 where
-  -- of a header these bytes came
+  -- a header, with the bytes of it that were read
   header_begun : List ℕ → Pending
-  -- of the value of this tag so many bytes are due
+  -- the value of this tag, of which so many bytes are still to be read
   value_due : Tag → ℕ → Pending
 
 abbrev pub pending_of : Tail → Pending
 pending_of (in_header t) = header_begun t
 pending_of (in_value h v) = value_due h.tag (h.length - length v)
 
--- the wanted values of the data set itself, with what came of one that has begun
+-- the wanted values of the data set itself, the last one possibly unfinished
 abbrev pub values_at : List Want → Elements → List PathEntry → Tail → Values
 values_at ws es path (in_header t) = kept_of ws es
 values_at ws es [] (in_value h v) = if is_wanted ws (number h.tag) then kept_of ws es ++ (number h.tag, v) ∷ [] else kept_of ws es
@@ -59,17 +61,17 @@ pub record Holding : Type 0 where
   pub pending : Pending
   pub values : Values
 
--- what is held of a front of n bytes
+-- the state after a front of n bytes
 abbrev pub holding_of : Coding → List Want → ℕ → Elements → List PathEntry → ℕ → Tail → Holding
 holding_of s ws n es path last tail = record { levels = with_begun tail (levels_at n path s last); pending = pending_of tail; values = values_at ws es path tail }
 
--- what is held after the bytes b
+-- the state of a walker that has read the bytes b
 pub data Holds (s : Coding) (lim : Limits) (b : List ℕ) : Holding → Type 0 where
-  -- where b breaks no rule, it is what is held of b
+  -- b breaks no rule: the state after b
   of_all : {es : Elements} {path : List PathEntry} {last : ℕ} {tail : Tail}
       → IsUnbroken s lim b → Open s b es path last tail
       → Holds s lim b (holding_of s lim.wanted (length b) es path last tail)
-  -- where its front p ++ u is the first that breaks a rule, it is what is held of p
+  -- p ++ u is the shortest front of b that breaks a rule: the state after p, before the faulty header u
   before_fault : {p u : List ℕ} {rule : ℕ} {tag : Tag} {es : Elements} {path : List PathEntry} {last : ℕ}
       → FirstFault s lim b p u rule tag → Open s p es path last (in_header [])
       → Holds s lim b (holding_of s lim.wanted (length p) es path last (in_header []))

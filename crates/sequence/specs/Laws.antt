@@ -1,4 +1,4 @@
--- What follows from the definitions alone.
+-- Statements that follow from the definitions alone; `src/laws.rt` has the functions whose contracts they are.
 use Rattle.std.specs.Prelude.{◌≡◌, ℕ, true, ◌+◌, ◌*◌, ◌≤◌, List, [], ◌∷◌, ◌++◌, None, Some}
 use Rattle.element.specs.declared.size.Need.TheVariants.{Size}
 use Rattle.sequence.specs.Coding.{coding_of, layout, is_native, has_fragments}
@@ -22,40 +22,40 @@ use Rattle.sequence.specs.Taken.{StandsAt, fault_of}
 use Rattle.sequence.specs.Walk.{Told, Tells}
 use Rattle.sequence.specs.Holding.{Holding, Holds}
 
--- the first fault of a text is that of every text that goes on from it
+-- the first fault of a text is also the first fault of every text that extends it
 abbrev pub FaultStays : Type 0
 FaultStays = (s : Coding) (lim : Limits) (b more p u : List ℕ) (rule : ℕ) (tag : Tag) → IsBytes (b ++ more) → FirstFault s lim b p u rule tag → FirstFault s lim (b ++ more) p u rule tag
 
--- what is reported after a refusal is reported for good
+-- what a walker reports after a fault stays the same, whatever bytes follow
 abbrev pub RefusalStays : Type 0
 RefusalStays = (s : Coding) (lim : Limits) (b more : List ℕ) (told : Told) (fault : Fault) → IsBytes (b ++ more) → told.fault ≡ Some fault → Tells s lim b told → Tells s lim (b ++ more) told
 
--- a walker that refused stands after any bytes more
+-- the state of a walker that has found a fault is also its state after any further bytes
 abbrev pub RefusedStands : Type 0
 RefusedStands = (V D : ℕ) (w : Walker V D) (b more : List ℕ) (fault : Fault) → fault_of w ≡ Some fault → IsBytes more → StandsAt w b → StandsAt w (b ++ more)
 
--- a text spells one data set at most
+-- a text encodes at most one data set
 abbrev pub OneTree : Type 0
 OneTree = (s : Coding) (last : ℕ) (es es2 : Elements) (b : List ℕ) → DataSet s last es b → DataSet s last es2 b → es ≡ es2
 
--- a text has one list of whole elements, one path, one last tag and one tail at most
+-- a text determines its whole elements, its open levels, the last tag and the unfinished header or value
 abbrev pub OnePath : Type 0
 OnePath =
     (s : Coding) (b : List ℕ) (es es2 : Elements) (path path2 : List PathEntry) (last last2 : ℕ) (tail tail2 : Tail)
     → Open s b es path last tail → Open s b es2 path2 last2 tail2 → (es ≡ es2) × (path ≡ path2) × (last ≡ last2) × (tail ≡ tail2)
 
--- a defined entry lacks no less than any defined entry inside it
+-- a level of defined length lacks at least as many bytes as any such level inside it
 abbrev pub EndsAreNested : Type 0
 EndsAreNested =
     (s : Coding) (b : List ℕ) (es : Elements) (path inside between around : List PathEntry) (inner outer : PathEntry) (last n k : ℕ) (tail : Tail)
     → Open s b es path last tail → path ≡ inside ++ inner ∷ (between ++ outer ∷ around) → inner.left ≡ Some n → outer.left ≡ Some k → n ≤ k
 
--- some entry is of undefined length
+-- some level of the path has undefined length
 pub data HasOpenEnded : List PathEntry → Type 0 where
   this_one : {e : PathEntry} {path : List PathEntry} → e.left ≡ None → HasOpenEnded (e ∷ path)
   one_round : {e : PathEntry} {path : List PathEntry} → HasOpenEnded path → HasOpenEnded (e ∷ path)
 
--- a defined entry that lacks nothing has an entry of undefined length inside it
+-- an open level of defined length that lacks no byte has a level of undefined length inside it
 abbrev pub WholeHasOpenInside : Type 0
 WholeHasOpenInside =
     (s : Coding) (b : List ℕ) (es : Elements) (path inside around : List PathEntry) (e : PathEntry) (last : ℕ) (tail : Tail)
@@ -65,20 +65,20 @@ WholeHasOpenInside =
 abbrev pub OneFault : Type 0
 OneFault = (s : Coding) (lim : Limits) (b p p2 u u2 : List ℕ) (rule rule2 : ℕ) (tag tag2 : Tag) → FirstFault s lim b p u rule tag → FirstFault s lim b p2 u2 rule2 tag2 → (p ≡ p2) × (u ≡ u2) × (rule ≡ rule2) × (tag ≡ tag2)
 
--- there is at most one report after a text
+-- a text determines what a walker reports after it
 abbrev pub OneTelling : Type 0
 OneTelling = (s : Coding) (lim : Limits) (b : List ℕ) (told told2 : Told) → Tells s lim b told → Tells s lim b told2 → told ≡ told2
 
--- the bytes that are held after a text of bytes: an unfinished header, the rooms of the wanted values, and the levels
--- of the limit at most
+-- the bytes that a walker holds after a text are at most the 12 of a header, the greatest sizes of the wanted values,
+-- and 16 for each level that may be open
 abbrev pub HeldHasABound : Type 0
 HeldHasABound = (s : Coding) (lim : Limits) (b : List ℕ) (told : Told) → IsBytes b → Tells s lim b told → told.held ≤ 12 + rooms lim.wanted + level_size * lim.depth
 
--- there is at most one thing to hold after a text
+-- a text determines the state of a walker after it
 abbrev pub OneHolding : Type 0
 OneHolding = (s : Coding) (lim : Limits) (b : List ℕ) (held held2 : Holding) → Holds s lim b held → Holds s lim b held2 → held ≡ held2
 
--- there is a report after every text of bytes
+-- the definition of a walker's report covers every text
 abbrev pub SomeTelling : Type 0
 SomeTelling = (s : Coding) (lim : Limits) (b : List ℕ) → IsBytes b → (told : Told) × Tells s lim b told
 
@@ -86,7 +86,7 @@ SomeTelling = (s : Coding) (lim : Limits) (b : List ℕ) → IsBytes b → (told
 abbrev pub NothingIsUnbroken : Type 0
 NothingIsUnbroken = (s : Coding) (lim : Limits) → IsUnbroken s lim []
 
--- where no byte of a header came, it is unfinished
+-- no byte at all is an unfinished header
 abbrev pub NoHeader : Type 0
 NoHeader = (s : Coding) → IsUnfinishedHeader s []
 
@@ -94,19 +94,19 @@ NoHeader = (s : Coding) → IsUnfinishedHeader s []
 abbrev pub LeastHeader : Type 0
 LeastHeader = (s : Coding) (b : List ℕ) (k : ℕ) → need (layout s) b ≡ Size k → 8 ≤ k
 
--- texts of bytes are one text of bytes
+-- two lists of bytes, joined, are a list of bytes
 abbrev pub BytesAreJoined : Type 0
 BytesAreJoined = (a b : List ℕ) → IsBytes a → IsBytes b → IsBytes (a ++ b)
 
--- a sequence in a data set in one of the two syntaxes is in one, too
+-- a sequence inside a data set in Implicit or Explicit is itself in one of these two
 abbrev pub NativeInside : Type 0
 NativeInside = (s inner : Coding) (h : Header) → is_native s ≡ true → shape s h ≡ Sequence inner → is_native inner ≡ true
 
--- and has no fragments
+-- a data set in Implicit or Explicit has no fragments
 abbrev pub NativeHasNone : Type 0
 NativeHasNone = (s : Coding) → is_native s ≡ true → has_fragments s ≡ true → ⊥
 
--- of these elements no Pixel Data is encapsulated
+-- these elements contain no encapsulated Pixel Data
 abbrev mutual
   pub AreNative : Elements → Type 0
   AreNative no_elements = Unit {0}
@@ -118,10 +118,10 @@ abbrev mutual
   AreNativeItems (item h es is) = AreNative es × AreNativeItems is
   AreNativeItems (fragment h v is) = ⊥
 
--- in the two syntaxes no Pixel Data is encapsulated
+-- a data set in Implicit or Explicit contains no encapsulated Pixel Data
 abbrev pub SyntaxesAreNative : Type 0
 SyntaxesAreNative = (syntax : Syntax) (last : ℕ) (es : Elements) (b : List ℕ) → DataSet (coding_of syntax) last es b → AreNative es
 
--- a data set in Explicit is one whose Pixel Data may be encapsulated, but is not
+-- a data set in Explicit is also one, with the same elements, in the encoding in which Pixel Data may be encapsulated
 abbrev pub ExplicitIsEncapsulated : Type 0
 ExplicitIsEncapsulated = (last : ℕ) (es : Elements) (b : List ℕ) → DataSet Explicit last es b → DataSet Encapsulated last es b

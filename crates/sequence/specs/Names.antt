@@ -38,7 +38,7 @@ all_rules = BadVr ∷ OddLength ∷ Order ∷ BadGroup ∷ UndefinedLength ∷ U
 abbrev pub has_number : ℕ → Rule → Bool
 has_number n rule = nat_eq (rule_number rule) n
 
--- the rule with this number
+-- the rule with this number; none where there is no such rule
 abbrev pub rule_of : ℕ → Option Rule
 rule_of n = find (has_number n) all_rules
 

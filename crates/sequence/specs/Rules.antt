@@ -1,5 +1,5 @@
--- Which rules a header, or its beginning, breaks (PS3.5 sections 7.1, 7.5 and A.4; the limits and the numbers are this
--- product's own profile). They are judged in this order; the tag is that of the header.
+-- The rules that a header, or its first bytes, may break (PS3.5 sections 7.1, 7.5 and A.4; the limits and the numbers
+-- are this product's own profile). They are checked in this order; a fault has the tag of the header.
 use Rattle.std.specs.Prelude.{ℕ, ◌+◌, ◌%◌, Bool, true, false, not, ◌&&◌, ◌||◌, List, length, Option, Some, None, nat_eq, nat_le, nat_lt, if◌then◌else◌}
 use Rattle.element.specs.declared.tag.Tag.{Tag}
 use Rattle.element.specs.declared.header.Header.{Header}
@@ -16,7 +16,8 @@ use Rattle.sequence.specs.Wanted.{room_of}
 use Rattle.sequence.specs.Names.{rule_number}
 use Rattle.sequence.specs.declared.rule.Rule.TheVariants as rules
 
--- what a data set is held to: the wanted tags with their rooms, so many open levels, and so many bytes
+-- the limits of a data set: the wanted tags with the greatest sizes of their values, the greatest number of open
+-- levels, and the greatest size in bytes
 pub record Limits : Type 0 where
   pub wanted : List Want
   pub depth : ℕ
@@ -24,7 +25,7 @@ pub record Limits : Type 0 where
 
 -- the rules, each with its number
 
--- no two capital letters where a VR is due
+-- a header in Explicit has no two capital letters in the place of its VR
 abbrev pub bad_vr : ℕ
 bad_vr = rule_number rules.BadVr
 
@@ -32,19 +33,19 @@ bad_vr = rule_number rules.BadVr
 abbrev pub odd_length : ℕ
 odd_length = rule_number rules.OddLength
 
--- a tag that is not above the last one of its data set
+-- a tag that is not above that of the element before it in the same data set or item
 abbrev pub not_rising : ℕ
 not_rising = rule_number rules.Order
 
--- group 0000 or 0002
+-- a tag of group 0000 or 0002, which no data set contains
 abbrev pub bad_group : ℕ
 bad_group = rule_number rules.BadGroup
 
--- an undefined length that the element or the fragment may not have
+-- an element or a fragment with undefined length that may not have it
 abbrev pub undefined_not_allowed : ℕ
 undefined_not_allowed = rule_number rules.UndefinedLength
 
--- an item or a delimitation out of place, or something else where one is due
+-- an item or a delimitation where none may stand, or another element where one has to
 abbrev pub unexpected_tag : ℕ
 unexpected_tag = rule_number rules.UnexpectedTag
 
@@ -52,7 +53,7 @@ unexpected_tag = rule_number rules.UnexpectedTag
 abbrev pub delimiter_length : ℕ
 delimiter_length = rule_number rules.DelimiterLength
 
--- past the end of a level of defined length
+-- a header, value, sequence or item that passes the end of the level around it
 abbrev pub overrun : ℕ
 overrun = rule_number rules.Overrun
 
@@ -60,19 +61,19 @@ overrun = rule_number rules.Overrun
 abbrev pub too_deep : ℕ
 too_deep = rule_number rules.TooDeep
 
--- more bytes than the limit
+-- a data set of more bytes than the limit
 abbrev pub too_long : ℕ
 too_long = rule_number rules.TooLong
 
--- the text ends inside a header, a value or a level
+-- the data set ends inside a header, a value, a sequence or an item
 abbrev pub truncated : ℕ
 truncated = rule_number rules.Truncated
 
--- a wanted value longer than its room
+-- a wanted value that is longer than its limit
 abbrev pub kept_too_long : ℕ
 kept_too_long = rule_number rules.KeptTooLong
 
--- a broken rule's number and the tag of its fault
+-- the number of the broken rule and the tag of the fault, if a rule is broken
 abbrev pub Broken : Type 0
 Broken = Option (ℕ × Tag)
 
@@ -82,17 +83,17 @@ no_tag = record { 0 = 0; 1 = 0 }
 abbrev pub same_tag : Tag → Tag → Bool
 same_tag t u = nat_eq t.0 u.0 && nat_eq t.1 u.1
 
--- whether n is more than there is
+-- whether n bytes are more than are left; no count stands for no end
 abbrev pub passes : Option ℕ → ℕ → Bool
 passes None n = false
 passes (Some left) n = nat_lt left n
 
--- as soon as a header is due: none fits before the nearest end of a defined level (17)
+-- before the first byte of a header: fewer than 8 bytes are left in a level of defined length (17)
 abbrev pub broken_due : Spot → Broken
 broken_due spot = if passes spot.near 8 then Some (overrun, no_tag) else None
 
--- at four bytes: an item or a delimitation out of place (15), a group that no data set has (13), a tag that does
--- not rise (12)
+-- at the fourth byte: an item or a delimitation out of place (15), a group that no data set has (13), a tag not above
+-- the one before (12)
 unfoldable pub broken_tag : Spot → Tag → Broken
 broken_tag spot t =
     if spot.in_sequence
@@ -102,7 +103,7 @@ broken_tag spot t =
     else (if nat_le (number t) spot.last then Some (not_rising, t)
     else None)))
 
--- at six bytes, where the header has a VR: no two capital letters (10), or no room for the header (17)
+-- at the sixth byte of a header with a VR: no two capital letters (10), or the header passes the end of a level (17)
 abbrev pub broken_need : Spot → Need → Tag → Broken
 broken_need spot More t = None
 broken_need spot BadVr t = Some (bad_vr, t)
@@ -127,11 +128,11 @@ is_not_allowed (Sequence s) = false
 abbrev pub is_long_mark : Header → Bool
 is_long_mark h = (is_marker h.tag && not (same_tag h.tag item_tag)) && not (nat_eq h.length 0)
 
--- what a defined length counts
+-- how many bytes follow a header by its length; 0 for undefined length
 abbrev pub counted_length : ℕ → ℕ
 counted_length n = if is_undefined n then 0 else n
 
--- the header of a value of the data set itself that is longer than its room
+-- the header of a wanted value of the data set itself that is longer than its limit
 abbrev pub is_too_long : Limits → Spot → Header → Bool
 is_too_long lim spot h = ((nat_eq spot.depth 0 && not (is_marker h.tag)) && is_value (shape spot.syntax h)) && passes (room_of lim.wanted (number h.tag)) h.length
 
@@ -139,13 +140,13 @@ is_too_long lim spot h = ((nat_eq spot.depth 0 && not (is_marker h.tag)) && is_v
 abbrev pub is_endless : Spot → Header → Bool
 is_endless spot h = (is_marker h.tag && has_fragments spot.syntax) && is_undefined h.length
 
--- the header opens a level: that of a fragment does not
+-- the header opens a level: it is that of a sequence or an item whose length is not 0, and not of a fragment
 abbrev pub opens : Spot → Header → Bool
 opens spot h = ((is_marker h.tag && not (has_fragments spot.syntax)) || is_sequence (shape spot.syntax h)) && not (nat_eq h.length 0)
 
--- when the header is whole: the length of a delimitation (16), an undefined length that is not allowed (14), an odd
--- length (11), an end past the nearest one (17), past the limit (19), a wanted value longer than its room (21),
--- a level more than the limit (18)
+-- at the last byte of a header: a delimitation whose length is not 0 (16), an undefined length that is not allowed
+-- (14), an odd length (11), a value or level that passes the end of a level around it (17) or the greatest size of a
+-- data set (19), a wanted value longer than its limit (21), a level more than the limit (18)
 unfoldable pub broken_header : Limits → Spot → ℕ → Header → Broken
 broken_header lim spot size h =
     if is_long_mark h then Some (delimiter_length, h.tag)
@@ -167,7 +168,7 @@ abbrev pub when : Bool → Broken → Broken
 when true x = x
 when false x = None
 
--- the first rule that is broken where the bytes t of a header came
+-- the first rule that the bytes t of a header, all or its first ones, break
 unfoldable pub broken : Limits → Spot → List ℕ → Broken
 broken lim spot t =
     broken_due spot

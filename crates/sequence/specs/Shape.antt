@@ -1,5 +1,5 @@
--- What follows the header of an element (PS3.5 sections 6.2.2, 7.5 and A.4). What an Implicit element of a tag
--- without an entry in the dictionary holds is this product's own profile.
+-- What follows the header of an element: a value, or the items of a sequence (PS3.5 sections 6.2.2, 7.5 and A.4).
+-- What follows in Implicit, for a tag that is not in the dictionary, is this product's own profile.
 use Rattle.std.specs.Prelude.{ℕ, Bool, ◌&&◌, ◌||◌, Option, Some, None, List, get_or, nat_eq, if◌then◌else◌, codes}
 use Rattle.sequence.specs.declared.coding.Coding.{Coding}
 use Rattle.sequence.specs.declared.coding.Coding.TheVariants.{Implicit, Explicit, Encapsulated, Fragments}
@@ -19,7 +19,7 @@ is_undefined n = nat_eq n undefined_length
 abbrev pub is_vr : List ℕ → List ℕ → Bool
 is_vr letters vr = nat_eq (get_or vr 0 0) (get_or letters 0 0) && nat_eq (get_or vr 1 0) (get_or letters 1 0)
 
--- in Explicit, by the header's VR
+-- what follows a header in Explicit, by its VR and whether its length is undefined
 abbrev pub explicit_shape : List ℕ → Bool → Shape
 explicit_shape vr undefined =
     if is_vr (codes "SQ") vr then Sequence Explicit
@@ -30,15 +30,15 @@ explicit_shape vr undefined =
 abbrev pub is_pixel_data : Tag → Bool
 is_pixel_data t = nat_eq t.0 0x7fe0 && nat_eq t.1 0x0010
 
--- where Pixel Data may be encapsulated, by the header's tag and VR: that of undefined length is, with VR OB, or with OW,
--- which some senders write (this product's own profile); all else is as in Explicit
+-- what follows a header where Pixel Data may be encapsulated: fragments, if it is Pixel Data of undefined length with
+-- VR OB, or with OW, which some senders write (this product's own profile); all else is as in Explicit
 abbrev pub encapsulated_shape : Tag → List ℕ → Bool → Shape
 encapsulated_shape t vr undefined =
     if is_vr (codes "SQ") vr then Sequence Encapsulated
     else (if undefined && (is_pixel_data t && (is_vr (codes "OB") vr || is_vr (codes "OW") vr)) then Sequence Fragments
     else explicit_shape vr undefined)
 
--- in Implicit, by the dictionary's VR
+-- what follows a header in Implicit, by the VR of its tag in the dictionary
 abbrev pub implicit_shape : Option (List ℕ) → Bool → Shape
 implicit_shape None undefined = if undefined then Sequence Implicit else Value
 implicit_shape (Some vr) undefined =
@@ -46,7 +46,8 @@ implicit_shape (Some vr) undefined =
     else (if undefined then NotAllowed
     else Value)
 
--- the coding, the header's tag and VR, the dictionary's VR, and whether the length is undefined
+-- what follows a header, by the encoding, the header's tag and VR, the dictionary's VR, and whether the length is
+-- undefined
 abbrev pub shape_by : Coding → Tag → Option (List ℕ) → Option (List ℕ) → Bool → Shape
 shape_by Explicit t (Some vr) known undefined = explicit_shape vr undefined
 shape_by Explicit t None known undefined = NotAllowed
@@ -55,6 +56,6 @@ shape_by Encapsulated t None known undefined = NotAllowed
 shape_by Fragments t vr known undefined = NotAllowed
 shape_by Implicit t vr known undefined = implicit_shape known undefined
 
--- the shape of the element with this header
+-- what follows this header of an element, in this encoding
 abbrev pub shape : Coding → Header → Shape
 shape s h = shape_by s h.tag h.vr (vr_of h.tag) (is_undefined h.length)

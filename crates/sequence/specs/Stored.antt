@@ -1,4 +1,4 @@
--- What a room for values holds.
+-- What the buffer of the wanted values contains.
 use Rattle.std.specs.Prelude.{ℕ, List}
 use Rattle.sequence.specs.declared.keep.Keep.{Keep}
 use Rattle.sequence.specs.declared.wanted.Want.{Want}
@@ -6,7 +6,7 @@ use Rattle.sequence.specs.declared.wanted.Wanted.{Wanted}
 use Rattle.sequence.specs.Wanted.{Values}
 use Rattle.sequence.specs.Fields.{stored}
 
--- the wanted tags with their rooms
+-- the wanted tags with the greatest sizes of their values
 abbrev pub wanted_tags : Wanted → List Want
 wanted_tags wanted = wanted.list.items
 

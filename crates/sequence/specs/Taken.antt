@@ -1,4 +1,4 @@
--- That a walker took certain bytes (this product's own profile).
+-- The invariant of a walker: its state is determined by the bytes that it has read (this product's own profile).
 use Rattle.std.specs.Prelude.{ℕ, ◌+◌, ◌*◌, List, [], ◌∷◌, Option, length}
 use Rattle.element.specs.Numbers.{IsBytes}
 use Rattle.sequence.specs.declared.coding.Coding.{Coding}
@@ -11,19 +11,19 @@ use Rattle.sequence.specs.Holding.{Holding, Holds}
 use Rattle.sequence.specs.Fields.{scopes_in, is_kept, told_values, fault_by, pending_by}
 use Rattle.sequence.specs.Stored.{wants_of, values_of}
 
--- what the walker is held to
+-- the limits of the walker's data set
 abbrev pub limits_of : {V D : ℕ} → Walker V D → Limits
 limits_of {D = D} w = record { wanted = wants_of w.kept; depth = D; bytes = w.limit }
 
--- the syntax of its data set
+-- the encoding of the walker's data set
 abbrev pub walker_syntax : {V D : ℕ} → Walker V D → Coding
 walker_syntax w = w.root.syntax
 
--- its refusal, if there is one
+-- the fault that the walker found, if any
 abbrev pub fault_of : {V D : ℕ} → Walker V D → Option Fault
 fault_of w = fault_by w.stage
 
--- what it reports: `levels`, `place`, `held` and `kept` return it
+-- what the walker reports: what its methods `levels`, `place`, `held` and `kept` return
 abbrev pub told_by : {V D : ℕ} → Walker V D → Told
 told_by w = record {
   fault = fault_by w.stage;
@@ -33,7 +33,7 @@ told_by w = record {
   kept = told_values (is_kept w.stage) (values_of w.kept);
 }
 
--- what it holds
+-- the state of the walker, from its fields
 abbrev pub holding_by : {V D : ℕ} → Walker V D → Holding
 holding_by w = record {
   levels = scopes_in (w.root ∷ []) w.levels.items;
@@ -41,10 +41,11 @@ holding_by w = record {
   values = values_of w.kept;
 }
 
--- the walker took the bytes b, in whatever pieces
+-- the walker is in the state in which the bytes b leave it, in whatever pieces they came
 pub record StandsAt {V D : ℕ} (w : Walker V D) (b : List ℕ) : Type 0 where
   pub bytes : IsBytes b
-  -- it reports what there is to report after b: of b itself, and after a refusal of the part before the faulty header
+  -- it reports what is defined for b; after a fault, for the part of b before the faulty header
   pub tells : Tells (walker_syntax w) (limits_of w) b (told_by w)
-  -- it holds, of the same text, the open levels with their ends and last tags, what is unfinished, and the wanted values
+  -- it has the open levels of the same text with their ends and last tags, the unfinished header or value, and the
+  -- wanted values
   pub holds : Holds (walker_syntax w) (limits_of w) b (holding_by w)

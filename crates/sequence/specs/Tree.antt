@@ -1,4 +1,4 @@
--- Which texts spell which data sets (PS3.5 sections 7.1 to 7.5 and A.4).
+-- Data sets as trees, and which bytes are the encoding of which data set (PS3.5 sections 7.1 to 7.5 and A.4).
 use Rattle.std.specs.Prelude.{◌≡◌, ℕ, ◌%◌, ◌<◌, ◌≢◌, true, false, List, [], ◌++◌, length}
 use Rattle.sequence.specs.Coding.{layout, has_fragments}
 use Rattle.sequence.specs.declared.coding.Coding.{Coding}
@@ -28,7 +28,7 @@ delimitation t = tag_bytes t ++ le 0 4
 abbrev pub IsEven : ℕ → Type 0
 IsEven n = n % 2 ≡ 0
 
--- hb spells the header h of an element above the tag `last`, of a group that a data set may have
+-- the bytes hb are the header h of an element, with a tag above `last`, of a group that a data set may have
 pub record IsElement (s : Coding) (last : ℕ) (h : Header) (hb : List ℕ) : Type 0 where
   pub spelled : SpellsHeader (layout s) h hb
   pub rising : last < number h.tag
@@ -36,31 +36,32 @@ pub record IsElement (s : Coding) (last : ℕ) (h : Header) (hb : List ℕ) : Ty
   pub no_command : h.tag.0 ≢ 0
   pub no_file : h.tag.0 ≢ 2
 
--- hb spells the header h of an item, which holds elements
+-- the bytes hb are the header h of an item with elements
 pub record IsItem (s : Coding) (h : Header) (hb : List ℕ) : Type 0 where
   pub spelled : SpellsHeader (layout s) h hb
   pub tagged : h.tag ≡ item_tag
   pub nests : has_fragments s ≡ false
 
--- hb spells the header h of a fragment: an item of defined length that holds bytes
+-- the bytes hb are the header h of a fragment: an item of defined length that contains bytes
 pub record IsFragmentItem (s : Coding) (h : Header) (hb : List ℕ) : Type 0 where
   pub spelled : SpellsHeader (layout s) h hb
   pub tagged : h.tag ≡ item_tag
   pub holds : has_fragments s ≡ true
   pub defined : h.length ≢ undefined_length
 
--- v is a value of that length
+-- the bytes v are a value of that length, which is even
 pub record IsValue (length-is : ℕ) (v : List ℕ) : Type 0 where
   pub even : IsEven length-is
   pub size : length v ≡ length-is
 
--- c is b with its end: of a defined length b has that length, and else c is b and a delimitation
+-- the bytes c are b with the end that its length calls for: nothing, if b has that defined length, or the
+-- delimitation, if it is undefined
 pub data Ended (mark : Tag) : ℕ → List ℕ → List ℕ → Type 0 where
   counted : {b : List ℕ} (n : ℕ) → n ≢ undefined_length → IsEven n → length b ≡ n → Ended mark n b b
   delimited : {b : List ℕ} → Ended mark undefined_length b (b ++ delimitation mark)
 
 mutual
-  -- b spells these elements, whose tags rise and are above `last`
+  -- the bytes b are the encoding of these elements, whose tags are strictly ascending and above `last`
   pub data DataSet : Coding → ℕ → Elements → List ℕ → Type 0 where
     nothing : {s : Coding} {last : ℕ} → DataSet s last no_elements []
     value_then : {s : Coding} {last : ℕ} {h : Header} {hb v : List ℕ} {es : Elements} {b : List ℕ}
@@ -72,7 +73,7 @@ mutual
         → DataSet s (number h.tag) es b
         → DataSet s last (sequence h is es) (hb ++ (cb ++ b))
 
-  -- b spells these items
+  -- the bytes b are the encoding of these items
   pub data ItemList : Coding → Items → List ℕ → Type 0 where
     no_more : {s : Coding} → ItemList s no_items []
     item_then : {s : Coding} {h : Header} {hb : List ℕ} {es : Elements} {eb cb : List ℕ} {is : Items} {b : List ℕ}

@@ -1,4 +1,4 @@
--- What a walker reports after the bytes that it took (this product's own profile).
+-- What a walker reports after the bytes that it has read (this product's own profile).
 use Rattle.std.specs.Prelude.{ℕ, List, [], ◌++◌, length, Option, Some, None}
 use Rattle.sequence.specs.declared.coding.Coding.{Coding}
 use Rattle.element.specs.declared.tag.Tag.{Tag}
@@ -10,24 +10,24 @@ use Rattle.sequence.specs.Rules.{Limits}
 use Rattle.sequence.specs.FirstFault.{IsUnbroken, FirstFault}
 
 pub record Told : Type 0 where
-  -- the refusal, if there is one
+  -- the fault, if any
   pub fault : Option Fault
-  -- how many levels are open
+  -- the number of open levels: sequences and items
   pub levels : ℕ
-  -- how many bytes came, and after a refusal, came up to it
+  -- how many bytes were read; after a fault, how many up to the byte that showed it
   pub place : ℕ
-  -- how many bytes are held
+  -- how many bytes the walker holds
   pub held : ℕ
-  -- the wanted values that came whole
+  -- the wanted values that are whole
   pub kept : Values
 
--- what is reported after the bytes b
+-- what a walker reports that has read the bytes b
 pub data Tells (s : Coding) (lim : Limits) (b : List ℕ) : Told → Type 0 where
-  -- where b breaks no rule, the report is of b
+  -- b breaks no rule: the report describes b
   going : {es : Elements} {path : List PathEntry} {last : ℕ} {tail : Tail}
       → IsUnbroken s lim b → Open s b es path last tail
       → Tells s lim b (record { fault = None; levels = length path; place = length b; held = held_of lim.wanted es path tail; kept = kept_of lim.wanted es })
-  -- where its front p ++ u is the first that breaks a rule, the refusal is reported, and the rest is that of p
+  -- p ++ u is the shortest front of b that breaks a rule: the report has this fault, and else describes p
   refused : {p u : List ℕ} {rule : ℕ} {tag : Tag} {es : Elements} {path : List PathEntry} {last : ℕ}
       → FirstFault s lim b p u rule tag → Open s p es path last (in_header [])
       → Tells s lim b (record { fault = Some (record { number = rule; place = length p; tag = tag }); levels = length path; place = length (p ++ u); held = held_of lim.wanted es path (in_header []); kept = kept_of lim.wanted es })

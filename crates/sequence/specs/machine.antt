@@ -1,4 +1,4 @@
--- The crate's own machine: what its code is proved against, and no reader has to believe.
+-- The state machine that the code of this crate is proved against. No public contract depends on it.
 pub mod Machine
 pub mod Scopes
 pub mod Keeping

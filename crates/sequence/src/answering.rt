@@ -1,4 +1,4 @@
-//! What a step reports.
+//! The [`Step`] that a walker's step returns.
 ghost use Rattle.std.specs.Prelude.{◌≡◌};
 ghost use Rattle.sequence.specs.machine.Made.{header_told, made_told, value_told};
 
@@ -7,8 +7,8 @@ use crate::stage::Stage;
 use crate::step::Step;
 use element::{Header, Tag};
 
-/// Returns what a step reports that took bytes of a header: `made` is the header that they made
-/// whole.
+/// Returns the result of a step that took bytes of a header. `made` is the header that these bytes
+/// completed, if any; `stage` is the walker's stage after the step.
 pub fn header_step<'p>(stage: Stage, made: Option<Header>) -> Step<'p>
     ensures { result ≡ header_told stage made }
 {
@@ -19,7 +19,7 @@ pub fn header_step<'p>(stage: Stage, made: Option<Header>) -> Step<'p>
     }
 }
 
-/// Returns what it reports of the header that it made whole.
+/// Returns the result of a step that broke no rule: the completed header, by its tag, or `Step::More`.
 fn made_step<'p>(made: Option<Header>) -> Step<'p>
     ensures { result ≡ made_told made }
 {
@@ -37,7 +37,8 @@ fn made_step<'p>(made: Option<Header>) -> Step<'p>
     }
 }
 
-/// Returns what a step reports that took bytes of a value.
+/// Returns the result of a step that took the bytes `run` of a value. The end of the value may break a
+/// rule, if no header fits after it before the end of a level: then `stage` has the fault.
 pub fn value_step<'p>(stage: Stage, run: &'p [u8]) -> Step<'p>
     ensures { value_told stage run.now result }
 {

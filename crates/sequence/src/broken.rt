@@ -1,4 +1,4 @@
-//! Which rules a header, or its beginning, breaks.
+//! Checks the rules of a data set against a header, or the first bytes of one.
 ghost use Rattle.std.specs.Prelude.{◌≡◌, ◌<◌, ◌≤◌, ◌^◌, ◌+◌, ◌%◌, length, nat_le, nat_lt, nat_eq, ◌&&◌, not, None, IsTrue};
 ghost use Rattle.element.specs.Header.{is_marker};
 ghost use Rattle.sequence.specs.Shape.{is_undefined};
@@ -22,8 +22,8 @@ pub fn same_tag(a: Tag, b: Tag) -> bool
     a.0 == b.0 && a.1 == b.1
 }
 
-/// Returns whether so many bytes pass the nearest end, of which `near` bytes are left, if there is
-/// one.
+/// Returns whether `count` more bytes would pass the nearest end of a level of defined length. `near`
+/// is the number of bytes left before that end, `None` where all open levels have undefined length.
 pub fn passes(near: Option<u64>, count: u64) -> bool
     ensures { result ≡ rules.passes near count }
 {
@@ -33,7 +33,8 @@ pub fn passes(near: Option<u64>, count: u64) -> bool
     }
 }
 
-/// Returns the rule that is broken where a header is due and none fits before the nearest end.
+/// Returns `Overrun` if a header has to follow and fewer than its 8 bytes are left before the nearest
+/// end of a level, with tag (0000,0000).
 pub fn broken_due(spot: &Spot) -> Option<(Rule, Tag)>
     ensures { numbered result ≡ rules.broken_due spot.now }
 {
@@ -44,8 +45,9 @@ pub fn broken_due(spot: &Spot) -> Option<(Rule, Tag)>
     }
 }
 
-/// Returns the rule that a tag breaks here: it is out of place, of group 0000 or 0002, or not above
-/// the one before it.
+/// Returns the rule that a tag breaks at this position, with the tag: `UnexpectedTag` for an item or a
+/// delimitation that may not stand here, or another tag where one has to; `BadGroup` for group 0000 or
+/// 0002; `Order` if it is not above the tag of the element before it.
 #[tactic(auto, unfolding(crate::specs::Rules::broken_tag))]
 pub fn broken_tag(spot: &Spot, tag: Tag) -> Option<(Rule, Tag)>
     ensures { numbered result ≡ rules.broken_tag spot.now tag }
@@ -73,7 +75,8 @@ pub fn broken_tag(spot: &Spot, tag: Tag) -> Option<(Rule, Tag)>
     }
 }
 
-/// Returns the rule that a header breaks by its VR, or by a size that passes the nearest end.
+/// Returns the rule that a header breaks by its VR (`BadVr`) or by its own size, if it passes the
+/// nearest end of a level (`Overrun`).
 pub fn broken_need(spot: &Spot, need: Need, tag: Tag) -> Option<(Rule, Tag)>
     ensures { numbered result ≡ rules.broken_need spot.now need tag }
 {
@@ -108,7 +111,8 @@ fn is_value(shape: Shape) -> bool
     matches!(shape, Shape::Value)
 }
 
-/// Whether it is the header, of this shape, of a wanted value that is longer than its room.
+/// Returns whether the header, of this shape, is that of a wanted value longer than its limit (see
+/// [`Want`](crate::Want)).
 fn is_too_long(wanted: &Wanted, bounds: &Bounds, spot: &Spot, header: &Header, shape: Shape) -> bool
     requires { shape ≡ shapes.shape spot.now.syntax header.now }
     ensures { result ≡ rules.is_too_long (limits_by wanted.now.list.items bounds.now) spot.now header.now }
@@ -119,35 +123,36 @@ fn is_too_long(wanted: &Wanted, bounds: &Bounds, spot: &Spot, header: &Header, s
         && passes(wanted.room(header.tag.number()), header.length as u64)
 }
 
-/// Whether it is the header of a delimitation whose length is not 0.
+/// Returns whether the header is that of a delimitation with a length other than 0.
 fn is_long_mark(header: &Header) -> bool
     ensures { result ≡ rules.is_long_mark header.now }
 {
     header.tag.is_marker() && !same_tag(header.tag, Tag::ITEM) && header.length != 0
 }
 
-/// Whether it is the header of an element that may not have undefined length, and has.
+/// Returns whether the header is that of an element with undefined length that may not have it.
 fn is_forbidden(header: &Header, shape: Shape) -> bool
     ensures { result ≡ (not (is_marker header.now.tag) && rules.is_not_allowed shape) }
 {
     !header.tag.is_marker() && is_not_allowed(shape)
 }
 
-/// Whether it is the header of a fragment of undefined length.
+/// Returns whether the header is that of a fragment of encapsulated Pixel Data with undefined length.
 fn is_endless(spot: &Spot, header: &Header) -> bool
     ensures { result ≡ rules.is_endless spot.now header.now }
 {
     header.tag.is_marker() && spot.syntax.has_fragments() && header.length == UNDEFINED
 }
 
-/// Whether its length is defined and odd.
+/// Returns whether the length in the header is defined and odd.
 fn is_odd(header: &Header) -> bool
     ensures { result ≡ (not (is_undefined header.now.length) && nat_eq (header.now.length % 2) 1) }
 {
     header.length != UNDEFINED && header.length % 2 == 1
 }
 
-/// Whether its length is defined and ends past the nearest end.
+/// Returns whether the value, sequence or item of this header, of defined length, passes the nearest
+/// end of a level. The header has `size` bytes.
 fn is_overrun(spot: &Spot, size: usize, header: &Header) -> bool
     requires { size ≤ 12 }
     ensures { result ≡ (not (is_undefined header.now.length) && rules.passes spot.now.near (size + header.now.length)) }
@@ -155,7 +160,7 @@ fn is_overrun(spot: &Spot, size: usize, header: &Header) -> bool
     header.length != UNDEFINED && passes(spot.near, size as u64 + header.length as u64)
 }
 
-/// What a defined length counts.
+/// Returns how many bytes follow the header by its length: 0 for undefined length.
 fn counted_length(length: u32) -> u64
     ensures value { result ≡ rules.counted_length length }
     ensures small { result < 2 ^ 32 }
@@ -167,7 +172,8 @@ fn counted_length(length: u32) -> u64
     }
 }
 
-/// Whether the header, or what its length counts, ends past the limit.
+/// Returns whether the header of `size` bytes, with the bytes that its length counts, ends past the
+/// greatest size of a data set.
 fn is_beyond(bounds: &Bounds, spot: &Spot, size: usize, header: &Header) -> bool
     requires place { spot.now.place < 2 ^ 49 }
     requires size { size ≤ 12 }
@@ -176,7 +182,7 @@ fn is_beyond(bounds: &Bounds, spot: &Spot, size: usize, header: &Header) -> bool
     bounds.bytes < spot.place + size as u64 + counted_length(header.length)
 }
 
-/// Whether it opens a level.
+/// Returns whether the header opens a level: it is that of a sequence or an item whose length is not 0.
 fn opens(spot: &Spot, header: &Header, shape: Shape) -> bool
     requires { shape ≡ shapes.shape spot.now.syntax header.now }
     ensures { result ≡ rules.opens spot.now header.now }
@@ -185,7 +191,7 @@ fn opens(spot: &Spot, header: &Header, shape: Shape) -> bool
     (nests || is_sequence(shape)) && header.length != 0
 }
 
-/// Whether it opens a level more than the limit.
+/// Returns whether the header opens a level where the greatest number of levels is open already.
 fn is_too_deep(bounds: &Bounds, spot: &Spot, header: &Header, shape: Shape) -> bool
     requires { shape ≡ shapes.shape spot.now.syntax header.now }
     ensures { result ≡ (rules.opens spot.now header.now && nat_le bounds.now.depth spot.now.depth) }
@@ -193,7 +199,8 @@ fn is_too_deep(bounds: &Bounds, spot: &Spot, header: &Header, shape: Shape) -> b
     opens(spot, header, shape) && bounds.depth <= spot.depth
 }
 
-/// Returns the first rule that the whole header breaks.
+/// Returns the first rule that the fields of a whole header of `size` bytes break, with its tag. The
+/// rules on the tag, the VR and the header's own size are checked before.
 #[tactic(auto, unfolding(crate::specs::Rules::broken_header))]
 pub fn broken_header(
     wanted: &Wanted,
@@ -267,8 +274,8 @@ fn at_end(wanted: &Wanted, bounds: &Bounds, spot: &Spot, bytes: &[u8]) -> Option
     }
 }
 
-/// Returns the first rule that a header breaks of which these bytes came, all or its first ones,
-/// and the tag at fault.
+/// Returns the first rule that is broken by these bytes of a header, all of them or the first ones, and
+/// the tag of the fault.
 #[tactic(auto, unfolding(crate::specs::Rules::broken))]
 pub fn broken(wanted: &Wanted, bounds: &Bounds, spot: &Spot, bytes: &[u8]) -> Option<(Rule, Tag)>
     requires place { spot.now.place < 2 ^ 49 }
@@ -287,9 +294,10 @@ pub fn broken(wanted: &Wanted, bounds: &Bounds, spot: &Spot, bytes: &[u8]) -> Op
     at_end(wanted, bounds, spot, bytes)
 }
 
-/// Whether the whole header breaks no rule. What its length counts ends past the nearest end if the header does, or if no
-/// header fits before that end, so that this is tested once.
-#[tactic(auto, using(crate::proofs::Fitting::is_fitting))]
+/// Returns whether the whole header breaks no rule. This is the short way for the usual case: a header
+/// that passes the nearest end, or for which no room is left before it, also has a value that passes
+/// that end, so one comparison checks all three.
+#[tactic(auto, using(crate::proofs::CodeIsMachine::FittingHeader::is_fitting))]
 pub fn is_unbroken(wanted: &Wanted, bounds: &Bounds, spot: &Spot, front: &Front) -> bool
     requires place { spot.now.place < 2 ^ 49 }
     requires least { 8 ≤ front.now.size }

@@ -1,10 +1,11 @@
-//! How a data set, or a part of one, is laid out.
+//! The encodings of data sets.
 ghost use Rattle.std.specs.Prelude.{◌≡◌};
 ghost use Rattle.sequence.specs.Coding as codings;
 
 use element::Syntax;
 
-/// How a data set, or a part of one, is laid out (PS3.5 sections A.1, A.2 and A.4).
+/// The encoding of a data set, or of a sequence inside one (PS3.5 sections A.1, A.2 and A.4). All are
+/// little endian.
 #[derive(Clone, Copy, Debug, PartialEq, Eq)]
 pub enum Coding {
     /// Implicit VR Little Endian.
@@ -13,12 +14,13 @@ pub enum Coding {
     Explicit,
     /// Explicit VR Little Endian, in which Pixel Data of undefined length is encapsulated.
     Encapsulated,
-    /// What encapsulated Pixel Data holds: items of bytes.
+    /// The value of encapsulated Pixel Data: a sequence of fragments, which are items that contain
+    /// bytes and no elements (PS3.5 section A.4).
     Fragments,
 }
 
 impl Coding {
-    /// Returns the coding of a data set in this syntax, in which no Pixel Data is encapsulated.
+    /// Returns the encoding of a data set in this syntax with native Pixel Data.
     pub fn of(syntax: Syntax) -> Coding
         ensures { result ≡ codings.coding_of syntax }
     {
@@ -28,7 +30,7 @@ impl Coding {
         }
     }
 
-    /// Returns how headers are laid out in it.
+    /// Returns the layout of headers in this encoding: Implicit VR has no VR in them, all others do.
     pub fn layout(self) -> Syntax
         ensures { result ≡ codings.layout self }
     {
@@ -40,7 +42,7 @@ impl Coding {
         }
     }
 
-    /// Returns whether its items hold bytes, and no elements.
+    /// Returns whether items contain bytes instead of elements: true for `Fragments` alone.
     pub fn has_fragments(self) -> bool
         ensures { result ≡ codings.has_fragments self }
     {

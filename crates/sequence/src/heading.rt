@@ -1,4 +1,4 @@
-//! Where a header ends.
+//! Finds the end of a header whose bytes may come in several pieces.
 ghost use Rattle.std.specs.Prelude.{◌≡◌, ◌≤◌, ◌<◌, ◌^◌, ◌+◌, ◌++◌, take, length, IfSome};
 ghost use Rattle.arrayvec.specs.ArrayVec.{array_vec_len};
 ghost use Rattle.sequence.specs.machine.Judging.{limits_by};
@@ -13,14 +13,14 @@ use crate::wanted::Wanted;
 use arrayvec::ArrayVec;
 use element::{Header, Need, Tag, need, read_header};
 
-/// Where a header ends in some bytes.
+/// The end of a header in some bytes.
 #[derive(Clone, Copy)]
 pub enum End {
-    /// After so many bytes this rule is broken; the tag of the fault.
+    /// The first so many bytes break this rule; the tag of the fault.
     Refused(usize, Rule, Tag),
-    /// After so many bytes the header is whole; what follows it.
+    /// The header has so many bytes; its fields, and what follows it.
     Whole(usize, Header, Shape),
-    /// The header goes on.
+    /// The bytes end before the header does, and break no rule.
     Part,
 }
 
@@ -36,7 +36,8 @@ fn is_whole_header(end: &End) -> bool
     matches!(end, End::Whole(_, _, _))
 }
 
-/// Examines the first `count` bytes, where they are there and more than `begun`.
+/// Checks the first `count` bytes of a header. Returns `End::Part` without a check if there are fewer,
+/// or if `count` is at most `begun`, the number of bytes that were checked before.
 fn examine(
     wanted: &Wanted,
     bounds: &Bounds,
@@ -67,8 +68,8 @@ fn examine(
     }
 }
 
-/// Finds where a header ends after its first `begun` bytes, which break no rule: only at four bytes, at six and at its
-/// end can a rule be broken that was not before.
+/// Finds the end of a header whose first `begun` bytes, at least one, break no rule. Further rules can
+/// be broken only by the fourth byte (tag), the sixth (VR) and the last (length).
 fn end_after(wanted: &Wanted, bounds: &Bounds, spot: &Spot, bytes: &[u8], begun: usize) -> End
     requires place { spot.now.place < 2 ^ 49 }
     requires begun { begun ≤ length bytes.now }
@@ -85,12 +86,14 @@ fn end_after(wanted: &Wanted, bounds: &Bounds, spot: &Spot, bytes: &[u8], begun:
     }
     match need(spot.syntax.layout(), bytes) {
         Need::Size(size) => examine(wanted, bounds, spot, bytes, begun, size),
+        // Two arms, as the proof answers each for itself.
         Need::More => End::Part,
         Need::BadVr => End::Part,
     }
 }
 
-/// Looks at a header from its front on. The first `begun` bytes, if any, break no rule.
+/// Finds the end of a header and checks its bytes in their order, from the first. The first `begun`
+/// bytes, which may be none, break no rule.
 fn end_from_front(wanted: &Wanted, bounds: &Bounds, spot: &Spot, bytes: &[u8], begun: usize) -> End
     requires place { spot.now.place < 2 ^ 49 }
     requires more { begun < length bytes.now }
@@ -108,8 +111,9 @@ fn end_from_front(wanted: &Wanted, bounds: &Bounds, spot: &Spot, bytes: &[u8], b
     }
 }
 
-/// Finds where a header ends in the bytes, of which the first `begun` came before. A header whose bytes are all there
-/// is examined once; what is refused or unfinished is looked at from its front.
+/// Finds the end of a header in its bytes, the first `begun` of which were checked before. A header
+/// that is whole is checked once; only if that finds a fault, or the header is unfinished, it is
+/// checked in the order of its bytes.
 fn end_in(wanted: &Wanted, bounds: &Bounds, spot: &Spot, bytes: &[u8], begun: usize) -> End
     requires place { spot.now.place < 2 ^ 49 }
     requires more { begun < length bytes.now }
@@ -125,7 +129,8 @@ fn end_in(wanted: &Wanted, bounds: &Bounds, spot: &Spot, bytes: &[u8], begun: us
     end_from_front(wanted, bounds, spot, bytes, begun)
 }
 
-/// Adds the first bytes of the piece, up to twelve together.
+/// Appends the first bytes of the piece to those of the header, until there are 12, the size of the
+/// longest header.
 fn gather(header: &mut ArrayVec<u8, 12>, piece: &[u8])
     requires { array_vec_len header.old ≤ 11 }
     ensures { header.new.items ≡ take 12 (header.old.items ++ piece.now) }
@@ -138,8 +143,9 @@ fn gather(header: &mut ArrayVec<u8, 12>, piece: &[u8])
     }
 }
 
-/// Finds where the header ends whose kept bytes are put together with those of the piece. Of a header that goes on all
-/// bytes are kept then, and else none.
+/// Finds the end of a header whose first bytes are in the buffer `header` and whose next ones are those
+/// of the piece. The buffer has the bytes of an unfinished header afterwards, and is empty where the
+/// header ended.
 fn gathered_end(
     wanted: &Wanted,
     bounds: Bounds,
@@ -163,7 +169,7 @@ fn gathered_end(
     end
 }
 
-/// Reads the header at the front of the piece, if all of its bytes are there and it breaks no rule.
+/// Reads the header at the front of the piece. Returns `None` if it is unfinished or breaks a rule.
 fn whole_header(wanted: &Wanted, bounds: &Bounds, spot: &Spot, piece: &[u8]) -> Option<Front>
     requires place { spot.now.place < 2 ^ 49 }
     requires more { 0 < length piece.now }
@@ -177,8 +183,9 @@ fn whole_header(wanted: &Wanted, bounds: &Bounds, spot: &Spot, piece: &[u8]) -> 
     }
 }
 
-/// Finds where the header ends of which some bytes are kept, and whose next bytes are those of the piece: straight from
-/// the piece, where it is whole there. Of a header that goes on all bytes are kept then, and else none.
+/// Finds the end of a header whose first bytes, if any, are in the buffer `header` and whose next ones
+/// are those of the piece. A header that is whole in the piece is read there, without a copy. The
+/// buffer has the bytes of an unfinished header afterwards, and is empty where the header ended.
 pub fn header_end(
     wanted: &Wanted,
     bounds: &Bounds,

@@ -1,4 +1,4 @@
-//! The values that are kept, one after the other in a fixed room.
+//! The buffer of the wanted values of a data set, one after the other in a fixed capacity.
 ghost use Rattle.std.specs.Prelude.{◌≡◌, ◌≤◌, ◌<◌, ◌^◌, ◌+◌, ◌-◌, ◌++◌, ◌∷◌, [], IsTrue, IfSome, length, if◌then◌else◌, slice_set, true, option_map};
 ghost use Rattle.arrayvec.specs.ArrayVec.{array_vec_len};
 ghost use Rattle.sequence.specs.Wanted.{rooms, is_wanted, room_of, value_of};
@@ -12,10 +12,11 @@ use arrayvec::ArrayVec;
 
 mod fields;
 
-/// The length of a value that did not come.
+/// Stands in place of the length of a value that the data set has not reached.
 const ABSENT: u32 = 0xffff_ffff;
 
-/// The lengths of the values that are reported: that of the last one is left out where it is begun.
+/// Returns the lengths of the values that are complete. `begun` says that the value at index `slot` is
+/// unfinished: it counts as absent.
 fn told_lengths(lengths: &[u32; 16], slot: usize, begun: bool) -> [u32; 16]
     requires { begun ≡ true → slot < 16 }
     ensures { result ≡ (if begun then slice_set lengths.now slot absent else lengths.now) }
@@ -27,8 +28,9 @@ fn told_lengths(lengths: &[u32; 16], slot: usize, begun: bool) -> [u32; 16]
     told
 }
 
-/// The value of this tag, among those of these lengths that stand one after the other.
-#[tactic(auto, using(crate::proofs::Storing::look_absent, crate::proofs::Storing::look_here, crate::proofs::Storing::look_on, crate::proofs::Storing::look_end, crate::proofs::Storing::size_absent, crate::proofs::Storing::size_on))]
+/// Returns the value of this tag. `bytes` has the values one after the other, in the order of `list`,
+/// each of its entry of `lengths`.
+#[tactic(auto, using(crate::proofs::WantedValues::OneRoom::look_absent, crate::proofs::WantedValues::OneRoom::look_here, crate::proofs::WantedValues::OneRoom::look_on, crate::proofs::WantedValues::OneRoom::look_end, crate::proofs::WantedValues::OneRoom::size_absent, crate::proofs::WantedValues::OneRoom::size_on))]
 fn find_value<'a>(list: &[Want], lengths: &[u32; 16], bytes: &'a [u8], tag: u32) -> Option<&'a [u8]>
     requires few { length list.now ≤ 16 }
     requires fit { counts list.now lengths.now ≤ length bytes.now }
@@ -49,15 +51,16 @@ fn find_value<'a>(list: &[Want], lengths: &[u32; 16], bytes: &'a [u8], tag: u32)
     None
 }
 
-/// The wanted values that came: their lengths in the order of the wanted tags, and their bytes.
+/// The wanted values that were read so far, in a buffer of `V` bytes: the length of each, in the order
+/// of the wanted tags, and their bytes.
 #[derive(Drop)]
 pub struct Keep<const V: usize> {
     wanted: Wanted,
     lengths: [u32; 16],
     bytes: ArrayVec<u8, V>,
-    /// Which of them came last.
+    /// The index, among the wanted tags, of the value that was read last.
     slot: usize,
-    /// Its tag as a number.
+    /// The tag of that value as a number, 0 if there is none.
     last: u32,
     ghost greatest: { V ≤ 2 ^ 24 },
     ghost fit: { rooms wanted.list.items + 12 ≤ V },
@@ -90,7 +93,8 @@ impl<const V: usize> Keep<V> {
         }
     }
 
-    /// Begins the value of a tag above those that came, if it is wanted, and returns whether it is.
+    /// Starts an empty value for a tag above all earlier ones, if the tag is wanted. Returns whether it
+    /// is.
     pub fn begin(&mut self, tag: u32) -> bool
         requires { self.old.last < tag }
         ensures wanted { result ≡ is_wanted (wants_of self.old) tag }
@@ -110,7 +114,7 @@ impl<const V: usize> Keep<V> {
         }
     }
 
-    /// Adds bytes to the value that came last, which has room left for them.
+    /// Appends bytes to the value that was started last. They must not make it longer than its limit.
     pub fn extend(&mut self, bytes: &[u8])
         requires some { 0 < length bytes.now }
         requires room { length bytes.now ≤ left_of_keep self.old }
@@ -123,7 +127,7 @@ impl<const V: usize> Keep<V> {
         let _fits = self.bytes.try_extend_from_slice(bytes);
     }
 
-    /// Adds bytes to the value that came last, where it is kept.
+    /// Appends bytes to the value that was started last, if `kept` says that it is a wanted one.
     pub fn extend_if(&mut self, kept: bool, bytes: &[u8])
         requires some { 0 < length bytes.now }
         requires room { kept ≡ true → length bytes.now ≤ left_of_keep self.old }
@@ -137,7 +141,7 @@ impl<const V: usize> Keep<V> {
         }
     }
 
-    /// Returns how many bytes are kept.
+    /// Returns the number of bytes of all values in the buffer.
     pub fn len(&self) -> usize
         ensures value { result ≡ size_of_values (values_of self.now) }
         ensures all { result ≡ array_vec_len self.now.bytes }
@@ -146,7 +150,8 @@ impl<const V: usize> Keep<V> {
         self.bytes.len()
     }
 
-    /// Returns the value of this tag, if it came, leaving out the last one where it is unfinished.
+    /// Returns the value of this tag, or `None` if it is not wanted or was not read. `begun` says that
+    /// the last value is unfinished: it is left out.
     pub fn value(&self, tag: u32, begun: bool) -> Option<&[u8]>
         requires { begun ≡ true → 0 < left_of_keep self.now }
         ensures { option_map (λ bytes. bytes.now) result ≡ value_of (told_values begun (values_of self.now)) tag }

@@ -1,5 +1,5 @@
-//! What follows from the definitions, and the texts on which they are tried: each the contract of a function that does
-//! nothing.
+//! Lemmas on the definitions of this crate, and examples of them, each stated as the contract of a
+//! function with an empty body. A text is the bytes of a data set, or of the front of one.
 ghost use Rattle.std.specs.Prelude.{◌≡◌, ◌∷◌, []};
 ghost use Rattle.sequence.specs.Rules.{bad_vr, odd_length, not_rising, bad_group, undefined_not_allowed, unexpected_tag, delimiter_length, overrun, too_deep, too_long, truncated, kept_too_long};
 ghost use Rattle.sequence.specs.Ending.{WholeBreaksNoRule, WholeHasNoFault, FaultIsFinal};
@@ -10,7 +10,7 @@ ghost use Rattle.sequence.specs.Examples.{OneFrame, TwoFrames, AnIcon, NoFragmen
 
 use crate::fault::Fault;
 
-/// The numbers of the rules are the definitions'.
+/// Returns the numbers of the rules as [`Fault`] names them: they equal those of the definitions.
 pub fn rule_numbers() -> [u8; 12]
     ensures { result ≡ bad_vr ∷ odd_length ∷ not_rising ∷ bad_group ∷ undefined_not_allowed ∷ unexpected_tag ∷ delimiter_length ∷ overrun ∷ too_deep ∷ too_long ∷ truncated ∷ kept_too_long ∷ [] }
 {
@@ -30,144 +30,154 @@ pub fn rule_numbers() -> [u8; 12]
     ]
 }
 
-/// Three bytes of a header inside a sequence and an item of undefined length: two levels are open,
-/// and 35 bytes are held.
+/// Example: three bytes of a header inside a sequence and an item of undefined length. Two levels are
+/// open, and `Walker::held` is 35: 3, and 16 for each level.
 pub fn two_open_levels()
     ensures { TwoOpenLevels }
 {}
 
-/// Levels that end at the same byte are closed together.
+/// Example: three of four nested levels have defined length and end at the same byte. They are closed
+/// together; the fourth ends with its delimitation.
 pub fn four_levels_that_end_together()
     ensures { FourLevels }
 {}
 
-/// A header past the end of its item is refused where no header fits any more.
+/// Example: a header that passes the end of its item breaks the rule `Overrun` at the first byte after
+/// which no header fits.
 pub fn a_header_past_its_item()
     ensures { PastItsItem }
 {}
 
-/// A level above the limit is refused; an empty one opens none.
+/// Example: one level more than the limit breaks the rule `TooDeep`. An empty sequence or item opens no
+/// level.
 pub fn deeper_than_the_limit()
     ensures { TooDeep }
 {}
 
-/// Unknown content of undefined length has items in Implicit; pixel data may not have it.
+/// Example: an element of VR UN and undefined length contains items in Implicit VR (PS3.5 section
+/// 6.2.2). Native Pixel Data may not have undefined length.
 pub fn unknown_content()
     ensures { UnknownContent }
 {}
 
-/// What is reported of the data set of one CT store.
+/// Example: the levels, the position and the wanted values after the data set of a CT image.
 pub fn one_store()
     ensures { OneStore }
 {}
 
-/// What a step returns along the data set of one CT store.
+/// Example: what [`Walker::step`](crate::Walker::step) returns at each step of the data set of a CT
+/// image.
 pub fn along_one_store()
     ensures { AlongOneStore }
 {}
 
-/// What a step returns along four levels.
+/// Example: what [`Walker::step`](crate::Walker::step) returns at each step of four nested levels.
 pub fn along_four_levels()
     ensures { AlongFourLevels }
 {}
 
-/// Encapsulated Pixel Data opens one level, and is not allowed in Explicit.
+/// Example: encapsulated Pixel Data opens one level. It breaks a rule where the transfer syntax is not
+/// an encapsulated one.
 pub fn one_frame()
     ensures { OneFrame }
 {}
 
-/// Its first fragment may say where the frames begin: the walk goes over it as over any other.
+/// Example: encapsulated Pixel Data with a Basic Offset Table in its first item, which is walked as any
+/// fragment.
 pub fn two_frames()
     ensures { TwoFrames }
 {}
 
-/// Encapsulated Pixel Data in an item of Icon Image Sequence.
+/// Example: encapsulated Pixel Data in an item of Icon Image Sequence.
 pub fn an_icon()
     ensures { AnIcon }
 {}
 
-/// What is refused where a fragment is due.
+/// Examples: headers that break a rule where a fragment has to follow.
 pub fn no_fragment()
     ensures { NoFragment }
 {}
 
-/// What a step returns along encapsulated Pixel Data.
+/// Example: what [`Walker::step`](crate::Walker::step) returns at each step of encapsulated Pixel Data.
 pub fn along_one_frame()
     ensures { AlongOneFrame }
 {}
 
-/// The first fault of a text is that of every text that goes on from it.
+/// The first fault of a text is also the first fault of every text that extends it.
 pub fn a_fault_stays()
     ensures { FaultStays }
 {}
 
-/// What is reported after a refusal is reported for good.
+/// What a walker reports after a fault stays the same, whatever bytes follow.
 pub fn a_refusal_stays()
     ensures { RefusalStays }
 {}
 
-/// A text spells one data set at most.
+/// A text encodes at most one data set.
 pub fn one_tree()
     ensures { OneTree }
 {}
 
-/// A sequence in a data set in one of the two syntaxes is in one, too.
+/// A sequence inside a data set in Implicit or Explicit VR Little Endian is itself in one of these two.
 pub fn native_inside()
     ensures { NativeInside }
 {}
 
-/// Such a sequence has no fragments.
+/// A data set in Implicit or Explicit VR Little Endian contains no fragments.
 pub fn native_has_none()
     ensures { NativeHasNone }
 {}
 
-/// In the two syntaxes no Pixel Data is encapsulated.
+/// Implicit and Explicit VR Little Endian have native Pixel Data alone.
 pub fn syntaxes_are_native()
     ensures { SyntaxesAreNative }
 {}
 
-/// What is a data set in Explicit is one, with the same elements, where Pixel Data may be encapsulated.
+/// A data set in Explicit VR Little Endian is also a data set, with the same elements, in the encoding
+/// in which Pixel Data may be encapsulated.
 pub fn explicit_is_encapsulated()
     ensures { ExplicitIsEncapsulated }
 {}
 
-/// A text has one list of whole elements, one path, one last tag and one tail at most.
+/// A text determines its whole elements, its open levels, the last tag of the innermost level and its
+/// unfinished header or value.
 pub fn one_path()
     ensures { OnePath }
 {}
 
-/// A level of defined length lacks no less than any such level inside it.
+/// As many bytes or more are missing from a level of defined length as from any such level inside it.
 pub fn ends_are_nested()
     ensures { EndsAreNested }
 {}
 
-/// A level of defined length that lacks nothing is open only for a level of undefined length inside it.
+/// A level of defined length whose bytes are all there is still open only if a level of undefined
+/// length inside it is.
 pub fn a_whole_level_has_an_open_one_inside()
     ensures { WholeHasOpenInside }
 {}
 
-/// A text has one first fault at most.
+/// A text has at most one first fault.
 pub fn one_fault()
     ensures { OneFault }
 {}
 
-/// There is at most one report after a text.
+/// A text determines what a walker reports after it.
 pub fn one_telling()
     ensures { OneTelling }
 {}
 
-/// What is to be held after a text is determined.
+/// A text determines how many bytes a walker holds after it.
 pub fn one_holding()
     ensures { OneHolding }
 {}
 
-/// There is a report after every text of bytes.
+/// The definition of a walker's report covers every text.
 pub fn some_telling()
     ensures { SomeTelling }
 {}
 
-/// After a text of bytes a walk holds at most an unfinished header, the rooms of the wanted values, and 16 bytes for
-/// each level of the limit.
+/// After any text a walker holds at most one unfinished header, the greatest sizes of the wanted
+/// values, and 16 bytes for each level of the limit.
 pub fn held_has_a_bound()
     ensures { HeldHasABound }
 {}
@@ -177,22 +187,22 @@ pub fn whole_breaks_no_rule()
     ensures { WholeBreaksNoRule }
 {}
 
-/// No text is both a whole data set within its limits and faulty.
+/// A whole data set within its limits has no fault.
 pub fn whole_has_no_fault()
     ensures { WholeHasNoFault }
 {}
 
-/// A fault comes only where no text that goes on is a data set within its limits.
+/// A text has a fault only if no text that extends it is a data set within its limits.
 pub fn a_fault_is_final()
     ensures { FaultIsFinal }
 {}
 
-/// The text of no byte breaks no rule.
+/// The empty text breaks no rule.
 pub fn nothing_is_unbroken()
     ensures { NothingIsUnbroken }
 {}
 
-/// No byte at all is an unfinished header.
+/// The empty text counts as an unfinished header.
 pub fn no_header()
     ensures { NoHeader }
 {}
@@ -207,7 +217,7 @@ pub fn bytes_are_joined()
     ensures { BytesAreJoined }
 {}
 
-/// A walker that refused has taken any bytes that come after.
+/// A walker that has found a fault is in the same state after any further bytes.
 pub fn a_refused_walker_stands()
     ensures { RefusedStands }
 {}

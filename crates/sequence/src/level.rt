@@ -1,33 +1,36 @@
-//! Open levels.
+//! Open levels: sequences and items that the walker is inside of.
 ghost use Rattle.std.specs.Prelude.{◌≡◌, ℕ, ◌<◌, ◌≤◌, ◌^◌, ◌+◌, ◌-◌, length, IfSome};
 ghost use Rattle.sequence.specs.Fields as fields;
 
 use crate::coding::Coding;
 
-/// A level, or the data set itself, which has no end.
+/// A sequence or an item that is being read, or the data set itself.
 #[derive(Clone, Copy)]
 pub struct Scope {
+    /// It is a sequence, which has items; else it has elements.
     pub in_sequence: bool,
     pub syntax: Coding,
+    /// The position of its end in the data set, in bytes; `None` if its length is undefined, and for the
+    /// data set itself.
     pub stop: Option<u64>,
+    /// The tag of its last element as a number, 0 if there is none.
     pub last: u32,
 }
 
-/// An open level. It counts as 16 bytes of what a walker holds.
+/// An open level, a [`Scope`] packed into 16 bytes.
 #[derive(Clone, Copy, Default)]
 pub struct Level {
-    /// The place of its end, or `u64::MAX` if its length is undefined.
+    /// The position of its end in the data set, in bytes, or `u64::MAX` if its length is undefined.
     pub end: u64,
-    /// The tag of the last element that began in it as a number, 0 if there is none.
+    /// The tag of its last element as a number, 0 if there is none.
     pub last: u32,
     /// 1 if it is a sequence, 0 if it is an item.
     pub kind: u8,
-    /// 1 if it is in Implicit VR Little Endian, 0 if it is in Explicit; 2 if its Pixel Data may be encapsulated, 3 if it
-    /// is such Pixel Data.
+    /// The [`Coding`] as a number: 0 `Explicit`, 1 `Implicit`, 2 `Encapsulated`, 3 `Fragments`.
     pub implicit: u8,
 }
 
-/// The coding with this number.
+/// Returns the encoding with this number (see [`Level::implicit`]).
 fn coding_by(number: u8) -> Coding
     ensures { result ≡ fields.coding_by number }
 {
@@ -79,7 +82,7 @@ impl Level {
         }
     }
 
-    /// Whether the level ends here.
+    /// Returns whether the level has defined length and ends at this position.
     pub(crate) fn ends_at(&self, place: u64) -> bool
         requires { place < 2 ^ 64 - 1 }
         ensures { result ≡ stops_at (scope_of self.now).stop place }
@@ -87,7 +90,7 @@ impl Level {
         self.end == place
     }
 
-    /// Notes the tag of the last element that began in the level.
+    /// Sets the tag of the level's last element, as a number.
     pub(crate) fn set_last(&mut self, last: u32)
         ensures { scope_of self.new ≡ record (scope_of self.old) { last = last } }
     {

@@ -1,4 +1,4 @@
-// The open levels, and what is due in them.
+//! The stack of open levels, the innermost last.
 ghost use Rattle.std.specs.Prelude.{◌≡◌, ℕ, ◌<◌, ◌≤◌, ◌^◌, ◌+◌, ◌-◌, ◌&&◌, not, nat_eq, None, [], length, get_or, IsTrue, IfSome};
 ghost use Rattle.element.specs.Header.{number};
 ghost use Rattle.arrayvec.specs.ArrayVec.{array_vec_len};
@@ -14,7 +14,7 @@ use crate::spot::Spot;
 use arrayvec::ArrayVec;
 use element::Tag;
 
-/// Returns whether the innermost level ends here.
+/// Returns whether the innermost level has defined length and ends at position `place`.
 pub fn ends_here<const D: usize>(levels: &ArrayVec<Level, D>, place: u64) -> bool
     requires { place < 2 ^ 64 - 1 }
     ensures some { IsTrue result → 0 < array_vec_len levels.now }
@@ -26,7 +26,7 @@ pub fn ends_here<const D: usize>(levels: &ArrayVec<Level, D>, place: u64) -> boo
     }
 }
 
-/// Leaves the levels that end here.
+/// Removes the levels that end at position `place`, from the innermost one outwards.
 pub fn leave_ended<const D: usize>(levels: &mut ArrayVec<Level, D>, place: u64)
     requires { place < 2 ^ 64 - 1 }
     ensures { LeavesEnded place levels.old.items levels.new.items }
@@ -36,7 +36,8 @@ pub fn leave_ended<const D: usize>(levels: &mut ArrayVec<Level, D>, place: u64)
     }
 }
 
-/// Returns the nearest end of a level of defined length, from the innermost one outwards.
+/// Returns the end of the innermost level of defined length, as a position, or `None` if there is no
+/// such level. No enclosing level ends before it.
 pub fn nearest(levels: &[Level]) -> Option<u64>
     ensures { result ≡ nearest_from None levels.now }
 {
@@ -50,7 +51,7 @@ pub fn nearest(levels: &[Level]) -> Option<u64>
     None
 }
 
-/// Returns how many bytes are left before this end after `place` bytes.
+/// Returns how many bytes are left from position `place` to this end; `None` for no end.
 pub fn left_before(near: Option<u64>, place: u64) -> Option<u64>
     ensures { result ≡ less near place }
 {
@@ -70,14 +71,14 @@ pub fn top_scope(root: Scope, levels: &[Level]) -> Scope
     }
 }
 
-/// Returns whether the innermost level is one of undefined length: the data set itself is none.
+/// Returns whether a level is open and the innermost one has undefined length.
 pub fn is_open_ended(top: Scope, levels: &[Level]) -> bool
     ensures { result ≡ (is_none top.stop && not (nat_eq (length levels.now) 0)) }
 {
     top.stop.is_none() && !levels.is_empty()
 }
 
-/// Returns where a header is due after `place` bytes.
+/// Returns the context of a header that begins at position `place`.
 pub fn spot_at(root: Scope, levels: &[Level], place: u64) -> Spot
     requires { root.stop ≡ None }
     ensures { result ≡ spot_of (top_of root levels.now) (below_of root [] levels.now) place }
@@ -96,7 +97,8 @@ pub fn spot_at(root: Scope, levels: &[Level], place: u64) -> Spot
     }
 }
 
-/// Makes this tag the last one of the innermost data set.
+/// Sets the tag of the last element of the innermost level, or of the data set itself where none is
+/// open.
 pub fn set_last<const D: usize>(root: &mut Scope, levels: &mut ArrayVec<Level, D>, tag: Tag)
     ensures top { top_of root.new levels.new.items ≡ begun (top_of root.old levels.old.items) tag }
     ensures below { below_of root.new [] levels.new.items ≡ below_of root.old [] levels.old.items }
@@ -112,7 +114,8 @@ pub fn set_last<const D: usize>(root: &mut Scope, levels: &mut ArrayVec<Level, D
     }
 }
 
-/// Where a level ends after its header.
+/// Returns the end of a level of this length whose header ends at position `place`; `None` if the
+/// length is undefined.
 fn stop_at(place: u64, length: u32) -> Option<u64>
     requires { place < 2 ^ 49 }
     ensures stop { result ≡ stop_of place length }
@@ -125,7 +128,7 @@ fn stop_at(place: u64, length: u32) -> Option<u64>
     }
 }
 
-/// Returns the level that an item opens after its header.
+/// Returns the level of an item of this length whose header ends at position `place`.
 pub fn item_scope(syntax: Coding, place: u64, length: u32) -> Scope
     requires { place < 2 ^ 49 }
     ensures scope { result ≡ set_scope syntax (stop_of place length) 0 }
@@ -139,7 +142,7 @@ pub fn item_scope(syntax: Coding, place: u64, length: u32) -> Scope
     }
 }
 
-/// Returns the level that a sequence opens after its header.
+/// Returns the level of a sequence of this length whose header ends at position `place`.
 pub fn sequence_scope(syntax: Coding, place: u64, length: u32) -> Scope
     requires { place < 2 ^ 49 }
     ensures scope { result ≡ sequence_scope syntax (stop_of place length) }

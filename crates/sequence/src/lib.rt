@@ -1,4 +1,5 @@
-//! Walks a data set in pieces, in fixed memory (PS3.5 chapter 7).
+//! Reads the structure of a data set that comes in pieces, without keeping more of it than an
+//! unfinished header, the open levels and the wanted values (PS3.5 chapter 7).
 #![tactic(auto)]
 
 mod answering;

@@ -1,4 +1,4 @@
-//! Reads the beginning of a header.
+//! Reads whole headers together with what follows them.
 ghost use Rattle.std.specs.Prelude.{◌≡◌, ◌≤◌, length, true, Some, IfSome};
 ghost use Rattle.element.specs.Header as spelling;
 ghost use Rattle.sequence.specs.machine.Heading.{IsFront};
@@ -11,7 +11,7 @@ use crate::shape::{Shape, named_shape, plain_shape};
 use byteorder::{ByteOrder, LittleEndian};
 use element::{Header, Need, Syntax, Tag, Vr, need, read_tag};
 
-/// Returns whether a header with this tag has no VR.
+/// Returns whether a header with this tag has no VR: in Implicit VR, and for group FFFE.
 pub fn is_plain(syntax: Syntax, tag: Tag) -> bool
     ensures { result ≡ spelling.is_plain syntax tag }
 {
@@ -21,7 +21,7 @@ pub fn is_plain(syntax: Syntax, tag: Tag) -> bool
     }
 }
 
-/// Returns whether a header is whole in the bytes.
+/// Returns whether the bytes contain the whole header at their front.
 #[tactic(auto, unfolding(element::specs::Header::is_whole))]
 pub fn is_whole(syntax: Syntax, bytes: &[u8]) -> bool
     ensures { result ≡ spelling.is_whole syntax bytes.now }
@@ -36,14 +36,14 @@ pub fn is_whole(syntax: Syntax, bytes: &[u8]) -> bool
 /// A whole header at the front of some bytes.
 #[derive(Clone, Copy)]
 pub struct Front {
-    /// How many bytes it takes.
+    /// The size of the header, 8 or 12 bytes.
     pub size: usize,
     pub header: Header,
-    /// What follows it.
+    /// What follows the header.
     pub shape: Shape,
 }
 
-/// Reads the header of eight bytes without a VR.
+/// Reads a header of eight bytes without a VR. The tag has been read from its first four.
 #[tactic(auto, unfolding(element::specs::Header::need, element::specs::Header::header_at))]
 fn plain_front(coding: Coding, tag: Tag, bytes: &[u8]) -> Front
     requires size { 8 ≤ length bytes.now }
@@ -63,7 +63,7 @@ fn plain_front(coding: Coding, tag: Tag, bytes: &[u8]) -> Front
     }
 }
 
-/// A header with a VR.
+/// Returns the header of `size` bytes with these fields, and what follows it.
 fn named_front(coding: Coding, size: usize, tag: Tag, vr: Vr, length: u32) -> Front
     ensures { result ≡ record { size = size; header = record { tag = tag; vr = Some vr; length = length }; shape = shape_by coding tag (Some vr) (known.vr_of tag) (is_undefined length) } }
 {
@@ -78,7 +78,8 @@ fn named_front(coding: Coding, size: usize, tag: Tag, vr: Vr, length: u32) -> Fr
     }
 }
 
-/// Reads the header at the front of the bytes, where it is whole.
+/// Reads the header at the front of the bytes. Returns `None` if it is unfinished, or has no valid VR
+/// where it must have one.
 pub fn read_front(coding: Coding, bytes: &[u8]) -> Option<Front>
     ensures { IfSome result (λ front. IsFront coding bytes.now front) }
 {

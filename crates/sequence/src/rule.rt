@@ -1,39 +1,40 @@
-//! The rules of a data set.
+//! The rules that a data set has to obey.
 ghost use Rattle.std.specs.Prelude.{◌≡◌, ◌≤◌, length};
 ghost use Rattle.std.specs.List.{find};
 ghost use Rattle.sequence.specs.Names as names;
 
-/// A rule of a data set (PS3.5 chapter 7; the limits and the numbers are this product's own
-/// profile). Its number is its discriminant.
+/// A rule that a data set has to obey (PS3.5 chapter 7; the limits and the numbers are this product's
+/// own profile). The variant says how it is broken. Its discriminant is the number that is logged and
+/// printed.
 #[derive(Clone, Copy, Debug, PartialEq, Eq)]
 pub enum Rule {
-    /// No two capital letters where a VR is due.
+    /// A header in Explicit VR has no two capital letters in the place of its VR.
     BadVr = 10,
     /// A defined length that is odd.
     OddLength = 11,
-    /// A tag that is not above the last one of its data set.
+    /// A tag that is not above that of the element before it in the same data set or item.
     Order = 12,
-    /// Group 0000 or 0002.
+    /// A tag of group 0000 or 0002, which no data set contains.
     BadGroup = 13,
-    /// An undefined length that the element or the fragment may not have.
+    /// An element or a fragment with undefined length that may not have it.
     UndefinedLength = 14,
-    /// An item or a delimitation out of place, or something else where one is due.
+    /// An item or a delimitation where none may stand, or another element where one has to.
     UnexpectedTag = 15,
     /// A delimitation whose length is not 0.
     DelimiterLength = 16,
-    /// Past the end of a level of defined length.
+    /// A header, value, sequence or item that passes the end of the sequence or item around it.
     Overrun = 17,
-    /// More open levels than the limit.
+    /// More nested sequences and items than the limit.
     TooDeep = 18,
-    /// More bytes than the limit.
+    /// A data set of more bytes than the limit.
     TooLong = 19,
-    /// The text ends inside a header, a value or a level.
+    /// The data set ends inside a header, a value, a sequence or an item.
     Truncated = 20,
-    /// A wanted value longer than its room.
+    /// A wanted value that is longer than its limit (see [`Want`](crate::Want)).
     KeptTooLong = 21,
 }
 
-/// The first of these rules that has this number.
+/// Returns the first of these rules with this number.
 fn first_with(rules: &[Rule], number: u8) -> Option<Rule>
     ensures { result ≡ find (names.has_number number) rules.now }
 {
@@ -41,7 +42,7 @@ fn first_with(rules: &[Rule], number: u8) -> Option<Rule>
 }
 
 impl Rule {
-    /// The rules, in the order of their numbers.
+    /// Returns all rules, in the order of their numbers.
     fn all() -> [Rule; 12]
         ensures { result ≡ names.all_rules }
     {
@@ -68,14 +69,14 @@ impl Rule {
         first_with(&Rule::all(), number)
     }
 
-    /// Returns its number, from 10 to 21.
+    /// Returns the number of the rule, from 10 to 21.
     pub fn number(self) -> u8
         ensures { result ≡ names.rule_number self }
     {
         self as u8
     }
 
-    /// Returns its name, as it is printed.
+    /// Returns the name of the rule, as it is printed: that of the variant, at most 16 bytes.
     pub fn name(self) -> &'static str
         ensures value { result.now ≡ names.text_of_rule self }
         ensures short { length result.now ≤ 16 }

@@ -1,4 +1,4 @@
-//! What follows the header of an element (PS3.5 sections 6.2.2 and 7.5).
+//! Tells values from sequences by their headers (PS3.5 sections 6.2.2 and 7.5).
 ghost use Rattle.std.specs.Prelude.{◌≡◌, None, Some};
 ghost use Rattle.dictionary.specs.Tags as known;
 ghost use Rattle.sequence.specs.Shape as shapes;
@@ -13,11 +13,11 @@ pub const UNDEFINED: u32 = 0xffff_ffff;
 /// What follows the header of an element.
 #[derive(Clone, Copy, Debug)]
 pub enum Shape {
-    /// As many bytes as the length says.
+    /// A value of as many bytes as the length of the header says.
     Value,
-    /// Items that are laid out so.
+    /// The items of a sequence, in this encoding.
     Sequence(Coding),
-    /// Nothing that could be read.
+    /// Nothing that can be read: the length is undefined, and the element may not have it.
     NotAllowed,
 }
 
@@ -83,7 +83,7 @@ fn implicit_shape(known: Option<Vr>, undefined: bool) -> Shape
     }
 }
 
-/// Returns the shape of the element with this header, in a data set that is laid out so.
+/// Returns what follows this header of an element in a data set of this encoding.
 pub fn shape_of(coding: Coding, header: &Header) -> Shape
     ensures { result ≡ shapes.shape coding header.now }
 {
@@ -93,7 +93,8 @@ pub fn shape_of(coding: Coding, header: &Header) -> Shape
     }
 }
 
-/// Returns the shape of the element with this header without a VR.
+/// Returns what follows the header of an element that has no VR, with this tag and length. In Implicit
+/// VR the VR is taken from the dictionary.
 pub fn plain_shape(coding: Coding, tag: Tag, length: u32) -> Shape
     ensures { result ≡ shapes.shape_by coding tag None (known.vr_of tag) (shapes.is_undefined length) }
 {
@@ -105,7 +106,7 @@ pub fn plain_shape(coding: Coding, tag: Tag, length: u32) -> Shape
     }
 }
 
-/// Returns the shape of the element with this header with a VR.
+/// Returns what follows the header of an element with this tag, VR and length.
 pub fn named_shape(coding: Coding, tag: Tag, vr: Vr, length: u32) -> Shape
     ensures { result ≡ shapes.shape_by coding tag (Some vr) (known.vr_of tag) (shapes.is_undefined length) }
 {

@@ -1,25 +1,27 @@
-//! Where a header is due.
+//! The context of a header.
 use crate::coding::Coding;
 
-/// Where a header is due: what decides whether it is allowed there.
+/// The context of a header: what decides, besides its own bytes, whether it may stand there.
 #[derive(Clone, Copy)]
 pub struct Spot {
     pub syntax: Coding,
-    /// An item is due, and else an element.
+    /// The header is inside a sequence, where items follow; else inside an item or the data set, where
+    /// elements do.
     pub in_sequence: bool,
-    /// The innermost level is of undefined length.
+    /// The innermost level has undefined length, so that a delimitation may end it.
     pub open_ended: bool,
-    /// The bytes left before the nearest end of a level of defined length.
+    /// The number of bytes left before the nearest end of a level of defined length, `None` if there is
+    /// no such level.
     pub near: Option<u64>,
-    /// The tag of the last element of this data set as a number, 0 where there is none.
+    /// The tag of the element before it in the same data set or item as a number, 0 if it is the first.
     pub last: u32,
-    /// How many levels are open.
+    /// The number of open levels.
     pub depth: usize,
-    /// How many bytes came before.
+    /// The position of the header in the data set, in bytes.
     pub place: u64,
 }
 
-/// What a walk is held to: so many open levels, and so many bytes.
+/// The limits of a data set: its greatest number of open levels, and its greatest size in bytes.
 #[derive(Clone, Copy)]
 pub struct Bounds {
     pub depth: usize,

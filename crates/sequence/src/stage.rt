@@ -1,4 +1,4 @@
-//! What a walk is in the middle of.
+//! The stage of a walker.
 ghost use Rattle.std.specs.Prelude.{◌≡◌};
 ghost use Rattle.sequence.specs.machine.Judging.{numbered};
 ghost use Rattle.sequence.specs.machine.Spare.{stage_by};
@@ -7,19 +7,20 @@ use crate::fault::Fault;
 use crate::rule::Rule;
 use element::Tag;
 
-/// What a walk is in the middle of: a header, a value, or nothing after a refusal.
+/// What a walker reads next: a header, a value, or nothing after a fault.
 #[derive(Clone, Copy)]
 pub enum Stage {
-    /// A header, of which the kept bytes came.
+    /// A header; the walker's buffer has its first bytes, if any were read.
     Heading,
-    /// A value, of which so many bytes are left; whether it is kept.
+    /// The value of the element with this tag, with at least one byte left. `kept` says whether it is a
+    /// wanted value.
     Value { tag: Tag, left: u32, kept: bool },
-    /// A refusal.
+    /// Nothing: a rule is broken.
     Stopped(Fault),
 }
 
-/// Returns the stage where a header is due: a header without a byte, or the refusal of the rule
-/// that is broken.
+/// Returns the stage before a header at position `place`: `Heading`, or the fault if `broken` has a
+/// rule.
 pub fn stage_at(broken: Option<(Rule, Tag)>, place: u64) -> Stage
     ensures { result ≡ stage_by (numbered broken) place }
 {

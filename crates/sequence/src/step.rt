@@ -1,20 +1,20 @@
-//! What a step makes known.
+//! The result of a walker's step.
 use crate::fault::Fault;
 use element::Header;
 
-/// What the bytes that a step of a walker took complete.
+/// What one [step](crate::Walker::step) of a walker read.
 #[derive(Clone, Copy, Debug)]
 pub enum Step<'p> {
-    /// A header is not whole yet, or the piece is empty.
+    /// A part of a header that is still unfinished, or nothing of an empty piece.
     More,
-    /// The header of an element is whole, of a value or of a sequence.
+    /// The end of the header of an element; its value, or the items of a sequence, follow.
     Element(Header),
-    /// Bytes of a value, a part of the piece.
+    /// Bytes of a value or a fragment, a slice of the piece.
     Run(&'p [u8]),
-    /// The header of an item is whole.
+    /// The end of the header of an item or a fragment.
     Opened(Header),
-    /// A delimitation is whole.
+    /// The end of an Item Delimitation or a Sequence Delimitation.
     Closed(Header),
-    /// A rule is broken.
+    /// Bytes that break a rule.
     Refused(Fault),
 }

@@ -1,4 +1,4 @@
-//! The walker.
+//! Reads a data set, in pieces of any size.
 ghost use Rattle.std.specs.Prelude.{◌≡◌, ℕ, ◌<◌, ◌≤◌, ◌^◌, ◌+◌, ◌-◌, ◌&&◌, ◌++◌, ◌∷◌, [], None, Some, length, take, IsTrue, IfSome, nat_eq, true, false, if◌then◌else◌};
 ghost use Rattle.arrayvec.specs.ArrayVec.{array_vec_len};
 ghost use Rattle.sequence.specs.machine.Spare.{owed, spare, head_room, due_of, due_kept, is_wanted_in};
@@ -32,7 +32,7 @@ use element::{Header, Syntax, Tag, read_tag};
 mod fields;
 mod told;
 
-/// Makes room for a wanted value of the data set itself; whether it is kept.
+/// Starts to keep the value of this tag, if it is wanted and no level is open. Returns whether it does.
 fn begin_kept<const V: usize, const D: usize>(
     kept: &mut Keep<V>,
     levels: &ArrayVec<Level, D>,
@@ -53,7 +53,7 @@ fn begin_kept<const V: usize, const D: usize>(
     }
 }
 
-/// The tag of a header of which these bytes came.
+/// Returns the tag of a header with these first bytes, or (0000,0000) if they are fewer than four.
 fn begun_tag(header: &[u8]) -> Tag
     ensures { result ≡ tag_of_tail (in_header header.now) }
 {
@@ -64,7 +64,7 @@ fn begun_tag(header: &[u8]) -> Tag
     }
 }
 
-/// The first bytes of a piece, at most so many.
+/// Returns the first bytes of a piece, at most `most`.
 fn front(piece: &[u8], most: u32) -> &[u8]
     ensures { result.now ≡ take most piece.now }
 {
@@ -75,8 +75,9 @@ fn front(piece: &[u8], most: u32) -> &[u8]
     }
 }
 
-/// Walks one data set, in pieces of any size. It holds at most one unfinished header, the wanted values and 16 bytes
-/// for each open level.
+/// Reads one data set, in pieces of any size: its headers, values, sequences and items, and the first
+/// rule that it breaks. It holds one unfinished header, the wanted values (with the header at most `V`
+/// bytes) and 16 bytes for each open sequence or item (at most `D`).
 #[derive(Drop)]
 pub struct Walker<const V: usize, const D: usize> {
     root: Scope,
@@ -121,7 +122,7 @@ impl<const V: usize, const D: usize> Walker<V, D> {
     ghost use Rattle.sequence.specs.Pieces.{TakesMost};
     ghost use Rattle.sequence.specs.machine.Steps.{IsTaken};
 
-    /// Leaves the levels that end here, after which a header is due.
+    /// Removes the levels that end at the current position.
     fn arrive(&mut self)
         requires place { self.old.place ≤ self.old.limit }
         requires header { self.old.header.items ≡ [] }
@@ -135,7 +136,7 @@ impl<const V: usize, const D: usize> Walker<V, D> {
         self.stage = stage_at(broken_due(&spot), self.place);
     }
 
-    /// Opens a level after its header, where its length is not 0.
+    /// Opens the level of a sequence or an item after its header, unless its length is 0.
     fn begin_level(&mut self, scope: Scope, length: u32)
         requires place { self.old.place ≤ self.old.limit }
         requires header { self.old.header.items ≡ [] }
@@ -154,7 +155,7 @@ impl<const V: usize, const D: usize> Walker<V, D> {
         }
     }
 
-    /// Begins a value after its header, where its length is not 0.
+    /// Starts a value after its header. A value of length 0 is complete at once.
     fn begin_value(&mut self, tag: Tag, length: u32)
         requires place { self.old.place + length ≤ self.old.limit }
         requires header { self.old.header.items ≡ [] }
@@ -178,7 +179,7 @@ impl<const V: usize, const D: usize> Walker<V, D> {
         }
     }
 
-    /// Leaves the innermost level after its delimitation.
+    /// Closes the innermost level after its delimitation.
     fn leave(&mut self)
         requires place { self.old.place ≤ self.old.limit }
         requires header { self.old.header.items ≡ [] }
@@ -191,7 +192,7 @@ impl<const V: usize, const D: usize> Walker<V, D> {
         self.arrive();
     }
 
-    /// Goes on after the whole header of an item or a fragment.
+    /// Continues after the header of an item (its elements follow) or of a fragment (its bytes follow).
     fn take_item(&mut self, header: &Header, coding: Coding)
         requires coding { coding ≡ (top self.old).syntax }
         requires header { self.old.header.items ≡ [] }
@@ -211,7 +212,7 @@ impl<const V: usize, const D: usize> Walker<V, D> {
         }
     }
 
-    /// Goes on after the whole header.
+    /// Continues after a whole header, by what follows it.
     fn take_header(&mut self, header: &Header, shape: Shape)
         requires shape { shape ≡ shapes.shape (top self.old).syntax header.now }
         requires header { self.old.header.items ≡ [] }
@@ -250,7 +251,8 @@ impl<const V: usize, const D: usize> Walker<V, D> {
         }
     }
 
-    /// Takes bytes of a header up to its end, or to a refusal; how many, and the header that they make whole.
+    /// Reads bytes of a header up to its end or a fault. Returns how many, and the header if it is
+    /// whole.
     fn advance_heading(&mut self, piece: &[u8]) -> (usize, Option<Header>)
         requires { self.old.stage ≡ Stage.Heading }
         ensures taken { result.0 ≤ length piece.now }
@@ -289,7 +291,7 @@ impl<const V: usize, const D: usize> Walker<V, D> {
         }
     }
 
-    /// Takes bytes of a value, no more than are due.
+    /// Reads bytes of a value, at most the `left` ones that it still has.
     fn advance_value(&mut self, bytes: &[u8], tag: Tag, left: u32, kept: bool)
         requires stage { self.old.stage ≡ Stage.Value tag left kept }
         requires some { 0 < length bytes.now }
@@ -301,6 +303,7 @@ impl<const V: usize, const D: usize> Walker<V, D> {
     {
         let rest = left - bytes.len() as u32;
         self.place += bytes.len() as u64;
+        // The branches begin alike, as the proof answers each for itself.
         if rest == 0 {
             self.stage = Stage::Heading;
             self.kept.extend_if(kept, bytes);
@@ -316,7 +319,7 @@ impl<const V: usize, const D: usize> Walker<V, D> {
         }
     }
 
-    /// Creates a walker at the beginning of a data set that is laid out so.
+    /// Creates a walker for a data set of this encoding.
     fn coded(coding: Coding, wanted: Wanted, limit: u64) -> Self
         requires elements { has_fragments coding ≡ false }
         requires least_kept { 140 ≤ V }
@@ -345,8 +348,7 @@ impl<const V: usize, const D: usize> Walker<V, D> {
         }
     }
 
-    /// Creates a walker at the beginning of a data set of at most `limit` bytes, which keeps the
-    /// wanted values.
+    /// Creates a walker for a data set of at most `limit` bytes in this syntax, with native Pixel Data.
     pub fn new(syntax: Syntax, wanted: Wanted, limit: u64) -> Self
         requires least_kept { 140 ≤ V }
         requires greatest_kept { V ≤ 2 ^ 24 }
@@ -361,8 +363,8 @@ impl<const V: usize, const D: usize> Walker<V, D> {
         Walker::coded(Coding::of(syntax), wanted, limit)
     }
 
-    /// Creates a walker at the beginning of a data set of at most `limit` bytes in Explicit VR Little Endian, whose Pixel
-    /// Data may be encapsulated. It keeps the wanted values.
+    /// Creates a walker for a data set of at most `limit` bytes in Explicit VR Little Endian, whose
+    /// Pixel Data may be encapsulated.
     pub fn encapsulated(wanted: Wanted, limit: u64) -> Self
         requires least_kept { 140 ≤ V }
         requires greatest_kept { V ≤ 2 ^ 24 }
@@ -377,8 +379,9 @@ impl<const V: usize, const D: usize> Walker<V, D> {
         Walker::coded(Coding::Encapsulated, wanted, limit)
     }
 
-    /// Takes the first bytes of the piece, at least one of a piece that is not empty, unless a
-    /// refusal stands. Returns how many, and what they complete.
+    /// Reads the piece up to the end of a header, of a value or of the piece. Returns how many bytes
+    /// that is, and what they are: at least one of a piece that is not empty, unless a rule was broken
+    /// before.
     pub fn step<'p>(&mut self, piece: &'p [u8]) -> (usize, Step<'p>)
         ensures taken { result.0 ≤ length piece.now }
         ensures some { fault_of self.old ≡ None → 0 < length piece.now → 0 < result.0 }
@@ -407,15 +410,15 @@ impl<const V: usize, const D: usize> Walker<V, D> {
         }
     }
 
-    /// Whether no header is begun and no level is open.
+    /// Returns whether no header is unfinished and no level is open.
     fn is_between(&self) -> bool
         ensures { result ≡ (nat_eq (length self.now.header.items) 0 && nat_eq (length self.now.levels.items) 0) }
     {
         self.header.is_empty() && self.levels.is_empty()
     }
 
-    /// Checks that the bytes so far are a whole data set within the limits. The error is the
-    /// refusal, if there is one, and else `Truncated`.
+    /// Checks that the bytes read so far are a whole data set within the limits. The error is the fault
+    /// that a step found, or else `Truncated` if the data set is unfinished.
     pub fn finish(&self) -> Result<(), Fault>
         ensures whole { IsOk result → (b : List ℕ) → StandsAt self.now b → IsWholeDataSet (walker_syntax self.now) (limits_of self.now) b }
         ensures exactly { (b : List ℕ) → StandsAt self.now b → IsWholeDataSet (walker_syntax self.now) (limits_of self.now) b → IsOk result }

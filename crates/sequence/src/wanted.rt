@@ -1,4 +1,4 @@
-//! The tags whose values are kept.
+//! The tags whose values a walker keeps.
 ghost use Rattle.std.specs.Prelude.{◌≡◌, ◌≤◌, ◌<◌, get_or, ◌∷◌, [], ◌↔◌, IsTrue, IsSome, IsNone, IfSome, ◌⊎◌, false, length};
 ghost use Rattle.sequence.specs.Wanted as spelling;
 ghost use Rattle.element.specs.Header.{number};
@@ -9,7 +9,8 @@ use element::Tag;
 
 mod fields;
 
-/// A wanted tag, with the greatest number of bytes of a value that is kept.
+/// A tag whose value a walker keeps, and `room`, the greatest length of the value in bytes. A longer
+/// value breaks the rule `KeptTooLong`.
 #[derive(Clone, Copy, Debug)]
 pub struct Want {
     pub tag: Tag,
@@ -25,7 +26,7 @@ impl Default for Want {
     }
 }
 
-/// Whether the tags rise, and none is (0000,0000).
+/// Returns whether the tags are strictly ascending and none is (0000,0000).
 fn are_rising(wants: &[Want]) -> bool
     ensures { result ≡ spelling.are_rising 0 wants.now }
 {
@@ -40,7 +41,9 @@ fn are_rising(wants: &[Want]) -> bool
     true
 }
 
-/// At most 16 wanted tags in rising order, each with the greatest size of its value.
+/// The tags whose values a walker keeps: at most 16, strictly ascending, each with the greatest length
+/// of its value in bytes. Only elements of the data set itself are looked for, not those inside
+/// sequences.
 #[derive(Drop)]
 pub struct Wanted {
     list: ArrayVec<Want, 16>,
@@ -51,7 +54,7 @@ pub struct Wanted {
 impl Wanted {
     ghost use Rattle.sequence.specs.Stored.{wanted_tags};
 
-    /// Returns the list of no wanted tag.
+    /// Returns the empty list.
     pub fn none() -> Wanted
         ensures { wanted_tags result ≡ [] }
     {
@@ -60,7 +63,8 @@ impl Wanted {
         }
     }
 
-    /// Returns the list of these wanted tags, or `None` where they are more than 16 or do not rise.
+    /// Returns the list of these tags, or `None` if they are more than 16, not strictly ascending, or
+    /// (0000,0000) is among them.
     pub fn of(wants: &[Want]) -> Option<Wanted>
         ensures some { IfSome result (λ wanted. wanted_tags wanted ≡ wants.now) }
         ensures none { IsNone result → (16 < length wants.now) ⊎ (spelling.are_rising 0 wants.now ≡ false) }
@@ -75,7 +79,7 @@ impl Wanted {
         }
     }
 
-    /// Where the tag with this number stands in the list.
+    /// Returns the index in the list of the tag with this number, or `None` if it is not wanted.
     pub(crate) fn find(&self, number: u32) -> Option<usize>
         ensures { result ≡ place_from 0 self.now.list.items number }
     {
@@ -90,7 +94,8 @@ impl Wanted {
         None
     }
 
-    /// The room for the value of the tag with this number, if it is wanted.
+    /// Returns the greatest length of the value of the tag with this number, in bytes, or `None` if it
+    /// is not wanted.
     pub(crate) fn room(&self, number: u32) -> Option<u64>
         ensures { result ≡ spelling.room_of self.now.list.items number }
     {
@@ -102,14 +107,14 @@ impl Wanted {
         None
     }
 
-    /// How many tags are wanted.
+    /// Returns the number of wanted tags.
     pub(crate) fn len(&self) -> usize
         ensures { result ≡ length self.now.list.items }
     {
         self.list.len()
     }
 
-    /// The wanted tags, rising.
+    /// Returns the wanted tags in ascending order.
     pub(crate) fn as_slice(&self) -> &[Want]
         ensures { result.now ≡ self.now.list.items }
     {

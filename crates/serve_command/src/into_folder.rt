@@ -1,11 +1,11 @@
 //! `dcmbox serve` into a folder.
 use crate::serve::serve;
-use arguments::Serve;
+use arguments::{Serve, VERSION};
 use failures::{ProgramError, WordsError};
 use folders::{numbered, open_writer, try_draft};
-use journal::Output;
+use journal::{Limits, Output, Started, Teller};
 use log::Logged;
-use std::fs;
+use std::{env, fs};
 
 /// Fails as for invalid arguments if the file whose appearance ends the program can't appear, since its folder is
 /// not there.
@@ -29,13 +29,61 @@ fn check_stop_file(rt: &HostRuntime, path: Option<&str>) -> Result<(), ProgramEr
     Err(ProgramError::Words(WordsError::Refused(refused)))
 }
 
-/// Serves into the folder until the program is ended, or only one association.
+/// Returns whether a file of a folder has the name of a draft.
+fn is_draft(name: &str) -> bool {
+    match name.strip_prefix("DRAFT") {
+        Some(number) => number.bytes().all(|digit| digit.is_ascii_digit()),
+        None => false,
+    }
+}
+
+/// Returns how many drafts are in a folder, as far as it can be read.
+fn drafts_in(rt: &HostRuntime, folder: &str) -> u64 {
+    let Ok(entries) = fs::read_dir(rt, folder) else {
+        return 0;
+    };
+    let mut count: u64 = 0;
+    for entry in entries {
+        if let Ok(entry) = entry {
+            if is_draft(entry.file_name()) {
+                count = count.saturating_add(1);
+            }
+        }
+    }
+    count
+}
+
+/// Returns where the lines of the log go. Where standard error is systemd's journal, each has its priority.
+fn output_of(rt: &HostRuntime, settings: &Serve) -> Output<HostRuntime> {
+    let output = Output::new(*rt, settings.form);
+    if env::var(rt, "JOURNAL_STREAM").is_ok() {
+        output.with_priorities()
+    } else {
+        output
+    }
+}
+
+/// Serves into the folder until the program is ended, or only one association. Logs first what it is, with
+/// the drafts that it removes from the folder.
 pub fn serve_into(rt: &HostRuntime, settings: &Serve) -> Result<(), ProgramError> {
     check_stop_file(rt, settings.at_once.stop_file)?;
+    let drafts = drafts_in(rt, settings.out);
     let writer = open_writer(*rt, settings.out, settings.layout, settings.sync)?;
     let mut writer = numbered(writer, settings.numbers)?;
     let mut filing = writer.filing().map_err(ProgramError::of_folder)?;
     try_draft(&mut filing)?;
-    let logged = Logged::new(rt, settings.level, Output::new(rt, settings.form));
+    let logged = Logged::new(rt, settings.level, output_of(rt, settings));
+    let config = &settings.config;
+    Teller::new(&logged, settings.form).tell(&Started {
+        version: VERSION,
+        title: config.ae.trimmed(),
+        folder: settings.out,
+        limits: Limits {
+            max_pdu: config.max_pdu,
+            max_data: config.max_data,
+        },
+        at_once: settings.at_once.associations as u64,
+        drafts,
+    });
     serve(&logged, settings, rt, (writer, filing))
 }

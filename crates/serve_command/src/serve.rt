@@ -104,7 +104,8 @@ pub fn serve<
     folder: (FolderWriter<S>, FolderFiling<S>),
 ) -> Result<(), ProgramError> {
     let listener = listen(rt, settings)?;
-    match serve_many(rt, listener, terms_of(settings), files, folder) {
+    let (_history, served) = serve_many(rt, listener, terms_of(settings), files, folder);
+    match served {
         Ok(()) => Ok(()),
         Err(error) => Err(ProgramError::System(Failure::Serve, error)),
     }

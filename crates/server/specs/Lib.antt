@@ -1,1 +1,3 @@
+pub mod Histories
 pub mod Alone
+pub mod machine

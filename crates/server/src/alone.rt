@@ -3,6 +3,7 @@ ghost use Rattle.std.specs.Prelude.{◌≡◌};
 ghost use Rattle.negotiate.specs.Settings.{settings_of};
 ghost use Rattle.server.specs.Alone.{CameOf};
 
+use crate::policy::Policy;
 use crate::seat::Seat;
 use crate::served_alone::ServedAlone;
 use crate::terms::ServerTerms;
@@ -12,6 +13,7 @@ use log::Log;
 use part10::{Filing, FolderFiling};
 use std::alloc::Global;
 use std::fs::File;
+use std::marker::Brand;
 use std::net::{Net, SocketAddr, TcpStream};
 use std::rt::Files;
 use std::time::Clock;
@@ -23,6 +25,7 @@ fn serve_watched<
     'a,
     R: Log + Clock + Net + Alloc<A = Global>,
     S: Files<File = File> + Alloc<A = Global> + Clone + Drop,
+    P: Policy,
 >(
     rt: &'a R,
     watched: WatchedConnection,
@@ -30,6 +33,7 @@ fn serve_watched<
     terms: ServerTerms<'a>,
     filing: FolderFiling<S>,
 ) -> (FolderFiling<S>, ServedAlone)
+    requires { settings_of terms.config.now ≡ P.settings }
     ensures came { CameOf (settings_of terms.entry.config.now) result.1 (⟦<FolderFiling<S> as Filing>⟧.store filing) (⟦<FolderFiling<S> as Filing>⟧.store result.0) }
 {
     let WatchedConnection {
@@ -39,8 +43,8 @@ fn serve_watched<
         now,
     } = watched;
     let mut watch = watch;
-    let journal = Journal::new(rt.alloc(), teller, notes);
-    let mut seat = Seat::open(socket, filing, journal, terms, now);
+    let journal = Journal::new(rt.alloc(), teller, notes, terms.limits());
+    let mut seat = Seat::<R, S, P>::open(socket, filing, journal, terms, now);
     match seat.run(rt, &mut watch, now) {
         Ok(ended) => {
             let end = seat.end(ended);
@@ -75,7 +79,7 @@ pub fn serve_alone<
     let (stream, peer) = accepted;
     let teller = Teller::new(rt, terms.form).about(peer);
     match WatchedConnection::new(rt, stream, &filing) {
-        Ok(watched) => serve_watched(rt, watched, teller, terms, filing),
+        Ok(watched) => serve_watched::<R, S, Brand>(rt, watched, teller, terms, filing),
         Err(failure) => {
             teller.tell(&ConnectionFailed(failure.error()));
             (filing, ServedAlone::Unopened(failure))

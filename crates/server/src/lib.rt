@@ -3,18 +3,22 @@
 #![tactic(auto)]
 
 mod alone;
+mod arrivals;
+mod policy;
 mod seat;
 mod served_alone;
 mod server;
+mod slot;
 mod socket;
 mod stopping;
 mod terms;
 mod watch;
 
 pub use alone::serve_alone;
+pub use policy::Policy;
 pub use seat::Seat;
 pub use served_alone::ServedAlone;
-pub use server::serve_many;
+pub use server::{ServerHistory, SlotHistory, serve_many};
 pub use socket::Socket;
 pub use terms::{MOST_AT_ONCE, ServerTerms};
 pub use watch::SystemFailed;

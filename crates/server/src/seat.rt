@@ -5,8 +5,9 @@ ghost use Rattle.std.specs.Time.{instant_nanos};
 ghost use Rattle.negotiate.specs.Settings.{settings_of};
 ghost use Rattle.engine.specs.Held.{is_ended};
 ghost use Rattle.engine.specs.declared.report.Standing.TheVariants as standing;
-ghost use Rattle.serving.specs.Connections.{settings_at};
+ghost use Rattle.serving.specs.Connections.{opening_of, settings_at};
 
+use crate::policy::Policy;
 use crate::socket::Socket;
 use crate::terms::ServerTerms;
 use acceptor::State;
@@ -16,8 +17,9 @@ use journal::{Journal, Served};
 use log::Log;
 use part10::{Filing, FolderFiling};
 use serving::{Connection, ConnectionEnd, Turn, Wait};
-use std::alloc::{AllocError, AllocFailed, Global};
+use std::alloc::Global;
 use std::fs::File;
+use std::marker::PhantomData;
 use std::rt::Files;
 use std::time::{Clock, Duration, Instant};
 
@@ -30,7 +32,12 @@ const TURN: usize = 65_536;
 
 /// One connection that is served: each that the program accepts becomes one, if the system lets it. It is
 /// given up by `end` alone, since it is not `Drop`.
-pub struct Seat<'a, R: Log + Clock, S: Files<File = File> + Alloc<A = Global> + Clone + Drop>
+pub struct Seat<
+    'a,
+    R: Log + Clock,
+    S: Files<File = File> + Alloc<A = Global> + Clone + Drop,
+    P: Policy,
+>
 where
     FolderFiling<S>: Filing,
 {
@@ -45,12 +52,20 @@ where
     /// Whether its socket may have something to read, or take something.
     is_ready: bool,
     is_over: bool,
+    policy: PhantomData<P>,
     /// Its association is held to these terms.
     ghost held: { settings_at connection ≡ settings_of terms.config.now },
+    /// As are all of its server.
+    ghost policed: { settings_of terms.config.now ≡ P.settings },
 }
 
-impl<'a, R: Log + Clock, S: Files<File = File> + Alloc<A = Global> + Clone + Drop> Seat<'a, R, S> {
-    ghost use Rattle.serving.specs.Connections.{drafting_at, opening_of, state_at};
+impl<'a, R: Log + Clock, S: Files<File = File> + Alloc<A = Global> + Clone + Drop, P: Policy> Seat<
+    'a,
+    R,
+    S,
+    P,
+> {
+    ghost use Rattle.serving.specs.Connections.{drafting_at, state_at};
     ghost use Rattle.serving.specs.Served.{Leaves};
 
     /// Opens an association over a connection that was accepted at this instant, which the journal is
@@ -61,7 +76,8 @@ impl<'a, R: Log + Clock, S: Files<File = File> + Alloc<A = Global> + Clone + Dro
         journal: Journal<'a, R, Global>,
         terms: ServerTerms<'a>,
         now: Instant,
-    ) -> Seat<'a, R, S>
+    ) -> Seat<'a, R, S, P>
+        requires { settings_of terms.config.now ≡ P.settings }
         ensures terms { result.terms ≡ terms.entry }
         ensures opening { opening_of result.connection ≡ filing }
     {
@@ -75,6 +91,7 @@ impl<'a, R: Log + Clock, S: Files<File = File> + Alloc<A = Global> + Clone + Dro
             aborted: None,
             is_ready: true,
             is_over: false,
+            policy: PhantomData,
         }
     }
 
@@ -204,10 +221,13 @@ impl<'a, R: Log + Clock, S: Files<File = File> + Alloc<A = Global> + Clone + Dro
     /// since the connection was opened, each failure of the filing, how the association stands and what it
     /// holds. No draft is left.
     ///
+    /// `opened`: which filing it was opened over is kept.
+    ///
     /// `ended`: where the association has ended, the report says so.
     pub fn end(self, now: Instant) -> ConnectionEnd<Socket, FolderFiling<S>>
         ensures left { ∥ Leaves (settings_of self.entry.terms.config.now) result.exchange
             (⟦<FolderFiling<S> as Filing>⟧.store (opening_of self.entry.connection)) (⟦<FolderFiling<S> as Filing>⟧.store result.filing) ∥₁ }
+        ensures opened { result.opened.value ≡ opening_of self.entry.connection }
         ensures ended { is_ended (state_at self.entry.connection) ≡ true → result.exchange.report.standing ≡ standing.Ended }
     {
         let Seat {
@@ -219,6 +239,7 @@ impl<'a, R: Log + Clock, S: Files<File = File> + Alloc<A = Global> + Clone + Dro
             aborted: _aborted,
             is_ready: _is_ready,
             is_over: _is_over,
+            policy: _policy,
         } = self;
         let ended = connection.end();
         let report = ended.exchange.report;
@@ -242,61 +263,14 @@ fn standing_name(standing: Standing) -> &'static str {
     }
 }
 
-/// Lets a connection go, if there is one, and returns its filing.
-pub(crate) fn left_by<R: Log + Clock, S: Files<File = File> + Alloc<A = Global> + Clone + Drop>(
-    seat: Option<Seat<'_, R, S>>,
-    now: Instant,
-) -> Option<FolderFiling<S>> {
-    match seat {
-        Some(seat) => Some(seat.end(now).filing),
-        None => None,
-    }
-}
-
-/// Lets a connection go, if there is one.
-pub(crate) fn end<R: Log + Clock, S: Files<File = File> + Alloc<A = Global> + Clone + Drop>(
-    seat: Option<Seat<'_, R, S>>,
-    now: Instant,
-) {
-    if let Some(seat) = seat {
-        let _end = seat.end(now);
-    }
-}
-
-/// Gives up the memory of a place, if it has any, and lets its connection go.
-#[inline(never)]
-pub(crate) fn let_go<R: Log + Clock, S: Files<File = File> + Alloc<A = Global> + Clone + Drop>(
-    seat: Option<Box<Option<Seat<'_, R, S>>>>,
-    now: Instant,
-) {
-    if let Some(seat) = seat {
-        end(Box::into_inner(seat), now);
-    }
-}
-
-/// Takes the memory of a place that has none.
-#[inline(never)]
-pub(crate) fn make<'a, R: Log + Clock, S: Files<File = File> + Alloc<A = Global> + Clone + Drop>(
-    alloc: Global,
-    seat: &mut Option<Box<Option<Seat<'a, R, S>>>>,
-    now: Instant,
-) -> Result<(), AllocError> {
-    match Box::new(alloc, None) {
-        Ok(empty) => let_go(seat.replace(empty), now),
-        Err(AllocFailed { value }) => {
-            end(value, now);
-            return Err(AllocError);
-        }
-    }
-    Ok(())
-}
-
 /// Gives an association its turn and, once the server was asked to end, ends it in time. Returns whether it has ended.
-pub(crate) fn turned<R: Log + Clock, S: Files<File = File> + Alloc<A = Global> + Clone + Drop>(
-    seat: &mut Seat<'_, R, S>,
-    asked: Option<Instant>,
-    now: Instant,
-) -> bool {
+pub(crate) fn turned<
+    R: Log + Clock,
+    S: Files<File = File> + Alloc<A = Global> + Clone + Drop,
+    P: Policy,
+>(seat: &mut Seat<'_, R, S, P>, asked: Option<Instant>, now: Instant) -> bool
+    ensures opening { opening_of seat.new.connection ≡ opening_of seat.old.connection }
+{
     seat.turn(now);
     if let Some(asked) = asked {
         seat.stop(asked, now);

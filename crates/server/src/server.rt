@@ -1,21 +1,26 @@
 //! The loop: it waits for any socket, and gives each connection its turn.
+ghost use Rattle.std.specs.Prelude.{◌≡◌, ◌+◌, length, vec_len};
+ghost use Rattle.negotiate.specs.Settings.{settings_of};
+ghost use Rattle.server.specs.Histories.{slots_in};
 
 mod opening;
+mod waiting;
 
-use crate::seat::{Seat, end, left_by, let_go, make, turned};
+use crate::arrivals::Arrivals;
+use crate::policy::Policy;
+use crate::slot::Slot;
 use crate::socket::{AcceptedStream, watched};
 use crate::stopping::is_asked;
 use crate::terms::{MOST_AT_ONCE, ServerTerms};
 use admitting::{Admission, Notice, Places, Queue, Waiter, peer_number};
-use journal::{
-    ConnectionFailed, Journal, NotAccepted, PeerFull, PlacesFull, Stopping, Teller, TurnedAway,
-};
+use journal::{ConnectionFailed, Journal, NotAccepted, PeerFull, Stopping, Teller, TurnedAway};
 use log::Log;
 use mio::net::TcpListener;
 use mio::{Events, Poll, Token};
-pub use opening::serve_many;
+use opening::{ClosedSlots, close_all};
+pub use opening::{ServerHistory, SlotHistory, serve_many};
 use part10::{Filing, FolderFiling, FolderWriter};
-use std::alloc::{AllocError, AllocFailed, Global};
+use std::alloc::{AllocError, Global};
 use std::fs::File;
 use std::io;
 use std::io::ErrorKind;
@@ -37,7 +42,12 @@ const LOOK_MILLISECONDS: u64 = 200;
 const PAUSE_MILLISECONDS: u64 = 100;
 
 /// A server, with its connections. It is given up by `close` alone.
-struct Server<'a, R: Log + Clock, S: Files<File = File> + Alloc<A = Global> + Clone + Drop>
+struct Server<
+    'a,
+    R: Log + Clock,
+    S: Files<File = File> + Alloc<A = Global> + Clone + Drop,
+    P: Policy,
+>
 where
     FolderFiling<S>: Filing,
 {
@@ -51,7 +61,7 @@ where
     places: Places<Global>,
     /// The memory of places that have had a connection, and of the first, with the connection that each
     /// has. So the first place takes no memory once the server has begun.
-    seats: Vec<Option<Box<Option<Seat<'a, R, S>>>>>,
+    slots: Vec<Slot<'a, R, S, P>>,
     /// Those whose peers have as many places as one may have.
     queue: Queue<AcceptedStream, Global>,
     /// Whether connections are accepted yet.
@@ -60,6 +70,7 @@ where
     now: Instant,
     /// Whether a connection may be there to be accepted.
     may_accept: bool,
+    arrivals: Arrivals,
     /// Until when none is accepted, after one could not be.
     paused: Option<Instant>,
     /// When it was last looked whether the server is to end.
@@ -69,38 +80,32 @@ where
     places_told: Notice,
     peer_told: Notice,
     accept_told: Notice,
+    /// All connections are held to these terms.
+    ghost policed: { settings_of terms.config.now ≡ P.settings },
+    /// There is a slot for each place.
+    ghost all: { vec_len slots ≡ P.at_once },
 }
 
-impl<'a, R: Log + Clock, S: Files<File = File> + Alloc<A = Global> + Clone + Drop> Server<
+impl<
     'a,
-    R,
-    S,
-> {
-    /// Adds a seat for each place, without a connection.
-    fn add_seats(&mut self) -> Result<(), AllocError> {
-        for _ in 0..self.terms.at_once {
-            if let Err(AllocFailed { value }) = self.seats.push(None) {
-                let_go(value, self.now);
-                return Err(AllocError);
-            }
-        }
-        self.make_seat(0)
-    }
-
+    R: Log + Clock,
+    S: Files<File = File> + Alloc<A = Global> + Clone + Drop,
+    P: Policy,
+> Server<'a, R, S, P> {
     /// Takes the memory of a place, unless it has it.
-    fn make_seat(&mut self, place: usize) -> Result<(), AllocError> {
-        let alloc = *self.seats.allocator();
-        match self.seats.get_mut(place) {
-            Some(seat) if seat.is_none() => make(alloc, seat, self.now),
-            _ => Ok(()),
+    fn make_slot(&mut self, place: usize) -> Result<(), AllocError> {
+        let alloc = *self.slots.allocator();
+        match self.slots.get_mut(place) {
+            Some(slot) => slot.make(alloc, self.now),
+            None => Ok(()),
         }
     }
 
     /// Returns whether a place has a connection.
     fn is_taken(&self, place: usize) -> bool {
-        match self.seats.get(place) {
-            Some(Some(seat)) => seat.is_some(),
-            _ => false,
+        match self.slots.get(place) {
+            Some(slot) => slot.is_taken(),
+            None => false,
         }
     }
 
@@ -115,10 +120,9 @@ impl<'a, R: Log + Clock, S: Files<File = File> + Alloc<A = Global> + Clone + Dro
             let Token(place) = event.token();
             if place == LISTENER {
                 self.may_accept = true;
-            } else if let Some(Some(seat)) = self.seats.get_mut(place) {
-                if let Some(seat) = &mut **seat {
-                    seat.wake();
-                }
+                self.arrivals.come();
+            } else if let Some(slot) = self.slots.get_mut(place) {
+                slot.wake();
             }
         }
     }
@@ -140,22 +144,20 @@ impl<'a, R: Log + Clock, S: Files<File = File> + Alloc<A = Global> + Clone + Dro
         filing: &FolderFiling<S>,
     ) -> Result<Journal<'a, R, Global>, AllocError> {
         let notes = filing.notes()?;
-        Ok(Journal::new(*self.seats.allocator(), self.teller().about(peer), notes))
+        let teller = self.teller().about(peer);
+        Ok(Journal::new(*self.slots.allocator(), teller, notes, self.terms.limits()))
     }
 
     /// Opens an association over a connection, in a place that its peer got.
-    // Not inlined, as is what ends one: its frame has copies of a seat, of some 160 KB each, and is left before the
-    // first turn.
     #[inline(never)]
     fn seat(&mut self, accepted: AcceptedStream, place: usize, now: Instant) -> io::Result<()> {
         let AcceptedStream { stream, peer } = accepted;
         let socket = watched(&self.poll, stream, place)?;
-        self.make_seat(place)?;
+        self.make_slot(place)?;
         let filing = self.filing(place)?;
         let journal = self.journal(peer, &filing)?;
-        if let Some(Some(empty)) = self.seats.get_mut(place) {
-            let seat = Seat::open(socket, filing, journal, self.terms, now);
-            end(empty.replace(seat), now);
+        if let Some(slot) = self.slots.get_mut(place) {
+            slot.open((socket, filing, journal), self.terms, now);
         }
         Ok(())
     }
@@ -178,7 +180,7 @@ impl<'a, R: Log + Clock, S: Files<File = File> + Alloc<A = Global> + Clone + Dro
 
     /// Returns whether a place is free.
     fn has_vacancy(&self) -> bool {
-        for place in 0..self.seats.len() {
+        for place in 0..self.slots.len() {
             if !self.is_taken(place) {
                 return true;
             }
@@ -188,7 +190,7 @@ impl<'a, R: Log + Clock, S: Files<File = File> + Alloc<A = Global> + Clone + Dro
 
     /// Returns whether each place is free.
     fn is_vacant(&self) -> bool {
-        for place in 0..self.seats.len() {
+        for place in 0..self.slots.len() {
             if self.is_taken(place) {
                 return false;
             }
@@ -230,9 +232,7 @@ impl<'a, R: Log + Clock, S: Files<File = File> + Alloc<A = Global> + Clone + Dro
                 return;
             }
             if !self.has_vacancy() {
-                if self.terms.tells_full && self.places_told.is_due(now) {
-                    self.teller().tell(&PlacesFull(self.terms.at_once as u64));
-                }
+                self.note_full(now);
                 return;
             }
             self.accept(now);
@@ -250,10 +250,14 @@ impl<'a, R: Log + Clock, S: Files<File = File> + Alloc<A = Global> + Clone + Dro
     fn accept(&mut self, now: Instant) {
         match self.listener.accept() {
             Ok((stream, peer)) => {
+                self.note_accepted(peer, now);
                 self.admit(AcceptedStream { stream, peer }, now);
                 self.is_open = !self.terms.once;
             }
-            Err(failure) if failure.kind() == ErrorKind::WouldBlock => self.may_accept = false,
+            Err(failure) if failure.kind() == ErrorKind::WouldBlock => {
+                self.may_accept = false;
+                self.arrivals.clear();
+            }
             Err(failure) => {
                 if self.accept_told.is_due(now) {
                     self.teller().tell(&NotAccepted(&failure));
@@ -265,17 +269,15 @@ impl<'a, R: Log + Clock, S: Files<File = File> + Alloc<A = Global> + Clone + Dro
 
     /// Gives the connection of a place its turn, if it has one, and returns whether its association has ended.
     fn turn(&mut self, place: usize, now: Instant) -> bool {
-        if let Some(Some(seat)) = self.seats.get_mut(place) {
-            if let Some(seat) = &mut **seat {
-                return turned(seat, self.asked, now);
-            }
+        match self.slots.get_mut(place) {
+            Some(slot) => slot.turn(self.asked, now),
+            None => false,
         }
-        false
     }
 
     /// Gives each connection its turn, and lets those go whose association has ended.
     fn turn_each(&mut self, now: Instant) {
-        for place in 0..self.seats.len() {
+        for place in 0..self.slots.len() {
             if self.turn(place, now) {
                 self.end(place, now);
             }
@@ -283,12 +285,8 @@ impl<'a, R: Log + Clock, S: Files<File = File> + Alloc<A = Global> + Clone + Dro
     }
 
     /// Lets the connection of a place go, if it has one, and returns its filing.
-    #[inline(never)]
     fn left_filing(&mut self, place: usize, now: Instant) -> Option<FolderFiling<S>> {
-        match self.seats.get_mut(place) {
-            Some(Some(seat)) => left_by(seat.take(), now),
-            _ => None,
-        }
+        self.slots.get_mut(place)?.leave(now)
     }
 
     /// Lets the connection of a place go.
@@ -313,12 +311,8 @@ impl<'a, R: Log + Clock, S: Files<File = File> + Alloc<A = Global> + Clone + Dro
                 return Duration::ZERO;
             }
         }
-        for seat in &self.seats {
-            if let Some(seat) = seat {
-                if let Some(seat) = &**seat {
-                    most = seat.patience(now, most);
-                }
-            }
+        for slot in &self.slots {
+            most = slot.patience(now, most);
         }
         most
     }
@@ -350,12 +344,12 @@ impl<'a, R: Log + Clock, S: Files<File = File> + Alloc<A = Global> + Clone + Dro
 
     /// Serves associations until the server is to end.
     ///
-    /// Fails if the clock or the poll does, or if memory runs out at the start.
+    /// Fails if the clock or the poll does.
     fn serve(&mut self, files: &S, events: &mut Events) -> io::Result<()> {
-        self.add_seats()?;
         for _ in 0..u64::MAX {
             let now = Instant::now(self.rt)?;
             self.now = now;
+            self.arrivals.note(now);
             self.look(files, now);
             self.turn_each(now);
             // A place that was freed is given on before the poll, which may wait long.
@@ -370,8 +364,10 @@ impl<'a, R: Log + Clock, S: Files<File = File> + Alloc<A = Global> + Clone + Dro
         Ok(())
     }
 
-    /// Lets each connection go.
-    fn close(self) {
+    /// Lets each connection go. Returns what there was of all, beside what there was before.
+    fn close(self, closed: ClosedSlots<FolderFiling<S>, P>) -> ClosedSlots<FolderFiling<S>, P>
+        ensures { length (slots_in result.history) ≡ length (slots_in closed.history) + P.at_once }
+    {
         let Server {
             rt: _rt,
             poll: _poll,
@@ -380,11 +376,12 @@ impl<'a, R: Log + Clock, S: Files<File = File> + Alloc<A = Global> + Clone + Dro
             folder: _folder,
             filings: _filings,
             places: _places,
-            seats,
+            slots,
             queue: _queue,
             is_open: _is_open,
             now,
             may_accept: _may_accept,
+            arrivals: _arrivals,
             paused: _paused,
             looked: _looked,
             asked: _asked,
@@ -392,13 +389,6 @@ impl<'a, R: Log + Clock, S: Files<File = File> + Alloc<A = Global> + Clone + Dro
             peer_told: _peer_told,
             accept_told: _accept_told,
         } = self;
-        let mut seats = seats;
-        let count = seats.len();
-        for done in 0..count {
-            if let Some(seat) = seats.pop() {
-                let_go(seat, now);
-            }
-        }
-        seats.destroy_empty();
+        close_all(slots, closed, now)
     }
 }

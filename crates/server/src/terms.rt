@@ -1,6 +1,6 @@
 //! What a server is held to.
 use connection::Timeouts;
-use journal::Form;
+use journal::{Form, Limits};
 use negotiate::Config;
 use std::time::Duration;
 
@@ -30,4 +30,14 @@ pub struct ServerTerms<'a> {
     pub once: bool,
     /// The form of the log.
     pub form: Form,
+}
+
+impl ServerTerms<'_> {
+    /// Returns what each connection is held to, as far as its log names it.
+    pub(crate) fn limits(&self) -> Limits {
+        Limits {
+            max_pdu: self.config.max_pdu,
+            max_data: self.config.max_data,
+        }
+    }
 }

@@ -4,6 +4,7 @@ ghost use Rattle.std.specs.Prelude.{◌≡◌, IfOk, true};
 ghost use Rattle.engine.specs.Held.{is_ended};
 ghost use Rattle.serving.specs.Connections.{opening_of, state_at};
 
+use crate::policy::Policy;
 use crate::seat::Seat;
 use crate::socket::Socket;
 use log::Log;
@@ -97,7 +98,12 @@ impl Watch {
     }
 }
 
-impl<R: Log + Clock, S: Files<File = File> + Alloc<A = Global> + Clone + Drop> Seat<'_, R, S> {
+impl<R: Log + Clock, S: Files<File = File> + Alloc<A = Global> + Clone + Drop, P: Policy> Seat<
+    '_,
+    R,
+    S,
+    P,
+> {
     /// Gives the association its turns until it has ended. Returns when that was.
     ///
     /// Fails if the clock or the poll does, or after 2^64 - 1 turns.

@@ -5,7 +5,7 @@ use crate::counted_stream::CountedStream;
 use crate::inbox::{Arrival, Inbox};
 use crate::outbox::Outbox;
 use crate::traces::SocketTraces;
-use connection::Observer;
+use connection::{Observer, ReadEnd};
 use std::io::{Error, ErrorKind, Read, Write};
 
 /// A socket, what was read from it, and what it is to send. What it took, followed by what waits in the
@@ -35,14 +35,30 @@ impl<S> Link<S> {
             outbox: Outbox::new(),
         }
     }
+
+    /// Shows the observer the first of the bytes that wait to be taken, which the association has just taken,
+    /// those after them, and its answer, which is all that waits to be sent.
+    pub(crate) fn show_taken<B: Observer>(&self, taken: usize, observer: &B) {
+        let pending = self.inbox.pending();
+        let (bytes, ahead) = pending.split_at(taken.min(pending.len()));
+        observer.took(bytes, ahead, self.outbox.pending());
+    }
+
+    /// Shows the observer that nothing more is read, and what waits to be sent after so many bytes: the
+    /// abort that was written for it.
+    pub(crate) fn show_end<B: Observer>(&self, why: ReadEnd, before: usize, observer: &B) {
+        let pending = self.outbox.pending();
+        let (_, abort) = pending.split_at(before.min(pending.len()));
+        observer.read_ended(why, abort);
+    }
 }
 
 impl<S: Read> Link<S> {
     ghost use Rattle.serving.specs.Wires.{Arrives, CountsEnd};
 
     /// Returns how many of the bytes in the inbox the association is to take, at most so many: of those that
-    /// wait, and of what has come. The observer is shown all that is read.
-    pub(crate) fn receive<B: Observer>(&mut self, most: usize, observer: &B) -> Arrival
+    /// wait, and of what has come.
+    pub(crate) fn receive(&mut self, most: usize) -> Arrival
         requires some { 0 < most }
         ensures arrives { Arrives most result self.old self.new }
         ensures ends { CountsEnd result self.old.stream.ends.total self.new.stream.ends.total }
@@ -53,7 +69,7 @@ impl<S: Read> Link<S> {
         if self.inbox.is_short(most) {
             let waits = self.inbox.pending().len();
             match self.inbox.fill(&mut self.stream) {
-                Arrival::Bytes(_) => observer.received(&self.inbox.pending()[waits..]),
+                Arrival::Bytes(_) => {}
                 arrival if waits == 0 => return arrival,
                 _ => {}
             }

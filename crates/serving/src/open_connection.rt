@@ -60,6 +60,8 @@ pub struct Connection<S, F: Filing> {
 pub struct ConnectionEnd<S, F> {
     /// How its association stands, and what went over its socket.
     pub exchange: Exchange<S>,
+    /// What contracts see of its filing when the connection was opened.
+    pub opened: Snapshot<F>,
     /// Its filing, without a draft.
     pub filing: F,
 }
@@ -139,11 +141,12 @@ impl<S: Drop, F: Filing> Connection<S, F> {
     ///
     /// `left`: of the bytes that were read, without those that the association did not take any more, the
     /// definitions give the bytes that the socket took with those that it did not take any more, the files,
-    /// and how the association stands.
+    /// and how the association stands. `opened`: which filing it was opened over is kept.
     ///
     /// `ended`: where the association has ended, the report says so.
     pub fn end(self) -> ConnectionEnd<S, F>
         ensures left { ∥ Leaves (settings_at self) result.exchange (F.store (opening_of self)) (F.store result.filing) ∥₁ }
+        ensures opened { result.opened.value ≡ opening_of self }
         ensures ended { is_ended (state_at self) ≡ true → result.exchange.report.standing ≡ standing.Ended }
     {
         let mut filing = self.filing;
@@ -160,6 +163,7 @@ impl<S: Drop, F: Filing> Connection<S, F> {
                 untaken,
                 unsent,
             },
+            opened: self.opened,
             filing,
         }
     }

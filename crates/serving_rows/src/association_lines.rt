@@ -7,6 +7,10 @@ use journal::Form;
 use log::Level;
 use std::test::Fail;
 
+const TITLES: &str = "calling \"SCANNER1\" called \"DCMBOX\"";
+
+const NOBODY: &str = "calling \"\" called \"\"";
+
 /// The line of an association that ended so, with this many of its contexts accepted.
 fn ended(rt: &HostRuntime, how: &str) -> Result<String, Fail> {
     Ok(format!(in rt.alloc();
@@ -32,19 +36,22 @@ fn gives(
     are(rt, lines.as_slice(), wanted.as_slice())
 }
 
+/// The recorded request with this called title.
+fn request_to(rt: &HostRuntime, called: &[u8; 16]) -> Result<Vec<u8>, Fail> {
+    let parts = [front(echo::REQUEST, 10), called, back(echo::REQUEST, 26)];
+    Ok(joined(rt.alloc(), &parts)?)
+}
+
 #[test]
 fn an_echo_is_released(rt: HostRuntime) -> Result<(), Fail> {
     let steps = [
         Step::Peer(echo::REQUEST),
-        Step::Box(echo::ACCEPT),
         Step::Peer(echo::ECHO),
-        Step::Box(echo::REPLY),
         Step::Peer(echo::RELEASE),
-        Step::Box(echo::RELEASED),
-        Step::End(ReadEnd::Closed),
+        Step::Closes,
     ];
-    let how = "calling \"SCANNER1\" called \"DCMBOX\" released contexts 1 of 1";
-    gives(&rt, "an_echo_is_released", &steps, &[], how)
+    let how = format!(in rt.alloc(); "{TITLES} released contexts 1 of 1")?;
+    gives(&rt, "an_echo_is_released", &steps, &[], how.as_str())
 }
 
 #[test]
@@ -53,41 +60,77 @@ fn an_echo_in_pieces_is_released(rt: HostRuntime) -> Result<(), Fail> {
     let steps = [
         Step::Peer(front(all.as_slice(), 3)),
         Step::Peer(back(all.as_slice(), 3)),
-        Step::Box(front(echo::ACCEPT, 90)),
-        Step::Box(back(echo::ACCEPT, 90)),
-        Step::Box(echo::REPLY),
-        Step::Box(echo::RELEASED),
-        Step::End(ReadEnd::Closed),
+        Step::Closes,
     ];
-    let how = "calling \"SCANNER1\" called \"DCMBOX\" released contexts 1 of 1";
-    gives(&rt, "an_echo_in_pieces", &steps, &[], how)
+    let how = format!(in rt.alloc(); "{TITLES} released contexts 1 of 1")?;
+    gives(&rt, "an_echo_in_pieces", &steps, &[], how.as_str())
 }
 
 #[test]
 fn a_rejection_has_both_titles(rt: HostRuntime) -> Result<(), Fail> {
-    let steps = [
-        Step::Peer(echo::REQUEST),
-        Step::Box(&[3, 0, 0, 0, 0, 4, 0, 1, 1, 7]),
-        Step::End(ReadEnd::Closed),
-    ];
-    let warned =
-        "[WARN  rejected: called AE title not recognized calling \"SCANNER1\" called \"DCMBOX\"";
-    let how =
-        "calling \"SCANNER1\" called \"DCMBOX\" rejected: called AE title not recognized contexts 0 of 1";
-    gives(&rt, "a_rejection", &steps, &[warned], how)
+    let request = request_to(&rt, b"OTHER           ")?;
+    let steps = [Step::Peer(request.as_slice()), Step::Closes];
+    let titles = "calling \"SCANNER1\" called \"OTHER\"";
+    let why = "rejected: called AE title not recognized";
+    let warned = format!(in rt.alloc(); "[WARN  {why} {titles}")?;
+    let how = format!(in rt.alloc(); "{titles} {why} contexts 0 of 1")?;
+    gives(&rt, "a_rejection", &steps, &[warned.as_str()], how.as_str())
 }
 
 #[test]
-fn a_request_that_is_cut_off_has_its_titles(rt: HostRuntime) -> Result<(), Fail> {
+fn a_maximum_length_without_room_is_named(rt: HostRuntime) -> Result<(), Fail> {
+    let request = joined(
+        rt.alloc(),
+        &[
+            front(echo::REQUEST, 157),
+            &[0, 0, 0, 7],
+            back(echo::REQUEST, 161),
+        ],
+    )?;
+    let steps = [Step::Peer(request.as_slice()), Step::Closes];
+    let why = "rejected: no reason given (maximum length 7, at least 8)";
+    let warned = format!(in rt.alloc(); "[WARN  {why} {TITLES}")?;
+    let how = format!(in rt.alloc(); "{TITLES} {why} contexts 0 of 1")?;
+    gives(
+        &rt,
+        "a_small_maximum",
+        &steps,
+        &[warned.as_str()],
+        how.as_str(),
+    )
+}
+
+#[test]
+fn a_request_that_is_too_long_has_its_titles(rt: HostRuntime) -> Result<(), Fail> {
+    let request = joined(
+        rt.alloc(),
+        &[&[1, 0, 0, 1, 0, 0], front(back(echo::REQUEST, 6), 36)],
+    )?;
+    let why = "rejected: local limit exceeded (request of 65536 bytes, at most 65524)";
+    let how = format!(in rt.alloc(); "{TITLES} {why} contexts 0 of 0")?;
+    let steps = [Step::Peer(request.as_slice()), Step::Closes];
+    let warned = format!(in rt.alloc(); "[WARN  {why} {TITLES}")?;
+    gives(
+        &rt,
+        "a_long_request",
+        &steps,
+        &[warned.as_str()],
+        how.as_str(),
+    )?;
+    // Where the titles come after the rejection, the last line has them.
     let steps = [
-        Step::Peer(front(echo::REQUEST, 60)),
-        Step::Box(&[3, 0, 0, 0, 0, 4, 0, 2, 3, 2]),
-        Step::End(ReadEnd::Closed),
+        Step::Peer(front(request.as_slice(), 20)),
+        Step::Peer(back(request.as_slice(), 20)),
+        Step::Closes,
     ];
-    let warned = "[WARN  rejected: local limit exceeded calling \"SCANNER1\" called \"DCMBOX\"";
-    let how =
-        "calling \"SCANNER1\" called \"DCMBOX\" rejected: local limit exceeded contexts 0 of 0";
-    gives(&rt, "a_long_request", &steps, &[warned], how)
+    let warned = format!(in rt.alloc(); "[WARN  {why} {NOBODY}")?;
+    gives(
+        &rt,
+        "a_late_title",
+        &steps,
+        &[warned.as_str()],
+        how.as_str(),
+    )
 }
 
 #[test]
@@ -98,11 +141,7 @@ fn bytes_of_a_title_do_not_forge_a_line(rt: HostRuntime) -> Result<(), Fail> {
         alloc,
         &[front(echo::REQUEST, 10), titles, back(echo::REQUEST, 42)],
     )?;
-    let steps = [
-        Step::Peer(request.as_slice()),
-        Step::Box(&[3, 0, 0, 0, 0, 4, 0, 1, 1, 7]),
-        Step::End(ReadEnd::Closed),
-    ];
+    let steps = [Step::Peer(request.as_slice()), Step::Closes];
     let warned =
         "[WARN  rejected: called AE title not recognized calling \"Y\" called \"??[31mX???\\ ?? 1\"";
     let how =
@@ -111,102 +150,102 @@ fn bytes_of_a_title_do_not_forge_a_line(rt: HostRuntime) -> Result<(), Fail> {
 }
 
 #[test]
-fn other_ends_have_their_words(rt: HostRuntime) -> Result<(), Fail> {
-    let dir = "other_ends";
-    let none = "calling \"\" called \"\"";
-    for (end, words) in [
-        (ReadEnd::Closed, "closed by the peer"),
-        (ReadEnd::Timer, "ARTIM timer expired"),
-        (ReadEnd::Idle, "aborted: the peer was idle"),
-        (ReadEnd::Longest, "aborted: it lasted too long"),
-        (ReadEnd::Stopped, "aborted: the box stops"),
-        (ReadEnd::Failed, "the wire failed"),
-    ] {
-        let how = format!(in rt.alloc(); "{none} {words} contexts 0 of 0")?;
-        gives(&rt, dir, &[Step::End(end)], &[], how.as_str())?;
-    }
-    Ok(())
+fn a_request_that_does_not_come_expires(rt: HostRuntime) -> Result<(), Fail> {
+    let steps = [Step::Peer(front(echo::REQUEST, 60)), Step::Waits(30)];
+    let how = format!(in rt.alloc(); "{NOBODY} ARTIM timer expired contexts 0 of 0")?;
+    gives(&rt, "an_expiry", &steps, &[], how.as_str())?;
+    let how = format!(in rt.alloc(); "{NOBODY} closed by the peer contexts 0 of 0")?;
+    gives(&rt, "a_close", &[Step::Closes], &[], how.as_str())
 }
 
 #[test]
-fn an_abort_of_the_peer_is_not_warned_of(rt: HostRuntime) -> Result<(), Fail> {
-    let steps = [
-        Step::Peer(echo::REQUEST),
-        Step::Box(echo::ACCEPT),
-        Step::Peer(echo::USER_ABORT),
-        Step::End(ReadEnd::Closed),
-    ];
-    let how = "calling \"SCANNER1\" called \"DCMBOX\" aborted by the peer contexts 1 of 1";
-    gives(&rt, "peer_aborts", &steps, &[], how)
+fn an_abort_of_the_peer_names_its_reason(rt: HostRuntime) -> Result<(), Fail> {
+    let dir = "peer_aborts";
+    let user = "its user (source 0 reason 0)";
+    let provider = "its provider: unexpected PDU (source 2 reason 2)";
+    let reserved = "a reserved source (source 1 reason 9)";
+    peer_aborts(&rt, dir, &[7, 0, 0, 0, 0, 4, 0, 0, 0, 0], user)?;
+    peer_aborts(&rt, dir, &[7, 0, 0, 0, 0, 4, 0, 0, 2, 2], provider)?;
+    peer_aborts(&rt, dir, &[7, 0, 0, 0, 0, 4, 0, 0, 1, 9], reserved)
+}
+
+/// Fails where an A-ABORT of the peer is not told so.
+fn peer_aborts(rt: &HostRuntime, dir: &str, abort: &[u8], why: &str) -> Result<(), Fail> {
+    let steps = [Step::Peer(echo::REQUEST), Step::Peer(abort), Step::Closes];
+    let how = format!(in rt.alloc(); "{TITLES} aborted by the peer, {why} contexts 1 of 1")?;
+    gives(rt, dir, &steps, &[], how.as_str())
+}
+
+/// Fails where the box does not abort so for these bytes, before a request.
+fn aborts_at_once(rt: &HostRuntime, dir: &str, bytes: &[u8], why: &str) -> Result<(), Fail> {
+    let steps = [Step::Peer(bytes), Step::Closes];
+    let warned = format!(in rt.alloc(); "[WARN  aborted by dcmbox, {why}")?;
+    let how = format!(in rt.alloc(); "{NOBODY} aborted by dcmbox, {why} contexts 0 of 0")?;
+    gives(rt, dir, &steps, &[warned.as_str()], how.as_str())
 }
 
 #[test]
-fn an_abort_of_the_box_tells_why(rt: HostRuntime) -> Result<(), Fail> {
+fn an_abort_before_a_request_tells_why(rt: HostRuntime) -> Result<(), Fail> {
+    let dir = "early_aborts";
     let http: &[u8] = b"GET / HTTP/1.0\r\n\r\n";
-    let none = "calling \"\" called \"\"";
-    for (peer, abort, why) in [
-        (http, [2, 1], "unrecognized PDU (PDU type 47)"),
-        (echo::RELEASE, [2, 2], "unexpected PDU (PDU type 05)"),
-        (
-            &[1, 0, 0, 0, 0, 1, 0],
-            [2, 6],
-            "invalid PDU parameter value (request: 31 BadLength)",
-        ),
-    ] {
-        let sent = [7, 0, 0, 0, 0, 4, 0, 0, abort[0], abort[1]];
-        let steps = [
-            Step::Peer(peer),
-            Step::Box(&sent),
-            Step::End(ReadEnd::Closed),
-        ];
-        let warned = format!(in rt.alloc(); "[WARN  aborted: {why}")?;
-        let how = format!(in rt.alloc(); "{none} aborted: {why} contexts 0 of 0")?;
-        gives(&rt, "box_aborts", &steps, &[warned.as_str()], how.as_str())?;
-    }
-    Ok(())
+    let short = &[1, 0, 0, 0, 0, 1, 0];
+    aborts_at_once(&rt, dir, http, "its user (PDU type 47)")?;
+    aborts_at_once(&rt, dir, echo::RELEASE, "its user (PDU type 05)")?;
+    aborts_at_once(&rt, dir, short, "its user (request: 31 BadLength)")?;
+    let long = &[7, 0, 0, 0, 0, 5];
+    aborts_at_once(&rt, dir, long, "its user (PDU type 07 of 5 bytes, not 4)")
 }
 
 #[test]
 fn silence_is_why_the_box_aborts(rt: HostRuntime) -> Result<(), Fail> {
-    let steps = [
-        Step::Peer(echo::REQUEST),
-        Step::Box(echo::ACCEPT),
-        Step::End(ReadEnd::Idle),
-        Step::Box(echo::USER_ABORT),
-        Step::End(ReadEnd::Closed),
-    ];
-    let how = "calling \"SCANNER1\" called \"DCMBOX\" aborted: the peer was idle contexts 1 of 1";
-    gives(
-        &rt,
-        "idle_peer",
-        &steps,
-        &["[WARN  aborted: the peer was idle"],
-        how,
-    )
+    let steps = [Step::Peer(echo::REQUEST), Step::Waits(600), Step::Closes];
+    let how = format!(in rt.alloc(); "{TITLES} aborted: the peer was idle contexts 1 of 1")?;
+    let warned = "[WARN  aborted: the peer was idle calling \"SCANNER1\"";
+    gives(&rt, "idle_peer", &steps, &[warned], how.as_str())
+}
+
+#[test]
+fn the_box_itself_ends_an_association(rt: HostRuntime) -> Result<(), Fail> {
+    let dir = "own_end";
+    ends_itself(&rt, dir, ReadEnd::Longest, "aborted: it lasted too long")?;
+    ends_itself(&rt, dir, ReadEnd::Stopped, "aborted: the box stops")
+}
+
+/// Fails where an association that the box aborts for this reason is not told so.
+fn ends_itself(rt: &HostRuntime, dir: &str, why: ReadEnd, words: &str) -> Result<(), Fail> {
+    let steps = [Step::Peer(echo::REQUEST), Step::Aborts(why), Step::Closes];
+    let how = format!(in rt.alloc(); "{TITLES} {words} contexts 1 of 1")?;
+    let warned = format!(in rt.alloc(); "[WARN  {words} calling \"SCANNER1\"")?;
+    gives(rt, dir, &steps, &[warned.as_str()], how.as_str())
 }
 
 #[test]
 fn a_refused_context_has_its_keywords(rt: HostRuntime) -> Result<(), Fail> {
     let alloc = rt.alloc();
-    // The only context's result, after the head, titles, reserved bytes and application context.
-    let refused = joined(
+    // The recorded request with Explicit VR Big Endian as its only transfer syntax, two bytes longer.
+    let request = joined(
         alloc,
-        &[front(echo::ACCEPT, 105), &[4], back(echo::ACCEPT, 106)],
+        &[
+            &[1, 0, 0, 0, 0, 166],
+            front(back(echo::REQUEST, 6), 95),
+            &[0, 48],
+            front(back(echo::REQUEST, 103), 25),
+            &[64, 0, 0, 19],
+            b"1.2.840.10008.1.2.2",
+            back(echo::REQUEST, 149),
+        ],
     )?;
-    let steps = [
-        Step::Peer(echo::REQUEST),
-        Step::Box(refused.as_slice()),
-        Step::End(ReadEnd::Closed),
-    ];
+    let steps = [Step::Peer(request.as_slice()), Step::Closes];
     let lines = lines_of(
         &rt,
         "a_refused_context",
-        Log(Level::Debug, Form::Text),
+        Log(Level::Trace, Form::Text),
         &steps,
     )?;
-    let how = "calling \"SCANNER1\" called \"DCMBOX\" closed by the peer contexts 0 of 1";
-    let last = ended(&rt, how)?;
+    let how = format!(in alloc; "{TITLES} closed by the peer contexts 0 of 1")?;
+    let last = ended(&rt, how.as_str())?;
     let told =
-        "[DEBUG context 1 refused: transfer syntaxes not supported class Verification syntaxes ImplicitVRLittleEndian";
-    are(&rt, lines.as_slice(), &[told, last.as_str()])
+        "[TRACE context 1 refused: transfer syntaxes not supported class Verification syntaxes ExplicitVRBigEndian";
+    let warned = "[WARN  classes refused: Verification calling \"SCANNER1\"";
+    are(&rt, lines.as_slice(), &[told, warned, last.as_str()])
 }

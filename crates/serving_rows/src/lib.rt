@@ -8,6 +8,8 @@ mod chance;
 #[cfg(test)]
 mod json_lines;
 #[cfg(test)]
+mod message_lines;
+#[cfg(test)]
 mod mixed_rows;
 mod peer;
 mod scripted;

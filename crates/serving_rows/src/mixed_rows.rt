@@ -5,7 +5,7 @@ use crate::peer::{Audience, FickleSocket};
 use crate::streams::{Traffic, stream_of};
 use connection::Timeouts;
 use engine::Standing;
-use harness::{Step, config, over_memory};
+use fixtures::{Step, config, over_memory};
 use part10::MemoryFiling;
 use serving::{Connection, Turn};
 use std::alloc::Global;

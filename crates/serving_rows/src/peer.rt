@@ -77,8 +77,10 @@ impl Write for FickleSocket<'_> {
 #[derive(Drop)]
 pub struct Audience {
     pub received: RefCell<Vec<u8>>,
-    /// In how many pieces they were taken.
-    pub pieces: Cell<u32>,
+    /// The most bytes that waited to be taken after those that were.
+    pub most_ahead: Cell<usize>,
+    /// What the association was shown to send.
+    pub answers: RefCell<Vec<u8>>,
     pub sent: RefCell<Vec<u8>>,
     pub end: Cell<Option<ReadEnd>>,
     /// How many writes failed.
@@ -90,7 +92,8 @@ impl Audience {
     pub fn new(alloc: Global) -> Audience {
         Audience {
             received: RefCell::new(Vec::new(alloc)),
-            pieces: Cell::new(0),
+            most_ahead: Cell::new(0),
+            answers: RefCell::new(Vec::new(alloc)),
             sent: RefCell::new(Vec::new(alloc)),
             end: Cell::new(None),
             failures: Cell::new(0),
@@ -105,17 +108,19 @@ fn keep(kept: &RefCell<Vec<u8>>, bytes: &[u8]) {
 }
 
 impl Observer for Audience {
-    fn received(&self, bytes: &[u8]) {
+    fn took(&self, bytes: &[u8], ahead: &[u8], answer: &[u8]) {
         keep(&self.received, bytes);
-        self.pieces.set(self.pieces.get().saturating_add(1));
+        keep(&self.answers, answer);
+        self.most_ahead.set(self.most_ahead.get().max(ahead.len()));
     }
 
     fn sent(&self, bytes: &[u8]) {
         keep(&self.sent, bytes);
     }
 
-    fn read_ended(&self, end: ReadEnd) {
-        self.end.set(Some(end));
+    fn read_ended(&self, why: ReadEnd, abort: &[u8]) {
+        self.end.set(Some(why));
+        keep(&self.answers, abort);
     }
 
     fn send_failed(&self, _error: &io::Error) {

@@ -1,7 +1,7 @@
 //! A socket of a test that gives and takes as much as it is told.
 
 use connection::Timeouts;
-use harness::config;
+use fixtures::config;
 use part10::MemoryFiling;
 use serving::Connection;
 use std::alloc::Global;
@@ -106,14 +106,18 @@ impl Write for ScriptedSocket<'_> {
 /// A connection over such a socket.
 pub type Scripted<'a> = Connection<ScriptedSocket<'a>, MemoryFiling<Global>>;
 
-/// Opens one at this instant, with 30 seconds of the ARTIM timer and 600 of silence.
-pub fn scripted(alloc: Global, script: &Script, now: Instant) -> Scripted<'_> {
-    let timeouts = Timeouts {
+/// 30 seconds of the ARTIM timer and 600 of silence.
+pub fn timeouts() -> Timeouts {
+    Timeouts {
         artim: Duration::from_secs(30),
         idle: Duration::from_secs(600),
-    };
+    }
+}
+
+/// Opens one at this instant, with 30 seconds of the ARTIM timer and 600 of silence.
+pub fn scripted(alloc: Global, script: &Script, now: Instant) -> Scripted<'_> {
     let filing = MemoryFiling::new(alloc);
-    Connection::open(&config(), ScriptedSocket(script), filing, timeouts, now)
+    Connection::open(&config(), ScriptedSocket(script), filing, timeouts(), now)
 }
 
 /// Returns the time so many seconds after another one.

@@ -1,24 +1,36 @@
-//! Shows a journal what goes over a connection, and gathers its lines.
-use connection::{Observer, ReadEnd};
+//! Runs a connection by a script, and gathers the lines of its journal.
+use crate::scripted::{Script, ScriptedSocket, after, timeouts};
+use connection::ReadEnd;
+use fixtures::config;
 use fixtures::folders::fresh;
-use journal::{Form, Journal, Served, Teller};
+use journal::{Form, Journal, Limits, Served, Teller};
 use log::sink::Memory;
 use log::{Level, Logged};
 use part10::FolderFiling;
+use serving::Connection;
 use std::alloc::Global;
 use std::fs;
 use std::net::{IpAddr, Ipv4Addr, SocketAddr};
 use std::test::Fail;
+use std::time::Instant;
 
-/// What goes over a connection.
+/// What happens on a connection.
 #[derive(Clone, Copy)]
 pub enum Step<'a> {
-    /// The peer sends.
+    /// The peer sends, and the connection has its turn.
     Peer(&'a [u8]),
-    /// The box sends.
-    Box(&'a [u8]),
-    /// Nothing more is read.
-    End(ReadEnd),
+    /// The peer takes no more than so many bytes from now on.
+    Takes(usize),
+    /// Each write to the peer fails from now on.
+    Resets,
+    /// The peer closes the connection.
+    Closes,
+    /// So many seconds go by.
+    Waits(u64),
+    /// The box aborts the association.
+    Aborts(ReadEnd),
+    /// The folder is removed.
+    FolderGoes,
 }
 
 /// What an association came to, that the journal is told.
@@ -32,8 +44,17 @@ fn served() -> Served {
     }
 }
 
-/// Shows a journal these steps, of a box that files into a new folder of this name.
-fn show(
+/// The limits of the configuration of the tests.
+pub fn limits() -> Limits {
+    let config = config();
+    Limits {
+        max_pdu: config.max_pdu,
+        max_data: config.max_data,
+    }
+}
+
+/// Runs a connection by these steps, of a box that files into a new folder of this name.
+fn run(
     rt: &HostRuntime,
     dir: &str,
     sink: &Memory<Global>,
@@ -47,16 +68,28 @@ fn show(
     let logged = Logged::new(*rt, level, sink);
     let peer = SocketAddr::new(IpAddr::V4(Ipv4Addr::new(192, 0, 2, 7)), 51234);
     let teller = Teller::new(&logged, form).about(peer);
-    let journal = Journal::new(rt.alloc(), teller, notes);
+    let journal = Journal::new(rt.alloc(), teller, notes, limits());
+    let script = Script::new(rt.alloc());
+    let mut now = Instant::now(rt)?;
+    let mut one = Connection::open(&config(), ScriptedSocket(&script), filing, timeouts(), now);
     for step in steps {
         match *step {
-            Step::Peer(bytes) => journal.received(bytes),
-            Step::Box(bytes) => journal.sent(bytes),
-            Step::End(end) => journal.read_ended(end),
+            Step::Peer(bytes) => script.send(bytes)?,
+            Step::Takes(count) => script.takes.set(count),
+            Step::Resets => script.fails.set(true),
+            Step::Closes => script.is_closed.set(true),
+            Step::Waits(seconds) => now = after(now, seconds),
+            Step::Aborts(why) => one.abort(now, why, &journal),
+            Step::FolderGoes => fs::remove_dir_all(rt, dir)?,
+        }
+        one.expire(now, &journal);
+        for _ in 0..4 {
+            let _ = one.turn(now, 65_536, &journal);
         }
     }
+    let _end = one.end();
     journal.end(served());
-    fs::remove_dir_all(rt, dir)?;
+    let _ = fs::remove_dir_all(rt, dir);
     Ok(())
 }
 
@@ -72,7 +105,7 @@ pub fn lines_of(
     steps: &[Step],
 ) -> Result<Vec<String>, Fail> {
     let sink = Memory::new(rt.alloc());
-    show(rt, dir, &sink, log, steps)?;
+    run(rt, dir, &sink, log, steps)?;
     let told = sink.into_lines();
     let mut lines = Vec::new(rt.alloc());
     for line in told.as_slice() {

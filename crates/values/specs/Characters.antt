@@ -1,5 +1,5 @@
--- Which bytes of a text are one character (PS3.3 section C.12.1.1.2, PS3.5 section 6.1.2). A text is shown with one
--- byte a character: that of ASCII itself, and a byte from 80H on for any other.
+-- Which bytes of a text are one character (PS3.3 section C.12.1.1.2, PS3.5 section 6.1.2). To be checked, a text is
+-- replaced by one with one byte for each character: a character of ASCII by itself, any other by a byte from 80H on.
 use Rattle.std.specs.Prelude.{ℕ, Bool, true, false, ◌&&◌, ◌||◌, List, [], ◌∷◌, length, take, Option, Some, None, nat_eq, nat_le, codes, if◌then◌else◌}
 use Rattle.std.specs.List.{list_any}
 use Rattle.std.specs.Cmp.Lexicographic.{pointwise}
@@ -15,7 +15,7 @@ use Rattle.values.specs.declared.reading.WideSets.{WideSets}
 use Rattle.values.specs.declared.reading.Reading.{Reading}
 use Rattle.values.specs.declared.reading.Reading.TheVariants as readings
 
--- the terms of code extensions begin with `ISO 2022`
+-- a value begins with `ISO 2022`, as the defined terms of code extensions do
 abbrev pub names_extension : List ℕ → Bool
 names_extension value = nat_le 8 (length value) && pointwise nat_eq (take 8 value) (codes "ISO 2022")
 
@@ -25,11 +25,12 @@ set_of_term term =
     else (if pointwise nat_eq term (codes "GB18030") || pointwise nat_eq term (codes "GBK") then sets.Gb18030
     else sets.SingleByte)
 
--- the set that a value of Specific Character Set names; several of them are code extensions
+-- the encoding for a value of Specific Character Set; several values mean code extensions
 abbrev pub set_of : List ℕ → CharacterSet
 set_of value = if list_any is_backslash value || names_extension value then sets.CodeExtensions else set_of_term (without_trailing is_space value)
 
--- GB 18030 and GBK: after a byte from 81H on a digit, and two bytes more, or one byte
+-- the position after a byte of GB 18030 or GBK: a character that begins with a byte from 81H on has four bytes if the
+-- second is a digit, else two
 abbrev pub gb_place : GbPlace → ℕ → GbPlace
 gb_place gb.First byte = if nat_le 129 byte then gb.Second else gb.First
 gb_place gb.Second byte = if is_digit byte then gb.Third else gb.First
@@ -40,14 +41,15 @@ abbrev pub gb_character : GbPlace → ℕ → Option ℕ
 gb_character gb.First byte = Some (if nat_le 129 byte then 128 else byte)
 gb_character _ byte = None
 
--- code extensions: ESC and bytes from 20H to 2FH, and one more, name a set of one byte a character, or with $ of two
+-- a byte is the first of a character of two bytes, with these sets selected; an escape sequence, which is ESC, bytes
+-- from 20H to 2FH and one more, selects a set with one byte for each character, or, with $, with two
 abbrev pub begins_pair : WideSets → ℕ → Bool
 begins_pair sets byte = sets.low && nat_le 33 byte && nat_le byte 126 || sets.high && nat_le 161 byte
 
 abbrev pub is_intermediate : ℕ → Bool
 is_intermediate byte = nat_le 32 byte && nat_le byte 47
 
--- ) or -, before the set of the bytes from 80H on
+-- a byte of an escape sequence means that it selects the set of the bytes from 80H on (G1): ) or -
 abbrev pub names_high : ℕ → Bool
 names_high byte = nat_eq byte 41 || nat_eq byte 45
 
@@ -67,7 +69,7 @@ extended_place sets extended.WideEscape byte = after_escape true byte
 extended_place sets (extended.Low is_wide) byte = if is_intermediate byte then extended.Low is_wide else extended.First
 extended_place sets (extended.High is_wide) byte = if is_intermediate byte then extended.High is_wide else extended.First
 
--- the sets that the last byte of a sequence has named
+-- the selected sets after the last byte of an escape sequence
 abbrev pub named_sets : WideSets → ExtendedPlace → WideSets
 named_sets sets (extended.Low is_wide) = record { low = is_wide; high = sets.high }
 named_sets sets (extended.High is_wide) = record { low = sets.low; high = is_wide }
@@ -82,7 +84,7 @@ extended_character sets extended.First byte =
     if nat_eq byte 27 then None else (if begins_pair sets byte then Some 128 else Some byte)
 extended_character sets _ byte = None
 
--- a text that is read byte by byte
+-- the state of reading before the first byte of a text in this character set
 
 abbrev pub reading_of : CharacterSet → Reading
 reading_of sets.SingleByte = readings.SingleByte
@@ -96,7 +98,7 @@ after readings.Utf8 byte = readings.Utf8
 after (readings.Gb18030 place) byte = readings.Gb18030 (gb_place place byte)
 after (readings.CodeExtensions sets place) byte = readings.CodeExtensions (extended_sets sets place byte) (extended_place sets place byte)
 
--- the byte that is shown for the character that begins with this one
+-- the byte that replaces the character that begins with this byte; none if no character begins here
 abbrev pub character : Reading → ℕ → Option ℕ
 character readings.SingleByte byte = Some byte
 character readings.Utf8 byte = if nat_le 128 byte && nat_le byte 191 then None else Some byte
@@ -111,7 +113,7 @@ abbrev pub with_character : Option ℕ → List ℕ → List ℕ
 with_character None text = text
 with_character (Some c) text = c ∷ text
 
--- a text with one byte a character
+-- the text with one byte for each character
 abbrev pub shown : Reading → List ℕ → List ℕ
 shown reading [] = []
 shown reading (byte ∷ bytes) = with_character (character reading byte) (shown (after reading byte) bytes)

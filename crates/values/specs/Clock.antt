@@ -4,12 +4,12 @@ use Rattle.std.specs.List.{list_all}
 use Rattle.element.specs.Values.{is_digit}
 use Rattle.values.specs.Calendar.{are_at_most}
 
--- nothing, or a point and one to six digits
+-- a fraction of a second: nothing, or a point and one to six digits
 abbrev pub is_fraction : List ℕ → Bool
 is_fraction [] = true
 is_fraction (point ∷ digits) = nat_eq point 46 && nat_le 1 (length digits) && nat_le (length digits) 6 && list_all is_digit digits
 
--- HH, HHMM or HHMMSS, which a fraction may follow; a second may be the sixtieth
+-- a time of day that exists: HH, HHMM, or HHMMSS with or without a fraction; seconds go up to 60, for a leap second
 abbrev pub is_time : List ℕ → Bool
 is_time (a ∷ b ∷ []) = are_at_most 23 a b
 is_time (a ∷ b ∷ c ∷ d ∷ []) = are_at_most 23 a b && are_at_most 59 c d

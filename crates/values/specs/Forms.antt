@@ -18,7 +18,7 @@ use Rattle.values.specs.declared.rule.FormRule.TheVariants.{AtMost, GroupsAtMost
 
 -- the table: the rules of each VR
 
--- numbers, dates and times that are spelled
+-- the rules of VRs with numbers, dates or times in text
 abbrev pub rules_of_spelled : List ℕ → List FormRule
 rules_of_spelled vr =
     if pointwise nat_eq vr (codes "DA") then AtMost 8 ∷ Day ∷ []
@@ -28,7 +28,7 @@ rules_of_spelled vr =
     else (if pointwise nat_eq vr (codes "TM") then AtMost 14 ∷ Clock ∷ []
     else []))))
 
--- strings, of which an element has one or more
+-- the rules of VRs whose elements may have several values, separated by backslash
 abbrev pub rules_of_string : List ℕ → List FormRule
 rules_of_string vr =
     if pointwise nat_eq vr (codes "AE") then AtMost 16 ∷ Title ∷ []
@@ -47,7 +47,7 @@ rules_of vr =
     else (if pointwise nat_eq vr (codes "UR") then Locator ∷ []
     else rules_of_string vr)))
 
--- an element has one value, in which a backslash is a character
+-- an element of this VR has a single value, in which a backslash is an ordinary character
 abbrev pub is_single : List ℕ → Bool
 is_single vr = pointwise nat_eq vr (codes "LT") || pointwise nat_eq vr (codes "ST") || pointwise nat_eq vr (codes "UT") || pointwise nat_eq vr (codes "UR")
 
@@ -56,7 +56,7 @@ is_single vr = pointwise nat_eq vr (codes "LT") || pointwise nat_eq vr (codes "S
 abbrev pub is_no_other_offset : List ℕ → Bool
 is_no_other_offset offset = is_empty offset || is_offset offset
 
--- of a text of one character or more, without spaces at its end
+-- a text, not empty and without spaces at its end, obeys a rule
 abbrev pub text_obeys : FormRule → List ℕ → Bool
 text_obeys Day text = is_date text
 text_obeys Clock text = is_time text
@@ -70,7 +70,7 @@ text_obeys Name text = is_name text
 text_obeys Locator text = list_all is_locator_character text
 text_obeys _ text = true
 
--- an empty value, or one of spaces alone, has any form but that of a title
+-- a single value obeys a rule; an empty one obeys each, one of spaces alone those on form except that of a title
 abbrev pub obeys : FormRule → List ℕ → Bool
 obeys (AtMost most) part = nat_le (length part) most
 obeys (GroupsAtMost most) part = groups_are_at_most most part
@@ -98,7 +98,7 @@ fault_of_rule Locator = BadLocator
 
 -- the values of an element
 
--- what comes before a space that pads the value to an even length
+-- the value without one space at its end, which may be padding
 abbrev pub without_last_space : List ℕ → List ℕ
 without_last_space value =
     if nat_le 1 (length value) && is_space (get_or value (length value - 1) 0) then take (length value - 1) value else value
@@ -106,7 +106,7 @@ without_last_space value =
 abbrev pub value_obeys : List ℕ → FormRule → List ℕ → Bool
 value_obeys vr rule text = if is_single vr then obeys rule text else list_all (obeys rule) (slice_split is_backslash text)
 
--- the first of these rules that a value breaks
+-- the fault of the first of these rules that a value of the element breaks
 abbrev pub first_broken : List ℕ → List FormRule → List ℕ → Option FormFault
 first_broken vr [] text = None
 first_broken vr (rule ∷ rules) text = if value_obeys vr rule text then first_broken vr rules text else Some (fault_of_rule rule)
@@ -114,11 +114,11 @@ first_broken vr (rule ∷ rules) text = if value_obeys vr rule text then first_b
 unfoldable pub form_fault : List ℕ → List ℕ → Option FormFault
 form_fault vr text = first_broken vr (rules_of vr) (without_last_space text)
 
--- how many bytes a number of a VR has; 1 where values are no numbers in bytes
+-- the size of one value of a binary VR: 2, 4 or 8; 1 for any other VR
 abbrev pub number_size : List ℕ → ℕ
 number_size vr = if is_words vr then 2 else (if is_longs vr then 4 else (if is_doubles vr then 8 else 1))
 
--- the numbers and names of the faults, which go on from those of element/specs/Values.antt
+-- the number of a fault, which continue those of element/specs/Values.antt; its name follows
 abbrev pub form_number : FormFault → ℕ
 form_number LongText = 5
 form_number BadControl = 6

@@ -6,3 +6,5 @@ pub mod Names
 pub mod Texts
 pub mod Forms
 pub mod Characters
+pub mod Letters
+pub mod Repertoires

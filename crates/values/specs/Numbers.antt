@@ -1,4 +1,4 @@
--- Numbers that are spelled in decimal (PS3.5 table 6.2-1, IS and DS).
+-- Numbers in decimal text (PS3.5 table 6.2-1, IS and DS).
 use Rattle.std.specs.Prelude.{ℕ, ◌+◌, ◌-◌, ◌*◌, Bool, true, false, ◌||◌, List, nat_eq, nat_le, if◌then◌else◌}
 use Rattle.std.specs.List.{list_any, fold}
 use Rattle.element.specs.Values.{is_digit}
@@ -22,7 +22,7 @@ after_sign Nothing = Sign
 after_sign Exponent = ExponentSign
 after_sign _ = Broken
 
--- a point may lead or end the digits
+-- the state after a decimal point, which may stand before or after the digits
 abbrev pub after_point : Spelled → Spelled
 after_point Nothing = Point
 after_point Sign = Point
@@ -38,7 +38,7 @@ abbrev pub after_space : Spelled → Spelled
 after_space Nothing = Nothing
 after_space _ = Broken
 
--- what has come with one character more: a digit, a sign, a point, E or e, a space
+-- the state after one more character: a digit, a sign, a point, E or e, a space
 abbrev pub after : Spelled → ℕ → Spelled
 after spelled c =
     if is_digit c then after_digit spelled
@@ -58,15 +58,15 @@ ends_decimal Fraction = true
 ends_decimal Power = true
 ends_decimal _ = false
 
--- digits, and a sign before them or none
+-- an integer: digits with or without a sign, after any spaces
 abbrev pub is_integer : List ℕ → Bool
 is_integer text = ends_whole (fold after Nothing text)
 
--- a number with a sign, a point and an exponent or without
+-- a decimal number: with or without a sign, a point and an exponent, after any spaces
 abbrev pub is_decimal : List ℕ → Bool
 is_decimal text = ends_decimal (fold after Nothing text)
 
--- ten times the number and the digit, but 2^32 - 1 at most
+-- a number with one more decimal digit, at most 2^32 - 1
 abbrev pub with_digit : ℕ → ℕ → ℕ
 with_digit number c =
     if is_digit c then (if nat_le (number * 10 + (c - 48)) 4_294_967_295 then number * 10 + (c - 48) else 4_294_967_295)
@@ -75,6 +75,6 @@ with_digit number c =
 abbrev pub is_minus : ℕ → Bool
 is_minus c = nat_eq c 45
 
--- a whole number from -2^31 to 2^31 - 1
+-- an integer from -2^31 to 2^31 - 1
 abbrev pub fits_32_bits : List ℕ → Bool
 fits_32_bits text = nat_le (fold with_digit 0 text) (if list_any is_minus text then 2_147_483_648 else 2_147_483_647)

@@ -2,14 +2,14 @@
 ghost use Rattle.std.specs.Prelude.{◌≡◌};
 ghost use Rattle.values.specs.Calendar as calendar;
 
-/// Returns the number that two digits spell.
+/// Returns the value of two decimal digits.
 pub(crate) fn two_digits(tens: u8, ones: u8) -> u32
     ensures { result ≡ calendar.two_digits tens ones }
 {
     u32::from(tens.saturating_sub(b'0')) * 10 + u32::from(ones.saturating_sub(b'0'))
 }
 
-/// Returns whether these are two digits of a number that is at most `most`.
+/// Returns whether these are two decimal digits with a value of at most `most`.
 pub(crate) fn are_at_most(most: u32, tens: u8, ones: u8) -> bool
     ensures { result ≡ calendar.are_at_most most tens ones }
 {
@@ -50,21 +50,21 @@ pub(crate) fn is_month(tens: u8, ones: u8) -> bool
     are_at_most(12, tens, ones) && two_digits(tens, ones) >= 1
 }
 
-/// Returns whether these are two digits of a day that this month of this year has.
+/// Returns whether these are two digits with a day that this month of this year has.
 fn is_day(year: u32, month: u32, tens: u8, ones: u8) -> bool
     ensures { result ≡ calendar.is_day year month tens ones }
 {
     are_at_most(days_of(year, month), tens, ones) && two_digits(tens, ones) >= 1
 }
 
-/// Returns whether these are a month and a day of it in this year: MMDD.
+/// Returns whether these four digits, MMDD, are a month and a day that it has in this year.
 fn is_day_of(year: u32, m: u8, n: u8, tens: u8, ones: u8) -> bool
     ensures { result ≡ calendar.is_day_of year m n tens ones }
 {
     is_month(m, n) && is_day(year, two_digits(m, n), tens, ones)
 }
 
-/// Returns whether a text is a date that exists: YYYYMMDD.
+/// Returns whether a text is a date that exists in the calendar, YYYYMMDD.
 pub fn is_date(text: &[u8]) -> bool
     ensures { result ≡ calendar.is_date text.now }
 {

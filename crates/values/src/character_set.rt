@@ -1,19 +1,21 @@
-//! Which bytes of a text are one character (PS3.3 section C.12.1.1.2, PS3.5 section 6.1.2).
+//! The character set of a data set, as far as it decides which bytes of a text are one character (PS3.3
+//! section C.12.1.1.2, PS3.5 section 6.1.2).
 ghost use Rattle.std.specs.Prelude.{◌≡◌};
 ghost use Rattle.std.specs.List.{list_any};
 ghost use Rattle.element.specs.Values.{is_backslash};
 ghost use Rattle.values.specs.Characters as characters;
 
-/// How texts spell characters, as Specific Character Set (0008,0005) names it.
+/// How characters are encoded in the texts of a data set, by its Specific Character Set (0008,0005).
 #[derive(Clone, Copy, Debug, PartialEq, Eq)]
 pub enum CharacterSet {
-    /// Each byte is a character: ASCII, and the sets of ISO 8859 and JIS X 0201.
+    /// One byte for each character: ASCII, and the sets of ISO 8859 and JIS X 0201.
     SingleByte,
     /// UTF-8.
     Utf8,
-    /// GB 18030 and GBK: one, two or four bytes.
+    /// GB 18030 and GBK: one, two or four bytes for each character.
     Gb18030,
-    /// Code extensions of ISO 2022: escape sequences go from sets of one byte to sets of two and back.
+    /// Code extensions of ISO 2022: escape sequences switch between sets with one and with two bytes
+    /// for each character.
     CodeExtensions,
 }
 
@@ -23,7 +25,7 @@ fn has_several_values(value: &[u8]) -> bool
     value.iter().any(|byte| *byte == b'\\')
 }
 
-/// Returns whether a value begins as the terms of code extensions do: `ISO 2022`.
+/// Returns whether a value begins with `ISO 2022`, as the defined terms of code extensions do.
 fn names_extension(value: &[u8]) -> bool
     ensures { result ≡ characters.names_extension value.now }
 {
@@ -31,7 +33,8 @@ fn names_extension(value: &[u8]) -> bool
 }
 
 impl CharacterSet {
-    /// Returns the set that a value of Specific Character Set names.
+    /// Returns the encoding for a value of Specific Character Set. Several values mean code extensions;
+    /// an unknown term is taken as `SingleByte`.
     pub fn of_value(value: &[u8]) -> CharacterSet
         ensures { result ≡ characters.set_of value.now }
     {

@@ -6,7 +6,7 @@ ghost use Rattle.values.specs.Clock as clock;
 
 use crate::calendar::are_at_most;
 
-/// Returns whether these are digits alone.
+/// Returns whether all bytes are decimal digits.
 pub(crate) fn are_digits(text: &[u8]) -> bool
     ensures { result ≡ list_all is_digit text.now }
 {
@@ -26,8 +26,8 @@ fn is_fraction(text: &[u8]) -> bool
     }
 }
 
-/// Returns whether a text is a time that exists: HH, HHMM or HHMMSS, which a fraction may follow. A second
-/// may be the sixtieth.
+/// Returns whether a text is a time of day that exists: HH, HHMM, or HHMMSS with or without a fraction.
+/// Seconds go up to 60, for a leap second.
 pub fn is_time(text: &[u8]) -> bool
     ensures { result ≡ clock.is_time text.now }
 {

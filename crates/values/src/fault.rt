@@ -1,37 +1,37 @@
-//! How a value breaks the table of VRs.
+//! The faults of values by the table of VRs.
 ghost use Rattle.std.specs.Prelude.{◌≡◌};
 ghost use Rattle.values.specs.Forms as forms;
 
 use std::fmt;
 
-/// How a value that has the characters and the size of its VR breaks its form (PS3.5 table 6.2-1). The
-/// numbers go on from those of `element::ValueFault`.
+/// How a value breaks the rules of its VR on form (PS3.5 table 6.2-1), beyond the characters and sizes
+/// that `element::ValueFault` has. The numbers continue those of that type.
 #[derive(Clone, Copy, Debug, PartialEq, Eq)]
 pub enum FormFault {
-    /// 5: a value, with the spaces that pad it, has more characters than its VR allows.
+    /// 5: a value has more characters than its VR allows, counted with spaces that pad it.
     LongText,
     /// 6: a text has a control character that its VR does not allow.
     BadControl,
     /// 7: the calendar has no such date.
     NoSuchDate,
-    /// 8: there is no such time.
+    /// 8: there is no such time of day.
     NoSuchTime,
     /// 9: an offset from UTC is not from -1200 to +1400, or is -0000.
     NoSuchOffset,
-    /// 10: the characters spell no number.
+    /// 10: the text is not a number.
     BadNumber,
     /// 11: a whole number is not from -2^31 to 2^31 - 1.
     OutOfRange,
-    /// 12: a name has more than three component groups, or one of more than five components.
+    /// 12: a person name has more than three component groups, or a group of more than five components.
     BadName,
-    /// 13: a title is spaces alone.
+    /// 13: an application entity title is all spaces.
     BlankTitle,
-    /// 14: a URI has a character that no URI has, or leading spaces.
+    /// 14: a URI has a character that URIs may not have, or leading spaces.
     BadLocator,
 }
 
 impl FormFault {
-    /// Returns its number, from 5 to 14.
+    /// Returns the number of the fault, from 5 to 14.
     pub fn number(self) -> u8
         ensures { result ≡ forms.form_number self }
     {
@@ -49,7 +49,7 @@ impl FormFault {
         }
     }
 
-    /// Returns its name, as it is printed.
+    /// Returns the name of the fault, as it is printed: that of the variant.
     pub fn name(self) -> &'static str
         ensures { result.now ≡ forms.form_name self }
     {

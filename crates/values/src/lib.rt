@@ -1,15 +1,17 @@
-//! The values of data elements against the table of VRs (PS3.5 table 6.2-1): lengths in characters, dates and
-//! times that exist, numbers and names by their form.
+//! Checks the values of data elements against the table of VRs (PS3.5 table 6.2-1): lengths in
+//! characters, dates and times that exist, and the form of numbers and names.
 #![tactic(auto)]
 
 mod calendar;
 mod character_set;
 mod clock;
 mod fault;
+mod letters;
 mod moment;
 mod name;
 mod numbers;
 mod reading;
+mod repertoire;
 mod rule;
 mod table;
 mod texts;
@@ -22,4 +24,5 @@ pub use moment::{has_date, has_time, is_offset};
 pub use name::is_name;
 pub use numbers::{fits_32_bits, is_decimal, is_integer};
 pub use reading::{ExtendedPlace, GbPlace, Reading, WideSets};
+pub use repertoire::{Part, Repertoire};
 pub use table::{check_form, number_size};

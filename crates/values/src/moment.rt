@@ -1,25 +1,25 @@
-//! Dates with their times (PS3.5 table 6.2-1, DT).
+//! Date times (PS3.5 table 6.2-1, DT).
 ghost use Rattle.std.specs.Prelude.{◌≡◌};
 ghost use Rattle.values.specs.Moment as moment;
 
 use crate::calendar::{are_at_most, is_date, is_month, is_year, two_digits};
 use crate::clock::is_time;
 
-/// Returns whether a byte is a sign.
+/// Returns whether a byte is `+` or `-`.
 pub(crate) fn is_sign(byte: u8) -> bool
     ensures { result ≡ moment.is_sign byte }
 {
     byte == b'+' || byte == b'-'
 }
 
-/// Returns whether a text has a sign five bytes before its end.
+/// Returns whether a date time has an offset from UTC: a sign five bytes before its end.
 pub(crate) fn has_offset(text: &[u8]) -> bool
     ensures { result ≡ moment.has_offset text.now }
 {
     text.len() >= 5 && is_sign(text[text.len() - 5])
 }
 
-/// Returns what stands before an offset from UTC, if there is one.
+/// Returns a date time without its offset from UTC, if it has one.
 pub(crate) fn local_part(text: &[u8]) -> &[u8]
     ensures { result.now ≡ moment.local_part text.now }
 {
@@ -30,7 +30,7 @@ pub(crate) fn local_part(text: &[u8]) -> &[u8]
     }
 }
 
-/// Returns the offset from UTC, or nothing.
+/// Returns the offset from UTC of a date time, or an empty slice if it has none.
 pub(crate) fn offset_part(text: &[u8]) -> &[u8]
     ensures { result.now ≡ moment.offset_part text.now }
 {
@@ -41,7 +41,8 @@ pub(crate) fn offset_part(text: &[u8]) -> &[u8]
     }
 }
 
-/// Returns whether a text is an offset from UTC: from -1200 to +1400, and not -0000.
+/// Returns whether a text is an offset from UTC: a sign, hours and minutes, from -1200 to +1400, and
+/// not -0000.
 pub fn is_offset(text: &[u8]) -> bool
     ensures { result ≡ moment.is_offset text.now }
 {
@@ -57,7 +58,8 @@ pub fn is_offset(text: &[u8]) -> bool
     }
 }
 
-/// Returns whether a text begins with a date that exists, YYYYMMDD, or is its year or its year and month.
+/// Returns whether a text begins with a date that exists, YYYYMMDD, or is a year, YYYY, or a year and
+/// month, YYYYMM.
 fn begins_with_date(text: &[u8]) -> bool
     ensures { result ≡ moment.begins_with_date text.now }
 {
@@ -68,21 +70,21 @@ fn begins_with_date(text: &[u8]) -> bool
     }
 }
 
-/// Returns whether a text has at most eight characters, or goes on after them with a time that exists.
+/// Returns whether a text has at most eight characters, or a time that exists after the first eight.
 fn ends_with_time(text: &[u8]) -> bool
     ensures { result ≡ moment.ends_with_time text.now }
 {
     text.len() <= 8 || is_time(&text[8..])
 }
 
-/// Returns whether a date with its time has a date that exists: YYYY, YYYYMM or YYYYMMDD.
+/// Returns whether a date time has a date that exists: YYYY, YYYYMM or YYYYMMDD.
 pub fn has_date(text: &[u8]) -> bool
     ensures { result ≡ moment.has_date text.now }
 {
     begins_with_date(local_part(text))
 }
 
-/// Returns whether a date with its time has a time that exists, or none.
+/// Returns whether a date time has a time of day that exists, or none.
 pub fn has_time(text: &[u8]) -> bool
     ensures { result ≡ moment.has_time text.now }
 {

@@ -1,28 +1,28 @@
-//! Numbers that are spelled in decimal (PS3.5 table 6.2-1, IS and DS).
+//! Numbers in decimal text (PS3.5 table 6.2-1, IS and DS).
 ghost use Rattle.std.specs.Prelude.{◌≡◌};
 ghost use Rattle.std.specs.List.{list_any, fold};
 ghost use Rattle.values.specs.Numbers as numbers;
 
 use crate::moment::is_sign;
 
-/// What has come of a number that is read character by character.
+/// The state of reading a number character by character: what the last characters were.
 #[derive(Clone, Copy)]
 enum Spelled {
-    /// Nothing but leading spaces.
+    /// Leading spaces, or nothing.
     Nothing,
     Sign,
     /// Digits, and no decimal point.
     Whole,
-    /// A decimal point, and no digit.
+    /// A decimal point without a digit before it.
     Point,
-    /// A decimal point and digits, which stand on either side of it.
+    /// A decimal point, and digits before or after it.
     Fraction,
     /// `E` or `e` after a number.
     Exponent,
     ExponentSign,
     /// Digits of an exponent.
     Power,
-    /// What is no number, whatever follows.
+    /// Anything that is not a number, whatever follows.
     Broken,
 }
 
@@ -75,7 +75,7 @@ fn after_space(spelled: Spelled) -> Spelled
     }
 }
 
-/// Returns what has come with one character more.
+/// Returns the state after one more character.
 fn after(spelled: Spelled, byte: u8) -> Spelled
     ensures { result ≡ numbers.after spelled byte }
 {
@@ -101,7 +101,7 @@ fn spelled_by(text: &[u8]) -> Spelled
         .fold(Spelled::Nothing, |spelled, byte| after(spelled, *byte))
 }
 
-/// Returns whether a text is a whole number: digits, and a sign before them or none. Spaces may lead.
+/// Returns whether a text is an integer: digits with or without a sign, after any spaces.
 pub fn is_integer(text: &[u8]) -> bool
     ensures { result ≡ numbers.is_integer text.now }
 {
@@ -111,8 +111,8 @@ pub fn is_integer(text: &[u8]) -> bool
     }
 }
 
-/// Returns whether a text is a decimal number, with a sign, a decimal point and an exponent or without.
-/// Spaces may lead.
+/// Returns whether a text is a decimal number: with or without a sign, a decimal point and an exponent,
+/// after any spaces.
 pub fn is_decimal(text: &[u8]) -> bool
     ensures { result ≡ numbers.is_decimal text.now }
 {
@@ -122,7 +122,7 @@ pub fn is_decimal(text: &[u8]) -> bool
     }
 }
 
-/// Returns a number with a character more: ten times it and the digit, but 2^32 - 1 at most.
+/// Returns a number with one more decimal digit, at most 2^32 - 1. Other characters leave it as it is.
 fn with_digit(number: u32, byte: u8) -> u32
     ensures { result ≡ numbers.with_digit number byte }
 {
@@ -137,7 +137,7 @@ fn with_digit(number: u32, byte: u8) -> u32
     }
 }
 
-/// Returns the number that the digits of a text spell, but 2^32 - 1 at most.
+/// Returns the number in the digits of a text, without its sign, at most 2^32 - 1.
 fn magnitude(text: &[u8]) -> u32
     ensures { result ≡ fold numbers.with_digit 0 text.now }
 {
@@ -151,7 +151,7 @@ fn is_negative(text: &[u8]) -> bool
     text.iter().any(|byte| *byte == b'-')
 }
 
-/// Returns whether a whole number stands between -2^31 and 2^31 - 1.
+/// Returns whether an integer in decimal is from -2^31 to 2^31 - 1.
 pub fn fits_32_bits(text: &[u8]) -> bool
     ensures { result ≡ numbers.fits_32_bits text.now }
 {

@@ -1,14 +1,15 @@
-//! Reads a text byte by byte, and shows each character of it as one byte.
+//! Reads a text byte by byte, and replaces each character by one byte, so that characters can be
+//! counted and checked without decoding them.
 ghost use Rattle.std.specs.Prelude.{◌≡◌, ◌+◌, ◌≤◌, ◌++◌, [], length};
 ghost use Rattle.values.specs.Characters as characters;
 
 use crate::character_set::CharacterSet;
 use arrayvec::ArrayVec;
 
-/// The byte that stands for a character of several bytes.
+/// The byte that replaces a character of several bytes.
 const WIDE: u8 = 128;
 
-/// Where in a character of GB 18030 the next byte stands.
+/// The position of the next byte in a character of GB 18030.
 #[derive(Clone, Copy, Debug)]
 pub enum GbPlace {
     First,
@@ -17,32 +18,34 @@ pub enum GbPlace {
     Fourth,
 }
 
-/// Where in a character or an escape sequence of code extensions the next byte stands.
+/// The position of the next byte in a character or an escape sequence of code extensions (ISO 2022).
 #[derive(Clone, Copy, Debug)]
 pub enum ExtendedPlace {
     First,
-    /// After the first byte of a character of two.
+    /// The second byte of a character of two.
     Last,
     /// After ESC.
     Escape,
-    /// After ESC and `$`, which announces a set of two bytes a character.
+    /// After ESC and `$`, which announces a set with two bytes for each character.
     WideEscape,
-    /// Where the set of the bytes below 80H is named, of two bytes a character or of one.
+    /// In an escape sequence that selects the set of the bytes below 80H (G0): `true` for one with two
+    /// bytes for each character.
     Low(bool),
-    /// Where the set of the bytes from 80H on is.
+    /// In an escape sequence that selects the set of the bytes from 80H on (G1): `true` for one with
+    /// two bytes for each character.
     High(bool),
 }
 
-/// Which sets of code extensions have two bytes a character.
+/// Which of the two selected sets of code extensions have two bytes for each character.
 #[derive(Clone, Copy, Debug)]
 pub struct WideSets {
-    /// That of the bytes below 80H.
+    /// The set of the bytes below 80H (G0).
     pub low: bool,
-    /// That of the bytes from 80H on.
+    /// The set of the bytes from 80H on (G1).
     pub high: bool,
 }
 
-/// What has come of a text that is read byte by byte.
+/// The state of reading a text byte by byte, in its character set.
 #[derive(Clone, Copy, Debug)]
 pub enum Reading {
     SingleByte,
@@ -83,28 +86,29 @@ fn gb_character(place: GbPlace, byte: u8) -> Option<u8>
     }
 }
 
-/// Returns whether a byte begins a character of two bytes.
+/// Returns whether a byte is the first of a character of two bytes, with these sets selected.
 fn begins_pair(sets: WideSets, byte: u8) -> bool
     ensures { result ≡ characters.begins_pair sets byte }
 {
     sets.low && 33 <= byte && byte <= 126 || sets.high && byte >= 161
 }
 
-/// Returns whether a byte of an escape sequence is one before its last.
+/// Returns whether a byte is an intermediate byte of an escape sequence, 20H to 2FH: not its last.
 fn is_intermediate(byte: u8) -> bool
     ensures { result ≡ characters.is_intermediate byte }
 {
     32 <= byte && byte <= 47
 }
 
-/// Returns whether a byte of an escape sequence says that it names the set of the bytes from 80H on.
+/// Returns whether a byte of an escape sequence means that it selects the set of the bytes from 80H on
+/// (G1): `)` or `-`.
 fn names_high(byte: u8) -> bool
     ensures { result ≡ characters.names_high byte }
 {
     byte == b')' || byte == b'-'
 }
 
-/// Returns where the next byte stands after ESC, or after ESC and `$`.
+/// Returns the position after this byte, which follows ESC, or ESC and `$` (`is_wide`).
 fn after_escape(is_wide: bool, byte: u8) -> ExtendedPlace
     ensures { result ≡ characters.after_escape is_wide byte }
 {
@@ -153,7 +157,7 @@ fn extended_place(sets: WideSets, place: ExtendedPlace, byte: u8) -> ExtendedPla
     }
 }
 
-/// Returns the sets after a byte, the last of an escape sequence or another.
+/// Returns the selected sets after a byte: others only after the last byte of an escape sequence.
 fn extended_sets(sets: WideSets, place: ExtendedPlace, byte: u8) -> WideSets
     ensures { result ≡ characters.extended_sets sets place byte }
 {
@@ -186,7 +190,7 @@ fn extended_character(sets: WideSets, place: ExtendedPlace, byte: u8) -> Option<
     }
 }
 
-/// Adds a character to a text, as long as there is room.
+/// Appends the byte of a character to a text, if there is one and the text has capacity.
 fn push<const N: usize>(text: &mut ArrayVec<u8, N>, character: Option<u8>)
     ensures text { length text.old.items + 1 ≤ N → text.new.items ≡ text.old.items ++ characters.with_character character [] }
     ensures bound { length text.new.items ≤ length text.old.items + 1 }
@@ -197,7 +201,7 @@ fn push<const N: usize>(text: &mut ArrayVec<u8, N>, character: Option<u8>)
 }
 
 impl Reading {
-    /// Returns the reading of a text of this set before its first byte.
+    /// Creates the state before the first byte of a text in this character set.
     pub fn new(set: CharacterSet) -> Reading
         ensures { result ≡ characters.reading_of set }
     {
@@ -212,7 +216,7 @@ impl Reading {
         }
     }
 
-    /// Returns the reading after one byte more.
+    /// Returns the state after one more byte.
     fn after(self, byte: u8) -> Reading
         ensures { result ≡ characters.after self byte }
     {
@@ -226,7 +230,8 @@ impl Reading {
         }
     }
 
-    /// Returns the byte that is shown for the character that begins with this one, if one does.
+    /// Returns the byte that replaces the character that begins with this byte, or `None` if no
+    /// character begins here: inside one, or in an escape sequence.
     fn character(self, byte: u8) -> Option<u8>
         ensures { result ≡ characters.character self byte }
     {
@@ -244,8 +249,8 @@ impl Reading {
         }
     }
 
-    /// Goes on with these bytes of a text, and shows each character that begins in them as one byte, as long
-    /// as there is room.
+    /// Reads the next bytes of a text, and appends one byte for each character that begins in them, up
+    /// to the capacity of `text`.
     pub fn read<const N: usize>(&mut self, bytes: &[u8], text: &mut ArrayVec<u8, N>)
         ensures reading { self.new ≡ characters.after_all self.old bytes.now }
         ensures text { length text.old.items + length bytes.now ≤ N → text.new.items ≡ text.old.items ++ characters.shown self.old bytes.now }

@@ -1,4 +1,4 @@
-//! The rules of the table of VRs for one value of an element.
+//! The rules of the table of VRs for a single value of an element.
 ghost use Rattle.std.specs.Prelude.{◌≡◌};
 ghost use Rattle.values.specs.Forms as forms;
 
@@ -11,43 +11,43 @@ use crate::numbers::{fits_32_bits, is_decimal, is_integer};
 use crate::texts::{are_lines, is_locator, is_string};
 use element::without_trailing_spaces;
 
-/// A rule of the table of VRs.
+/// A rule of the table of VRs for a single value.
 #[derive(Clone, Copy)]
 pub(crate) enum FormRule {
-    /// It has so many characters at most.
+    /// It has at most so many characters.
     AtMost(usize),
-    /// Each component group of a name has so many characters at most.
+    /// Each component group of a person name has at most so many characters.
     GroupsAtMost(usize),
-    /// It has no control characters but ESC.
+    /// It has no control character except ESC.
     String,
-    /// It has no control characters but TAB, LF, FF, CR and ESC.
+    /// It has no control character except TAB, LF, FF, CR and ESC.
     Lines,
     /// It is a date that exists.
     Day,
-    /// It is a time that exists.
+    /// It is a time of day that exists.
     Clock,
-    /// A date with its time has a date that exists.
+    /// The date of a date time exists.
     DayOfMoment,
-    /// A date with its time has a time that exists.
+    /// The time of a date time exists, if it has one.
     ClockOfMoment,
-    /// A date with its time has an offset from UTC that there is.
+    /// The offset from UTC of a date time exists, if it has one.
     OffsetOfMoment,
     /// It is a decimal number.
     Decimal,
-    /// It is a whole number.
+    /// It is an integer.
     Integer,
-    /// It is a number of 32 bits with a sign.
+    /// It is an integer from -2^31 to 2^31 - 1.
     Range,
-    /// It has the groups and the components of a name.
+    /// It has at most three component groups of five components, as a person name.
     Name,
-    /// It is not spaces alone.
+    /// It is not all spaces.
     Title,
-    /// It is a URI.
+    /// It has only characters of a URI.
     Locator,
 }
 
 impl FormRule {
-    /// Returns how a value breaks it.
+    /// Returns the fault of a value that breaks the rule.
     pub(crate) fn fault(self) -> FormFault
         ensures { result ≡ forms.fault_of_rule self }
     {
@@ -66,14 +66,14 @@ impl FormRule {
     }
 }
 
-/// Returns whether an offset from UTC is none or one that there is.
+/// Returns whether an offset from UTC is empty or exists.
 fn is_no_other_offset(offset: &[u8]) -> bool
     ensures { result ≡ forms.is_no_other_offset offset.now }
 {
     offset.is_empty() || is_offset(offset)
 }
 
-/// Returns whether a text of one character or more, without spaces at its end, obeys a rule.
+/// Returns whether a text, not empty and without spaces at its end, obeys a rule.
 fn text_obeys(rule: FormRule, text: &[u8]) -> bool
     ensures { result ≡ forms.text_obeys rule text.now }
 {
@@ -92,8 +92,8 @@ fn text_obeys(rule: FormRule, text: &[u8]) -> bool
     }
 }
 
-/// Returns whether one value of an element obeys a rule. An empty one does, and so does one of spaces alone
-/// where it is no title.
+/// Returns whether a single value obeys a rule. An empty value obeys every rule; one of spaces alone
+/// obeys those on form, except `Title`.
 pub(crate) fn obeys(rule: FormRule, part: &[u8]) -> bool
     ensures { result ≡ forms.obeys rule part.now }
 {

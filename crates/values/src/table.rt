@@ -1,4 +1,4 @@
-//! The table of VRs (PS3.5 table 6.2-1), and the check of a value against it.
+//! The rules of each VR (PS3.5 table 6.2-1), and the check of values against them.
 ghost use Rattle.std.specs.Prelude.{◌≡◌, ◌≤◌, Some, None, MatchResult};
 ghost use Rattle.std.specs.List.{list_all, slice_split};
 ghost use Rattle.element.specs.Kinds as kinds;
@@ -9,7 +9,8 @@ use crate::fault::FormFault;
 use crate::rule::{FormRule, obeys};
 use element::Vr;
 
-/// Returns the rules of a VR whose values are numbers, dates or times that are spelled.
+/// Returns the rules of a VR with numbers, dates or times in text: DA, DS, DT, IS, TM; none for any
+/// other.
 fn rules_of_spelled(letters: [u8; 2]) -> &'static [FormRule]
     ensures { result.now ≡ forms.rules_of_spelled letters }
 {
@@ -33,7 +34,7 @@ fn rules_of_spelled(letters: [u8; 2]) -> &'static [FormRule]
     }
 }
 
-/// Returns the rules of a VR whose values are strings, of which an element has one or more.
+/// Returns the rules of a VR whose elements may have several values, separated by backslash.
 fn rules_of_string(letters: [u8; 2]) -> &'static [FormRule]
     ensures { result.now ≡ forms.rules_of_string letters }
 {
@@ -54,7 +55,7 @@ fn rules_of_string(letters: [u8; 2]) -> &'static [FormRule]
     }
 }
 
-/// Returns the rules of a VR.
+/// Returns the rules of a VR, given by its two letters; none for a VR that is not checked.
 fn rules_of(letters: [u8; 2]) -> &'static [FormRule]
     ensures { result.now ≡ forms.rules_of letters }
 {
@@ -71,14 +72,15 @@ fn rules_of(letters: [u8; 2]) -> &'static [FormRule]
     }
 }
 
-/// Returns whether an element of a VR has one value, in which a backslash is a character.
+/// Returns whether an element of this VR has a single value, in which a backslash is an ordinary
+/// character.
 fn is_single(letters: [u8; 2]) -> bool
     ensures { result ≡ forms.is_single letters }
 {
     letters == *b"LT" || letters == *b"ST" || letters == *b"UT" || letters == *b"UR"
 }
 
-/// Returns what comes before a space that pads a value to an even length.
+/// Returns the value without one space at its end, which may be padding.
 fn without_last_space(value: &[u8]) -> &[u8]
     ensures { result.now ≡ forms.without_last_space value.now }
 {
@@ -97,7 +99,7 @@ fn each_part_obeys(rule: FormRule, text: &[u8]) -> bool
         .all(|part| obeys(rule, part))
 }
 
-/// Returns whether the values of an element obey a rule.
+/// Returns whether each value of an element obeys a rule.
 fn value_obeys(letters: [u8; 2], rule: FormRule, text: &[u8]) -> bool
     ensures { result ≡ forms.value_obeys letters rule text.now }
 {
@@ -108,7 +110,7 @@ fn value_obeys(letters: [u8; 2], rule: FormRule, text: &[u8]) -> bool
     }
 }
 
-/// Returns how the values of an element break the first of these rules that they break.
+/// Returns the fault of the first of these rules that a value of the element breaks, or `None`.
 fn first_broken(letters: [u8; 2], rules: &[FormRule], text: &[u8]) -> Option<FormFault>
     ensures { result ≡ forms.first_broken letters rules.now text.now }
 {
@@ -120,9 +122,9 @@ fn first_broken(letters: [u8; 2], rules: &[FormRule], text: &[u8]) -> Option<For
     None
 }
 
-/// Checks the values of an element by the rules of its VR, one after the other (PS3.5 table 6.2-1).
-///
-/// Each byte of the text is one character.
+/// Checks the values of an element by the rules of its VR (PS3.5 table 6.2-1). The text must have one
+/// byte for each character, as [`Reading`](crate::Reading) gives it. The error is the fault of the
+/// first rule that any of the values breaks.
 #[tactic(auto, unfolding(crate::specs::Forms::form_fault))]
 pub fn check_form(vr: Vr, text: &[u8]) -> Result<(), FormFault>
     ensures { MatchResult result (λ _. forms.form_fault vr text.now ≡ None) (λ fault. forms.form_fault vr text.now ≡ Some fault) }
@@ -140,7 +142,7 @@ fn is_among(names: &[Vr], vr: Vr) -> bool
     names.iter().any(|name| vr == *name)
 }
 
-/// Returns how many bytes a number of this VR has, or 1 where its values are no numbers in bytes.
+/// Returns the size in bytes of one value of a binary VR: 2, 4 or 8; and 1 for any other VR.
 pub fn number_size(vr: Vr) -> usize
     ensures size { result ≡ forms.number_size vr }
     ensures some { 1 ≤ result }

@@ -2,9 +2,9 @@
 use Rattle.std.specs.Prelude.{map}
 use Rattle.clap.specs.Walk.{Rule}
 use Rattle.clap.specs.Simple.{App, new_app}
-use Rattle.arguments.specs.CommandLine.{positional, several, needed, optional, free, repeated, flag_rule, letter_rule, with_rules}
+use Rattle.arguments.specs.CommandLine.{positional, several, needed, optional, free, repeated, flag_rule, letter_rule, counted_rule, with_rules}
 use Rattle.arguments.specs.declared.argument.Argument.{Argument}
-use Rattle.arguments.specs.declared.argument.Argument.TheVariants.{Positional, Several, Needed, Default, Free, Repeated, Flag, Letter}
+use Rattle.arguments.specs.declared.argument.Argument.TheVariants.{Positional, Several, Needed, Default, Free, Repeated, Flag, Letter, Counted}
 use Rattle.arguments.specs.declared.command.Subcommand.{Subcommand}
 
 -- the rule of an argument
@@ -17,6 +17,7 @@ rule_for (Free name value help) = free name.now
 rule_for (Repeated name value help) = repeated name.now
 rule_for (Flag name help) = flag_rule name.now
 rule_for (Letter name letter help) = letter_rule name.now letter
+rule_for (Counted name letter help) = counted_rule name.now letter
 
 -- a command of the program
 abbrev pub app_for : Subcommand → App

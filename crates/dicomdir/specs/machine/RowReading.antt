@@ -1,4 +1,4 @@
--- What walking the data set of a file leaves.
+-- The effect of walking the data set of a file.
 use Rattle.std.specs.Prelude.{◌≡◌, List, ℕ, ◌++◌, Option, None, IfSome, Some, ⊤}
 use Rattle.sequence.specs.declared.coding.Coding.{Coding}
 use Rattle.element.specs.Numbers.{IsBytes}
@@ -17,7 +17,7 @@ use Rattle.sequence.specs.declared.step.Step.{Step}
 use Rattle.sequence.specs.declared.step.Step.TheVariants.{Refused}
 use Rattle.dicomdir.specs.declared.skip.Skip.TheVariants as skip
 
--- the walker took some bytes and refused none
+-- the walker has read some bytes and found no fault
 abbrev pub IsGoing : {V D : ℕ} → Walker V D → Type 0
 IsGoing w = (b : List ℕ) × StandsAt w b × (fault_of w ≡ None)
 
@@ -25,36 +25,38 @@ IsGoing w = (b : List ℕ) × StandsAt w b × (fault_of w ≡ None)
 abbrev pub IsSameSet : {V D : ℕ} → Walker V D → Walker V D → Type 0
 IsSameSet w v = (walker_syntax v ≡ walker_syntax w) × (limits_of v ≡ limits_of w)
 
--- the text has a fault, which is the reason
+-- the text has a fault, and `reason` has its number
 abbrev pub FailsBy : Coding → Limits → List ℕ → Skip → Type 0
 FailsBy s lim text reason = (fault : Fault) × Fails s lim text fault × (reason ≡ skip.Fault fault.number)
 
--- the piece has this fault after what the walker took, whatever bytes follow
+-- the bytes that the walker has read and this piece have this fault, whatever bytes follow
 abbrev pub FailsIn : {V D : ℕ} → Walker V D → List ℕ → Fault → Type 0
 FailsIn w piece fault =
     (b more : List ℕ) → StandsAt w b → IsBytes ((b ++ piece) ++ more) → Fails (walker_syntax w) (limits_of w) ((b ++ piece) ++ more) fault
 
--- the text that the reader had is a whole data set, which the walker took
+-- the bytes that the reader had are a whole data set, which the walker has read
 abbrev pub TookWhole : {V D : ℕ} → Walker V D → Option (List ℕ) → Type 0
 TookWhole w old = IfSome old (λ text. StandsAt w text × IsWholeDataSet (walker_syntax w) (limits_of w) text)
 
--- a read failed, or the text that the reader had has a fault
+-- the reason of a failure: a read failed (54), or the bytes that the reader had have a fault
 pub data WalkFails {V D : ℕ} (w : Walker V D) (old : Option (List ℕ)) (reason : Skip) : Type 0 where
   read_failed : reason ≡ skip.Fault 54 → WalkFails w old reason
   text_fails : IfSome old (λ text. IsBytes text → FailsBy (walker_syntax w) (limits_of w) text reason) → WalkFails w old reason
 
--- the header of a file has this fault, where these further transfer syntaxes are taken, or a read failed
+-- a read failed, or the File Meta Information of the file has this fault, if these further transfer syntaxes are
+-- supported
 abbrev pub FailsToTake : List Transfer → MetaFault → Option (List ℕ) → Type 0
 FailsToTake further ReadFailed old = ⊤
 FailsToTake further fault old = IfSome old (λ file. HeaderFaultOf further file fault)
 
--- ---- the refusal that a step of a walk reports, if any, and the fault that a check reports of a file header
+-- ---- the fault in the result of a walker's step, if any, and the fault of a directory for a fault of its File Meta
+-- Information
 
 abbrev pub refusal_of : Step → Option Fault
 refusal_of (Refused fault) = Some fault
 refusal_of step = None
 
--- no read of a slice fails
+-- the fault 67 for a failed read is never reported, since the file is in memory
 abbrev pub header_fault_of : MetaFault → DirFault
 header_fault_of NotPart10 = record { number = 50; place = 128; tag = no_tag }
 header_fault_of BadMeta = record { number = 51; place = 132; tag = no_tag }

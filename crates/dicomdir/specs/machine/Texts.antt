@@ -1,4 +1,5 @@
--- What is read of a text: the header at its front, what it spells, and what is found in it under a tag.
+-- The reading of elements in memory: the header at the front of some bytes, the elements in them, and the element
+-- with a tag.
 use Rattle.std.specs.Prelude.{ℕ, List, length, Option, Some, None, nat_le, if◌then◌else◌, ◌≡◌, ◌≤◌, ◌+◌, Bool, true, false, not, ◌&&◌, [], ◌++◌, take}
 use Rattle.sequence.specs.Coding.{layout, is_native}
 use Rattle.sequence.specs.declared.coding.Coding.{Coding}
@@ -23,16 +24,16 @@ head_by s b (Size k) = if nat_le k (length b) then Some (record { header = heade
 abbrev pub head_at : Coding → List ℕ → Option Head
 head_at s b = head_by s b (need (layout s) b)
 
--- ---- what a text spells from its front, and what is found in it under a tag
+-- ---- the elements and items at the front of some bytes
 
--- items that were found stand before a place
+-- items that were found end at or before a position
 abbrev pub EndsBefore : ℕ → Element → Type 0
 EndsBefore end got.Missing = Unit {0}
 EndsBefore end (got.Value p v) = Unit {0}
 EndsBefore end (got.Items p f s t) = f + length t.now ≤ end
 
--- the text spells these elements, whose tags are above `last`, and then goes on by `more`; no Pixel Data in them is
--- encapsulated
+-- the text is the encoding of these elements, whose tags are above `last`, followed by `more`; Pixel Data in them is
+-- native
 pub record ElementsThen (s : Coding) (last : ℕ) (es : Elements) (more text : List ℕ) : Type 0 where
   pub native : is_native s ≡ true
   pub bytes : List ℕ
@@ -45,34 +46,34 @@ pub record ItemsThen (s : Coding) (is : Items) (more text : List ℕ) : Type 0 w
   pub items : ItemList s is bytes
   pub whole : text ≡ bytes ++ more
 
--- nothing, or the end of a level and any bytes
+-- no bytes, or the delimitation with this tag and any bytes
 pub data IsAfter (mark : Tag) : List ℕ → Type 0 where
   nothing_after : IsAfter mark []
   end_after : (rest : List ℕ) → IsAfter mark (delimitation mark ++ rest)
 
--- the text spells these elements, and goes on after them by nothing or by the end of their item
+-- the text is the encoding of these elements, followed by nothing, or by an Item Delimitation and any bytes
 pub record HasElements (s : Coding) (es : Elements) (text : List ℕ) : Type 0 where
   pub more : List ℕ
   pub after : IsAfter item_end_tag more
   pub spelled : ElementsThen s 0 es more text
 
--- the text spells these items, and goes on after them by nothing or by the end of their sequence
+-- the text is the encoding of these items, followed by nothing, or by a Sequence Delimitation and any bytes
 pub record HasItems (s : Coding) (is : Items) (text : List ℕ) : Type 0 where
   pub more : List ℕ
   pub after : IsAfter sequence_end_tag more
   pub spelled : ItemsThen s is more text
 
--- the bytes after the header of an element at a place, and what is found there
+-- the bytes of an element after its header h, at this position, and the element as it is found
 pub data IsContent (s : Coding) (h : Header) (place : ℕ) : Found → List ℕ → Type 0 where
   of_value : {v : List ℕ} → shape s h ≡ Value → IsValue h.length v → IsContent s h place (value_at place v) v
   of_items : {inner : Coding} {is : Items} {b c : List ℕ} → is_native inner ≡ true → shape s h ≡ Sequence inner → ItemList inner is b → Ended sequence_end_tag h.length b c
       → IsContent s h place (items_at place h is) c
 
--- the bytes after the header of an item
+-- the bytes of an item with these elements, after its header
 pub data IsItemContent (s : Coding) (h : Header) (es : Elements) : List ℕ → Type 0 where
   of_elements : {b c : List ℕ} → is_native s ≡ true → DataSet s 0 es b → Ended item_end_tag h.length b c → IsItemContent s h es c
 
--- of a text after a header, what its length announces: all of the text where it is undefined
+-- the first bytes of a text, as many as the length of the header before it; all if the length is undefined or greater
 abbrev pub content_at : Header → List ℕ → List ℕ
 content_at h text = if not (is_undefined h.length) && nat_le h.length (length text) then take h.length text else text
 
@@ -83,15 +84,15 @@ pub record FindsItems (p first : ℕ) (s : Coding) (text : List ℕ) (f : Found)
   pub first_is : first ≡ p + header_size header
   pub text_is : HasItems s items text
 
--- what was found is what stands there
+-- the result of a search equals the element in the definitions
 abbrev pub Finds : Element → Found → Type 0
 Finds got.Missing f = f ≡ missing
 Finds (got.Value p v) f = f ≡ value_at p v.now
 Finds (got.Items p first s t) f = FindsItems p first s t.now f
 
--- what a value that was found says
+-- ---- the results of a search
 
--- what was found; items have no number, no type and no file ID, as where nothing is
+-- the result of a search, where items count as missing: they have no number, no record type and no file ID
 abbrev pub shown : Element → Found
 shown got.Missing = missing
 shown (got.Value p v) = value_at p v.now

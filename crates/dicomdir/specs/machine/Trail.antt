@@ -1,4 +1,7 @@
--- The path that is open while links are followed, and the paths that are still to come.
+-- The current path while the offsets of a directory are followed, and the paths that are still to come. A mark
+-- (`Mark`) is a record of the current path: its position, its next offset, whether it is the first of its chain of
+-- siblings, its level, and whether no record above it is inactive. A step (`Step`) is the offset that is followed
+-- next.
 use Rattle.std.specs.Prelude.{◌≡◌, ℕ, suc, ◌<◌, ◌-◌, min, Bool, true, false, ◌&&◌, List, [], ◌∷◌, ◌++◌, length, Option, Some, None, if◌then◌else◌, ◌≢◌, ◌≤◌, map, slice_index_or, not, ◌||◌, is_some, nat_eq}
 use Rattle.dicomdir.specs.declared.links.Mark.{Mark}
 use Rattle.dicomdir.specs.declared.links.Step.{Step}
@@ -21,19 +24,19 @@ use Rattle.dicomdir.specs.machine.Texts.{got_none, HasItems}
 use Rattle.dicomdir.specs.declared.level.Level.TheVariants.{Image}
 use Rattle.dicomdir.specs.Record.{kind_of}
 
--- Marks stand here with the last one first.
+-- Lists of marks have the last mark first.
 
--- the path along the records of these marks, which goes on from the last one by its lower offset or by its next one
+-- the path along the records of these marks, and then along the lower offset of the last one, or along its next one
 abbrev pub path_along : Bool → List Mark → List Turn
 path_along lower [] = []
 path_along lower (m ∷ ms) = record { place = m.place; lower = lower } ∷ path_along m.begins ms
 
--- where a fault of the offset at its end is told
+-- the position at which a fault of the offset at the end of that path is reported
 abbrev pub told_along : ℕ → List Mark → ℕ
 told_along root [] = root
 told_along root (m ∷ ms) = m.place
 
--- without the last chain
+-- the marks without the last chain of siblings
 abbrev pub left_of : List Mark → List Mark
 left_of [] = []
 left_of (m ∷ ms) = if m.begins then ms else left_of ms
@@ -41,36 +44,36 @@ left_of (m ∷ ms) = if m.begins then ms else left_of ms
 abbrev pub mark_of : ReadRecord → Step → Mark
 mark_of e step = record { place = e.place; next = e.next; begins = step.begins; level = step.level; shown = step.shown }
 
--- whether no record above the one that a path names is inactive
+-- no record above the one that a path leads to is inactive
 abbrev pub is_shown : Links → List Turn → Bool
 is_shown links [] = true
 is_shown links (t ∷ path) = if t.lower then is_shown links path && (carried_node (elements_at links.records t.place)).in_use else is_shown links path
 
--- the node of a record in use that no inactive one is above
+-- the node of a record, if it is in use and no record above it is inactive (`shown`)
 abbrev pub own_node : Bool → ℕ → ℕ → Node → List LevelNode
 own_node shown level place n = if shown && n.in_use then record { place = place; level = level; carries = n } ∷ [] else []
 
--- the node of the record that a path names
+-- the node of the record that a path leads to
 abbrev pub node_on : Links → List Turn → List LevelNode
 node_on links path =
     own_node (is_shown links path) (level_of path) (named_by links path) (carried_node (elements_at links.records (named_by links path)))
 
--- a path and all that go on from it
+-- a path and all paths that continue it, along lower and next offsets
 abbrev pub paths_on : Links → List Turn → List (List Turn)
 paths_on links path = paths_from (suc (length links.records) - length path) links path
 
--- the paths after those that go on from the open path
+-- the paths that come after those from the current one
 abbrev pub later : Links → Bool → List Mark → List (List Turn)
 later links lower [] = []
 later links lower (m ∷ ms) =
     if lower then paths_on links (path_along false (m ∷ ms)) ++ later links m.begins ms else later links m.begins ms
 
--- the paths from the offset that comes next
+-- the paths from the offset that is followed next
 abbrev pub to_come : Links → List Mark → Option Step → List (List Turn)
 to_come links ms None = []
 to_come links ms (Some step) = paths_on links (path_along step.begins ms) ++ later links step.begins ms
 
--- levels are counted up to 5, which no record in use fits
+-- the level of a path is counted up to 5, which is the level of no record in use
 abbrev pub IsCounted : Links → List Turn → ℕ → Bool → Type 0
 IsCounted links path level shown = (level ≡ min (level_of path) 5) × (shown ≡ is_shown links path)
 
@@ -83,13 +86,14 @@ IsStep links ms None = Unit {0}
 IsStep links ms (Some step) =
     (0 < step.offset) × (step.offset ≡ named_by links (path_along step.begins ms)) × IsCounted links (path_along step.begins ms) step.level step.shown
 
--- ---- the records that were read of a directory, as its links are followed
+-- ---- the records that were read of a directory (entries)
 
--- what the node of an entry carries
+-- the node of an entry
 abbrev pub carried_by : ReadRecord → Node
 carried_by e = record { in_use = e.in_use; kind = e.kind.now; file_id = e.file_id }
 
--- the entry says what the record says, which has its offsets, its flag and its type
+-- the entry has the position, the offsets, the in-use flag, the type and the file ID of the record, which has all
+-- that are required
 pub record EntrySays (e : ReadRecord) (r : Record) : Type 0 where
   pub place : e.place ≡ r.place
   pub next : e.next ≡ or_zero (next_offset r.elements)
@@ -97,7 +101,7 @@ pub record EntrySays (e : ReadRecord) (r : Record) : Type 0 where
   pub carries : carried_by e ≡ carried_node r.elements
   pub has_record : has_record r.elements ≡ true
 
--- and the file ID that it needs
+-- the same, and the record has the file ID that it needs
 pub record IsEntry (e : ReadRecord) (r : Record) : Type 0 where
   pub says : EntrySays e r
   pub has_file_id : has_file_id r.elements ≡ true
@@ -107,18 +111,18 @@ pub data AreEntries : List ReadRecord → List Record → Type 0 where
   no_entries : AreEntries [] []
   entry_then : {e : ReadRecord} {r : Record} {es : List ReadRecord} {rs : List Record} → IsEntry e r → AreEntries es rs → AreEntries (e ∷ es) (r ∷ rs)
 
--- to the entries those of the records of a sequence were added
+-- the entries of the records of a sequence were appended
 abbrev pub AddsEntries : Coding → ℕ → List ℕ → List ReadRecord → List ReadRecord → Type 0
 AddsEntries s first text old new =
     (items : Items) (before : List Record) → HasItems s items text → AreEntries old before → AreEntries new (before ++ records_at first items)
 
--- the places rise, and none is below the first number
+-- the positions are strictly ascending, and none is below `least`
 abbrev pub Rise : ℕ → List Record → Type 0
 Rise least [] = Unit {0}
 Rise least (r ∷ records) = (least ≤ r.place) × Rise (suc r.place) records
 
--- of a directory with these elements, of which the first stands at `start`, the root has the offsets, and the entries
--- are of the records
+-- the root and the entries are those of a directory with these elements, the first of which is at position `start`,
+-- and with these records
 pub record AreRead (root : Root) (entries : List ReadRecord) (start : ℕ) (es : Elements) (records : List Record) : Type 0 where
   pub first : root.first ≡ or_zero (first_offset start es)
   pub last : root.last ≡ or_zero (last_offset start es)
@@ -127,23 +131,23 @@ pub record AreRead (root : Root) (entries : List ReadRecord) (start : ℕ) (es :
   pub entries_are : AreEntries entries records
   pub rise : Rise 0 records
 
--- their links have no fault, and to the nodes those in use were added
+-- the offsets of the directory have no fault, and the nodes of its records in use were appended
 abbrev pub AreFollowed : Root → List ReadRecord → List TreeRecord → List TreeRecord → Type 0
 AreFollowed root entries old new =
     (start : ℕ) (es : Elements) (records : List Record) → AreRead root entries start es records
     → (links_fault start es (links_of start es records) ≡ None)
     × (map node_of new ≡ map node_of old ++ flat_map (node_on (links_of start es records)) (paths_of (links_of start es records)))
 
--- memory ran out, or it is the first fault of their links
+-- memory ran out (67), or f is the first fault of the offsets
 pub record FailsToFollow (root : Root) (entries : List ReadRecord) (f : DirFault) : Type 0 where
   pub tag : f.tag ≡ no_tag
   pub memory : f.number ≡ 67 → f.place ≡ 0
   pub fault : (start : ℕ) (es : Elements) (records : List Record) → f.number ≢ 67 → AreRead root entries start es records
       → links_fault start es (links_of start es records) ≡ Some (record { number = f.number; place = f.place })
 
--- ---- what the steps of following the links promise
+-- ---- the effects of the steps that follow the offsets
 
--- which of the records were reached
+-- for each record, whether it was reached
 abbrev pub flags_of : List ℕ → List Record → List Bool
 flags_of reached records = map (λ r. is_one_of r.place reached) records
 
@@ -152,67 +156,67 @@ pub record AreFlagged (entries : List ReadRecord) (flags : List Bool) (records :
   pub rise : Rise 0 records
   pub flagged : flags ≡ flags_of reached records
 
--- no record stands at the place
+-- no record is at this position
 abbrev pub IsNoPlace : List ReadRecord → ℕ → Type 0
 IsNoPlace entries place = (records : List Record) → AreEntries entries records → Rise 0 records → record_at place records ≡ None
 
--- the entry is of the record that the open path names, which has no fault
+-- the entry with index `at` is that of the record that the step leads to, which has no fault
 pub record IsTarget (links : Links) (entries : List ReadRecord) (ms : List Mark) (step : Step) (reached : List ℕ) (at : ℕ) : Type 0 where
   pub place : (d : ReadRecord) → (slice_index_or entries at d).place ≡ step.offset
   pub good : path_fault links reached (path_along step.begins ms) ≡ None
 
--- the offset leads to this entry, and has no fault
+-- the step leads to the entry with index `at`, and its offset has no fault
 abbrev pub LeadsTo : List ReadRecord → List Bool → List Mark → Step → ℕ → Type 0
 LeadsTo entries flags ms step at =
     (links : Links) (places : List ℕ) → AreFlagged entries flags links.records places → IsStep links ms (Some step) → IsTarget links entries ms step places at
 
--- the offset has this fault
+-- the offset of the step has this fault
 abbrev pub IsWrongOffset : ℕ → List ReadRecord → List Bool → List Mark → Step → DirFault → Type 0
 IsWrongOffset root entries flags ms step f =
     (links : Links) (places : List ℕ) → root ≡ links.place → AreFlagged entries flags links.records places → IsStep links ms (Some step)
     → path_fault links places (path_along step.begins ms) ≡ Some (record { number = f.number; place = f.place })
 
--- the first offset of all, or the end where there is none
+-- the first step: the root's offset of its first record, or none if that is 0
 abbrev pub Begins : Root → Option Step → Type 0
 Begins root pending = (links : Links) → links.first ≡ root.first → (paths_of links ≡ to_come links [] pending) × IsStep links [] pending
 
--- with the offset that comes next, just these paths are to come
+-- with the step `pending`, exactly these paths are to come
 pub record IsToCome (links : Links) (paths : List (List Turn)) (ms ms2 : List Mark) (pending : Option Step) : Type 0 where
   pub come : paths ≡ to_come links ms2 pending
   pub fewer : length ms2 ≤ length ms
   pub marks : AreMarks links ms2
   pub step : IsStep links ms2 pending
 
--- after all that is below the last mark, the next offset, or the end
+-- the step after the record of the last mark and all records below it, if there is one
 abbrev pub Climbs : List Mark → List Mark → Option Step → Type 0
 Climbs ms ms2 pending = (links : Links) → AreMarks links ms → IsToCome links (later links true ms) ms ms2 pending
 
--- after a record that was reached by this step and has the last mark, the next offset, or the end
+-- the step after the record e, to which `step` has led and which has the last mark, if there is one
 abbrev pub GoesOn : List Mark → List Mark → Step → Option Step → ReadRecord → Type 0
 GoesOn ms ms2 step pending e =
     (links : Links) (level : ℕ) → AreMarks links ms → e.lower ≡ named_by links (path_along true ms) → step.level ≡ min level 5 → level_of (path_along true ms) ≡ suc level
     → (step.shown && e.in_use) ≡ is_shown links (path_along true ms)
     → IsToCome links (paths_on links (path_along true ms) ++ later links true ms) ms ms2 pending
 
--- no record in use is left over
+-- all records in use were reached
 abbrev pub AreAllReached : List ReadRecord → List Bool → Type 0
 AreAllReached entries flags = (records : List Record) (places : List ℕ) → AreFlagged entries flags records places → unreached_fault places records ≡ None
 
--- this is the fault of the first that is left over
+-- f is the fault of the first record in use that was not reached
 abbrev pub IsLeftOver : List ReadRecord → List Bool → DirFault → Type 0
 IsLeftOver entries flags f =
     (records : List Record) (places : List ℕ) → AreFlagged entries flags records places
     → unreached_fault places records ≡ Some (record { number = f.number; place = f.place })
 
--- ---- what reading the root and the records of a directory comes to
+-- ---- the results of reading the root and the records of a directory
 
--- memory ran out, or it is this fault
+-- memory ran out (67), or f is the fault `first`
 pub record FailsAs (first : Option Fault) (f : DirFault) : Type 0 where
   pub tag : f.tag ≡ no_tag
   pub memory : f.number ≡ 67 → f.place ≡ 0
   pub fault : f.number ≢ 67 → first ≡ Some (record { number = f.number; place = f.place })
 
--- an offset of the root and its place, from the element that has it
+-- an offset of the root and the position of the element that has it
 pub record IsRootOffset (start : ℕ) (f : Found) (place offset : ℕ) : Type 0 where
   pub place_is : place ≡ place_in f
   pub offset_is : number_in 4 f ≡ Some offset
@@ -222,11 +226,11 @@ abbrev pub use_flag : Option ℕ → Option Bool
 use_flag None = None
 use_flag (Some flag) = if nat_eq flag 0xffff then Some true else (if nat_eq flag 0 then Some false else None)
 
--- whether an entry has the file ID that it needs, where this is found under its tag
+-- whether an entry has the file ID that it needs; `found` is the element Referenced File ID of its record
 abbrev pub entry_has_file_id : ReadRecord → Element → Bool
 entry_has_file_id e found = not e.in_use || is_some e.file_id || (got_none found && not (bytes_eq e.kind.now (kind_of Image)))
 
--- the nodes of a directory without a fault
+-- the directory has no fault, and these nodes
 pub record ChecksAs (start : ℕ) (es : Elements) (nodes : List LevelNode) : Type 0 where
   pub no_fault : directory_fault start es ≡ None
   pub records : List Record

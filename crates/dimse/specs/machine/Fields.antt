@@ -1,4 +1,4 @@
--- The fields of a join, and what its private methods do with them.
+-- The unfinished message in the fields of a `Join`, and the results of its private methods.
 use Rattle.std.specs.Prelude.{◌≡◌, ℕ, ◌+◌, ◌≤◌, Bool, true, false, List, [], Result, Ok, Err, if◌then◌else◌}
 use Rattle.dimse.specs.declared.fault.DimseFault.{DimseFault}
 use Rattle.dimse.specs.declared.joined.Joined.{Joined}
@@ -14,16 +14,16 @@ message_at Between context command = NoMessage
 message_at Command context command = InCommand context command
 message_at Set context command = InSet context command []
 
--- the command set has room for the begun fragment
+-- the command set with the rest of its unfinished fragment has at most `room` bytes
 abbrev pub HasRoom : ℕ → Stage → ℕ → ℕ → Type 0
 HasRoom room stage size left = stage ≡ Command → size + left ≤ room
 
--- a whole command set
+-- the result of a whole command set, once it was read
 abbrev pub read_as : Result CommandRecord DimseFault → Result Joined DimseFault
 read_as (Err fault) = Err fault
 read_as (Ok c) = if c.with_data then Ok DataDue else Ok Message
 
--- what the end of a fragment makes of a message, by whether it is the last one
+-- the result of the end of a fragment, which is the last of its set or not
 abbrev pub ended_as : Begun → Bool → Result Joined DimseFault
 ended_as NoMessage last = Ok More
 ended_as (InCommand context command) false = Ok More

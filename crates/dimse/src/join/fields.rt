@@ -1,5 +1,5 @@
-//! The fields of a join, each with its type: bytes that came are held in `command` alone. A further field does not
-//! compile here before it is named.
+//! Lists the fields of a [`Join`] with their types, so that a reader sees that it holds received bytes
+//! in `command` alone. A field that is added does not compile until it is listed here.
 
 use super::Join;
 use crate::stage::Stage;

@@ -1,10 +1,10 @@
--- What is kept of an accepted request.
+-- The values that are kept of an accepted request.
 use Rattle.std.specs.Prelude.{List, ℕ}
 use Rattle.pdu.specs.Record.{RequestRecord}
 use Rattle.engine.specs.declared.phase.Peer.{Peer}
 use Rattle.engine.specs.Kept.{Agreed}
 use Rattle.negotiate.specs.Taken.{Taken}
 
--- the peer is that of this request, where these further storage classes are taken
+-- the peer has the values of this request, with the storage classes `further` added to those of the dictionary
 abbrev pub IsPeerOf : Peer → Taken → RequestRecord → Type 0
 IsPeerOf peer further r = Agreed peer.caller peer.max_length peer.contexts.items further r

@@ -1,4 +1,4 @@
--- What answers an event: the text of the answer to an association request, and the reason of an abort.
+-- What an event needs to be answered: the bytes of the answer to an association request, and the reason of an abort.
 use Rattle.std.specs.Prelude.{ℕ, List, []}
 use Rattle.pdu.specs.Texts.{reject_text}
 use Rattle.negotiate.specs.Rejections.{rejected_transient, service_provider_presentation, local_limit_exceeded}
@@ -22,11 +22,11 @@ abbrev pub reason_of : Answering → ℕ
 reason_of (answering.Abort reason) = reason
 reason_of other = 0
 
--- what an event brings that is answered so
+-- the effect of an event that is answered so
 abbrev pub done_by : Answering → Event → Progress → Advance
 done_by a event p = done (answer_text a) (reason_of a) p event
 
--- what is due in this progress
+-- the effect of this reaction in this state of the timeline
 abbrev pub due_at : Due → Progress → Advance
 due_at due.Nothing p = nothing p
 due_at (due.Happens event a) p = done_by a event p

@@ -1,4 +1,4 @@
--- What a call that takes an entry of the timeline does, and what several entries do, one after the other.
+-- The effect of a call that handles an entry of the timeline, and of several entries, one after the other.
 use Rattle.std.specs.Prelude.{◌≡◌, ℕ, ◌+◌, Bool, true, false, ◌||◌, List, [], ◌∷◌}
 use Rattle.negotiate.specs.Settings.{Settings}
 use Rattle.engine.specs.Timeline.{Entry, Outcome, Happened, entries_of}
@@ -9,7 +9,8 @@ use Rattle.engine.specs.Fair.{MayFail, IsFair, AreFair}
 use Rattle.engine.specs.Gains.{Gains}
 use Rattle.engine.specs.Kept.{Kept, Pends}
 
--- one entry: there is an outcome such that what is kept shows what the entry gives with it, and the devices gained it
+-- an entry was handled with a possible outcome: the fields are those of the state after it, and the wire and the
+-- filing have got what it sends and stores
 pub record Does (rooms : Rooms) (s : Settings) (p : Progress) (entry : Entry) (new : Kept) (body begun : List ℕ) (devices_old devices_new : Devices) : Type 0 where
   pub outcome : Outcome
   pub fair : IsFair rooms s p (entry, outcome)
@@ -18,7 +19,7 @@ pub record Does (rooms : Rooms) (s : Settings) (p : Progress) (entry : Entry) (n
   pub files : files_in devices_new.store ≡ with_files (gives rooms s p (entry, outcome)).files (files_in devices_old.store)
   pub count : devices_new.store.failures ≡ devices_old.store.failures + counted outcome.filing
 
--- some entries, one after the other
+-- these entries were handled, one after the other
 pub record DoesAll (rooms : Rooms) (s : Settings) (p : Progress) (entries : List Entry) (new : Kept) (body begun : List ℕ) (devices_old devices_new : Devices) : Type 0 where
   pub story : List Happened
   pub failed : Bool
@@ -28,14 +29,15 @@ pub record DoesAll (rooms : Rooms) (s : Settings) (p : Progress) (entries : List
   pub pends : Pends new devices_new.store (absorb failed (progress_of rooms s p story)) body begun
   pub gains : Gains rooms s p story false failed devices_old devices_new
 
--- a part of a fragment came: a filing call may have failed in it
+-- a part of a fragment was handled: a call of the filing may have failed
 pub record Appends (rooms : Rooms) (s : Settings) (p : Progress) (new : Kept) (body begun : List ℕ) (devices_old devices_new : Devices) : Type 0 where
   pub failed : Bool
   pub last : failed ≡ true → MayFail p p
   pub pends : Pends new devices_new.store (absorb failed p) body begun
   pub gains : Gains rooms s p [] false failed devices_old devices_new
 
--- a failure before a story counts at its first entry; where there is none, it is still to count
+-- a trace, with a failure of the filing from before it (`f`) counted at its first entry; and whether a failure
+-- remains uncounted, because the trace is empty
 abbrev pub push : Bool → List Happened → List Happened
 push f [] = []
 push f ((entry, o) ∷ story) = (entry, record o { filing = f || o.filing }) ∷ story

@@ -1,4 +1,4 @@
--- What comes of a text that is due: it is sent, or the wire fails after a beginning of it, and the association ends (PS3.8
+-- The effect of sending an answer: it is sent, or the send fails after a part of it and the association ends (PS3.8
 -- section 9.2.2: as if the transport connection had been closed).
 use Rattle.std.specs.Prelude.{◌≡◌, ℕ, Bool, true, false, List, [], Option, Result, Ok, Err, nat_eq, if◌then◌else◌}
 use Rattle.acceptor.specs.declared.state.State.{State}
@@ -19,12 +19,13 @@ use Rattle.engine.specs.Progress.{Progress, Advance}
 use Rattle.engine.specs.Run.{cut}
 use Rattle.engine.specs.Kept.{Kept, Pends, IsUnagreed}
 
--- the filing has the files that it had, and failed no more often
+-- the filing has the same files and the same number of failed calls as before
 pub record Unfiled (old new : Store) : Type 0 where
   pub files : files_in new ≡ files_in old
   pub count : new.failures ≡ old.failures
 
--- what is due in this progress was tried: there is an outcome of the wire such that the fields show what that gives
+-- the effect g in the state p was performed: its bytes were sent, or the send failed after some of them (`wire`), and
+-- the fields are those of the state afterwards
 pub record DoesDue (p : Progress) (g : Advance) (new : Kept) (body begun : List ℕ) (devices_old devices_new : Devices) : Type 0 where
   pub wire : Option ℕ
   pub fair : IsFront wire g.sent
@@ -34,7 +35,7 @@ pub record DoesDue (p : Progress) (g : Advance) (new : Kept) (body begun : List 
 
 -- ---- one event
 
--- what the event's action sends, given the answer to a request
+-- the bytes that the event's action sends, with this answer to a request
 abbrev pub step_text : State → Event → ℕ → List ℕ → List ℕ
 step_text state event reason answer =
     let step = table state event in bytes_sent answer release_text abort_text (sending step.0 step.1 reason)
@@ -43,7 +44,7 @@ abbrev pub state_after : Result (Unit {0}) WireFailed → State → State
 state_after (Ok u) state = state
 state_after (Err f) state = Sta1
 
--- the association is left, or was never begun: nothing of it is kept
+-- in this state there is no association, or no longer, and nothing is held of it
 abbrev pub is_left : State → Bool
 is_left Sta1 = true
 is_left Sta13 = true
@@ -58,7 +59,8 @@ pub record IsLeft (kept : Kept) : Type 0 where
 abbrev pub with_state : State → Kept → Kept
 with_state state kept = record kept { state = state }
 
--- the state came that was due after a send with this result, and nothing else changed, unless the association was left
+-- after a send with this result the association is in the given state, or in Sta1 if the send failed; nothing else
+-- has changed, unless that state holds nothing of an association
 pub record ComesTo (state : State) (sent : Result (Unit {0}) WireFailed) (old new : Kept) (store_old store_new : Store) : Type 0 where
   pub state_is : new.state ≡ state_after sent state
   pub refused : new.refused ≡ old.refused
@@ -67,7 +69,7 @@ pub record ComesTo (state : State) (sent : Result (Unit {0}) WireFailed) (old ne
   pub store_same : is_left new.state ≡ false → store_new ≡ store_old
   pub unfiled : Unfiled store_old store_new
 
--- the event leaves the association or keeps the state
+-- the event ends the association or keeps the state
 abbrev pub Stays : State → Event → Type 0
 Stays state event = is_left (table state event).1 ≡ false → (table state event).1 ≡ state
 

@@ -1,4 +1,4 @@
--- What a call does that takes an event of the stream, and the room that it needs and leaves.
+-- The effect of a call that handles an event of the stream, and how many bytes must fit before and do fit after it.
 use Rattle.std.specs.Prelude.{◌≡◌, ℕ, ◌+◌, ◌-◌, ◌≤◌, Bool, List, [], ◌++◌, length}
 use Rattle.pdu.specs.declared.event.Event.{Event}
 use Rattle.pdu.specs.declared.head.PdvHead.{PdvHead}
@@ -30,7 +30,7 @@ TakesHead rooms s old new kind size d e = (p : Progress) → Pends old d.store p
 abbrev pub TakesBody : Kept → Kept → ℕ → List ℕ → Store → Type 0
 TakesBody old new kind part store = (p : Progress) (body : List ℕ) → Pends old store p (body_in kind body) [] → Pends new store p (body_in kind (body ++ part)) []
 
--- the head of a PDV
+-- the head of a presentation data value
 abbrev pub TakesPdvHead : Rooms → Settings → Kept → Kept → PdvHead → Devices → Devices → Type 0
 TakesPdvHead rooms s old new head d e = (p : Progress) (begun : List ℕ) → length begun ≡ pdv_head_size → head ≡ pdv_head_of begun → Pends old d.store p [] [] → Does rooms s p (At (head_mark begun)) new [] begun d e
 
@@ -38,7 +38,7 @@ TakesPdvHead rooms s old new head d e = (p : Progress) (begun : List ℕ) → le
 abbrev pub TakesFragment : Rooms → Settings → Kept → Kept → List ℕ → Devices → Devices → Type 0
 TakesFragment rooms s old new part d e = (p : Progress) (begun : List ℕ) → pdv_head_size ≤ length begun → Pends old d.store p [] begun → Appends rooms s p new [] (begun ++ part) d e
 
--- the end of a PDV
+-- the end of a presentation data value
 abbrev pub TakesPdvEnd : Rooms → Settings → Kept → Kept → Devices → Devices → Type 0
 TakesPdvEnd rooms s old new d e = (p : Progress) (begun : List ℕ) → pdv_head_size ≤ length begun → length begun ≡ pdv_size begun → Pends old d.store p [] begun
     → Does rooms s p (At (Pdv (pdv_context begun) (pdv_control begun) (pdv_content begun))) new [] [] d e
@@ -47,7 +47,7 @@ TakesPdvEnd rooms s old new d e = (p : Progress) (begun : List ℕ) → pdv_head
 abbrev pub TakesEnd : Rooms → Settings → Kept → Kept → ℕ → Devices → Devices → Type 0
 TakesEnd rooms s old new kind d e = (p : Progress) (body : List ℕ) → Pends old d.store p (body_in kind body) [] → Does rooms s p (At (End kind body)) new [] [] d e
 
--- by the event, where bodies of PDUs of this type are lent
+-- the effect of a call for each event; `kind` is the type of the unfinished PDU
 abbrev pub Takes : Rooms → Settings → Kept → Kept → ℕ → Event → Devices → Devices → Type 0
 Takes rooms s old new kind (event.PduHead head) d e = TakesHead rooms s old new head.kind head.length d e
 Takes rooms s old new kind (event.Body part) d e = (e ≡ d) × TakesBody old new kind part.now d.store
@@ -71,13 +71,13 @@ LeavesRoom room old new kind (event.PdvHead head) = FragmentFits new (head.lengt
 LeavesRoom room old new kind (event.Fragment part) = (m : ℕ) → FragmentFits old (length part.now + m) → FragmentFits new m
 LeavesRoom room old new kind other = Unit {0}
 
--- an event that no byte of the stream brings, the input that tells it, and its entry
+-- an event that does not come from the stream, with its input and its entry
 pub data Outside : acceptor.Event → Received → Entry → Type 0 where
   closed : Outside happened.Closed Close Shut
   expired : Outside happened.Expired Expiry TimedOut
   aborted : Outside happened.UserAborts UserAbort Aborted
 
--- the input that tells such an event came
+-- the effect of the input of such an event
 abbrev pub MovesOutside : Rooms → Settings → acceptor.Event → Fields → Fields → Devices → Devices → Type 0
 MovesOutside rooms s event old new d e = (input : Received) (entry : Entry) → Outside event input entry → (inputs : List Received) (story : List Happened) (failed : Bool)
     → Stands rooms s inputs story failed old d.store → Moved rooms s inputs story failed input old new d e

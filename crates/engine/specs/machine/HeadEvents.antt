@@ -1,4 +1,4 @@
--- What the code's judgement of a head is, in the words of the definitions.
+-- The code's result for a head of a PDU, as that of the definitions.
 use Rattle.engine.specs.Heads.{HeadEvent, NoEvent, AtOnce, TooLong}
 use Rattle.engine.specs.declared.heads.HeadEvent as code
 use Rattle.engine.specs.declared.heads.HeadEvent.TheVariants as judged

@@ -1,4 +1,4 @@
--- What a call without devices leaves due: an event that is still to happen, or nothing.
+-- The reaction that a call without devices returns: an event that is still to be performed, or nothing.
 use Rattle.std.specs.Prelude.{◌≡◌, ℕ, List, [], length}
 use Rattle.acceptor.specs.declared.state.State.{State}
 use Rattle.acceptor.specs.declared.state.State.TheVariants.{Sta6}
@@ -17,27 +17,27 @@ use Rattle.engine.specs.Kept.{Kept, Pends, body_in}
 use Rattle.engine.specs.machine.Answers.{due_at}
 use Rattle.engine.specs.machine.DoesDue.{Stays}
 
--- what is due leaves the association or keeps the state
+-- the reaction ends the association or keeps the state
 abbrev pub StaysThen : State → Due → Type 0
 StaysThen state due.Nothing = Unit {0}
 StaysThen state (due.Happens event answering) = Stays state event
 StaysThen state due.Releases = state ≡ Sta6
 
--- the fields show a progress in which what is due gives this
+-- the fields are those of a state of the timeline in which the reaction has the effect g
 pub record LeavesDue (g : Advance) (due : Due) (new : Kept) (store : Store) (body begun : List ℕ) : Type 0 where
   pub shown : Progress
   pub pends : Pends new store shown body begun
   pub gives : g ≡ due_at due shown
 
--- an entry of which no device was tried
+-- an entry was handled without devices: the reaction has the rest of its effect
 abbrev pub Judges : Rooms → Settings → Kept → Kept → Entry → Due → Store → Type 0
 Judges rooms s old new entry due store = (p : Progress) → Pends old store p [] [] → LeavesDue (at_entry rooms s p good entry) due new store [] []
 
--- the head of a PDV
+-- the same for the head of a presentation data value
 abbrev pub JudgesPdvHead : Rooms → Settings → Kept → Kept → PdvHead → Due → Store → Type 0
 JudgesPdvHead rooms s old new head due store = (p : Progress) (begun : List ℕ) → length begun ≡ pdv_head_size → head ≡ pdv_head_of begun → Pends old store p [] []
     → LeavesDue (at_entry rooms s p good (At (head_mark begun))) due new store [] begun
 
--- the end of a PDU of this type, of whose body nothing was kept
+-- the same for the end of a PDU of this type, of whose body nothing is held any more
 abbrev pub JudgesEnd : Rooms → Settings → Kept → ℕ → Due → Store → Type 0
 JudgesEnd rooms s kept kind due store = (p : Progress) (body : List ℕ) → Pends kept store p (body_in kind body) [] → LeavesDue (at_entry rooms s p good (At (End kind body))) due kept store [] []

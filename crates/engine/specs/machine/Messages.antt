@@ -1,4 +1,4 @@
--- What is kept beside a join, and what calls do to the message that is open.
+-- The fields beside those of the message, and the effect of calls on the unfinished message.
 use Rattle.std.specs.Prelude.{◌≡◌, ◌⊎◌, ℕ, ◌+◌, ◌<◌, Bool, true, false, ◌||◌, List, [], length, Option, Some, Result, Ok, OnErr}
 use Rattle.acceptor.specs.declared.state.State.TheVariants.{Sta6}
 use Rattle.pdu.specs.declared.wire.WireFailed.{WireFailed}
@@ -32,7 +32,7 @@ with_join join kept = record kept { join = join }
 abbrev pub with_storing : Stored → Kept → Kept
 with_storing stored kept = record kept { storing = stored }
 
--- the fields but for those of the message are those of this progress, where no part of a body has come
+-- the fields, except those of the message, are those of this state of the timeline, at the start of a PDU's body
 pub record Aside (kept : Kept) (p : Progress) : Type 0 where
   pub state_is : kept.state ≡ p.state
   pub refused_is : is_ended p.state ≡ false → kept.refused ≡ p.refused
@@ -41,8 +41,8 @@ pub record Aside (kept : Kept) (p : Progress) : Type 0 where
   pub unagreed : is_established p.state ≡ false → IsUnagreed kept.caller kept.peer_max kept.table
   pub none_left : is_established p.state ≡ false → p.message ≡ NoMessage
 
--- More of a message has come, in which a filing call had failed before or not: its data are walked and in the draft, no
--- file was put, and the filing failed at most once.
+-- More of a message was received (`failed_before`: a call of the filing had failed in it before): its data set was
+-- walked and is in the draft, no file was stored, and at most one call of the filing has failed now.
 pub record Proceeds (depth most : ℕ) (request : Requested) (message : Begun) (failed_before : Bool) (stored : Stored) (old new : Store) : Type 0 where
   pub failed : Bool
   pub may : failed ≡ true → (failed_before ≡ false) × InStore request message
@@ -51,25 +51,26 @@ pub record Proceeds (depth most : ℕ) (request : Requested) (message : Begun) (
   pub files : files_in new ≡ files_in old
   pub count : new.failures ≡ old.failures + counted failed
 
--- what the settings are where a message came
+-- the settings of the association of a message
 abbrev pub origin_settings : Origin → Settings
 origin_settings origin = settings_of origin.config.now
 
--- it came in the association of this request
+-- the message was received in the association of this request
 abbrev pub IsFrom : Requested → Origin → Type 0
 IsFrom request origin = IsPeerOf origin.peer.now (origin_settings origin).further (request_record request)
 
--- a command that announces a data set is whole, and no data are stored
+-- the effect of the end of a command set that announces a data set
 abbrev pub BeginsData : ℕ → Origin → List ℕ → Stored → Stored → Store → Store → Type 0
 BeginsData depth origin command stored_old stored_new old new = (request : Requested) → IsFrom request origin → stored_old ≡ Nothing → ((c : CommandRecord) → command_in command ≡ Ok c → c.with_data ≡ true)
     → Proceeds depth origin.config.now.max_data request (InSet origin.context command []) false stored_new old new
 
--- what had come of a whole message: its command and its data set, or its command alone, which announces none
+-- the received parts of a whole message: its command set and its data set, or its command set alone if it announces
+-- none
 abbrev pub HasCome : Message → Begun → Type 0
 HasCome m come = (come ≡ InSet m.context m.command m.set) ⊎ ((come ≡ InCommand m.context m.command) × ((c : CommandRecord) → command_in m.command ≡ Ok c → c.with_data ≡ false))
 
--- A whole message was answered, or the wire failed: there is a finding on it such that this was sent and these files were
--- put.
+-- A whole message was answered, or the send failed: the bytes sent and the files stored are those of the finding on
+-- it.
 pub record Ended (rooms : Rooms) (s : Settings) (p : Progress) (m : Message) (come : Begun) (result : Result (Unit {0}) WireFailed) (devices_old devices_new : Devices) : Type 0 where
   pub finding : Finding
   pub failed : Bool
@@ -80,12 +81,12 @@ pub record Ended (rooms : Rooms) (s : Settings) (p : Progress) (m : Message) (co
   pub files : files_in devices_new.store ≡ with_files (replied p finding m (command_in m.command)).files (files_in devices_old.store)
   pub count : devices_new.store.failures ≡ devices_old.store.failures + counted failed
 
--- whatever message of this command it is, and whatever had come of it, in an association with these limits
+-- the effect of the end of any message with this command set, in an association with these limits
 abbrev pub EndsMessage : ℕ → ℕ → ℕ → Origin → List ℕ → Stored → Result (Unit {0}) WireFailed → Devices → Devices → Type 0
 EndsMessage C V D origin command stored result d e = (A : ℕ) (p : Progress) (m : Message) (come : Begun) → IsFrom p.request origin → HasCome m come → command ≡ m.command → origin.context ≡ m.context
     → Walks D origin.config.now.max_data p.request come stored → IsDraft p.request come p.filing_failed d.store (drafting_in stored) → Ended (rooms_of A C V D) (origin_settings origin) p m come result d e
 
--- and the fields show what comes after it
+-- the effect of the end of a message on the devices, and on the fields
 pub record Concludes (rooms : Rooms) (s : Settings) (p : Progress) (m : Message) (come : Begun) (new : Kept) (devices_old devices_new : Devices) : Type 0 where
   pub finding : Finding
   pub failed : Bool

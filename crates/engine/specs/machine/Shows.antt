@@ -1,4 +1,4 @@
--- What an association shows of the PDU that has begun: where its deframer stands, and what is kept.
+-- The fields of an association inside a PDU: the position of its deframer, and what is held of the PDU.
 use Rattle.std.specs.Prelude.{◌≡◌, ℕ, ◌≤◌, Bool, true, false, List, [], ◌∷◌, ◌++◌, length, take, map}
 use Rattle.pdu.specs.Frames.{IsRest, rest_of}
 use Rattle.pdu.specs.Sizes.{pdv_head_size}
@@ -21,7 +21,7 @@ use Rattle.engine.specs.machine.Does.{DoesAll}
 
 -- ---- the association
 
--- a part of the stream was taken
+-- the bytes c of the stream were handled, after the bytes r of an unfinished PDU
 pub record DoesPart (rooms : Rooms) (s : Settings) (f : Fields) (p : Progress) (r c : List ℕ) (old new : Devices) : Type 0 where
   pub story : List Happened
   pub failed : Bool
@@ -31,9 +31,9 @@ pub record DoesPart (rooms : Rooms) (s : Settings) (f : Fields) (p : Progress) (
   pub shows : ShowsFrame f new.store (absorb failed (progress_of rooms s p story)) (rest_of (r ++ c))
   pub gains : Gains rooms s p story false failed old new
 
--- ---- between two events, where marks are due that no event has reported
+-- ---- between two events, with marks `due` that are complete and that no event has reported yet
 
--- what has come of a request's body and of a value, whose ends have not been reported
+-- the received bytes of a request's body and of a presentation data value whose end has not been reported yet
 abbrev pub Pending : List ℕ → List Mark → List ℕ → List ℕ → Type 0
 Pending r [] body begun = (body ≡ body_of r) × (begun ≡ begun_in (spot r))
 Pending r (Head kind n ∷ later) body begun = (body ≡ []) × (begun ≡ [])
@@ -43,7 +43,7 @@ Pending r (BadPdv ∷ later) body begun = (body ≡ []) × (begun ≡ [])
 Pending r (Leftover ∷ later) body begun = (body ≡ []) × (begun ≡ [])
 Pending r (End kind whole ∷ later) body begun = (body ≡ body_in kind whole) × (begun ≡ [])
 
--- it shows this progress and this frame, with these marks that are due
+-- the fields are those of this state of the timeline, after the bytes r of an unfinished PDU, with these marks due
 pub record ShowsDue (f : Fields) (store : Store) (p : Progress) (r : List ℕ) (due : List Mark) : Type 0 where
   pub is_at : StandsAt f.position f.kept r due
   pub body : List ℕ
@@ -51,8 +51,8 @@ pub record ShowsDue (f : Fields) (store : Store) (p : Progress) (r : List ℕ) (
   pub pending : Pending r due body begun
   pub pends : Pends f.kept store p body begun
 
--- Bytes were taken where marks were due: some marks were reported and done, and these others are due then; none where
--- there are no more events.
+-- Bytes were handled while marks were due: the events of some marks were handled, and the others are due afterwards;
+-- none is if there are no more events.
 pub record Handles (rooms : Rooms) (s : Settings) (f : Fields) (p : Progress) (r : List ℕ) (due : List Mark) (c : List ℕ) (more : Bool) (old new : Devices) : Type 0 where
   pub marks : List Mark
   pub later : List Mark
@@ -64,10 +64,10 @@ pub record Handles (rooms : Rooms) (s : Settings) (f : Fields) (p : Progress) (r
   pub is_at : StandsAt f.position f.kept (rest_of (r ++ c)) later
   pub none_due : more ≡ false → later ≡ []
 
--- so many bytes of a piece were taken, up to the next event where there is one, and what it brings was done
+-- so many bytes of a piece were read, up to the next event, if there is one, and that was handled
 abbrev pub DoesNext : Rooms → Settings → Fields → Fields → List ℕ → ℕ × Bool → Devices → Devices → Type 0
 DoesNext rooms s old new piece taken d e = (p : Progress) (r : List ℕ) (due : List Mark) → ShowsDue old d.store p r due → Handles rooms s new p r due (take taken.0 piece) taken.1 d e
 
--- a piece was taken
+-- a piece of the stream was handled
 abbrev pub DoesPiece : Rooms → Settings → Fields → Fields → List ℕ → Devices → Devices → Type 0
 DoesPiece rooms s old new c d e = (p : Progress) (r : List ℕ) → IsRest r → is_ended p.state ≡ false → ShowsFrame old d.store p r → DoesPart rooms s new p r c d e

@@ -1,4 +1,4 @@
--- What the calls on the data of a message do.
+-- The effects of the calls on the data set of a message.
 use Rattle.std.specs.Prelude.{◌≡◌, ℕ, Bool, true, false, not, ◌||◌, List, [], ◌++◌}
 use Rattle.dictionary.specs.declared.transfer.Transfer.{Transfer}
 use Rattle.sequence.specs.declared.coding.Coding.{Coding}
@@ -18,33 +18,33 @@ use Rattle.engine.specs.Timeline.{Finding}
 abbrev pub finding_of : StoreStatus → Finding
 finding_of s = record { status = s.status; detail = s.detail }
 
--- the file header of the instance that a store sends, from this caller
+-- the bytes before the data set in the file of a C-STORE's instance, from this calling AE title
 abbrev pub header_of : CommandRecord → Transfer → AeTitle → List ℕ
 header_of command syntax caller = head (record { class = command.class; instance = or_nothing command.instance; syntax = syntax; calling = caller })
 
 -- ---- calls
 
--- a draft is begun and gets these bytes; or a filing call failed
+-- a draft was started and has these bytes (true); or a call of the filing failed (false)
 abbrev pub Begins : List ℕ → Bool → Store → Store → Type 0
 Begins header true old new = new ≡ stepped (λ shelf. record { files = shelf.files; draft = header }) true old
 Begins header false old new = new ≡ failed old
 
--- a walk with its draft begins
+-- the data set of a C-STORE begins, with a walker and a draft
 abbrev pub BeginsStore : Coding → Limits → List ℕ → Stored → Store → Store → Type 0
 BeginsStore syntax lim header Nothing old new = ⊥
 BeginsStore syntax lim header (Walking walker drafting) old new = HasWalked walker syntax lim [] × Begins header drafting old new
 
--- where the command announces a data set
+-- the same, if the command announces a data set
 abbrev pub BeginsAnnounced : CommandRecord → AeTitle → Transfer → Limits → Stored → Store → Store → Type 0
 BeginsAnnounced command caller syntax lim stored old new = command.with_data ≡ true → BeginsStore (coding_in syntax) lim (header_of command syntax caller) stored old new
 
--- a draft gets these bytes more, or the filing fails in it; without a draft the filing stays as it is
+-- these bytes were appended to the draft, or a call of the filing failed; without a draft the filing is unchanged
 abbrev pub Grows : List ℕ → Bool → Bool → Store → Store → Type 0
 Grows bytes false drafting_new old new = (drafting_new ≡ false) × (new ≡ old)
 Grows bytes true true old new = new ≡ stepped (appended bytes) true old
 Grows bytes true false old new = new ≡ failed old
 
--- a part of the data set came
+-- a part of the data set was received
 abbrev pub GoesOn : List ℕ → Stored → Stored → Store → Store → Type 0
 GoesOn part Nothing now old new = (now ≡ Nothing) × (new ≡ old)
 GoesOn part (Walking before drafting) Nothing old new = ⊥
@@ -57,14 +57,15 @@ abbrev pub Drops : Bool → Store → Store → Type 0
 Drops true old new = new ≡ stepped without_draft false old
 Drops false old new = new ≡ old
 
--- the draft of a store with this finding: a success was committed; a failed commit leaves none; else it is dropped
+-- the end of the draft of a C-STORE with this finding: committed with success; a failed commit, which leaves no
+-- draft; else dropped
 pub data EndsDraft (drafting : Bool) (finding : Finding) (old new : Store) : Bool → Type 0 where
   filed : drafting ≡ true → finding.status ≡ success → new ≡ stepped committed false old → EndsDraft drafting finding old new false
   commit_failed : drafting ≡ true → new ≡ failed old → EndsDraft drafting finding old new true
   dropped : (finding.status ≡ success → ⊥) → Drops drafting old new → EndsDraft drafting finding old new false
 
--- The data set is whole: this is the verdict on the store, and this came of its draft. `commit_failed` says whether
--- the filing failed at the end; it failed before where no draft is there.
+-- The end of the data set of a C-STORE: the finding is the verdict on it, and the draft ends accordingly.
+-- `failed_then` says whether a call of the filing failed at the end; without a draft one had failed before.
 pub record EndsStore (depth most : ℕ) (context : Context) (command : CommandRecord) (set : List ℕ) (drafting : Bool) (finding : Finding) (old new : Store) : Type 0 where
   pub failed_then : Bool
   pub draft : EndsDraft drafting finding old new failed_then

@@ -1,4 +1,4 @@
--- What a call tries: in each progress that the fields may show, what is due there.
+-- The effect of a call that sends, in each state of the timeline that the fields can be those of.
 use Rattle.std.specs.Prelude.{◌≡◌, ℕ, true, false, List, []}
 use Rattle.negotiate.specs.Settings.{Settings}
 use Rattle.engine.specs.Progress.{Progress, Advance, is_due}
@@ -7,10 +7,10 @@ use Rattle.engine.specs.Requests.{at_request}
 use Rattle.engine.specs.Kept.{Kept, Pends}
 use Rattle.engine.specs.machine.DoesDue.{DoesDue}
 
--- this is due
+-- the call performs the effect `due p` in the state p
 abbrev pub TriesDue : (Progress → Advance) → Kept → Kept → Devices → Devices → Type 0
 TriesDue due old new d e = (p : Progress) (body begun : List ℕ) → Pends old d.store p body begun → DoesDue p (due p) new body begun d e
 
--- an association request is whole, which was due
+-- the call performs the effect of a whole association request, which was awaited
 abbrev pub TriesRequest : Settings → Kept → Kept → Devices → Devices → Type 0
 TriesRequest s old new d e = (p : Progress) (body : List ℕ) → Pends old d.store p body [] → p.refused ≡ false → is_due p.state ≡ true → DoesDue p (at_request s p body) new body [] d e

@@ -1,5 +1,7 @@
-//! The fields of an association, each with its type: bytes that came are held by the deframer, in `body` and
-//! `caller`, by the join and by the walker alone. A further field does not compile here before it is named.
+//! Lists the fields of an [`Association`] and of its parts with their types, so that a reader sees that
+//! received bytes are in the deframer, in `body`, `caller`, `max_length` and `contexts`, in the join
+//! and in the walker alone. A field that is added to any of them does not compile until it is listed
+//! here.
 
 use super::Association;
 use crate::phase::{Message, Peer, Phase};

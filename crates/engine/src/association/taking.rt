@@ -1,4 +1,4 @@
-//! Takes a piece of the stream, event by event.
+//! Handles received bytes, event by event.
 ghost use Rattle.std.specs.Prelude.{◌≡◌, ◌≤◌, ◌<◌, ◌+◌, ◌*◌, length, true, false};
 ghost use Rattle.pdu.specs.Deframed.{position_of};
 ghost use Rattle.pdu.specs.Steps.{events_due};
@@ -15,8 +15,8 @@ impl<const A: usize, const C: usize, const V: usize, const D: usize> Association
     ghost use Rattle.engine.specs.machine.Shows.{DoesNext, DoesPiece};
     ghost use Rattle.engine.specs.Fields.{fields_of, settings_in};
 
-    /// Takes bytes up to the next event, and does what it brings. Returns how many, and whether there
-    /// was an event.
+    /// Reads bytes up to the next event, and handles the event. Returns how many bytes were read, and
+    /// whether there was an event.
     fn take_event<W: Wire, F: Filing>(
         &mut self,
         piece: &[u8],
@@ -41,7 +41,7 @@ impl<const A: usize, const C: usize, const V: usize, const D: usize> Association
         (count, true)
     }
 
-    /// Takes all bytes of a piece.
+    /// Reads all bytes of a piece and handles their events.
     pub(super) fn take_all<W: Wire, F: Filing>(&mut self, piece: &[u8], devices: Devices<'_, W, F>)
         requires draft { DraftIsThere (kept_of self.old.provider) (F.store devices.filing.now) }
         ensures settings { settings_in self.new ≡ settings_in self.old }

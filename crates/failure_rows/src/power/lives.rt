@@ -8,7 +8,7 @@ use crate::power::stores::Life;
 use crate::power::survivors::Tries;
 use fixtures::bytes::after_first;
 use fixtures::folders::is_filed;
-use harness::{Step, drive};
+use fixtures::{Step, drive};
 use part10::{FolderFiling, FolderWriter};
 use std::alloc::Global;
 use std::io;

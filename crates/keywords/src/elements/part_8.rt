@@ -1,6 +1,6 @@
-//! Data elements by rising tags (PS3.6 sections 6 to 9). Made by tools/keywords.
+//! Data elements in ascending order of tags (PS3.6 sections 6 to 9). Made by tools/keywords.
 
-/// The rows, each a line.
+/// The rows, one a line: a tag and its keyword.
 pub(super) const ROWS: &str = "00460060 DistancePupillaryDistance
 00460062 NearPupillaryDistance
 00460063 IntermediatePupillaryDistance

@@ -1,6 +1,6 @@
 //! Data elements of several tags (PS3.6 sections 6 to 9). Made by tools/keywords.
 
-/// The rows, each a line.
+/// The rows, one a line: a tag and its keyword.
 pub(super) const ROWS: &str = "002031xx SourceImageIDs
 002804x0 RowsForNthOrderCoefficients
 002804x1 ColumnsForNthOrderCoefficients

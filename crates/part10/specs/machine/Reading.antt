@@ -1,5 +1,5 @@
--- What each part of the reader of file headers leaves: which text it took from the reader, or why the bytes
--- that the reader had left cannot be one.
+-- The effect of each part of the reading of File Meta Information: which bytes it took from the reader, or why the
+-- bytes that the reader had left cannot be such a part.
 use Rattle.std.specs.Prelude.{◌≡◌, ◌≢◌, ℕ, ◌+◌, ◌%◌, ◌^◌, ◌<◌, ◌≤◌, Bool, List, ◌++◌, length, replicate, Option, Some, None, Result, Ok, Err, IfSome, ⊤, nat_eq, nat_lt, ◌&&◌, if◌then◌else◌, codes}
 use Rattle.std.specs.Io.KnownBytes.{Consumes}
 use Rattle.element.specs.declared.syntax.Syntax.TheVariants.{Explicit}
@@ -16,18 +16,18 @@ use Rattle.part10.specs.declared.reading.Found.{Found}
 use Rattle.part10.specs.File.{length_element}
 use Rattle.part10.specs.MetaText.{HasLetters, MetaElement, MetaElements, uid_at}
 
--- a text of this kind was taken from the reader
+-- bytes with the property P were taken from the reader
 abbrev pub Reads : Option (List ℕ) → Option (List ℕ) → (List ℕ → Type 0) → Type 0
 Reads old new P = (text : List ℕ) × Consumes old new text × P text
 
--- a part fails by a failed read, or because the bytes that were left have this property
+-- a part fails: a read failed, or the bytes that were left have the property P (`BadMeta`)
 abbrev pub Breaks : MetaFault → Option (List ℕ) → (List ℕ → Type 0) → Type 0
 Breaks ReadFailed old P = ⊤
 Breaks BadMeta old P = IfSome old P
 Breaks NotPart10 old P = ⊥
 Breaks OtherSyntax old P = ⊥
 
--- any preamble, and the letters
+-- a preamble of any 128 bytes, and the prefix DICM
 abbrev pub IsPrefix : List ℕ → Type 0
 IsPrefix text = (preamble : List ℕ) × (length preamble ≡ 128) × (text ≡ preamble ++ codes "DICM")
 
@@ -40,7 +40,7 @@ NoLetters OtherSyntax old = ⊥
 abbrev pub NoSize : List ℕ → Type 0
 NoSize rest = (n : ℕ) (back : List ℕ) → n < 2 ^ 32 → rest ≢ length_element n ++ back
 
--- a header of at most `left` bytes was taken, and this is its size
+-- a header of at most `left` bytes was taken, and `size` is the number of its bytes
 pub record HeaderRead (left : ℕ) (header : Header) (size : ℕ) (old new : Option (List ℕ)) : Type 0 where
   pub bytes : List ℕ
   pub spells : SpellsHeader Explicit header bytes
@@ -51,19 +51,19 @@ pub record HeaderRead (left : ℕ) (header : Header) (size : ℕ) (old new : Opt
 abbrev pub NoHeader : ℕ → List ℕ → Type 0
 NoHeader left rest = (h : Header) (bytes back : List ℕ) → SpellsHeader Explicit h bytes → rest ≡ bytes ++ back → length bytes ≤ left → ⊥
 
--- this many bytes, and whether they are padding alone
+-- a text of `size` bytes; `padding` says whether they are padding alone
 abbrev pub IsPart : ℕ → Bool → List ℕ → Type 0
 IsPart size padding text = (length text ≡ size) × (padding ≡ is_empty (without_trailing is_padding text))
 
--- a value of this many bytes, and the unique identifier that it holds
+-- a value of `size` bytes, and the UID in it, if it is one
 abbrev pub IsValue : ℕ → Option (List ℕ) → List ℕ → Type 0
 IsValue size uid text = (length text ≡ size) × (uid ≡ uid_of text)
 
--- a header of an element of group 0002 after the one with the number `last`, with an even length
+-- h is the header of an element of group 0002 with an element number above `last` and an even length
 abbrev pub is_next : Header → ℕ → Bool
 is_next h last = nat_eq h.tag.0 2 && nat_lt last h.tag.1 && nat_eq (h.length % 2) 0
 
--- an element of group 0002 after the one with the number `last`
+-- an element of group 0002 with an element number above `last`: the bytes of its header h, and its value
 pub record IsElement (last : ℕ) (h : Header) (bytes value : List ℕ) : Type 0 where
   pub spells : SpellsHeader Explicit h bytes
   pub group : h.tag.0 ≡ 2
@@ -85,7 +85,7 @@ pub record ElementRead (last left : ℕ) (element : Element) (old new : Option (
 abbrev pub NoElement : ℕ → ℕ → List ℕ → Type 0
 NoElement last left rest = (h : Header) (bytes value back : List ℕ) → IsElement last h bytes value → rest ≡ (bytes ++ value) ++ back → length bytes + length value ≤ left → ⊥
 
--- what is kept of an element
+-- the UIDs that were found, after an element with this number
 abbrev pub noted : ℕ → Option (List ℕ) → Found → Found
 noted number uid found = record {
   class = if nat_eq number 0x0002 then uid else found.class;
@@ -93,7 +93,7 @@ noted number uid found = record {
   syntax = if nat_eq number 0x0010 then uid else found.syntax;
 }
 
--- these are what the elements say
+-- `found` has the UIDs of these elements
 pub record IsFound (found : Found) (elements : List MetaElement) : Type 0 where
   pub class : found.class ≡ uid_at 0x0002 elements
   pub instance : found.instance ≡ uid_at 0x0003 elements
@@ -110,7 +110,8 @@ pub record GroupRead (size : ℕ) (found : Found) (old new : Option (List ℕ)) 
 abbrev pub NoGroup : ℕ → List ℕ → Type 0
 NoGroup size rest = (elements : List MetaElement) (group back : List ℕ) → rest ≡ group ++ back → length group ≡ size → MetaElements 0 elements group → ⊥
 
--- what the header says, or what is missing or not taken
+-- the result of the File Meta Information with these UIDs: `BadMeta` if one is missing, `OtherSyntax` if its transfer
+-- syntax is not supported
 abbrev pub IsMeta : Found → Result Meta MetaFault → Type 0
 IsMeta found (Ok meta) =
     (syntax : List ℕ) × (found.class ≡ Some meta.class) × (found.instance ≡ Some meta.instance)

@@ -1,4 +1,5 @@
--- What a part of a call finds: an event and where the stream stands then, or where it stands without one.
+-- The result of a part of a deframer's call: an event with the position after it, or the position `stays` without
+-- one.
 use Rattle.std.specs.Prelude.{ℕ, List, Option, Some, None}
 use Rattle.pdu.specs.declared.position.Position.{Position}
 use Rattle.pdu.specs.declared.event.Event.{Event}

@@ -1,11 +1,11 @@
--- What the positions of a deframer promise by themselves.
+-- The invariant of a deframer's position, and the bytes that it still expects.
 use Rattle.std.specs.Prelude.{ℕ, ◌<◌, ◌≤◌}
 use Rattle.pdu.specs.declared.position.Position.{Position}
 use Rattle.pdu.specs.declared.position.Position.TheVariants.{Head, Body, PdvHead, Fragment, Leftover, Skipped}
 use Rattle.pdu.specs.Deframing.{bytes_held}
 pub use Rattle.pdu.specs.Steps.{fragment_due}
 
--- how many bytes of the frame are to come, at least
+-- a number that is not 0 in a valid position: inside the head of a presentation data value the bytes left in the PDU
 abbrev pub left_least : Position → ℕ
 left_least (PdvHead left bytes) = left
 left_least other = 1

@@ -1,4 +1,4 @@
--- What the check of a request's items remembers of those that came.
+-- The state of the check of a request's items, from the items before.
 use Rattle.std.specs.Prelude.{◌≡◌, ℕ, ◌<◌, false, List, get_or}
 use Rattle.std.specs.List.{list_any}
 use Rattle.pdu.specs.Types.{application_context_item, proposed_context_item, user_information_item}
@@ -12,7 +12,7 @@ pub record Knows (s : ItemsSoFar) (before : List (List ℕ)) : Type 0 where
   pub context : s.context ≡ list_any (is_kind proposed_context_item) before
   pub ids : (id : ℕ) → id < 256 → get_or s.ids id false ≡ list_any (has_id id) before
 
--- the items before have no fault, so the rest of the text decides
+-- with the items that are known, the items of the rest have the fault that the items of the whole text have
 pub record Checks (s : ItemsSoFar) (rest text : List ℕ) : Type 0 where
   pub before : List (List ℕ)
   pub knows : Knows s before

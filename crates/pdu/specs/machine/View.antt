@@ -1,4 +1,4 @@
--- The record of a request, from the fields that view its body.
+-- The record of a request, from the fields of `Request`, which borrow from its body.
 use Rattle.pdu.specs.declared.request.Request.TheInside.{Inside}
 use Rattle.pdu.specs.Record.{RequestRecord}
 use Rattle.pdu.specs.Items.{items_of, proposals}

@@ -1,5 +1,5 @@
-//! The fields of a deframer, each with its type: bytes that came are held as those of unfinished heads alone. A further
-//! field does not compile here before it is named.
+//! Lists the fields of a [`Deframer`] with their types, so that a reader sees that it holds received
+//! bytes of unfinished heads alone. A field that is added does not compile until it is listed here.
 
 use super::Deframer;
 use crate::position::Position;

@@ -1,4 +1,4 @@
--- What a walker's fields are where it holds a certain front.
+-- The fields of a walker, from the front of the data set that it has read.
 use Rattle.std.specs.Prelude.{◌≡◌, ℕ, ◌+◌, List, [], ◌∷◌, length}
 use Rattle.sequence.specs.declared.stage.Stage.{Stage}
 use Rattle.sequence.specs.declared.stage.Stage.TheVariants as stages
@@ -10,14 +10,14 @@ use Rattle.sequence.specs.Taken.{walker_syntax}
 use Rattle.sequence.specs.Holding.{levels_at, with_begun, values_at}
 use Rattle.sequence.specs.machine.Scopes.{top_of, below_of}
 
--- the walk is in this tail, of whose header these bytes are kept
+-- the walker is in this unfinished header, of which it holds these bytes, or in this unfinished value
 abbrev pub IsIn : Stage → List ℕ → Tail → Type 0
 IsIn stages.Heading header tail = tail ≡ in_header header
 IsIn (stages.Value tag left kept) header (in_header t) = ⊥
 IsIn (stages.Value tag left kept) header (in_value h v) = (tag ≡ h.tag) × (length v + left ≡ h.length)
 IsIn (stages.Stopped fault) header tail = ⊥
 
--- the machine's levels and the kept values are those of a front of so many bytes
+-- the levels and the kept values are those of a front of `place` bytes with these elements, path and tail
 pub record HoldsFront {V D : ℕ} (w : Walker V D) (place : ℕ) (es : Elements) (path : List PathEntry) (last : ℕ) (tail : Tail) : Type 0 where
   pub levels : top_of w.root w.levels.items ∷ below_of w.root [] w.levels.items ≡ with_begun tail (levels_at place path (walker_syntax w) last)
   pub values : values_of w.kept ≡ values_at (wants_of w.kept) es path tail

@@ -1,4 +1,4 @@
--- The limits of a walk, from its parts, and a broken rule by its number.
+-- The limits of a data set, from the fields of a walker, and a broken rule as its number.
 use Rattle.std.specs.Prelude.{ℕ, List, length, Option, ◌&&◌, not, nat_le, option_map}
 use Rattle.sequence.specs.Coding.{layout}
 use Rattle.sequence.specs.declared.wanted.Want.{Want}
@@ -13,11 +13,12 @@ use Rattle.sequence.specs.Rules.{Limits, Broken, broken_tag, broken_need, broken
 abbrev pub limits_by : List Want → Bounds → Limits
 limits_by ws bounds = record { wanted = ws; depth = bounds.depth; bytes = bounds.bytes }
 
--- a broken rule, and the tag of its fault
+-- a broken rule as its number, with the tag of its fault
 abbrev pub numbered : Option (Rule × Tag) → Broken
 numbered broken = option_map (λ x. (rule_number x.0, x.1)) broken
 
--- the rule that is broken where four bytes, six bytes, or all bytes of a header came, if the bytes t are so many
+-- the rules that can be broken once four bytes (tag), six bytes (VR) or all bytes of a header are there: the one that
+-- is broken
 
 abbrev pub broken_at_tag : Spot → List ℕ → Broken
 broken_at_tag spot t = when (nat_le 4 (length t)) (broken_tag spot (tag_at t))

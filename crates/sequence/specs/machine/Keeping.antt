@@ -1,4 +1,4 @@
--- The values that the walk keeps, byte by byte.
+-- The wanted values that a walker keeps, as they change byte by byte.
 use Rattle.std.specs.Prelude.{ℕ, zero, suc, ◌+◌, ◌-◌, Bool, true, ◌&&◌, ◌||◌, List, [], ◌∷◌, ◌++◌, Option, Some, None, if◌then◌else◌, nat_eq, nat_le}
 use Rattle.element.specs.declared.header.Header.{Header}
 use Rattle.element.specs.Header.{number, is_marker, is_whole, header_at}
@@ -13,15 +13,15 @@ use Rattle.sequence.specs.Rules.{Limits, Broken, broken}
 use Rattle.sequence.specs.Fields.{is_absent, but_last}
 use Rattle.sequence.specs.machine.Machine.{Mode, Heading, Reading, Stopped, State, is_empty, spot_of, next}
 
--- an element of the data set itself whose tag is wanted
+-- an element with tag t in these levels is of the data set itself, and t is wanted
 abbrev pub wanted_at : Limits → List Scope → ℕ → Bool
 wanted_at lim fs t = is_empty fs && is_wanted lim.wanted t
 
--- with the value v of such an element
+-- the values with the value v of an element with tag t, if that is wanted
 abbrev pub with_value : Limits → List Scope → ℕ → List ℕ → Values → Values
 with_value lim fs t v values = if wanted_at lim fs t then values ++ (t, v) ∷ [] else values
 
--- with one more byte of the last value
+-- the values with one more byte of the last one
 abbrev pub with_byte : Values → ℕ → Values
 with_byte [] x = []
 with_byte (one ∷ []) x = (one.0, one.1 ++ x ∷ []) ∷ []
@@ -32,7 +32,7 @@ keep_shaped lim fs h Value values = with_value lim fs (number h.tag) [] values
 keep_shaped lim fs h (Sequence inner) values = values
 keep_shaped lim fs h NotAllowed values = values
 
--- after the whole header h
+-- the values after the whole header h: with an empty one, if h is that of a wanted value
 unfoldable pub keep_header : Limits → Scope → List Scope → Header → Values → Values
 keep_header lim f fs h values = if is_marker h.tag then values else keep_shaped lim fs h (shape f.syntax h) values
 
@@ -48,7 +48,7 @@ keep_by lim f fs (Heading start t) values x = keep_headed lim (broken lim (spot_
 keep_by lim f fs (Reading t n) values x = keep_read lim fs (number t) values x
 keep_by lim f fs (Stopped n place t) values x = values
 
--- one more byte
+-- the values after one more byte of the data set
 abbrev pub keep : Limits → State → Values → ℕ → Values
 keep lim st values x = keep_by lim st.top st.below st.mode values x
 
@@ -56,21 +56,21 @@ unfoldable pub keeps : Limits → State → Values → List ℕ → Values
 keeps lim st values [] = values
 keeps lim st values (x ∷ xs) = keeps lim (next lim st x) (keep lim st values x) xs
 
--- of the kept values, those that are whole
+-- the values without the last one, if that is unfinished
 abbrev pub whole_by : Limits → List Scope → Mode → Values → Values
 whole_by lim fs (Heading start t) values = values
 whole_by lim fs (Reading t n) values = if wanted_at lim fs (number t) then but_last values else values
 whole_by lim fs (Stopped n place t) values = values
 
--- how the values are stored
+-- ---- the lengths of the wanted values, in the order of their tags
 
--- the bytes that these lengths count
+-- the sum of these lengths, without those of absent values
 abbrev pub counts : List Want → List ℕ → ℕ
 counts [] lengths = 0
 counts (w ∷ ws) [] = 0
 counts (w ∷ ws) (n ∷ lengths) = if is_absent n then counts ws lengths else (n + counts ws lengths)
 
--- a value that came is no longer than its room, and its tag is at most `last`
+-- each value that is there is no longer than its limit, and its tag is at most `last`
 abbrev pub are_stored : List Want → List ℕ → ℕ → Bool
 are_stored [] lengths last = true
 are_stored (w ∷ ws) [] last = true
@@ -81,21 +81,21 @@ all_absent [] lengths = true
 all_absent (w ∷ ws) [] = true
 all_absent (w ∷ ws) (n ∷ lengths) = is_absent n && all_absent ws lengths
 
--- after the value number i none came
+-- no value after the one with index i is there
 abbrev pub is_latest : ℕ → List Want → List ℕ → Bool
 is_latest i [] lengths = true
 is_latest i (w ∷ ws) [] = true
 is_latest zero (w ∷ ws) (n ∷ lengths) = all_absent ws lengths
 is_latest (suc i) (w ∷ ws) (n ∷ lengths) = is_latest i ws lengths
 
--- what the value number i may still get
+-- how many more bytes the value with index i may have, by its limit
 abbrev pub left_at : ℕ → List Want → List ℕ → ℕ
 left_at i [] lengths = 0
 left_at i (w ∷ ws) [] = 0
 left_at zero (w ∷ ws) (n ∷ lengths) = if is_absent n then 0 else w.room - n
 left_at (suc i) (w ∷ ws) (n ∷ lengths) = left_at i ws lengths
 
--- the first wanted tag with this number, counted from k on
+-- the index of the first wanted tag with this number, where the first index is k
 abbrev pub place_from : ℕ → List Want → ℕ → Option ℕ
 place_from k [] t = None
 place_from k (w ∷ ws) t = if nat_eq (number w.tag) t then Some k else place_from (k + 1) ws t

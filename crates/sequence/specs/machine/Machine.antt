@@ -1,4 +1,5 @@
--- The walk as a machine that takes one byte after another: levels by where they end, the innermost first.
+-- The reading of a data set as a state machine that takes one byte after another. The levels are in the order from
+-- the innermost outwards, each with the position of its end.
 use Rattle.std.specs.Prelude.{◌≡◌, ℕ, ◌+◌, ◌-◌, Bool, true, false, not, ◌&&◌, List, [], ◌∷◌, ◌++◌, length, Option, Some, None, nat_eq, nat_le, if◌then◌else◌}
 use Rattle.sequence.specs.Coding.{layout, has_fragments}
 use Rattle.sequence.specs.declared.coding.Coding.{Coding}
@@ -19,11 +20,11 @@ abbrev pub sequence_scope : Coding → Option ℕ → Scope
 sequence_scope s stop = record { in_sequence = true; syntax = s; stop = stop; last = 0 }
 
 pub data Mode : Type 0 where
-  -- of a header, that began at this place, these bytes came
+  -- in a header that begins at this position, of which these bytes were read
   Heading : ℕ → List ℕ → Mode
-  -- of the value of this tag, so many bytes are due
+  -- in the value of this tag, of which so many bytes are left
   Reading : Tag → ℕ → Mode
-  -- a fault: its number, its place and its tag
+  -- after a fault: its number, its position and its tag
   Stopped : ℕ → ℕ → Tag → Mode
 
 pub record State : Type 0 where
@@ -39,7 +40,7 @@ abbrev pub nearer : Option ℕ → Option ℕ → Option ℕ
 nearer (Some e) o = Some e
 nearer None o = o
 
--- the nearest end
+-- the end of the innermost of these levels that has a defined length
 abbrev pub nearest : List Scope → Option ℕ
 nearest [] = None
 nearest (f ∷ fs) = nearer f.stop (nearest fs)
@@ -75,11 +76,11 @@ abbrev pub due_by : Broken → Scope → List Scope → ℕ → State
 due_by None f fs p = at f fs p (Heading p [])
 due_by (Some x) f fs p = at f fs p (Stopped x.0 p x.1)
 
--- a header is due
+-- the state at position p, where a header follows, or after the fault if a rule is broken there
 unfoldable pub due : Scope → List Scope → ℕ → State
 due f fs p = due_by (broken_due (spot_of f fs p)) f fs p
 
--- the levels that end here are left, and a header is due
+-- the state at position p, after the levels that end there are removed
 unfoldable pub arrive : ℕ → Scope → List Scope → State
 arrive p f [] = due f [] p
 arrive p f (g ∷ gs) = if stops_at f.stop p then arrive p g gs else due f (g ∷ gs) p
@@ -87,15 +88,15 @@ arrive p f (g ∷ gs) = if stops_at f.stop p then arrive p g gs else due f (g �
 abbrev pub stop_of : ℕ → ℕ → Option ℕ
 stop_of p n = if is_undefined n then None else Some (p + n)
 
--- after the header of a value
+-- the state after the header of a value of n bytes
 unfoldable pub begin_value : ℕ → Scope → List Scope → Tag → ℕ → State
 begin_value p f fs t n = if nat_eq n 0 then arrive p f fs else at f fs p (Reading t n)
 
--- after the header of a sequence or an item
+-- the state after the header of a sequence or an item of length n, whose level is g
 unfoldable pub begin_level : ℕ → Scope → Scope → List Scope → ℕ → State
 begin_level p g f fs n = if nat_eq n 0 then arrive p f fs else arrive p g (f ∷ fs)
 
--- after a delimitation
+-- the state after a delimitation, which ends the innermost level
 unfoldable pub leave : ℕ → Scope → List Scope → State
 leave p f [] = arrive p f []
 leave p f (g ∷ gs) = arrive p g gs
@@ -113,7 +114,7 @@ take_item p f fs h =
     if has_fragments f.syntax then begin_value p f fs h.tag h.length
     else begin_level p (set_scope f.syntax (stop_of p h.length) 0) f fs h.length
 
--- after the whole header h
+-- the state after the whole header h
 unfoldable pub take_header : ℕ → Scope → List Scope → Header → State
 take_header p f fs h =
     if is_marker h.tag
@@ -124,7 +125,7 @@ abbrev pub headed_by : Broken → Scope → List Scope → ℕ → ℕ → List 
 headed_by (Some x) f fs p start t = at f fs p (Stopped x.0 start x.1)
 headed_by None f fs p start t = if is_whole (layout f.syntax) t then take_header p f fs (header_at (layout f.syntax) t) else at f fs p (Heading start t)
 
--- t came of a header
+-- the state after the first bytes t of a header
 unfoldable pub headed : Limits → Scope → List Scope → ℕ → ℕ → List ℕ → State
 headed lim f fs p start t = headed_by (broken lim (spot_of f fs start) t) f fs p start t
 
@@ -136,7 +137,7 @@ next_by lim f fs p (Heading start t) x = headed lim f fs (p + 1) start (t ++ x �
 next_by lim f fs p (Reading t n) x = read f fs (p + 1) t n
 next_by lim f fs p (Stopped n place t) x = at f fs p (Stopped n place t)
 
--- one more byte
+-- the state after one more byte
 abbrev pub next : Limits → State → ℕ → State
 next lim st x = next_by lim st.top st.below st.place st.mode x
 
@@ -147,7 +148,7 @@ run lim st (x ∷ xs) = run lim (next lim st x) xs
 abbrev pub start : Coding → State
 start s = at (set_scope s None 0) [] 0 (Heading 0 [])
 
--- where a mode is taken up after so many bytes: no byte of a header came, and a fault is at this place
+-- a mode that can be entered at position p: no byte of a header was read, and a fault has this position
 abbrev pub ArrivesAt : Mode → ℕ → Type 0
 ArrivesAt (Heading begin t) p = t ≡ []
 ArrivesAt (Reading t n) p = Unit {0}

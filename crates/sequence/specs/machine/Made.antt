@@ -1,4 +1,4 @@
--- What a step reports.
+-- The result of a step, from the state after it.
 use Rattle.std.specs.Prelude.{◌≡◌, ℕ, List, Option, Some, None, not, if◌then◌else◌}
 use Rattle.element.specs.declared.header.Header.{Header}
 use Rattle.element.specs.Header.{is_marker, item_tag}

@@ -1,4 +1,4 @@
--- What a walk reports, by where it stands and what it keeps.
+-- What the methods of a walker return about it, from its state and the kept values.
 use Rattle.std.specs.Prelude.{ℕ, ◌+◌, ◌*◌, Option, None, Some, length}
 use Rattle.sequence.specs.declared.fault.Fault.{Fault}
 use Rattle.sequence.specs.Rules.{Limits}

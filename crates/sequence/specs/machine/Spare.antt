@@ -1,4 +1,4 @@
--- How far a walk may be past its limit, and what it has promised to read and to keep.
+-- How many bytes of an unfinished header or value are still to come, by the stage of a walker.
 use Rattle.std.specs.Prelude.{ℕ, Bool, true, false, ◌&&◌, List, length, nat_eq, Option, Some, None}
 use Rattle.element.specs.declared.tag.Tag.{Tag}
 use Rattle.element.specs.Header.{number}
@@ -8,36 +8,37 @@ use Rattle.sequence.specs.declared.stage.Stage.{Stage}
 use Rattle.sequence.specs.declared.stage.Stage.TheVariants.{Heading, Value, Stopped}
 use Rattle.sequence.specs.Wanted.{is_wanted}
 
--- the bytes of a value that are due
+-- the number of bytes that the unfinished value still lacks
 abbrev pub owed : Stage → ℕ
 owed Heading = 0
 owed (Value tag left kept) = left
 owed (Stopped fault) = 0
 
--- the bytes of a header that are not judged yet
+-- how many bytes the position may be above the limit of the data set: those of an unfinished header, or 12 after a
+-- fault
 abbrev pub spare : Stage → ℕ → ℕ
 spare Heading n = n
 spare (Value tag left kept) n = 0
 spare (Stopped fault) n = 12
 
--- what the walk is in, where a header is due, unless it broke a rule
+-- the stage at a position where a header follows, or after the rule that is broken there
 abbrev pub stage_by : Option (ℕ × Tag) → ℕ → Stage
 stage_by None place = Heading
 stage_by (Some x) place = Stopped (record { number = x.0; place = place; tag = x.1 })
 
--- how many bytes of a header may be kept
+-- the greatest number of held bytes of an unfinished header
 abbrev pub head_room : Stage → ℕ
 head_room Heading = 11
 head_room (Value tag left kept) = 0
 head_room (Stopped fault) = 0
 
--- a value that is begun has bytes due
+-- the number of bytes that the unfinished value lacks, which must not be 0; outside values 1
 abbrev pub due_of : Stage → ℕ
 due_of Heading = 1
 due_of (Value tag left kept) = left
 due_of (Stopped fault) = 1
 
--- the bytes of a kept value that are due
+-- the number of bytes that the unfinished value lacks, if it is kept
 abbrev pub due_kept : Stage → ℕ
 due_kept Heading = 0
 due_kept (Value tag left true) = left

@@ -1,4 +1,4 @@
--- The text at which the machine stands.
+-- The bytes of a data set that lead to a state of the machine.
 use Rattle.std.specs.Prelude.{◌≡◌, ℕ, ◌+◌, ◌<◌, ◌≤◌, ◌≢◌, true, false, is_some, if◌then◌else◌, List, [], ◌∷◌, ◌++◌, length, Option, Some, None}
 use Rattle.sequence.specs.declared.coding.Coding.{Coding}
 use Rattle.element.specs.declared.tag.Tag.{Tag}
@@ -23,7 +23,7 @@ use Rattle.sequence.specs.machine.Keeping.{with_value}
 abbrev pub IsLength : ℕ → Type 0
 IsLength n = n ≢ undefined_length → IsEven n
 
--- in a data set of syntax s the text leads to these levels, the innermost first, and has these wanted values
+-- in a data set of encoding s these bytes lead to these levels, the innermost first, and contain these wanted values
 pub data Reaches (s : Coding) (ws : List Want) : Values → Scope → List Scope → List ℕ → Type 0 where
   at_root : {es : Elements} {b : List ℕ} {last : ℕ} {values : Values} → DataSet s 0 es b → last ≡ last_of 0 es → values ≡ kept_of ws es → FitRooms ws es → Reaches s ws values (set_scope s None last) [] b
   into_sequence : {s1 : Coding} {stop out : Option ℕ} {last : ℕ} {fs : List Scope} {q : List ℕ} {h : Header} {hb : List ℕ} {inner : Coding} {is : Items} {ib b : List ℕ} {k : ℕ} {values : Values}
@@ -35,12 +35,12 @@ pub data Reaches (s : Coding) (ws : List Want) : Values → Scope → List Scope
       → stop ≡ stop_of (length (q ++ hb)) h.length → last ≡ last_of 0 es → b ≡ q ++ (hb ++ eb)
       → Reaches s ws values (set_scope s1 stop last) (sequence_scope s1 out ∷ fs) b
 
--- no defined end is before a defined end inside it
+-- no level of defined length ends before one inside it
 abbrev pub AreNested : Option ℕ → List Scope → Type 0
 AreNested near [] = Unit {0}
 AreNested near (f ∷ fs) = IsLeft f.stop near × AreNested (if is_some f.stop then f.stop else near) fs
 
--- the scope lasts to the place n
+-- the level does not end before position n
 abbrev pub LastsTo : Option ℕ → ℕ → Type 0
 LastsTo None n = Unit {0}
 LastsTo (Some e) n = n ≤ e
@@ -49,24 +49,24 @@ abbrev pub AllLastTo : List Scope → ℕ → Type 0
 AllLastTo [] n = Unit {0}
 AllLastTo (f ∷ fs) n = LastsTo f.stop n × AllLastTo fs n
 
--- the levels keep their limits up to the place n
+-- at position n the levels are within their lengths and the limits of the data set
 pub record AreLevels (lim : Limits) (f : Scope) (fs : List Scope) (n : ℕ) : Type 0 where
   pub nested : AreNested None (f ∷ fs)
   pub hold : AllLastTo (f ∷ fs) n
   pub deep : length fs ≤ lim.depth
   pub short : n ≤ lim.bytes
 
--- after the text `before` a header is due
+-- after the bytes `before` a header follows
 pub record IsDue (s : Coding) (lim : Limits) (values : Values) (f : Scope) (fs : List Scope) (before : List ℕ) : Type 0 where
   pub reaches : Reaches s lim.wanted values f fs before
   pub levels : AreLevels lim f fs (length before)
   pub stays : stops_at f.stop (length before) ≡ false
 
--- no front of t breaks a rule
+-- no prefix of t breaks a rule
 abbrev pub Unbroken : Limits → Spot → List ℕ → Type 0
 Unbroken lim spot t = (u v : List ℕ) → t ≡ u ++ v → broken lim spot u ≡ None
 
--- of a header that is due after the text `before`, the bytes t came
+-- after the bytes `before` there are the bytes t of an unfinished header
 pub record IsHeading (s : Coding) (lim : Limits) (values : Values) (f : Scope) (fs : List Scope) (begin : ℕ) (t b : List ℕ) : Type 0 where
   pub before : List ℕ
   pub due : IsDue s lim values f fs before
@@ -76,21 +76,21 @@ pub record IsHeading (s : Coding) (lim : Limits) (values : Values) (f : Scope) (
   pub unbroken : Unbroken lim (spot_of f fs begin) t
   pub bytes : IsBytes t
 
--- the value of a wanted element of the data set itself fits its room
+-- n is at most the limit of the value with tag t, if that is wanted and in the data set itself
 abbrev pub IsFit : List Want → List Scope → ℕ → ℕ → Type 0
 IsFit ws [] t n = (room : ℕ) → room_of ws t ≡ Some room → n ≤ room
 IsFit ws (f ∷ fs) t n = Unit {0}
 
--- the header h in this level is that of a value that is due, or of a fragment
+-- h is the header of an element with a value or of a fragment, in this level
 pub data BeginsIn (ws : List Want) (f : Scope) (fs : List Scope) (h : Header) (hb : List ℕ) : Type 0 where
   an_element : f.in_sequence ≡ false → IsElement f.syntax f.last h hb → shape f.syntax h ≡ Value → IsFit ws fs (number h.tag) h.length → BeginsIn ws f fs h hb
   a_fragment : f.in_sequence ≡ true → IsFragmentItem f.syntax h hb → BeginsIn ws f fs h hb
 
--- of the value or the fragment after the header h, n bytes are due
+-- the value or the fragment after the header h is unfinished: n of its bytes are still to come
 pub record IsReading (s : Coding) (lim : Limits) (values : Values) (f : Scope) (fs : List Scope) (t : Tag) (n : ℕ) (b : List ℕ) : Type 0 where
   pub before : List ℕ
   pub whole : Values
-  -- the level before it began
+  -- the level before this element
   pub round : Scope
   pub h : Header
   pub hb : List ℕ
@@ -106,7 +106,7 @@ pub record IsReading (s : Coding) (lim : Limits) (values : Values) (f : Scope) (
   pub text : b ≡ before ++ (hb ++ v)
   pub kept : values ≡ with_value lim fs (number h.tag) v whole
 
--- the bytes u of a header broke a rule
+-- the bytes u of a header have broken a rule
 pub record IsStopped (s : Coding) (lim : Limits) (values : Values) (f : Scope) (fs : List Scope) (p rule place : ℕ) (t : Tag) (b : List ℕ) : Type 0 where
   pub before : List ℕ
   pub u : List ℕ
@@ -117,7 +117,7 @@ pub record IsStopped (s : Coding) (lim : Limits) (values : Values) (f : Scope) (
   pub text : b ≡ (before ++ u) ++ rest
   pub breaks : broken lim (spot_of f fs place) u ≡ Some (rule, t)
   pub unbroken : (w : List ℕ) (x : ℕ) (z : List ℕ) → u ≡ w ++ x ∷ z → broken lim (spot_of f fs place) w ≡ None
-  -- and goes on no farther than one header
+  -- without their last byte they are an unfinished header
   pub one_header : (w : List ℕ) (x : ℕ) (z : List ℕ) → u ≡ w ++ x ∷ z → IsUnfinishedHeader f.syntax w
 
 abbrev pub StandsIn : Coding → Limits → Values → Scope → List Scope → ℕ → Mode → List ℕ → Type 0
@@ -125,6 +125,6 @@ StandsIn s lim values f fs p (Heading begin t) b = (p ≡ length b) × IsHeading
 StandsIn s lim values f fs p (Reading t n) b = (p ≡ length b) × IsReading s lim values f fs t n b
 StandsIn s lim values f fs p (Stopped rule place t) b = IsStopped s lim values f fs p rule place t b
 
--- the machine stands at b, with these wanted values
+-- the bytes b lead to this state of the machine and to these wanted values
 abbrev pub Stands : Coding → Limits → State → Values → List ℕ → Type 0
 Stands s lim st values b = StandsIn s lim values st.top st.below st.place st.mode b

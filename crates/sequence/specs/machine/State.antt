@@ -1,4 +1,4 @@
--- The machine's state that a walker keeps.
+-- The state of the machine in the fields of a walker.
 use Rattle.std.specs.Prelude.{◌≡◌, ℕ, ◌-◌, List, [], length, Bool, not, ◌&&◌, ◌||◌, nat_eq, nat_le}
 use Rattle.sequence.specs.declared.coding.Coding.{Coding}
 use Rattle.element.specs.declared.header.Header.{Header}
@@ -37,16 +37,16 @@ state_of w = at (top w) (below w) w.place (mode_of w.stage w.place w.header.item
 abbrev pub kept_values : {V D : ℕ} → Walker V D → Values
 kept_values w = values_of w.kept
 
--- what no step changes
+-- the fields of a walker that no step changes
 pub record IsSameWalk {V D : ℕ} (old new : Walker V D) : Type 0 where
   pub syntax : new.root.syntax ≡ old.root.syntax
   pub limit : new.limit ≡ old.limit
   pub wanted : wants_of new.kept ≡ wants_of old.kept
 
--- a level that the header opens has room
+-- if the header opens a level, fewer than `limit` are open
 abbrev pub has_room : ℕ → ℕ → Coding → Header → Bool
 has_room limit depth s h = not ((((is_marker h.tag && not (has_fragments s)) || is_sequence (shape s h)) && not (nat_eq h.length 0)) && nat_le limit depth)
 
--- a wanted value that it begins has room
+-- if the header is that of a wanted value, this is not longer than its limit
 abbrev pub fits_wanted : List Want → ℕ → Coding → Header → Bool
 fits_wanted ws depth s h = not (((nat_eq depth 0 && not (is_marker h.tag)) && is_value (shape s h)) && passes (room_of ws (number h.tag)) h.length)

@@ -1,4 +1,4 @@
--- What a step took of a header, and the bytes of a value that are kept.
+-- Which bytes of a header a step takes, and the kept values after bytes of a value.
 use Rattle.std.specs.Prelude.{◌≡◌, ℕ, ◌+◌, ◌<◌, true, List, [], ◌∷◌, ◌++◌, length, take, Option, Some, None}
 use Rattle.sequence.specs.Coding.{layout}
 use Rattle.sequence.specs.declared.coding.Coding.{Coding}
@@ -10,12 +10,12 @@ use Rattle.sequence.specs.Open.{IsUnfinishedHeader}
 use Rattle.sequence.specs.Wanted.{Values}
 use Rattle.sequence.specs.machine.Keeping.{with_byte}
 
--- with more bytes of the last value
+-- the values with these further bytes of the last one
 abbrev pub with_bytes : Values → List ℕ → Values
 with_bytes values [] = values
 with_bytes values (x ∷ xs) = with_bytes (with_byte values x) xs
 
--- the bytes `taken` after t, the beginning of a header in syntax s, are all up to the end of the header h
+-- t is the beginning of the header h in encoding s, and the bytes `taken` are the rest of it
 pub record IsMade (s : Coding) (t taken : List ℕ) (h : Header) : Type 0 where
   pub front : List ℕ
   pub byte : ℕ
@@ -24,8 +24,8 @@ pub record IsMade (s : Coding) (t taken : List ℕ) (h : Header) : Type 0 where
   pub whole : is_whole (layout s) (t ++ taken) ≡ true
   pub read : header_at (layout s) (t ++ taken) ≡ h
 
--- after t, the beginning of a header in syntax s that ends at this place, n bytes of the piece are taken: all up to a
--- refusal or the end of the header, and else the piece
+-- after t, the beginning of a header in encoding s that ends at this position, n bytes of the piece are taken: those
+-- up to a fault or the end of the header, else the whole piece
 abbrev pub IsTaken : Coding → List ℕ → List ℕ → ℕ → ℕ → Stage → List ℕ → Option Header → Type 0
 IsTaken s t piece place n (stages.Stopped fault) header (Some h) = IsMade s t (take n piece) h × (fault.place ≡ place + n)
 IsTaken s t piece place n (stages.Stopped fault) header None = (fault.place + length t ≡ place) × (0 < n)

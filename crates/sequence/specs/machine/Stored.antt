@@ -1,4 +1,4 @@
--- What a room for values has left.
+-- How many bytes the value that is being read may still have, by its limit.
 use Rattle.std.specs.Prelude.{ℕ}
 use Rattle.sequence.specs.declared.keep.Keep.{Keep}
 use Rattle.sequence.specs.machine.Keeping.{left_at}

@@ -1,5 +1,5 @@
-//! The fields of the kept values, each with its type: their bytes are in `bytes` alone. A further field does not compile
-//! here before it is named.
+//! Lists the fields of [`Keep`] with their types, so that a reader sees that received bytes are in
+//! `bytes` alone. A field that is added to `Keep` does not compile until it is listed here.
 
 use super::Keep;
 use crate::wanted::Wanted;

@@ -1,5 +1,6 @@
-//! The fields of a walker and of all that it holds, each with its type: bytes that came are held in `header`, in `kept`
-//! and by `levels` alone. A further field does not compile here before it is named.
+//! Lists the fields of a [`Walker`] and of all its parts with their types, so that a reader sees that
+//! received bytes are in `header`, in `kept` and in `levels` alone. A field that is added to any of
+//! them does not compile until it is listed here.
 
 use super::Walker;
 use crate::coding::Coding;
@@ -29,7 +30,7 @@ fn fields<const V: usize, const D: usize>(walker: &Walker<V, D>) {
     stage_fields(stage);
 }
 
-/// Opens an element of `levels`: 16 bytes, of which the last two are unused.
+/// Lists the fields of an element of `levels`: 16 bytes, of which the last two are padding.
 fn level_fields(level: &Level) {
     let Level {
         end,

@@ -1,4 +1,4 @@
-//! What a walker reports of the bytes that it took.
+//! What a walker reports of the bytes that it has read.
 ghost use Rattle.std.specs.Prelude.{◌≡◌};
 ghost use Rattle.sequence.specs.Fields.{is_kept};
 
@@ -6,7 +6,7 @@ use super::Walker;
 use crate::stage::Stage;
 use element::Tag;
 
-/// Whether a kept value is begun.
+/// Returns whether the walker is inside a wanted value.
 fn is_kept(stage: Stage) -> bool
     ensures { result ≡ is_kept stage }
 {
@@ -23,22 +23,22 @@ impl<const V: usize, const D: usize> Walker<V, D> {
     ghost use Rattle.sequence.specs.Wanted.{value_of};
     ghost use Rattle.sequence.specs.Taken.{told_by};
 
-    /// Returns how many levels are open: a sequence and an item count one each.
+    /// Returns the number of open levels: sequences and items that are unfinished, each counted.
     pub fn levels(&self) -> usize
         ensures { result ≡ (told_by self.now).levels }
     {
         self.levels.as_slice().len()
     }
 
-    /// Returns how many bytes came; after a refusal, how many came up to it.
+    /// Returns how many bytes were read; after a fault, how many up to the byte that showed it.
     pub fn place(&self) -> u64
         ensures { result ≡ (told_by self.now).place }
     {
         self.place
     }
 
-    /// Returns how many bytes are held: of an unfinished header, of kept values, and 16 for each
-    /// open level.
+    /// Returns how many bytes the walker holds: those of an unfinished header and of the wanted values,
+    /// and 16 for each open level.
     pub fn held(&self) -> usize
         ensures value { result ≡ (told_by self.now).held }
         ensures bound { result ≤ V + 16 * D }
@@ -46,7 +46,8 @@ impl<const V: usize, const D: usize> Walker<V, D> {
         self.header.len() + self.kept.len() + 16 * self.levels.len()
     }
 
-    /// Returns the value of this wanted tag of the data set itself, if it came whole.
+    /// Returns the value of this wanted tag, or `None` if it is not wanted or not read to its end.
+    /// Elements inside sequences are not looked at.
     pub fn kept(&self, tag: Tag) -> Option<&[u8]>
         ensures { option_map (λ bytes. bytes.now) result ≡ value_of (told_by self.now).kept (number tag) }
     {

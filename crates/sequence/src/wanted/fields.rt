@@ -1,5 +1,5 @@
-//! The fields of the wanted tags, each with its type: none holds bytes that came. A further field does not compile here
-//! before it is named.
+//! Lists the fields of [`Wanted`] and [`Want`] with their types, so that a reader sees that none
+//! contains received bytes. A field that is added to them does not compile until it is listed here.
 
 use super::{Want, Wanted};
 use arrayvec::ArrayVec;

@@ -1,16 +1,29 @@
 //! A server from its start to its end.
+ghost use Rattle.std.specs.Prelude.{◌≡◌, ◌+◌, length, vec_len, IfOk, OnOk};
+ghost use Rattle.std.specs.List.{All};
+ghost use Rattle.negotiate.specs.Settings.{settings_of};
+ghost use Rattle.server.specs.Histories.{AllEnded, slots_in};
+
+mod history;
+
 use super::{LISTENER, Server};
+use crate::arrivals::Arrivals;
+use crate::policy::Policy;
+use crate::slot::Slot;
 use crate::socket::AcceptedStream;
 use crate::stopping::clear;
 use crate::terms::ServerTerms;
 use admitting::{Notice, Places, Queue};
+pub(crate) use history::ClosedSlots;
+pub use history::{ServerHistory, SlotHistory};
 use journal::{Listening, Stopped, Teller};
 use log::Log;
 use mio::net::TcpListener;
 use mio::{Events, Interest, Poll, Token};
 use part10::{Filing, FolderFiling, FolderWriter};
-use std::alloc::{AllocError, Global};
+use std::alloc::{AllocError, AllocFailed, Global};
 use std::fs::File;
+use std::marker::Brand;
 use std::net::Net;
 use std::rt::Files;
 use std::time::{Clock, Instant};
@@ -55,27 +68,93 @@ fn vacancies_of(alloc: Global, terms: &ServerTerms<'_>) -> Result<Vacancies, All
     })
 }
 
+/// Closes these slots. Returns what there was of all their connections, beside what there was before.
+pub(super) fn close_all<
+    R: Log + Clock,
+    S: Files<File = File> + Alloc<A = Global> + Clone + Drop,
+    P: Policy,
+>(
+    slots: Vec<Slot<'_, R, S, P>>,
+    closed: ClosedSlots<FolderFiling<S>, P>,
+    now: Instant,
+) -> ClosedSlots<FolderFiling<S>, P>
+    ensures { length (slots_in result.history) ≡ length (slots_in closed.history) + vec_len slots.entry }
+{
+    let mut slots = slots;
+    let mut closed = closed;
+    let count = slots.len();
+    for done in 0..count {
+        if let Some(slot) = slots.pop() {
+            closed.push(slot.close(now));
+        }
+    }
+    slots.destroy_empty();
+    closed
+}
+
+/// Takes the memory of the first slot, if there is one.
+fn make_first<R: Log + Clock, S: Files<File = File> + Alloc<A = Global> + Clone + Drop, P: Policy>(
+    slots: &mut Vec<Slot<'_, R, S, P>>,
+    now: Instant,
+) -> Result<(), AllocError>
+    ensures { vec_len slots.new ≡ vec_len slots.old }
+{
+    let alloc = *slots.allocator();
+    match slots.get_mut(0) {
+        Some(first) => first.make(alloc, now),
+        None => Ok(()),
+    }
+}
+
+/// Returns so many slots, of which the first has its memory.
+fn slots_of<
+    'a,
+    R: Log + Clock,
+    S: Files<File = File> + Alloc<A = Global> + Clone + Drop,
+    P: Policy,
+>(alloc: Global, count: usize, now: Instant) -> Result<Vec<Slot<'a, R, S, P>>, AllocError>
+    ensures { IfOk result (λ slots. vec_len slots ≡ count) }
+{
+    let mut slots = Vec::new(alloc);
+    for added in 0..count {
+        if let Err(AllocFailed { value }) = slots.push(Slot::new()) {
+            let mut closed = ClosedSlots::new();
+            closed.push(value.close(now));
+            let _history = close_all(slots, closed, now).into_history();
+            return Err(AllocError);
+        }
+    }
+    if let Err(failure) = make_first(&mut slots, now) {
+        let _history = close_all(slots, ClosedSlots::new(), now).into_history();
+        return Err(failure);
+    }
+    Ok(slots)
+}
+
 /// Returns a server that accepts the connections of this listener.
 fn server_of<
     'a,
     R: Log + Clock + Net + Alloc<A = Global>,
     S: Files<File = File> + Alloc<A = Global> + Clone + Drop,
+    P: Policy,
 >(
     rt: &'a R,
     listener: net::TcpListener,
     terms: ServerTerms<'a>,
     filings: (FolderWriter<S>, FolderFiling<S>),
-) -> io::Result<Server<'a, R, S>>
-where
-    FolderFiling<S>: Filing,
+) -> io::Result<Server<'a, R, S, P>>
+    requires settings { settings_of terms.config.now ≡ P.settings }
+    requires at_once { terms.at_once ≡ P.at_once }
 {
     let now = Instant::now(rt)?;
     let (poll, listener) = watched(rt, listener)?;
     let alloc = rt.alloc();
     let vacancies = vacancies_of(alloc, &terms)?;
+    let arrivals = Arrivals::new(alloc)?;
     let (folder, first) = filings;
     let filings = filings_of(alloc, terms.at_once, first)?;
     let Vacancies { places, queue } = vacancies;
+    let slots = slots_of(alloc, terms.at_once, now)?;
     Ok(Server {
         rt,
         poll,
@@ -84,11 +163,12 @@ where
         folder,
         filings,
         places,
-        seats: Vec::new(alloc),
+        slots,
         queue,
         is_open: true,
         now,
         may_accept: true,
+        arrivals,
         paused: None,
         looked: None,
         asked: None,
@@ -112,11 +192,47 @@ fn begin<R: Log + Clock + Alloc<A = Global>, S: Files>(
     Ok(Events::with_capacity(rt.alloc(), terms.at_once.saturating_add(1))?)
 }
 
+/// Serves as `serve_many` does, and lets each connection go. Logs nothing at the end.
+fn served<
+    R: Log + Clock + Net + Alloc<A = Global>,
+    S: Files<File = File> + Alloc<A = Global> + Clone + Drop,
+    P: Policy,
+>(
+    rt: &R,
+    listener: net::TcpListener,
+    terms: ServerTerms<'_>,
+    files: &S,
+    folder: (FolderWriter<S>, FolderFiling<S>),
+) -> (ServerHistory<FolderFiling<S>>, io::Result<()>)
+    requires settings { settings_of terms.config.now ≡ P.settings }
+    requires at_once { terms.at_once ≡ P.at_once }
+    ensures all { OnOk result.1 (length (slots_in result.0) ≡ P.at_once) }
+    ensures ended { ∥ All (AllEnded ⟦<FolderFiling<S> as Filing>⟧.store P.settings) (slots_in result.0) ∥₁ }
+{
+    let mut events = match begin(rt, &listener, &terms, files) {
+        Ok(events) => events,
+        Err(failure) => return (ServerHistory::new(), Err(failure)),
+    };
+    let mut server = match server_of::<R, S, P>(rt, listener, terms, folder) {
+        Ok(server) => server,
+        Err(failure) => return (ServerHistory::new(), Err(failure)),
+    };
+    let served = server.serve(files, &mut events);
+    let closed = server.close(ClosedSlots::new());
+    (closed.into_history(), served)
+}
+
 /// Serves the associations of the connections that this listener accepts, as many at once as there are
 /// places, until the file appears that ends the server, or only one where that was asked for. Logs what
 /// happens. The first place files by the filing that is handed in, each other one by one of the folder.
+/// Returns what there was of the connections, for contracts.
 ///
 /// Fails if the clock or the poll does, or if memory runs out at the start.
+///
+/// `all`: unless it fails, the history has as many slots as there can be connections at once.
+///
+/// `ended`: whether it fails or not, each connection that was opened in a slot has ended, and left what the
+/// definitions give for the settings.
 pub fn serve_many<
     R: Log + Clock + Net + Alloc<A = Global>,
     S: Files<File = File> + Alloc<A = Global> + Clone + Drop,
@@ -126,12 +242,13 @@ pub fn serve_many<
     terms: ServerTerms<'_>,
     files: &S,
     folder: (FolderWriter<S>, FolderFiling<S>),
-) -> io::Result<()> {
-    let mut events = begin(rt, &listener, &terms, files)?;
-    let mut server = server_of(rt, listener, terms, folder)?;
-    let served = server.serve(files, &mut events);
-    server.close();
-    served?;
-    Teller::new(rt, terms.form).tell(&Stopped);
-    Ok(())
+) -> (ServerHistory<FolderFiling<S>>, io::Result<()>)
+    ensures all { OnOk result.1 (length (slots_in result.0) ≡ terms.entry.at_once) }
+    ensures ended { ∥ All (AllEnded ⟦<FolderFiling<S> as Filing>⟧.store (settings_of terms.entry.config.now)) (slots_in result.0) ∥₁ }
+{
+    let (history, served) = served::<R, S, Brand>(rt, listener, terms, files, folder);
+    if served.is_ok() {
+        Teller::new(rt, terms.form).tell(&Stopped);
+    }
+    (history, served)
 }

@@ -116,8 +116,9 @@ impl<S: Write, F: Filing> Connection<S, F> {
                 Flush::Over => return,
             }
         }
-        observer.read_ended(why);
+        let before = self.link.outbox.pending().len();
         self.give(Input::LocalAbort, now);
+        self.link.show_end(why, before, observer);
         self.flush(now, observer);
     }
 
@@ -166,8 +167,8 @@ impl<S: Write, F: Filing> Connection<S, F> {
         match self.waiting.wait(now) {
             Wait::Left(_) => {}
             Wait::Expired => {
-                observer.read_ended(ReadEnd::Timer);
                 self.give(Input::Expired, now);
+                observer.read_ended(ReadEnd::Timer, &[]);
             }
             Wait::Silent => self.end_silence(now, observer),
         }
@@ -187,9 +188,7 @@ impl<S: Read + Write, F: Filing> Connection<S, F> {
         ensures opening { opening_of self.new ≡ opening_of self.old }
         ensures nothing { result ≡ Arrival.Nothing → untaken_at self.new ≡ [] }
     {
-        let arrival = self
-            .link
-            .receive(self.running.portion().min(most), observer);
+        let arrival = self.link.receive(self.running.portion().min(most));
         match arrival {
             Arrival::Nothing => {}
             Arrival::Bytes(len) => {
@@ -198,13 +197,14 @@ impl<S: Read + Write, F: Filing> Connection<S, F> {
                 self.received = self.received.saturating_add(len as u64);
                 self.given.push(&Input::Piece, piece);
                 self.running.take(Input::Piece, piece, &mut self.link.outbox, &mut self.filing);
+                self.link.show_taken(len, observer);
                 self.link.inbox.drop_front(len);
                 self.waiting.hear(now);
                 self.waiting.follow(now, self.running.state());
             }
             Arrival::End(end) => {
-                observer.read_ended(end);
                 self.give(Input::Closed, now);
+                observer.read_ended(end, &[]);
             }
         }
         arrival

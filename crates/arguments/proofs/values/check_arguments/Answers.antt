@@ -18,6 +18,11 @@ returns c =
         on = λ e. c.get_flag-strict.ensures.value (one_text-rows found (codes "strict") ∙ e);
         off = λ e. c.get_flag-strict.ensures.other (one_text-rows found (codes "strict") ∙ e);
       };
+      values = record {
+        none = λ e. c.get_flag-with_values.ensures.none (one_text-rows found (codes "values") ∙ e);
+        on = λ e. c.get_flag-with_values.ensures.value (one_text-rows found (codes "values") ∙ e);
+        off = λ e. c.get_flag-with_values.ensures.other (one_text-rows found (codes "values") ∙ e);
+      };
       json = record {
         none = λ e. c.get_flag-json.ensures.none (one_text-rows found (codes "json") ∙ e);
         on = λ e. c.get_flag-json.ensures.value (one_text-rows found (codes "json") ∙ e);

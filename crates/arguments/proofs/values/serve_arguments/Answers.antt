@@ -19,11 +19,7 @@ returns-clause-some c =
       idle = text_at _ vs 10 5 _ is (omega arith) (omega arith);
       max_pdu = text_at _ vs 10 6 _ is (omega arith) (omega arith);
       max_data = text_at _ vs 10 7 _ is (omega arith) (omega arith);
-      verbose = record {
-        none = λ e. c.get_flag-verbose.ensures.none (one_text-rows found (codes "verbose") ∙ e);
-        on = λ e. c.get_flag-verbose.ensures.value (one_text-rows found (codes "verbose") ∙ e);
-        off = λ e. c.get_flag-verbose.ensures.other (one_text-rows found (codes "verbose") ∙ e);
-      };
+      verbose = c.get_count-verbose.ensures.value;
       quiet = record {
         none = λ e. c.get_flag-quiet.ensures.none (one_text-rows found (codes "quiet") ∙ e);
         on = λ e. c.get_flag-quiet.ensures.value (one_text-rows found (codes "quiet") ∙ e);

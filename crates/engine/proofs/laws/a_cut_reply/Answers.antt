@@ -1,4 +1,4 @@
-use Rattle.engine.proofs.StoreExamples.{a_cut_reply}
+use Rattle.engine.proofs.WorkedRuns.OneCtStore.{a_cut_reply}
 use Rattle.engine.proofs.laws.a_cut_reply.Goals as goal
 
 pub returns : goal.returns

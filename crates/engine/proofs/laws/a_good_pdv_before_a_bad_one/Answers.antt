@@ -1,4 +1,4 @@
-use Rattle.engine.proofs.Examples.{a_good_pdv_before_a_bad_one}
+use Rattle.engine.proofs.WorkedRuns.Associations.{a_good_pdv_before_a_bad_one}
 use Rattle.engine.proofs.laws.a_good_pdv_before_a_bad_one.Goals as goal
 
 pub returns : goal.returns

@@ -1,4 +1,4 @@
-use Rattle.engine.proofs.Examples.{a_request_above_the_room}
+use Rattle.engine.proofs.WorkedRuns.Associations.{a_request_above_the_room}
 use Rattle.engine.proofs.laws.a_request_above_the_room.Goals as goal
 
 pub returns : goal.returns

@@ -1,4 +1,4 @@
-use Rattle.engine.proofs.OneVerdict.{a_verdict_is_one}
+use Rattle.engine.proofs.StoresAreJudged.VerdictIsOne.{a_verdict_is_one}
 use Rattle.engine.proofs.laws.a_verdict_is_one.Goals as goal
 
 pub returns : goal.returns

@@ -1,4 +1,4 @@
-use Rattle.engine.proofs.VerdictLemmas.{a_verdict_is_there}
+use Rattle.engine.proofs.StoresAreJudged.VerdictIsThere.{a_verdict_is_there}
 use Rattle.engine.proofs.laws.a_verdict_is_there.Goals as goal
 
 pub returns : goal.returns

@@ -1,4 +1,4 @@
-use Rattle.engine.proofs.Examples.{another_called_title}
+use Rattle.engine.proofs.WorkedRuns.Associations.{another_called_title}
 use Rattle.engine.proofs.laws.another_called_title.Goals as goal
 
 pub returns : goal.returns

@@ -1,4 +1,4 @@
-use Rattle.engine.proofs.CutLemmas.{cuts_do_not_show}
+use Rattle.engine.proofs.AlongTimelines.CutsDoNotShow.{cuts_do_not_show}
 use Rattle.engine.proofs.laws.cuts_do_not_show.Goals as goal
 
 pub returns : goal.returns

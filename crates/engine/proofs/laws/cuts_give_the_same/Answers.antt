@@ -1,4 +1,4 @@
-use Rattle.engine.proofs.RunLawLemmas.{cuts_give_the_same}
+use Rattle.engine.proofs.WholeRun.UnfailedRuns.{cuts_give_the_same}
 use Rattle.engine.proofs.laws.cuts_give_the_same.Goals as goal
 
 pub returns : goal.returns

@@ -1,4 +1,4 @@
-use Rattle.engine.proofs.Examples.{data_above_the_maximum}
+use Rattle.engine.proofs.WorkedRuns.Associations.{data_above_the_maximum}
 use Rattle.engine.proofs.laws.data_above_the_maximum.Goals as goal
 
 pub returns : goal.returns

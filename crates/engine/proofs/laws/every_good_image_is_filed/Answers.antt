@@ -1,4 +1,4 @@
-use Rattle.engine.proofs.RunLawLemmas.{every_good_image_is_filed}
+use Rattle.engine.proofs.WholeRun.UnfailedRuns.{every_good_image_is_filed}
 use Rattle.engine.proofs.laws.every_good_image_is_filed.Goals as goal
 
 pub returns : goal.returns

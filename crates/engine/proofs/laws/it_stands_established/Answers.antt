@@ -1,4 +1,4 @@
-use Rattle.engine.proofs.WholeExamples.{it_stands_established}
+use Rattle.engine.proofs.WorkedRuns.WholeAssociations.{it_stands_established}
 use Rattle.engine.proofs.laws.it_stands_established.Goals as goal
 
 pub returns : goal.returns

@@ -1,4 +1,4 @@
-use Rattle.engine.proofs.Examples.{recorded_echo}
+use Rattle.engine.proofs.WorkedRuns.Associations.{recorded_echo}
 use Rattle.engine.proofs.laws.recorded_echo.Goals as goal
 
 pub returns : goal.returns

@@ -1,4 +1,4 @@
-use Rattle.engine.proofs.StoreVerdicts.{the_file_of_a_store}
+use Rattle.engine.proofs.WorkedRuns.VerdictOnOneImage.{the_file_of_a_store}
 use Rattle.engine.proofs.laws.the_file_of_a_store.Goals as goal
 
 pub returns : goal.returns

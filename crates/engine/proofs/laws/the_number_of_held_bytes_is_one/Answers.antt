@@ -1,4 +1,4 @@
-use Rattle.engine.proofs.OneHeld.{held_is_one}
+use Rattle.engine.proofs.HeldBytes.HeldIsOne.{held_is_one}
 use Rattle.engine.proofs.laws.the_number_of_held_bytes_is_one.Goals as goal
 
 pub returns : goal.returns

@@ -1,4 +1,4 @@
-use Rattle.engine.proofs.WholeExamples.{the_request_is_held}
+use Rattle.engine.proofs.WorkedRuns.WholeAssociations.{the_request_is_held}
 use Rattle.engine.proofs.laws.the_request_is_held.Goals as goal
 
 pub returns : goal.returns

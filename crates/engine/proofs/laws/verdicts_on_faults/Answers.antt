@@ -1,4 +1,4 @@
-use Rattle.engine.proofs.VerdictExamples.{verdicts_on_faults}
+use Rattle.engine.proofs.WorkedRuns.FaultyDataSets.{verdicts_on_faults}
 use Rattle.engine.proofs.laws.verdicts_on_faults.Goals as goal
 
 pub returns : goal.returns

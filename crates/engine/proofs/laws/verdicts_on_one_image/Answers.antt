@@ -1,4 +1,4 @@
-use Rattle.engine.proofs.StoreVerdicts.{verdicts_on_one_image}
+use Rattle.engine.proofs.WorkedRuns.VerdictOnOneImage.{verdicts_on_one_image}
 use Rattle.engine.proofs.laws.verdicts_on_one_image.Goals as goal
 
 pub returns : goal.returns

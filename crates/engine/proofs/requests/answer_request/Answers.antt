@@ -14,8 +14,8 @@ use Rattle.negotiate.specs.Settings.{settings_of}
 use Rattle.negotiate.specs.Answer.{judged}
 use Rattle.negotiate.specs.Contexts.{offered}
 use Rattle.engine.specs.machine.Accepted.{IsPeerOf}
-use Rattle.engine.proofs.RowsLemmas.{few_rows}
-use Rattle.engine.proofs.RequestLemmas.{accepted_state, accepted_sent, rejection_state, rejection_sent}
+use Rattle.engine.proofs.MarksAreDone.RowsFit.{few_rows}
+use Rattle.engine.proofs.MarksAreDone.WholeRequest.{accepted_state, accepted_sent, rejection_state, rejection_sent}
 use Rattle.engine.proofs.requests.answer_request.Goals as goal
 
 pub returns-in-Accept-clause-state : goal.returns-in-Accept-clause-state

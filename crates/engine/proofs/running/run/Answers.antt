@@ -5,9 +5,9 @@ use Rattle.acceptor.specs.declared.state.State.TheVariants.{Sta1}
 use Rattle.engine.specs.Fields.{association_in, state_of}
 use Rattle.engine.specs.Held.{is_ended}
 use Rattle.engine.specs.Run.{rooms_of}
-use Rattle.engine.proofs.StateLemmas.{ended_is}
-use Rattle.engine.proofs.RanLemmas.{turns_begin, one_turn_more, turns_are_a_run, took_set, reports_set}
-use Rattle.engine.proofs.SizeLemmas.{running_small}
+use Rattle.engine.proofs.FieldsShow.ByState.{ended_is}
+use Rattle.engine.proofs.WholeRun.OneTurnMore.{turns_begin, one_turn_more, turns_are_a_run, took_set, reports_set}
+use Rattle.engine.proofs.AssociationSize.{running_small}
 use Rattle.engine.proofs.running.run.Goals as goal
 use Rattle.engine.proofs.running.run.Goals.{else-loop-turn-test, then-loop-turn-test+then-over}
 

@@ -1,6 +1,6 @@
 -- Only a C-STORE announces a data set.
 use Rattle.std.proofs.Common.{◌∙◌, sym, refl}
-use Rattle.engine.proofs.AskedLemmas.{store_if_data, instance_if_data, data_if_store}
+use Rattle.engine.proofs.MarksAreDone.StoreAsked.{store_if_data, instance_if_data, data_if_store}
 use Rattle.engine.proofs.stores.begin_store.Goals as goal
 
 pub returns-then-field-ne-C_STORE : goal.returns-then-field-ne-C_STORE

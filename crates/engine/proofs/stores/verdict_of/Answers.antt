@@ -1,6 +1,6 @@
 use Rattle.std.proofs.Common.{refl, sym, ap, ◌∙◌}
 use Rattle.engine.specs.Timeline.{Finding}
-use Rattle.engine.proofs.WalkVerdictLemmas.{fault_fails, fault_is_failure, judged_by}
+use Rattle.engine.proofs.StoresAreKept.WalkIsJudged.{fault_fails, fault_is_failure, judged_by}
 use Rattle.engine.proofs.stores.verdict_of.Goals as goal
 
 pub returns-in-Err : goal.returns-in-Err

@@ -1,5 +1,5 @@
 use Rattle.std.proofs.Common.{rules}
-use Rattle.engine.proofs.WalkedLemmas.{begin_walk, step_walk, end_walk, stop_walk}
+use Rattle.engine.proofs.StoresAreKept.PartsAreWalked.{begin_walk, step_walk, end_walk, stop_walk}
 use Rattle.engine.proofs.stores.walk.Goals as goal
 
 pub loop-rest-init : goal.loop-rest-init

@@ -2,7 +2,7 @@ use Rattle.std.proofs.Common.{ℕ, List, length}
 use Rattle.sequence.specs.declared.coding.Coding.{Coding}
 use Rattle.sequence.specs.Rules.{Limits}
 use Rattle.engine.specs.StoredData.{HasWalked}
-use Rattle.engine.proofs.WalkedLemmas.{Walked}
+use Rattle.engine.proofs.StoresAreKept.PartsAreWalked.{Walked}
 use Rattle.engine.proofs.stores.walk.Given as goal
 
 abbrev pub invariant-loop-rest : goal.invariant-loop-rest

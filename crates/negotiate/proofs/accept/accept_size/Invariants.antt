@@ -1,7 +1,7 @@
 use Rattle.std.proofs.Common.{◌≡◌, ◌+◌, ◌*◌, ◌≤◌, length, map}
 use Rattle.std.specs.List.{flat_map}
 use Rattle.pdu.specs.Left.{proposals_left}
-use Rattle.negotiate.specs.Accept.{context_text}
+use Rattle.negotiate.specs.Accept.{context_text, longest_accept}
 use Rattle.negotiate.specs.Contexts.{seen}
 use Rattle.negotiate.specs.Settings.{settings_of}
 use Rattle.negotiate.proofs.accept.accept_size.Given as goal
@@ -12,5 +12,5 @@ invariant-loop-proposal l = record {
   is_finite : (goal.iterator-loop-proposal).is_finite l.proposal-iterator;
   size : l.size + length (flat_map context_text (map (seen (settings_of l.config).further) (proposals_left l.proposal-iterator))) ≡ 76 + (16 + 16 + 32) + length (flat_map context_text (map (seen (settings_of l.config).further) l.request.contexts));
   least : 76 ≤ l.size;
-  most : l.size + 35 * length (proposals_left l.proposal-iterator) ≤ 4620;
+  most : l.size + 35 * length (proposals_left l.proposal-iterator) ≤ longest_accept;
 }

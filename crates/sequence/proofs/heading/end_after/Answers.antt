@@ -2,7 +2,7 @@ use Rattle.std.proofs.Common.{◌∙◌, sym, ap, refl}
 use Rattle.element.specs.Header.{need}
 use Rattle.element.specs.declared.size.Need.TheVariants.{More, BadVr}
 use Rattle.sequence.specs.machine.Judging.{limits_by}
-use Rattle.sequence.proofs.Quiet.{need_short, tagged_end, named_end, part_end, size_end}
+use Rattle.sequence.proofs.CodeIsMachine.WhereRulesBreak.{need_short, tagged_end, named_end, part_end, size_end}
 use Rattle.sequence.proofs.heading.end_after.Goals as goal
 
 pub returns-then-not-is_part : goal.returns-then-not-is_part

@@ -1,7 +1,7 @@
 use Rattle.std.proofs.Common.{◌∙◌, sym, ap}
 use Rattle.element.specs.Header.{need}
 use Rattle.sequence.specs.machine.Judging.{limits_by}
-use Rattle.sequence.proofs.Quiet.{need_short, examined_end}
+use Rattle.sequence.proofs.CodeIsMachine.WhereRulesBreak.{need_short, examined_end}
 use Rattle.sequence.proofs.heading.end_in.Goals as goal
 
 pub examine-whole-requires-clause-size : goal.examine-whole-requires-clause-size

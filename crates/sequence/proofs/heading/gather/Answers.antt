@@ -1,7 +1,7 @@
 use Rattle.std.proofs.Common.{◌≡◌, ◌-◌, ◌++◌, length, take, ◌∙◌, ap, sym, arith}
 use Rattle.std.proofs.lemmas.List.{length-take-le}
-use Rattle.sequence.proofs.Extending.{on_ok}
-use Rattle.sequence.proofs.Quiet.{take_both}
+use Rattle.sequence.proofs.WantedValues.MoreBytes.{on_ok}
+use Rattle.sequence.proofs.CodeIsMachine.WhereRulesBreak.{take_both}
 use Rattle.sequence.proofs.heading.gather.Goals as goal
 
 pub returns-else-piece-room : goal.returns-else-piece-room

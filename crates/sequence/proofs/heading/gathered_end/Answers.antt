@@ -1,6 +1,6 @@
 use Rattle.std.proofs.Common.{◌∙◌, sym}
 use Rattle.sequence.specs.machine.Judging.{limits_by}
-use Rattle.sequence.proofs.Gathered.{front_quiet, split_end, split_kept}
+use Rattle.sequence.proofs.CodeIsMachine.SplitHeader.{front_quiet, split_end, split_kept}
 use Rattle.sequence.proofs.heading.gathered_end.Goals as goal
 
 pub end_in-end-requires-clause-quiet : goal.end_in-end-requires-clause-quiet

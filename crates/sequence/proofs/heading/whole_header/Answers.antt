@@ -1,6 +1,6 @@
 use Rattle.sequence.specs.machine.Judging.{limits_by}
 use Rattle.sequence.specs.machine.Heading.{IsFront}
-use Rattle.sequence.proofs.Quiet.{need_short, need_least, whole_end}
+use Rattle.sequence.proofs.CodeIsMachine.WhereRulesBreak.{need_short, need_least, whole_end}
 use Rattle.sequence.proofs.heading.whole_header.Goals as goal
 
 pub is_unbroken-requires-clause-size : goal.is_unbroken-requires-clause-size

@@ -2,7 +2,7 @@ use Rattle.std.proofs.Common.{rules, ◌≡◌, ◌<◌, ◌+◌, ◌∙◌, ap,
 use Rattle.std.proofs.lemmas.List.{length-drop}
 use Rattle.sequence.specs.Wanted.{value_of}
 use Rattle.sequence.specs.Fields.{stored}
-use Rattle.sequence.proofs.Storing.{look_absent, look_on, size_absent, size_on, part_is}
+use Rattle.sequence.proofs.WantedValues.OneRoom.{look_absent, look_on, size_absent, size_on, part_is}
 use Rattle.sequence.proofs.keep.find_value.Goals as goal
 use Rattle.sequence.proofs.keep.find_value.Goals.{then-size+else-number-tag, else-size}
 

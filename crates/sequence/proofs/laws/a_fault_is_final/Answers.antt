@@ -1,7 +1,7 @@
 use Rattle.std.proofs.Common.{◌++◌}
 use Rattle.sequence.specs.Ending.{breaks_rule}
-use Rattle.sequence.proofs.Staying.{fault_stays}
-use Rattle.sequence.proofs.Whole.{whole_has_no_fault}
+use Rattle.sequence.proofs.StepsStand.FaultStays.{fault_stays}
+use Rattle.sequence.proofs.WholeDataSet.WholeHasNoFault.{whole_has_no_fault}
 use Rattle.sequence.proofs.laws.a_fault_is_final.Goals as goal
 
 pub returns : goal.returns

@@ -1,4 +1,4 @@
-use Rattle.sequence.proofs.Along as along
+use Rattle.sequence.proofs.WorkedSteps as along
 use Rattle.sequence.proofs.laws.along_one_frame.Goals as goal
 
 pub returns : goal.returns

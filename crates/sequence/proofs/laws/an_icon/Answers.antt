@@ -1,4 +1,4 @@
-use Rattle.sequence.proofs.Examples as examples
+use Rattle.sequence.proofs.WorkedTexts as examples
 use Rattle.sequence.proofs.laws.an_icon.Goals as goal
 
 pub returns : goal.returns

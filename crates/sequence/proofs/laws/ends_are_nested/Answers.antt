@@ -1,4 +1,4 @@
-use Rattle.sequence.proofs.Lefts.{ends_nested}
+use Rattle.sequence.proofs.EndsAreNested.{ends_nested}
 use Rattle.sequence.proofs.laws.ends_are_nested.Goals as goal
 
 pub returns : goal.returns

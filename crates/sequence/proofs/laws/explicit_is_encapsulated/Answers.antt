@@ -1,4 +1,4 @@
-use Rattle.sequence.proofs.Native as native
+use Rattle.sequence.proofs.NativeData as native
 use Rattle.sequence.proofs.laws.explicit_is_encapsulated.Goals as goal
 
 pub returns : goal.returns

@@ -1,4 +1,4 @@
-use Rattle.sequence.proofs.Tellings.{one_holding}
+use Rattle.sequence.proofs.OneReading.OneReport.{one_holding}
 use Rattle.sequence.proofs.laws.one_holding.Goals as goal
 
 pub returns : goal.returns

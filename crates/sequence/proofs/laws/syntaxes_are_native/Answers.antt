@@ -1,4 +1,4 @@
-use Rattle.sequence.proofs.Native as native
+use Rattle.sequence.proofs.NativeData as native
 use Rattle.sequence.proofs.laws.syntaxes_are_native.Goals as goal
 
 pub returns : goal.returns

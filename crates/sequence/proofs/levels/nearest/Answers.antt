@@ -1,7 +1,7 @@
 use Rattle.std.proofs.Common.{◌-◌, ◌∙◌, None, take, sym, ap, arith}
 use Rattle.sequence.specs.machine.Machine.{nearer}
 use Rattle.sequence.specs.machine.Scopes.{nearest_from}
-use Rattle.sequence.proofs.Tops.{nearest_at}
+use Rattle.sequence.proofs.CodeIsMachine.InnermostLevel.{nearest_at}
 use Rattle.sequence.proofs.levels.nearest.Goals as goal
 
 pub returns-in-Some : goal.returns-in-Some

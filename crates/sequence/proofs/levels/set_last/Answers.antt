@@ -1,5 +1,5 @@
 use Rattle.std.proofs.Common.{arith}
-use Rattle.sequence.proofs.Tops.{last_changed}
+use Rattle.sequence.proofs.CodeIsMachine.InnermostLevel.{last_changed}
 use Rattle.sequence.proofs.levels.set_last.Goals as goal
 
 pub returns-in-len1-up-clause-top : goal.returns-in-len1-up-clause-top

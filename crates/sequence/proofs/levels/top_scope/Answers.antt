@@ -1,5 +1,5 @@
 use Rattle.std.proofs.Common.{◌∙◌, sym}
-use Rattle.sequence.proofs.Tops.{top_at}
+use Rattle.sequence.proofs.CodeIsMachine.InnermostLevel.{top_at}
 use Rattle.sequence.proofs.levels.top_scope.Goals as goal
 
 pub returns-in-len1-up : goal.returns-in-len1-up

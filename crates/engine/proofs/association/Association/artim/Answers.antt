@@ -1,6 +1,6 @@
 use Rattle.std.proofs.Common.{◌∙◌, ap}
 use Rattle.acceptor.specs.Effect.{timer_runs}
-use Rattle.engine.proofs.SizeLemmas.{association_small}
+use Rattle.engine.proofs.AssociationSize.{association_small}
 use Rattle.engine.proofs.association.Association.artim.Goals as goal
 
 pub state-requires : goal.state-requires

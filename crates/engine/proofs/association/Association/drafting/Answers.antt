@@ -1,4 +1,4 @@
-use Rattle.engine.proofs.SizeLemmas.{provider_small}
+use Rattle.engine.proofs.AssociationSize.{provider_small}
 use Rattle.engine.proofs.association.Association.drafting.Goals as goal
 
 pub drafting-requires : goal.drafting-requires

@@ -1,4 +1,4 @@
-use Rattle.engine.proofs.SizeLemmas.{association_small}
+use Rattle.engine.proofs.AssociationSize.{association_small}
 use Rattle.engine.proofs.association.Association.drop_heads.Goals as goal
 
 pub is_ended-requires : goal.is_ended-requires

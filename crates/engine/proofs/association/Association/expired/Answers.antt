@@ -1,6 +1,6 @@
 use Rattle.engine.specs.machine.Events.{expired}
-use Rattle.engine.proofs.DueLemmas.{stays_expired}
-use Rattle.engine.proofs.SizeLemmas.{association_small}
+use Rattle.engine.proofs.FieldsShow.TriedIsDone.{stays_expired}
+use Rattle.engine.proofs.AssociationSize.{association_small}
 use Rattle.engine.proofs.association.Association.expired.Goals as goal
 
 pub returns-clause-moved : goal.returns-clause-moved

@@ -1,7 +1,7 @@
 use Rattle.std.proofs.Common.{◌∙◌, sym}
 use Rattle.engine.specs.Inputs.{Bytes}
-use Rattle.engine.proofs.MovedLemmas.{moved_still, moved_feed}
-use Rattle.engine.proofs.SizeLemmas.{association_small}
+use Rattle.engine.proofs.WholeRun.OneInputMore.{moved_still, moved_feed}
+use Rattle.engine.proofs.AssociationSize.{association_small}
 use Rattle.engine.proofs.association.Association.feed.Goals as goal
 
 pub returns-then-is_ended-clause-moved : goal.returns-then-is_ended-clause-moved

@@ -1,10 +1,10 @@
 use Rattle.std.proofs.Common.{◌-◌, ◌∙◌, sym}
 use Rattle.pdu.specs.Deframed.{position_of}
 use Rattle.engine.specs.Kept.{kept_of}
-use Rattle.engine.proofs.PendsLemmas.{body_fits_then, fragment_fits_then, uncounted_then}
-use Rattle.engine.proofs.MovedLemmas.{moved_still, moved_call}
-use Rattle.engine.proofs.SkipLemmas.{room_passed, heads_passed}
-use Rattle.engine.proofs.SizeLemmas.{association_small, provider_small}
+use Rattle.engine.proofs.FieldsShow.AfterAnEvent.{body_fits_then, fragment_fits_then, uncounted_then}
+use Rattle.engine.proofs.WholeRun.OneInputMore.{moved_still, moved_call}
+use Rattle.engine.proofs.PiecesAreDone.SkippedPdu.{room_passed, heads_passed}
+use Rattle.engine.proofs.AssociationSize.{association_small, provider_small}
 use Rattle.engine.proofs.association.Association.happens.Goals as goal
 
 pub returns-then-is_ended-clause-moved : goal.returns-then-is_ended-clause-moved

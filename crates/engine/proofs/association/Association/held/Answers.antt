@@ -1,6 +1,6 @@
 use Rattle.std.proofs.Common.{refl, arith}
-use Rattle.engine.proofs.HeldLemmas.{heads_are, held_as}
-use Rattle.engine.proofs.SizeLemmas.{provider_small}
+use Rattle.engine.proofs.HeldBytes.HeldIsExact.{heads_are, held_as}
+use Rattle.engine.proofs.AssociationSize.{provider_small}
 use Rattle.engine.proofs.association.Association.held.Goals as goal
 
 pub returns-clause-held : goal.returns-clause-held

@@ -3,7 +3,7 @@ use Rattle.pdu.specs.declared.position.Position.{Position}
 use Rattle.pdu.specs.declared.position.Position.TheVariants as position
 use Rattle.pdu.specs.Deframing.{At, in_body, after_body}
 use Rattle.pdu.specs.Steps.{body_kind, body_due}
-use Rattle.engine.proofs.MovedLemmas.{stands_start}
+use Rattle.engine.proofs.WholeRun.OneInputMore.{stands_start}
 use Rattle.engine.proofs.association.Association.open.Goals as goal
 
 pub returns-clause-stands : goal.returns-clause-stands

@@ -1,6 +1,6 @@
 -- The part that has begun, or one byte.
 use Rattle.std.proofs.Common.{refl, sym, ◌∙◌, inl, inr}
-use Rattle.engine.proofs.PortionLemmas.{sends_few}
+use Rattle.engine.proofs.OutputIsBounded.OutputOfAPortion.{sends_few}
 use Rattle.engine.proofs.association.Association.portion.Goals as goal
 
 pub returns-then-is_ended-clause-few : goal.returns-then-is_ended-clause-few

@@ -1,4 +1,4 @@
-use Rattle.engine.proofs.SizeLemmas.{phase_small}
+use Rattle.engine.proofs.AssociationSize.{phase_small}
 use Rattle.engine.proofs.association.Association.state.Goals as goal
 
 pub returns : goal.returns

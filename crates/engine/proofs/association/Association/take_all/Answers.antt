@@ -3,8 +3,8 @@ use Rattle.std.proofs.lemmas.List.{take_all, length-drop}
 use Rattle.engine.specs.Run.{Rooms, rooms_of}
 use Rattle.negotiate.specs.Settings.{Settings}
 use Rattle.engine.specs.Kept.{settings_in}
-use Rattle.engine.proofs.PartLemmas.{handled_start, handled_then, took_all}
-use Rattle.engine.proofs.StoreLemmas.{drafts_then}
+use Rattle.engine.proofs.PiecesAreDone.PieceIsDone.{handled_start, handled_then, took_all}
+use Rattle.engine.proofs.StoresAreKept.DraftAndWalk.{drafts_then}
 use Rattle.engine.proofs.association.Association.take_all.Goals as goal
 
 pub loop-more-init : goal.loop-more-init

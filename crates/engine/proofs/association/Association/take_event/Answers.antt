@@ -6,10 +6,10 @@ use Rattle.engine.specs.Kept.{kept_of, settings_in}
 use Rattle.engine.specs.Run.{rooms_of}
 use Rattle.engine.specs.machine.Shows.{Handles}
 use Rattle.engine.specs.FrameFields.{reads, skips}
-use Rattle.engine.proofs.ShapeLemmas.{shaped, has_room, room_still, room_after}
-use Rattle.engine.proofs.EventLemmas.{handled_none, handled_event}
-use Rattle.engine.proofs.SkipLemmas.{heads_still, heads_passed, room_passed, passed_none, passed_event, handled_passed}
-use Rattle.engine.proofs.SizeLemmas.{provider_small}
+use Rattle.engine.proofs.PiecesAreDone.EventShape.{shaped, has_room, room_still, room_after}
+use Rattle.engine.proofs.PiecesAreDone.EventIsDone.{handled_none, handled_event}
+use Rattle.engine.proofs.PiecesAreDone.SkippedPdu.{heads_still, heads_passed, room_passed, passed_none, passed_event, handled_passed}
+use Rattle.engine.proofs.AssociationSize.{provider_small}
 use Rattle.engine.proofs.association.Association.take_event.Goals as goal
 
 pub invariant_of-self : goal.invariant_of-self

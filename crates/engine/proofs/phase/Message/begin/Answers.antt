@@ -8,8 +8,8 @@ use Rattle.dimse.specs.Reading.{command_in}
 use Rattle.dimse.specs.Messages.{InSet}
 use Rattle.engine.specs.Fair.{InStore}
 use Rattle.engine.specs.StoredData.{stored_of, drafting_in}
-use Rattle.engine.proofs.DataLemmas.{unread_store, unaccepted_store, other_store, begins_drafts, idle_proceeds, begun_proceeds}
-use Rattle.engine.proofs.StoreLemmas.{same_drafts}
+use Rattle.engine.proofs.MarksAreDone.DataOfStores.{unread_store, unaccepted_store, other_store, begins_drafts, idle_proceeds, begun_proceeds}
+use Rattle.engine.proofs.StoresAreKept.DraftAndWalk.{same_drafts}
 use Rattle.engine.proofs.phase.Message.begin.Goals as goal
 
 pub returns-in_default : goal.returns-in_default

@@ -7,7 +7,7 @@ use Rattle.negotiate.specs.Settings.{settings_of}
 use Rattle.engine.specs.Run.{rooms_of}
 use Rattle.engine.specs.StoredData.{stored_of}
 use Rattle.engine.specs.machine.Storing.{finding_of}
-use Rattle.engine.proofs.EndedLemmas.{unread_ended, echo_ended, judged_store, store_ended, is_store, is_maximum}
+use Rattle.engine.proofs.MarksAreDone.MessageEnds.{unread_ended, echo_ended, judged_store, store_ended, is_store, is_maximum}
 use Rattle.engine.proofs.phase.Message.reply.Goals as goal
 
 pub returns-in_default-clause-ended : goal.returns-in_default-clause-ended

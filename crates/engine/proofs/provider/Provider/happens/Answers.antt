@@ -7,10 +7,10 @@ use Rattle.pdu.specs.Sent.{Sends}
 use Rattle.engine.specs.machine.Answers.{answer_text, reason_of}
 use Rattle.engine.specs.machine.DoesDue.{ComesTo, Stays, is_left, step_text}
 use Rattle.engine.specs.Kept.{kept_of}
-use Rattle.engine.proofs.PendsLemmas.{happened, not_left}
-use Rattle.engine.proofs.RequestLemmas.{release_tries, release_stays}
-use Rattle.engine.proofs.DueLemmas.{tries_nothing}
-use Rattle.engine.proofs.SizeLemmas.{phase_small, provider_small}
+use Rattle.engine.proofs.FieldsShow.AfterAnEvent.{happened, not_left}
+use Rattle.engine.proofs.MarksAreDone.WholeRequest.{release_tries, release_stays}
+use Rattle.engine.proofs.FieldsShow.TriedIsDone.{tries_nothing}
+use Rattle.engine.proofs.AssociationSize.{phase_small, provider_small}
 use Rattle.engine.proofs.provider.Provider.happens.Goals as goal
 
 pub returns-in-Happens-clause-tries : goal.returns-in-Happens-clause-tries

@@ -1,8 +1,8 @@
 -- Where the body is kept the part is, and else nothing changes.
 use Rattle.std.proofs.Common.{◌&&◌, Bool, not, nat_eq, ap, refl}
 use Rattle.engine.specs.Kept.{kept_of}
-use Rattle.engine.proofs.BodyLemmas.{pends_taken, pends_untaken, fits_untaken}
-use Rattle.engine.proofs.PhaseLemmas.{refused_body, other_body, taken_body, kept_with, unawaited}
+use Rattle.engine.proofs.MarksAreDone.BodyPart.{pends_taken, pends_untaken, fits_untaken}
+use Rattle.engine.proofs.FieldsShow.KeptInPhases.{refused_body, other_body, taken_body, kept_with, unawaited}
 use Rattle.engine.proofs.provider.Provider.on_body.Goals as goal
 use Rattle.engine.proofs.provider.Provider.on_body.Goals.{then-self-via-then-self, then-self-via-else-self+then-kind-ne-A_ASSOCIATE_RQ}
 

@@ -4,11 +4,11 @@ use Rattle.dimse.specs.Joining.{ShowsMessage}
 use Rattle.engine.specs.Kept.{kept_of, settings_in}
 use Rattle.engine.specs.Run.{rooms_of}
 use Rattle.engine.specs.StoredData.{stored_of}
-use Rattle.engine.proofs.StoreLemmas.{goes_drafts, same_drafts}
-use Rattle.engine.proofs.ShownLemmas.{takes_shown}
-use Rattle.engine.proofs.MessageLemmas.{counted_taken, pends_dropped}
-use Rattle.engine.proofs.DataLemmas.{does_append, appends_none}
-use Rattle.engine.proofs.PhaseLemmas.{refused_pdvs, kept_by, unestablished}
+use Rattle.engine.proofs.StoresAreKept.DraftAndWalk.{goes_drafts, same_drafts}
+use Rattle.engine.proofs.FieldsShow.NothingCounts.{takes_shown}
+use Rattle.engine.proofs.MarksAreDone.PdvJoined.{counted_taken, pends_dropped}
+use Rattle.engine.proofs.MarksAreDone.DataOfStores.{does_append, appends_none}
+use Rattle.engine.proofs.FieldsShow.KeptInPhases.{refused_pdvs, kept_by, unestablished}
 use Rattle.engine.proofs.provider.Provider.on_data.Goals as goal
 
 pub returns-then-self-clause-takes : goal.returns-then-self-clause-takes

@@ -1,7 +1,7 @@
 use Rattle.std.proofs.Common.{refl, sym, ◌∙◌}
-use Rattle.engine.proofs.PendsLemmas.{body_fits_then, fragment_fits_then}
-use Rattle.engine.proofs.WholeLemmas.{does_request}
-use Rattle.engine.proofs.JudgedLemmas.{does_judged}
+use Rattle.engine.proofs.FieldsShow.AfterAnEvent.{body_fits_then, fragment_fits_then}
+use Rattle.engine.proofs.MarksAreDone.WholePdu.{does_request}
+use Rattle.engine.proofs.FieldsShow.DueIsDone.{does_judged}
 use Rattle.engine.proofs.provider.Provider.on_event.Goals as goal
 
 pub returns-in-PduHead-clause-room : goal.returns-in-PduHead-clause-room

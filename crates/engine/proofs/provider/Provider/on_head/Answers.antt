@@ -11,9 +11,9 @@ use Rattle.engine.specs.machine.Messages.{with_body}
 use Rattle.engine.specs.machine.DoesDue.{Stays}
 use Rattle.engine.specs.machine.HeadEvents.{brings}
 use Rattle.engine.specs.Run.{rooms_of}
-use Rattle.engine.proofs.PendsLemmas.{pends_begins}
-use Rattle.engine.proofs.HeadLemmas.{head_nothing, head_at_once, head_rejected}
-use Rattle.engine.proofs.JudgedLemmas.{leaves_due, leaves_refused}
+use Rattle.engine.proofs.FieldsShow.AfterAnEvent.{pends_begins}
+use Rattle.engine.proofs.MarksAreDone.PduHead.{head_nothing, head_at_once, head_rejected}
+use Rattle.engine.proofs.FieldsShow.DueIsDone.{leaves_due, leaves_refused}
 use Rattle.engine.proofs.provider.Provider.on_head.Goals as goal
 
 -- a PDU begins, and no part of a body has come

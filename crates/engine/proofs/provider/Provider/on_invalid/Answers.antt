@@ -4,10 +4,10 @@ use Rattle.acceptor.specs.declared.event.Event.TheVariants.{Invalid}
 use Rattle.engine.specs.declared.sending.Answering.TheVariants.{Abort}
 use Rattle.engine.specs.Kept.{kept_of, settings_in}
 use Rattle.engine.specs.Run.{rooms_of}
-use Rattle.engine.proofs.ShownLemmas.{takes_shown}
-use Rattle.engine.proofs.DueLemmas.{at_invalid, stays_invalid}
-use Rattle.engine.proofs.JudgedLemmas.{leaves_due, leaves_refused}
-use Rattle.engine.proofs.SizeLemmas.{provider_small}
+use Rattle.engine.proofs.FieldsShow.NothingCounts.{takes_shown}
+use Rattle.engine.proofs.FieldsShow.TriedIsDone.{at_invalid, stays_invalid}
+use Rattle.engine.proofs.FieldsShow.DueIsDone.{leaves_due, leaves_refused}
+use Rattle.engine.proofs.AssociationSize.{provider_small}
 use Rattle.engine.proofs.provider.Provider.on_invalid.Goals as goal
 
 pub returns-then-not-takes_pdvs-clause-due : goal.returns-then-not-takes_pdvs-clause-due

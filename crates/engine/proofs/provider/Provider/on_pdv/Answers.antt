@@ -16,13 +16,13 @@ use Rattle.engine.specs.machine.Does.{Does}
 use Rattle.engine.specs.machine.Messages.{with_join, with_storing, Proceeds}
 use Rattle.engine.specs.Run.{rooms_of}
 use Rattle.engine.specs.StoredData.{stored_of}
-use Rattle.engine.proofs.ShownLemmas.{takes_shown}
-use Rattle.engine.proofs.StoreLemmas.{Carried, carried, nothing_walked, no_store_yet, long_pdv, pdv_store, same_drafts, drops_drafts, drops_unfiled, drafts_then}
-use Rattle.engine.proofs.DueLemmas.{does_by, does_nothing, refused_by}
-use Rattle.engine.proofs.MessageLemmas.{entry_of, pdv_taken, pdv_dropped, pdv_comes, pends_dropped, goes_of, ends_of, refuses_of, due_of, counted_taken, pends_going_on, aside_of, aside_joined, taken_state, aborted_pdv, aborted_body, verdict_by, verdict_none, tries_still, pdv_context}
-use Rattle.engine.proofs.EndedLemmas.{concludes, does_concluded}
-use Rattle.engine.proofs.DataLemmas.{does_due}
-use Rattle.engine.proofs.PhaseLemmas.{refused_pdvs, kept_by, unestablished}
+use Rattle.engine.proofs.FieldsShow.NothingCounts.{takes_shown}
+use Rattle.engine.proofs.StoresAreKept.DraftAndWalk.{Carried, carried, nothing_walked, no_store_yet, long_pdv, pdv_store, same_drafts, drops_drafts, drops_unfiled, drafts_then}
+use Rattle.engine.proofs.FieldsShow.TriedIsDone.{does_by, does_nothing, refused_by}
+use Rattle.engine.proofs.MarksAreDone.PdvJoined.{entry_of, pdv_taken, pdv_dropped, pdv_comes, pends_dropped, goes_of, ends_of, refuses_of, due_of, counted_taken, pends_going_on, aside_of, aside_joined, taken_state, aborted_pdv, aborted_body, verdict_by, verdict_none, tries_still, pdv_context}
+use Rattle.engine.proofs.MarksAreDone.MessageEnds.{concludes, does_concluded}
+use Rattle.engine.proofs.MarksAreDone.DataOfStores.{does_due}
+use Rattle.engine.proofs.FieldsShow.KeptInPhases.{refused_pdvs, kept_by, unestablished}
 use Rattle.engine.proofs.provider.Provider.on_pdv.Goals as goal
 
 pub returns-then-self-clause-does : goal.returns-then-self-clause-does

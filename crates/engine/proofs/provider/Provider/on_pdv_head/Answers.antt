@@ -12,12 +12,12 @@ use Rattle.engine.specs.declared.sending.Answering.TheVariants as answering
 use Rattle.engine.specs.Kept.{Pends, kept_of, settings_in}
 use Rattle.engine.specs.machine.Messages.{with_join}
 use Rattle.engine.specs.Run.{rooms_of}
-use Rattle.engine.proofs.ShownLemmas.{takes_shown}
-use Rattle.engine.proofs.DueLemmas.{stays_invalid, stays_aborts}
-use Rattle.engine.proofs.JudgedLemmas.{leaves_due, leaves_refused}
-use Rattle.engine.proofs.MessageLemmas.{head_taken, head_dropped, head_unaccepted, head_accepted, pends_dropped, context_shown, join_between, judged_none, judged_some, pends_headed}
-use Rattle.engine.proofs.AskedLemmas.{not_taking}
-use Rattle.engine.proofs.PhaseLemmas.{refused_pdvs, kept_by, unestablished}
+use Rattle.engine.proofs.FieldsShow.NothingCounts.{takes_shown}
+use Rattle.engine.proofs.FieldsShow.TriedIsDone.{stays_invalid, stays_aborts}
+use Rattle.engine.proofs.FieldsShow.DueIsDone.{leaves_due, leaves_refused}
+use Rattle.engine.proofs.MarksAreDone.PdvJoined.{head_taken, head_dropped, head_unaccepted, head_accepted, pends_dropped, context_shown, join_between, judged_none, judged_some, pends_headed}
+use Rattle.engine.proofs.MarksAreDone.StoreAsked.{not_taking}
+use Rattle.engine.proofs.FieldsShow.KeptInPhases.{refused_pdvs, kept_by, unestablished}
 use Rattle.engine.proofs.provider.Provider.on_pdv_head.Goals as goal
 
 pub returns-then-self-clause-due : goal.returns-then-self-clause-due

@@ -12,9 +12,9 @@ use Rattle.engine.specs.declared.stores.Storing.TheVariants.{Nothing}
 use Rattle.engine.specs.StoredData.{Stored, drafting_in}
 use Rattle.engine.specs.machine.Accepted.{IsPeerOf}
 use Rattle.engine.specs.machine.DoesDue.{is_left}
-use Rattle.engine.proofs.PhaseLemmas.{kept_by, awaiting_stored, awaiting_room, unawaited}
-use Rattle.engine.proofs.RequestLemmas.{asked, request_tries}
-use Rattle.engine.proofs.StoreLemmas.{same_drafts}
+use Rattle.engine.proofs.FieldsShow.KeptInPhases.{kept_by, awaiting_stored, awaiting_room, unawaited}
+use Rattle.engine.proofs.MarksAreDone.WholeRequest.{asked, request_tries}
+use Rattle.engine.proofs.StoresAreKept.DraftAndWalk.{same_drafts}
 use Rattle.engine.proofs.provider.Provider.on_request.Goals as goal
 
 pub returns-in_default : goal.returns-in_default

@@ -1,7 +1,7 @@
 -- Nothing has come.
 use Rattle.std.proofs.Common.{refl}
-use Rattle.engine.proofs.PendsLemmas.{opened}
-use Rattle.engine.proofs.PhaseLemmas.{no_fragment}
+use Rattle.engine.proofs.FieldsShow.AfterAnEvent.{opened}
+use Rattle.engine.proofs.FieldsShow.KeptInPhases.{no_fragment}
 use Rattle.engine.proofs.provider.Provider.open.Goals as goal
 
 pub returns-clause-pends : goal.returns-clause-pends

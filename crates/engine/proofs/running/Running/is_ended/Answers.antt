@@ -1,4 +1,4 @@
-use Rattle.engine.proofs.SizeLemmas.{association_small}
+use Rattle.engine.proofs.AssociationSize.{association_small}
 use Rattle.engine.proofs.running.Running.is_ended.Goals as goal
 
 pub returns : goal.returns

@@ -1,6 +1,6 @@
 use Rattle.std.proofs.Common.{◌∙◌, ap}
 use Rattle.engine.specs.Ran.{standing_of}
-use Rattle.engine.proofs.SizeLemmas.{association_small}
+use Rattle.engine.proofs.AssociationSize.{association_small}
 use Rattle.engine.proofs.running.Running.report.Goals as goal
 
 pub returns-clause-reports : goal.returns-clause-reports

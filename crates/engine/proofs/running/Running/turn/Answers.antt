@@ -1,4 +1,4 @@
-use Rattle.engine.proofs.SizeLemmas.{running_small}
+use Rattle.engine.proofs.AssociationSize.{running_small}
 use Rattle.engine.proofs.running.Running.turn.Goals as goal
 
 pub returns : goal.returns

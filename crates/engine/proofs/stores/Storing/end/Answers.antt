@@ -2,8 +2,8 @@ use Rattle.std.proofs.Common.{sym, ap, subst, ◌∙◌}
 use Rattle.engine.specs.machine.Verdicts.{HasVerdict}
 use Rattle.engine.specs.StoredData.{stored_of, drafting_in}
 use Rattle.engine.specs.machine.Storing.{finding_of}
-use Rattle.engine.proofs.StoreLemmas.{committed_drafts, undrafted_drafts, drops_drafts}
-use Rattle.engine.proofs.WalkVerdictLemmas.{ends_committed, ends_unfiled, ends_failed}
+use Rattle.engine.proofs.StoresAreKept.DraftAndWalk.{committed_drafts, undrafted_drafts, drops_drafts}
+use Rattle.engine.proofs.StoresAreKept.WalkIsJudged.{ends_committed, ends_unfiled, ends_failed}
 use Rattle.engine.proofs.stores.Storing.end.Goals as goal
 
 pub returns-then-drafting-clause-ends : goal.returns-then-drafting-clause-ends

@@ -1,5 +1,5 @@
 use Rattle.std.proofs.Common.{rules, ◌≡◌, length, ◌∙◌, sym, ap, refl, is_some, arith}
-use Rattle.sequence.proofs.Storing.{begun_at, not_found}
+use Rattle.sequence.proofs.WantedValues.OneRoom.{begun_at, not_found}
 use Rattle.sequence.proofs.keep.Keep.begin.Goals as goal
 
 pub offset_bounds-self-slot : goal.offset_bounds-self-slot

@@ -1,7 +1,7 @@
 use Rattle.std.proofs.Common.{◌+◌, ◌≤◌, ◌∙◌, ap, arith, get_or, length, slice_set}
 use Rattle.arrayvec.specs.ArrayVec.{array_vec_len}
-use Rattle.sequence.proofs.Storing.{fit_left}
-use Rattle.sequence.proofs.Extending.{extended, extend_facts, on_ok}
+use Rattle.sequence.proofs.WantedValues.OneRoom.{fit_left}
+use Rattle.sequence.proofs.WantedValues.MoreBytes.{extended, extend_facts, on_ok}
 use Rattle.sequence.specs.Fields.{stored}
 use Rattle.sequence.proofs.keep.Keep.extend.Given as given
 use Rattle.sequence.proofs.keep.Keep.extend.Goals as goal

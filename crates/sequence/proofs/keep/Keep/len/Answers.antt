@@ -1,5 +1,5 @@
 use Rattle.std.proofs.Common.{arith}
-use Rattle.sequence.proofs.Storing.{stored_bytes}
+use Rattle.sequence.proofs.WantedValues.OneRoom.{stored_bytes}
 use Rattle.sequence.proofs.keep.Keep.len.Goals as goal
 
 pub returns-clause-value : goal.returns-clause-value

@@ -1,5 +1,5 @@
 use Rattle.std.proofs.Common.{◌∙◌, ap, sym, length, arith}
-use Rattle.sequence.proofs.Storing.{absent_stored, all_new}
+use Rattle.sequence.proofs.WantedValues.OneRoom.{absent_stored, all_new}
 use Rattle.sequence.proofs.keep.Keep.new.Goals as goal
 
 pub invariant_of-result : goal.invariant_of-result

@@ -2,7 +2,7 @@ use Rattle.std.proofs.Common.{◌≡◌, ◌∙◌, ap, arith, length, slice_set
 use Rattle.sequence.specs.Wanted.{value_of}
 use Rattle.sequence.specs.Fields.{stored, absent}
 use Rattle.sequence.specs.machine.Keeping.{counts}
-use Rattle.sequence.proofs.Storing.{push_facts, told_counts, told_stored}
+use Rattle.sequence.proofs.WantedValues.OneRoom.{push_facts, told_counts, told_stored}
 use Rattle.sequence.proofs.keep.Keep.value.Goals as goal
 
 pub told_lengths-lengths-requires : goal.told_lengths-lengths-requires

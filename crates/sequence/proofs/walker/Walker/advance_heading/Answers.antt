@@ -17,12 +17,12 @@ use Rattle.sequence.specs.machine.Scopes.{top_of, below_of}
 use Rattle.sequence.specs.machine.Judging.{limits_by}
 use Rattle.sequence.specs.machine.Heading.{IsEnd, IsQuiet, kept_by, is_begun}
 use Rattle.sequence.specs.machine.State.{top, below, limits_of, mode_of, has_room, fits_wanted, kept_values}
-use Rattle.sequence.proofs.Tops.{below_length}
-use Rattle.sequence.proofs.Pieces.{take_place, take_arrives}
-use Rattle.sequence.proofs.Begun.{begun_tail, quiet_begun, none_told}
-use Rattle.sequence.proofs.Gathered.{no_items}
-use Rattle.sequence.proofs.Walks.{defined_left, within_limit, has_room_left, fits_left, rises}
-use Rattle.sequence.proofs.Heads.{refused_run, refused_kept, refused_told, whole_run, whole_kept, whole_told, all_quiet, part_run, part_kept, part_told, part_short_of}
+use Rattle.sequence.proofs.CodeIsMachine.InnermostLevel.{below_length}
+use Rattle.sequence.proofs.CodeIsMachine.ValueBytes.{take_place, take_arrives}
+use Rattle.sequence.proofs.CodeIsMachine.KeptHeader.{begun_tail, quiet_begun, none_told}
+use Rattle.sequence.proofs.CodeIsMachine.SplitHeader.{no_items}
+use Rattle.sequence.proofs.CodeIsMachine.StateAfterCall.{defined_left, within_limit, has_room_left, fits_left, rises}
+use Rattle.sequence.proofs.CodeIsMachine.HeaderBytes.{refused_run, refused_kept, refused_told, whole_run, whole_kept, whole_told, all_quiet, part_run, part_kept, part_told, part_short_of}
 use Rattle.sequence.proofs.walker.Walker.advance_heading.Given as given
 use Rattle.sequence.proofs.walker.Walker.advance_heading.Goals as goal
 use Rattle.sequence.proofs.walker.Walker.advance_heading.Goals.{After-header_end}

@@ -1,7 +1,7 @@
 use Rattle.std.proofs.Common.{◌≡◌, ◌∙◌, length, refl, ap, arith}
 use Rattle.sequence.specs.machine.Machine.{State}
 use Rattle.sequence.specs.machine.State.{top, below, limits_of, kept_values}
-use Rattle.sequence.proofs.Pieces.{run_ends, run_goes_on, run_kept, arrive_place}
+use Rattle.sequence.proofs.CodeIsMachine.ValueBytes.{run_ends, run_goes_on, run_kept, arrive_place}
 use Rattle.sequence.proofs.walker.Walker.advance_value.Goals as goal
 
 pub returns-then-rest-eq0 : goal.returns-then-rest-eq0

@@ -1,6 +1,6 @@
 use Rattle.std.proofs.Common.{◌∙◌}
 use Rattle.sequence.specs.machine.State.{top, below}
-use Rattle.sequence.proofs.Tops.{level_empty, level_opened}
+use Rattle.sequence.proofs.CodeIsMachine.InnermostLevel.{level_empty, level_opened}
 use Rattle.sequence.proofs.walker.Walker.begin_level.Goals as goal
 
 pub returns-then-length-eq0 : goal.returns-then-length-eq0

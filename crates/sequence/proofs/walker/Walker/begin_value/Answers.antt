@@ -1,8 +1,8 @@
 use Rattle.std.proofs.Common.{◌∙◌, refl}
 use Rattle.element.specs.Header.{number}
 use Rattle.sequence.specs.machine.State.{top, below, limits_of, kept_values}
-use Rattle.sequence.proofs.Tops.{value_empty, value_begun}
-use Rattle.sequence.proofs.Walks.{kept_begun}
+use Rattle.sequence.proofs.CodeIsMachine.InnermostLevel.{value_empty, value_begun}
+use Rattle.sequence.proofs.CodeIsMachine.StateAfterCall.{kept_begun}
 use Rattle.sequence.proofs.walker.Walker.begin_value.Goals as goal
 
 pub returns-then-length-eq0 : goal.returns-then-length-eq0

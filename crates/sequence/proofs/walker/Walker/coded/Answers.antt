@@ -1,4 +1,4 @@
-use Rattle.sequence.proofs.Standings.{new_stands, new_state}
+use Rattle.sequence.proofs.StepsStand.WalkerStands.{new_stands, new_state}
 use Rattle.sequence.proofs.walker.Walker.coded.Goals as goal
 
 pub returns-clause-stands : goal.returns-clause-stands

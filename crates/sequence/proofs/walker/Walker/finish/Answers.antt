@@ -1,9 +1,9 @@
 use Rattle.std.proofs.Common.{◌∙◌, sym, subst}
 use Rattle.sequence.specs.Ending.{Fails}
 use Rattle.sequence.specs.Taken.{walker_syntax, limits_of}
-use Rattle.sequence.proofs.Holding.{walks}
-use Rattle.sequence.proofs.Finishing.{stopped_fails, reading_fails, between_ok, between_fails}
-use Rattle.sequence.proofs.Whole.{whole_has_no_fault}
+use Rattle.sequence.proofs.MachineReports.HeldIsState.{walks}
+use Rattle.sequence.proofs.WholeDataSet.FinishIsExact.{stopped_fails, reading_fails, between_ok, between_fails}
+use Rattle.sequence.proofs.WholeDataSet.WholeHasNoFault.{whole_has_no_fault}
 use Rattle.sequence.proofs.walker.Walker.finish.Goals as goal
 
 pub returns-in-Stopped-clause-fails : goal.returns-in-Stopped-clause-fails

@@ -7,11 +7,11 @@ use Rattle.sequence.specs.machine.Machine.{ArrivesAt}
 use Rattle.sequence.specs.machine.State.{walker_syntax, limits_of, mode_of, fault_by, StandsAt}
 use Rattle.sequence.specs.machine.Standing.{IsBytes}
 use Rattle.sequence.specs.Answering.{Answers, no_piece}
-use Rattle.sequence.proofs.Holding.{walks}
-use Rattle.sequence.proofs.Standings.{same_limits, none_stands}
-use Rattle.sequence.proofs.Answered.{stopped_answers, value_unbroken}
-use Rattle.sequence.proofs.Gathered.{no_items}
-use Rattle.sequence.proofs.Stepping.{taken_stands, value_came, value_arrives, some_bytes, heading_answered, value_answered, heading_most, value_most, front_size, front_again, empty_size, some_size}
+use Rattle.sequence.proofs.MachineReports.HeldIsState.{walks}
+use Rattle.sequence.proofs.StepsStand.WalkerStands.{same_limits, none_stands}
+use Rattle.sequence.proofs.StepsStand.StepReports.{stopped_answers, value_unbroken}
+use Rattle.sequence.proofs.CodeIsMachine.SplitHeader.{no_items}
+use Rattle.sequence.proofs.StepsStand.StepTakes.{taken_stands, value_came, value_arrives, some_bytes, heading_answered, value_answered, heading_most, value_most, front_size, front_again, empty_size, some_size}
 use Rattle.sequence.proofs.walker.Walker.step.Goals as goal
 
 -- which stages have a fault

@@ -5,10 +5,10 @@ use Rattle.sequence.specs.declared.level.Scope.{Scope}
 use Rattle.sequence.specs.Coding.{has_fragments}
 use Rattle.sequence.specs.Shape.{shape}
 use Rattle.sequence.specs.Stored.{wants_of}
-use Rattle.sequence.proofs.Taking.{value_counts}
+use Rattle.sequence.proofs.MachineStands.HeaderTaken.{value_counts}
 use Rattle.sequence.specs.machine.Scopes.{top_of}
 use Rattle.sequence.specs.machine.State.{top, below, limits_of, kept_values}
-use Rattle.sequence.proofs.Walks.{top_none, fits_room, item_header, mark_header, value_header, sequence_header, no_header, keep_marker, keep_value, keep_sequence, keep_none}
+use Rattle.sequence.proofs.CodeIsMachine.StateAfterCall.{top_none, fits_room, item_header, mark_header, value_header, sequence_header, no_header, keep_marker, keep_value, keep_sequence, keep_none}
 use Rattle.sequence.proofs.walker.Walker.take_header.Goals as goal
 
 pub returns-then-same_tag : goal.returns-then-same_tag

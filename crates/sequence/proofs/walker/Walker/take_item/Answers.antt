@@ -3,7 +3,7 @@ use Rattle.element.specs.Header.{number}
 use Rattle.sequence.specs.Coding.{has_fragments}
 use Rattle.sequence.specs.machine.Scopes.{top_of}
 use Rattle.sequence.specs.machine.State.{limits_of, kept_values}
-use Rattle.sequence.proofs.Walks.{fragments_inside, inside_value}
+use Rattle.sequence.proofs.CodeIsMachine.StateAfterCall.{fragments_inside, inside_value}
 use Rattle.sequence.proofs.walker.Walker.take_item.Goals as goal
 
 pub returns-then-has_fragments-clause-values : goal.returns-then-has_fragments-clause-values

@@ -1,0 +1,31 @@
+use Rattle.std.proofs.Common.{sym, ◌∙◌, codes, ap, is_some, ◌&&◌, true}
+use Rattle.clap.specs.Matches.{found_of}
+use Rattle.clap.proofs.WalkLemmas.{first_value-rows, one_text-rows}
+use Rattle.arguments.proofs.ValuesLemmas.{if_none}
+use Rattle.arguments.proofs.values.list_arguments.Goals as goal
+
+pub returns-in_err-dir-clause-none : goal.returns-in_err-dir-clause-none
+returns-in_err-dir-clause-none c =
+    if_none c.from_residual.result _ (ap (λ o. is_some o && true) (sym (c.in_err-dir.ensures ∙ first_value-rows (found_of c.args.matches.now) (codes "DIR"))))
+
+pub returns-clause-some : goal.returns-clause-some
+returns-clause-some c =
+    let found = found_of c.args.matches.now in
+    record {
+      dir = sym (c.in_ok-dir.ensures ∙ first_value-rows found (codes "DIR"));
+      series = record {
+        none = λ e. c.get_flag-series.ensures.none (one_text-rows found (codes "series") ∙ e);
+        on = λ e. c.get_flag-series.ensures.value (one_text-rows found (codes "series") ∙ e);
+        off = λ e. c.get_flag-series.ensures.other (one_text-rows found (codes "series") ∙ e);
+      };
+      instances = record {
+        none = λ e. c.get_flag-instances.ensures.none (one_text-rows found (codes "instances") ∙ e);
+        on = λ e. c.get_flag-instances.ensures.value (one_text-rows found (codes "instances") ∙ e);
+        off = λ e. c.get_flag-instances.ensures.other (one_text-rows found (codes "instances") ∙ e);
+      };
+      json = record {
+        none = λ e. c.get_flag-json.ensures.none (one_text-rows found (codes "json") ∙ e);
+        on = λ e. c.get_flag-json.ensures.value (one_text-rows found (codes "json") ∙ e);
+        off = λ e. c.get_flag-json.ensures.other (one_text-rows found (codes "json") ∙ e);
+      };
+    }

@@ -1,0 +1,113 @@
+//! `dcmbox arrange`: links or copies the files in a folder into a tree of folders by patient, study and
+//! series.
+use crate::copying::locked;
+use crate::paths::ARRANGED;
+use crate::placing::Placer;
+use failures::{Failure, ProgramError, WordsError, flushed};
+use inspection::Outcome;
+use keyed_files::{Counter, NodeId, Visitor};
+use part10::StoredFile;
+use std::fs;
+use std::io::{self, BufWriter, ErrorKind, Write};
+use std::rt::Files;
+
+/// The options of `arrange`.
+#[derive(Clone, Copy)]
+pub struct ArrangeOptions<'a> {
+    /// The path of the folder in which the tree is made.
+    pub tree: &'a str,
+    /// Whether files are copied rather than linked.
+    pub copy: bool,
+    /// Whether the actions are only printed, and nothing is written.
+    pub dry_run: bool,
+}
+
+/// Creates the folder of the tree, unless it is a dry run.
+fn make_tree<R: Files>(rt: &R, options: ArrangeOptions<'_>) -> Result<(), ProgramError> {
+    if options.dry_run {
+        return Ok(());
+    }
+    match fs::create_dir_all(rt, options.tree) {
+        Ok(()) => Ok(()),
+        Err(error) => Err(ProgramError::of(Failure::Tree, error)),
+    }
+}
+
+/// Locks the folder of the tree, if files are copied into it. Returns the open folder, which has the
+/// lock.
+fn lock_for<R: Files>(rt: &R, options: ArrangeOptions<'_>) -> Result<Option<R::File>, ProgramError>
+where
+    R::File: StoredFile,
+{
+    if options.copy && !options.dry_run {
+        return Ok(Some(locked(rt, options.tree)?));
+    }
+    Ok(None)
+}
+
+/// Gives each DICOM file in a folder and its subfolders the path
+/// `PatientID/StudyInstanceUID/SeriesInstanceUID/SOPInstanceUID.dcm` in the tree, by a hard link or a
+/// copy, and writes a line with the numbers of files. If the tree is inside the folder, it is not
+/// visited.
+///
+/// If the path is that of the same file already, or of one with the same bytes, the file is left as it
+/// is. If something else has the path, the file gets the name with `-2`, `-3` and so on. Nothing is
+/// overwritten. A copy is synced to the disk before it gets its name.
+///
+/// Files that are no DICOM files, or have a fault before the values of the path, are reported on `err`;
+/// the outcome is `Faulty` then. Files that cannot be read are reported, too, and the error is `Unread`
+/// then. Memory does not grow with the number of files.
+///
+/// Fails also if the folder cannot be listed, a file cannot be linked, the tree or the output cannot be
+/// written, or memory runs out. Files that were linked or copied before stay.
+pub fn arrange_folder<R: Files + Alloc + Clone + Drop, O: Write, E: Write + Drop>(
+    rt: &R,
+    dir: &str,
+    options: ArrangeOptions<'_>,
+    out: &mut O,
+    (err, counter): (E, Counter),
+) -> Result<Outcome, ProgramError>
+where
+    R::A: Copy,
+    R::File: StoredFile,
+{
+    make_tree(rt, options)?;
+    let _lock = lock_for(rt, options)?;
+    let mut visitor = Visitor::new(rt, &ARRANGED, err, counter);
+    match fs::metadata(rt, options.tree) {
+        Ok(tree) => visitor.spare(NodeId::of(&tree)),
+        Err(error) if error.kind() == ErrorKind::NotFound => {}
+        Err(error) => return Err(ProgramError::of(Failure::Tree, error)),
+    }
+    let mut placer = Placer::new(rt, options, out)?;
+    let tally = visitor.visit_all(dir, &mut placer)?;
+    placer.finish(tally)?;
+    tally.outcome()
+}
+
+/// Returns whether two paths lead to the same folder.
+fn are_same(rt: &HostRuntime, one: &str, other: &str) -> bool {
+    match (fs::metadata(rt, one), fs::metadata(rt, other)) {
+        (Ok(one), Ok(other)) => NodeId::of(&one) == NodeId::of(&other),
+        _ => false,
+    }
+}
+
+/// Arranges the files in a folder as [`arrange_folder`] does, and prints the numbers of files. What was
+/// written before an error is printed, too.
+///
+/// Fails also if the tree is the folder itself.
+pub fn arrange(
+    rt: &HostRuntime,
+    dir: &str,
+    options: ArrangeOptions<'_>,
+) -> Result<Outcome, ProgramError> {
+    if are_same(rt, dir, options.tree) {
+        let text = String::from_str(rt.alloc(), "error: --to takes another folder than DIR\n")?;
+        return Err(ProgramError::Words(WordsError::Refused(text)));
+    }
+    let mut out = BufWriter::new(rt.alloc(), io::writer(rt)).map_err(ProgramError::of_output)?;
+    let told = (rt.stderr(), Counter::new(rt));
+    let arranged = arrange_folder(rt, dir, options, &mut out, told);
+    flushed(arranged, &mut out)
+}

@@ -1,0 +1,107 @@
+//! Copies files: to a draft, which gets its name once it is complete.
+use element::again::read_again;
+use failures::{Failure, ProgramError};
+use part10::StoredFile;
+use std::fs::{self, File, OpenFile};
+use std::io::{self, Error, ErrorKind, Read, Write};
+use std::rt::Files;
+
+/// The number of bytes that are copied at a time.
+const PIECE: usize = 16384;
+
+/// The number of the system error `EPERM`, with which Linux rejects hard links on vfat and exFAT.
+const NOT_PERMITTED: i32 = 1;
+
+/// Opens and locks the folder of the tree, so that no other program uses its draft. The lock lasts
+/// until the returned folder is closed. Fails if another program has locked it.
+pub(crate) fn locked<R: Files>(rt: &R, tree: &str) -> Result<R::File, ProgramError>
+where
+    R::File: StoredFile,
+{
+    let folder = fs::open(rt, tree).map_err(ProgramError::of_folder)?;
+    match folder.try_lock() {
+        Ok(()) => Ok(folder),
+        Err(error) => Err(ProgramError::of_folder(Error::from(error))),
+    }
+}
+
+/// Copies all bytes of the reader to the writer.
+fn copy<R: Read, W: Write>(from: &mut R, to: &mut W) -> Result<(), ProgramError> {
+    let mut room = [0; PIECE];
+    for _ in 0..u64::MAX {
+        let count = match read_again(from, &mut room) {
+            Ok(count) => count,
+            Err(error) => return Err(ProgramError::of(Failure::Read, error)),
+        };
+        if count == 0 {
+            break;
+        }
+        if let Err(error) = to.write_all(&room[..count]) {
+            return Err(ProgramError::of(Failure::Tree, error));
+        }
+    }
+    Ok(())
+}
+
+/// Copies a file to the draft, and syncs that to the disk. A draft that exists is removed rather than
+/// overwritten, since it may be a hard link to a file of the tree.
+fn write_draft<R: Files>(rt: &R, file: &str, draft: &str) -> Result<(), ProgramError> {
+    let mut from = match fs::open(rt, file) {
+        Ok(from) => from,
+        Err(error) => return Err(ProgramError::of(Failure::Open, error)),
+    };
+    let _ = fs::remove_file(rt, draft);
+    let mut to = match File::create_new(rt, draft) {
+        Ok(to) => to,
+        Err(error) => return Err(ProgramError::of(Failure::Tree, error)),
+    };
+    copy(&mut from, &mut to)?;
+    to.sync_all()
+        .map_err(|error| ProgramError::of(Failure::Tree, error))
+}
+
+/// Returns whether an error of `hard_link` means that the file system has no hard links.
+fn is_without_links(error: &Error) -> bool {
+    error.kind() == ErrorKind::Unsupported || error.raw_os_error() == Some(NOT_PERMITTED)
+}
+
+/// Fails with `AlreadyExists` if something exists at this path, and with the system's error if that
+/// cannot be checked.
+fn check_free<R: Files>(rt: &R, path: &str) -> io::Result<()> {
+    match fs::symlink_metadata(rt, path) {
+        Ok(_) => Err(Error::from(ErrorKind::AlreadyExists)),
+        Err(error) if error.kind() == ErrorKind::NotFound => Ok(()),
+        Err(error) => Err(error),
+    }
+}
+
+/// Gives the draft this path: by a hard link or, on a file system without them, by a rename after a
+/// check that the path is free.
+///
+/// Fails with `AlreadyExists` if something exists at the path.
+fn name_draft<R: Files>(rt: &R, draft: &str, path: &str) -> io::Result<()> {
+    match fs::hard_link(rt, draft, path) {
+        Err(error) if is_without_links(&error) => {
+            check_free(rt, path)?;
+            fs::rename(rt, draft, path)
+        }
+        named => named,
+    }
+}
+
+/// Copies a file to the draft and gives that this path. The inner result is that of giving the path.
+///
+/// Fails if the file cannot be read or the draft cannot be written.
+pub(crate) fn put_copy<R: Files>(
+    rt: &R,
+    file: &str,
+    draft: &str,
+    path: &str,
+) -> Result<io::Result<()>, ProgramError> {
+    let named = match write_draft(rt, file, draft) {
+        Ok(()) => Ok(name_draft(rt, draft, path)),
+        Err(error) => Err(error),
+    };
+    let _ = fs::remove_file(rt, draft);
+    named
+}

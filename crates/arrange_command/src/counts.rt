@@ -1,0 +1,56 @@
+//! Counts the files that were arranged.
+use crate::arranging::ArrangeOptions;
+use crate::placing::Placed;
+use keyed_files::Tally;
+use std::io::{self, Write};
+
+/// The numbers of files that were put at their path, passed over, and put with a number in their name.
+#[derive(Clone, Copy)]
+pub(crate) struct Counts {
+    put: u64,
+    passed_over: u64,
+    renamed: u64,
+}
+
+impl Counts {
+    /// Creates counts of zero.
+    pub fn new() -> Counts {
+        Counts {
+            put: 0,
+            passed_over: 0,
+            renamed: 0,
+        }
+    }
+
+    /// Counts a file by its outcome.
+    pub fn add(&mut self, placed: Placed) {
+        let count = match placed {
+            Placed::Put => &mut self.put,
+            Placed::PassedOver => &mut self.passed_over,
+            Placed::Renamed => &mut self.renamed,
+        };
+        *count = count.saturating_add(1);
+    }
+
+    /// Writes the line with the numbers, and that of the files that were left out.
+    pub fn write<O: Write>(
+        &self,
+        options: ArrangeOptions<'_>,
+        tally: Tally,
+        out: &mut O,
+    ) -> io::Result<()> {
+        let Counts {
+            put,
+            passed_over,
+            renamed,
+        } = *self;
+        let (done, left_out) = (
+            if options.copy { "copied" } else { "linked" },
+            tally.left_out,
+        );
+        writeln!(
+            out,
+            "{done} {put} passed over {passed_over} renamed {renamed} left out {left_out}"
+        )
+    }
+}

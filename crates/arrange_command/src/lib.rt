@@ -1,0 +1,14 @@
+//! `dcmbox arrange`: links or copies the files in a folder into a tree of folders by patient, study and
+//! series.
+#![tactic(auto)]
+
+mod arranging;
+mod comparing;
+mod copying;
+mod counts;
+mod name;
+mod paths;
+mod placing;
+
+pub use arranging::{ArrangeOptions, arrange, arrange_folder};
+pub use name::{LONGEST_NAME, name_of};

@@ -1,0 +1,158 @@
+//! What `list` prints where a call of the system fails, where its output is full, or where memory runs out.
+use crate::failing::{Ask, CallCount, FailingFiles};
+use crate::images::{FIRST, put_image};
+use crate::list_rows::{LINES, listed, printed, put_four};
+use failures::{Failure, ProgramError};
+use fixtures::folders::fresh;
+use fixtures::refusing::Refusing;
+use fixtures::writers::SlowWriter;
+use inspection::{Outcome, OutputForm};
+use list_command::ListOptions;
+use std::test::Fail;
+
+const ALL_LINES: ListOptions = ListOptions {
+    instances: true,
+    ..LINES
+};
+
+const ALL_JSON: ListOptions = ListOptions {
+    instances: true,
+    form: OutputForm::Json,
+    ..LINES
+};
+
+/// Returns whether so many bytes may be printed of all: fewer where a file could not be read, and at most all where a
+/// folder could not be listed to its end.
+fn is_less(failed: Option<Ask>, printed: usize, whole: usize) -> bool {
+    match failed {
+        Some(Ask::List) => printed <= whole,
+        Some(_) => printed < whole,
+        None => false,
+    }
+}
+
+/// Lists four images where the call after so many others fails. Returns what the call asked, if it came: then one line on
+/// standard error names the file or the folder that can't be read, and the others are listed, or the folder itself can't
+/// be listed.
+fn failed_after(rt: &HostRuntime, whole: &[u8], passed: u64) -> Result<Option<Ask>, Fail> {
+    let calls = CallCount::new(passed, true);
+    let failing = FailingFiles { rt, calls: &calls };
+    let (mut out, mut err) = (Vec::new(rt.alloc()), Vec::new(rt.alloc()));
+    let came = listed(&failing, "unread", ALL_LINES, &mut out, &mut err);
+    let is_due = match came {
+        Ok(outcome) => {
+            calls.failed().is_none()
+                && outcome == Outcome::Good
+                && out.as_slice() == whole
+                && err.is_empty()
+        }
+        Err(ProgramError::Unread) => {
+            is_less(calls.failed(), out.len(), whole.len())
+                && err.as_slice().starts_with(b"dcmbox: unread")
+                && err.as_slice().iter().filter(|byte| **byte == b'\n').count() == 1
+        }
+        Err(error) => {
+            calls.failed().is_some()
+                && error.failure() == Some(Failure::Folder)
+                && out.is_empty()
+                && err.is_empty()
+        }
+    };
+    if is_due {
+        Ok(calls.failed())
+    } else {
+        Err(Fail::from("neither listed nor told"))
+    }
+}
+
+#[test]
+fn each_call_fails(rt: HostRuntime) -> Result<(), Fail> {
+    put_four(&rt, "unread")?;
+    let whole = printed(&rt, "unread", ALL_LINES)?;
+    let mut failed = Vec::new(rt.alloc());
+    for passed in 0..1000u64 {
+        match failed_after(&rt, whole.as_slice(), passed)? {
+            Some(ask) => failed.push(ask)?,
+            None => break,
+        }
+    }
+    let failed = failed.as_slice();
+    let asks = [Ask::List, Ask::Look, Ask::Open, Ask::Read];
+    assert!(rt; asks.iter().all(|ask| failed.contains(ask)));
+    assert!(rt; 15 < failed.len() && failed.len() < 1000);
+    Ok(())
+}
+
+/// Lists an image to a writer that takes so many bytes; returns whether it failed, and took a front of all.
+fn is_cut(
+    rt: &HostRuntime,
+    options: ListOptions,
+    whole: &[u8],
+    length: usize,
+) -> Result<bool, Fail> {
+    let mut out = SlowWriter::new(rt.alloc(), length, true);
+    let mut err = Vec::new(rt.alloc());
+    let came = listed(rt, "full", options, &mut out, &mut err);
+    let is_failed = match came {
+        Ok(_) => false,
+        Err(error) => error.failure() == Some(Failure::Write),
+    };
+    Ok(is_failed && whole.get(..length) == Some(out.bytes()))
+}
+
+#[test]
+fn an_output_that_is_full(rt: HostRuntime) -> Result<(), Fail> {
+    fresh(&rt, "full")?;
+    put_image(&rt, "full/I0000001", FIRST)?;
+    for options in [ALL_LINES, ALL_JSON] {
+        let whole = printed(&rt, "full", options)?;
+        for length in 0..whole.len() {
+            assert!(rt; is_cut(&rt, options, whole.as_slice(), length)?);
+        }
+    }
+    Ok(())
+}
+
+/// Lists four images over an allocator that refuses the call after so many others. Returns whether the call came; then
+/// memory ran out, and what is printed is a front of all.
+fn is_refused(
+    rt: &HostRuntime,
+    options: ListOptions,
+    whole: &[u8],
+    passed: u64,
+) -> Result<bool, Fail> {
+    let refusing = Refusing::new(rt.alloc(), passed);
+    let (mut out, mut err) = (Vec::new(rt.alloc()), Vec::new(rt.alloc()));
+    let came = listed(&(*rt, &refusing), "refused", options, &mut out, &mut err);
+    let has_refused = refusing.has_refused();
+    let is_due = match came {
+        Ok(outcome) => outcome == Outcome::Good && !has_refused && out.as_slice() == whole,
+        Err(ProgramError::Memory(_)) => has_refused && whole.starts_with(out.as_slice()),
+        Err(_) => false,
+    };
+    if !is_due || !err.is_empty() {
+        return Err(Fail::from("neither listed nor out of memory"));
+    }
+    Ok(has_refused)
+}
+
+/// Refuses each allocation in turn, until a run meets no refusal; returns how many were refused.
+fn count_refused(rt: &HostRuntime, options: ListOptions, whole: &[u8]) -> Result<u64, Fail> {
+    for passed in 0..1000u64 {
+        if !is_refused(rt, options, whole, passed)? {
+            return Ok(passed);
+        }
+    }
+    Err(Fail::from("no run was whole"))
+}
+
+/// Whichever allocation is refused, `list` fails because of memory, as lines and as JSON.
+#[test]
+fn each_allocation_is_refused(rt: HostRuntime) -> Result<(), Fail> {
+    put_four(&rt, "refused")?;
+    for options in [ALL_LINES, ALL_JSON] {
+        let whole = printed(&rt, "refused", options)?;
+        assert!(rt; 40 < count_refused(&rt, options, whole.as_slice())?);
+    }
+    Ok(())
+}

@@ -1,0 +1,160 @@
+//! What `index` tells on standard error of what it leaves out.
+use crate::index_rows::{FIRST, Image, SECOND, file, put_images, replacing, settings};
+use crate::recorded::{Recorded, Stage, Watched};
+use failures::ProgramError;
+use fixtures::folders::holds;
+use fixtures::refusing::Refusing;
+use index_command::{IndexCounts, Indexed, index_folder};
+use std::cell::Cell;
+use std::fs;
+use std::rt::Files;
+use std::test::Fail;
+
+/// Returns whether `index` tells these lines, and counts so.
+fn tells<R: Files + Alloc + Clone + Drop>(
+    rt: &R,
+    (dir, keep): (&str, bool),
+    lines: &str,
+    counts: (usize, usize),
+) -> Result<bool, Fail>
+where
+    R::A: Copy,
+{
+    let (mut out, mut err) = (Vec::new(rt.alloc()), Vec::new(rt.alloc()));
+    let indexed = index_folder(rt, &settings(dir, keep)?, u32::MAX, &mut out, &mut err)?;
+    let (images, left_out) = counts;
+    let wanted = Indexed::Written(IndexCounts { images, left_out });
+    Ok(indexed == wanted && err.as_slice() == lines.as_bytes())
+}
+
+/// The first image with another series: its instance is the same.
+const CHANGED: Image = Image {
+    series: b"1.2.3.2\0",
+    ..FIRST
+};
+
+const DOUBLES: &str = "dcmbox: doubles/I0000003: a double of I0000001, with the same bytes
+dcmbox: doubles/I0000004: a double of I0000002, with the same bytes
+dcmbox: doubles/I0000005: a double of I0000001, with other bytes
+";
+
+#[test]
+fn doubles_are_compared(rt: HostRuntime) -> Result<(), Fail> {
+    let images = [
+        ("doubles/I0000001", FIRST),
+        ("doubles/I0000002", SECOND),
+        ("doubles/I0000003", FIRST),
+        ("doubles/I0000004", SECOND),
+        ("doubles/I0000005", CHANGED),
+    ];
+    put_images(&rt, "doubles", &images)?;
+    assert!(rt; tells(&rt, ("doubles", false), DOUBLES, (2, 3))?);
+    fs::remove_file(&rt, "doubles/I0000003")?;
+    fs::remove_file(&rt, "doubles/I0000004")?;
+    fs::remove_file(&rt, "doubles/I0000005")?;
+    assert!(rt; tells(&rt, ("doubles", false), "", (2, 0))?);
+    Ok(())
+}
+
+/// Two large files whose last bytes differ, and two of which one goes on after the end of the other.
+#[test]
+fn doubles_that_differ_late(rt: HostRuntime) -> Result<(), Fail> {
+    put_images(&rt, "late", &[("late/I0000001", FIRST)])?;
+    let mut bytes = fs::read(&rt, "late/I0000001")?;
+    bytes.extend_from_slice(b"\xfc\xff\xfc\xffOB\0\0\0\x40\0\0")?;
+    bytes.resize(bytes.len() + 16384, 7)?;
+    fs::write(&rt, "late/I0000001", bytes.as_slice())?;
+    fs::write(&rt, "late/I0000002", bytes.as_slice())?;
+    let same = "dcmbox: late/I0000002: a double of I0000001, with the same bytes\n";
+    assert!(rt; tells(&rt, ("late", false), same, (1, 1))?);
+    if let Some(last) = bytes.as_mut_slice().last_mut() {
+        *last = 8;
+    }
+    fs::write(&rt, "late/I0000002", bytes.as_slice())?;
+    let other = "dcmbox: late/I0000002: a double of I0000001, with other bytes\n";
+    assert!(rt; tells(&rt, ("late", false), other, (1, 1))?);
+    file(&rt, "late/I0000001", FIRST)?;
+    assert!(rt; tells(&rt, ("late", false), other, (1, 1))?);
+    Ok(())
+}
+
+/// A double that can't be opened again, and the file before it.
+#[test]
+fn doubles_that_are_not_compared(rt: HostRuntime) -> Result<(), Fail> {
+    for count in [3, 4] {
+        let images = [("opened/I0000001", FIRST), ("opened/I0000002", FIRST)];
+        put_images(&rt, "opened", &images)?;
+        let watched = Watched {
+            dir: "opened",
+            fails: None,
+            // The directory that may be there is looked at first, and then each file is read.
+            opened: Cell::new(Some(count)),
+            stage: Cell::new(Stage::Nothing),
+        };
+        let recorded = Recorded {
+            rt: &rt,
+            watched: &watched,
+        };
+        let line = "dcmbox: opened/I0000002: a double of I0000001, which can't be compared\n";
+        assert!(rt; tells(&recorded, ("opened", false), line, (1, 1))?);
+        assert!(rt; watched.stage.get() == Stage::Durable);
+    }
+    Ok(())
+}
+
+/// A record of another type than IMAGE is told of, and its file is not read.
+#[test]
+fn records_of_other_types(rt: HostRuntime) -> Result<(), Fail> {
+    let images = [("kept/I0000001", FIRST), ("kept/I0000002", SECOND)];
+    put_images(&rt, "kept", &images)?;
+    assert!(rt; tells(&rt, ("kept", false), "", (2, 0))?);
+    let mut bytes = fs::read(&rt, "kept/DICOMDIR")?;
+    let place = bytes
+        .windows(6)
+        .position(|part| part == b"IMAGE ".as_slice())
+        .ok_or("no record")?;
+    bytes.as_mut_slice()[place..place + 6].copy_from_slice(b"RTDOSE");
+    fs::write(&rt, "kept/DICOMDIR", bytes.as_slice())?;
+    let told = "dcmbox: kept/I0000001: left out: its record is of type RTDOSE, not IMAGE\n";
+    assert!(rt; tells(&rt, ("kept", true), told, (1, 1))?);
+    assert!(rt; tells(&rt, ("kept", true), "", (1, 0))?);
+    Ok(())
+}
+
+/// What `little` has to tell.
+const LITTLE: &[u8] = b"dcmbox: little/I0000002: a double of I0000001, with the same bytes\n";
+
+/// Runs `index` over an allocator that refuses the call after so many others. Returns whether the call came; `None` where
+/// what is left in the folder, or what is told, is not as it has to be.
+fn runs(rt: &HostRuntime, passed: u64) -> Result<Option<bool>, Fail> {
+    fs::write(rt, "little/DICOMDIR", b"as it was")?;
+    let refusing = Refusing::new(rt.alloc(), passed);
+    let (mut out, mut err) = (Vec::new(rt.alloc()), Vec::new(rt.alloc()));
+    let settings = replacing("little")?;
+    let indexed = index_folder(&(*rt, &refusing), &settings, u32::MAX, &mut out, &mut err);
+    let is_old = holds(rt, "little", "DICOMDIR", b"as it was")?;
+    let is_right = match indexed {
+        Ok(_) => !is_old && err.as_slice() == LITTLE && !refusing.has_refused(),
+        Err(ProgramError::Memory(_)) => is_old && refusing.has_refused(),
+        Err(_) => false,
+    };
+    Ok(if is_right {
+        Some(refusing.has_refused())
+    } else {
+        None
+    })
+}
+
+/// Where memory runs out, also for what is told, the old directory is as it was.
+#[test]
+fn memory_for_what_is_told(rt: HostRuntime) -> Result<(), Fail> {
+    let images = [("little/I0000001", FIRST), ("little/I0000002", FIRST)];
+    put_images(&rt, "little", &images)?;
+    for passed in 0..1000u64 {
+        if !runs(&rt, passed)?.ok_or("a run")? {
+            assert!(rt; 20 < passed);
+            return Ok(());
+        }
+    }
+    Err(Fail::from("memory is always refused"))
+}

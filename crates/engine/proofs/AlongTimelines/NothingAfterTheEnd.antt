@@ -1,0 +1,152 @@
+-- No entry does anything to an association that has ended (`nothing_after_the_end`; PS3.8 section 9.2.2: in Sta1 there is
+-- none). Stands on ContextsAreAccepted.
+use Rattle.std.proofs.Common.{◌≡◌, ◌⊎◌, ℕ, ◌-◌, Bool, true, false, not, ◌&&◌, nat_eq, if◌then◌else◌, List, [], ◌∷◌, ◌++◌, map, None, refl, sym, ap, subst, ◌∙◌, arith, inl, inr}
+use Rattle.std.proofs.lemmas.Grind.{common_steps}
+use Rattle.acceptor.specs.declared.state.State.{State}
+use Rattle.acceptor.specs.declared.state.State.TheVariants.{Sta1}
+use Rattle.acceptor.specs.declared.action.Action.{Action}
+use Rattle.acceptor.specs.declared.action.Action.TheVariants as action
+use Rattle.acceptor.specs.declared.event.Event.{Event}
+use Rattle.acceptor.specs.declared.event.Event.TheVariants as event
+use Rattle.acceptor.specs.Table.{table}
+use Rattle.pdu.specs.Marks.{Mark, Head, PdvHead, Pdv, BadPdv, Leftover, End}
+use Rattle.negotiate.specs.Settings.{Settings}
+use Rattle.dimse.specs.Messages.{Begun, NoMessage}
+use Rattle.engine.specs.Requested.{Requested, no_request}
+use Rattle.engine.specs.Timeline.{Entry, At, Shut, TimedOut, Aborted, Happened, entries_of, Finding, good, Outcome}
+use Rattle.engine.specs.Progress.{Progress, Advance, nothing, done}
+use Rattle.engine.specs.Heads.{HeadEvent, NoEvent, AtOnce, event_of, is_known, has_four_bytes, is_abort, request_length, data_length}
+use Rattle.engine.specs.Requests.{at_request}
+use Rattle.engine.specs.Run.{Rooms, released, at_entry, gives, progress_of, sent_of, files_of, wire_failures, filing_failures}
+use Rattle.engine.specs.Laws.{NothingAfterTheEnd}
+use Rattle.engine.specs.Fair.{IsFair, AreFair, message_at}
+use Rattle.engine.proofs.AlongTimelines.ContextsAreAccepted.{by_head}
+
+-- in Sta1, with all else as it may be
+abbrev at_end_with : Requested → Begun → Bool → Bool → Progress
+at_end_with rq m f b = record { state = Sta1; request = rq; refused = b; message = m; filing_failed = f }
+
+-- nothing is done, and a message that had begun stays or is dropped
+pub record IsStill (p : Progress) (g : Advance) : Type 0 where
+  pub next : Progress
+  pub is : g ≡ nothing next
+  pub state : next.state ≡ Sta1
+  pub message : (next.message ≡ p.message) ⊎ (next.message ≡ NoMessage)
+
+-- no PDU's type has an event in Sta1
+idle_event : (a b c d e f g : Bool) → table Sta1 (if a then event.Request true else (if b then event.Ac else (if c then event.Rj else (if d then event.Data else (if e then event.ReleaseRq else (if f then event.ReleaseRp else (if g then event.Abort else event.Invalid))))))) ≡ (action.Nothing, Sta1)
+idle_event a b c d e f g = grind (arith, common_steps)
+
+-- a head by_head nothing, or an event that does nothing
+pub data BringsNothing : HeadEvent → Type 0 where
+  no_event : BringsNothing NoEvent
+  at_once : (reason : ℕ) → BringsNothing (AtOnce event.Invalid reason)
+
+idle_place : (a : Action) (e : Event) → a ≡ action.Nothing → BringsNothing (if is_abort a then AtOnce e 2 else NoEvent)
+idle_place a e is = subst (λ (x : Action). BringsNothing (if is_abort x then AtOnce e 2 else NoEvent)) (sym is) no_event
+
+idle_head : (a b c d : Bool) (r1 r2 other : HeadEvent) → BringsNothing other → BringsNothing (if a then AtOnce event.Invalid 1 else (if b then AtOnce event.Invalid 6 else (if false && c then r1 else (if false && d then r2 else other))))
+idle_head true b c d r1 r2 other h = at_once 1
+idle_head false true c d r1 r2 other h = at_once 6
+idle_head false false c d r1 r2 other h = h
+
+module _ (rq : Requested) (m : Begun) (f : Bool) where
+  head_still : (b : Bool) {h : HeadEvent} → BringsNothing h → IsStill (at_end_with rq m f b) (by_head (at_end_with rq m f false) h)
+  head_still b no_event = record { next = at_end_with rq m f false; is = refl; state = refl; message = inl refl }
+  head_still b (at_once reason) = record { next = at_end_with no_request NoMessage false true; is = refl; state = refl; message = inr refl }
+
+  kept_still : (b : Bool) → IsStill (at_end_with rq m f b) (nothing (at_end_with rq m f b))
+  kept_still b = record { next = at_end_with rq m f b; is = refl; state = refl; message = inl refl }
+
+  end_still : (s : Settings) (a b c : Bool) (body : List ℕ) → IsStill (at_end_with rq m f false)
+      (if a then done [] 0 (at_end_with rq m f false) event.Abort else (if b && false then at_request s (at_end_with rq m f false) body else (if c && false then released (at_end_with rq m f false) else nothing (at_end_with rq m f false))))
+  end_still s true b c body = record { next = at_end_with no_request NoMessage false false; is = refl; state = refl; message = inr refl }
+  end_still s false true true body = kept_still false
+  end_still s false true false body = kept_still false
+  end_still s false false true body = kept_still false
+  end_still s false false false body = kept_still false
+
+  mark_still : (rooms : Rooms) (s : Settings) (v : Finding) (b : Bool) (x : Mark) → IsStill (at_end_with rq m f b) (at_entry rooms s (at_end_with rq m f b) v (At x))
+  mark_still rooms s v b (Head kind n) =
+      head_still b (idle_head (not (is_known kind)) (has_four_bytes kind && not (nat_eq n 4)) (nat_eq kind 1) (nat_eq kind 4) (request_length (rooms.request - 12) n) (data_length s.max_pdu n) _
+      (idle_place _ (event_of kind) (ap (λ (step : Action × State). step.0) (idle_event (nat_eq kind 1) (nat_eq kind 2) (nat_eq kind 3) (nat_eq kind 4) (nat_eq kind 5) (nat_eq kind 6) (nat_eq kind 7)))))
+  mark_still rooms s v true (PdvHead n context control) = kept_still true
+  mark_still rooms s v true (Pdv context control fragment) = kept_still true
+  mark_still rooms s v true BadPdv = kept_still true
+  mark_still rooms s v true Leftover = kept_still true
+  mark_still rooms s v true (End kind body) = kept_still true
+  mark_still rooms s v false (PdvHead n context control) = kept_still false
+  mark_still rooms s v false (Pdv context control fragment) = kept_still false
+  mark_still rooms s v false BadPdv = kept_still false
+  mark_still rooms s v false Leftover = kept_still false
+  mark_still rooms s v false (End kind body) = end_still s (nat_eq kind 7) (nat_eq kind 1) (nat_eq kind 5) body
+
+  other_still : (b : Bool) (e : Event) → table Sta1 e ≡ (action.Nothing, Sta1) → IsStill (at_end_with rq m f b) (done [] 0 (at_end_with rq m f b) e)
+  other_still b e is = record { next = at_end_with no_request NoMessage false b; is = rw is refl; state = refl; message = inr refl }
+
+  entry_still : (rooms : Rooms) (s : Settings) (v : Finding) (b : Bool) (x : Entry) → IsStill (at_end_with rq m f b) (at_entry rooms s (at_end_with rq m f b) v x)
+  entry_still rooms s v b (At x) = mark_still rooms s v b x
+  entry_still rooms s v b Shut = other_still b event.Closed refl
+  entry_still rooms s v b TimedOut = other_still b event.Expired refl
+  entry_still rooms s v b Aborted = other_still b event.UserAborts refl
+
+  no_message : (b : Bool) (x : Entry) → message_at (at_end_with rq m f b) x ≡ None
+  no_message b x = grind (arith, common_steps)
+
+-- nothing failed
+abbrev pub calmly : Outcome
+calmly = record { wire = None; filing = false; finding = good }
+
+pub one_still : (rooms : Rooms) (s : Settings) (p : Progress) (x : Entry) → p.state ≡ Sta1 → IsStill p (gives rooms s p (x, calmly)) × IsFair rooms s p (x, calmly)
+one_still rooms s p x e =
+    let same : p ≡ at_end_with p.request p.message p.filing_failed p.refused = ap (λ (q : State). record { state = q; request = p.request; refused = p.refused; message = p.message; filing_failed = p.filing_failed }) e in
+    let still : IsStill p (at_entry rooms s p good x) = subst (λ (q : Progress). IsStill q (at_entry rooms s q good x)) (sym same) (entry_still p.request p.message p.filing_failed rooms s good p.refused x) in
+    let none : message_at p x ≡ None = subst (λ (q : Progress). message_at q x ≡ None) (sym same) (no_message p.request p.message p.filing_failed p.refused x) in (
+      still,
+      record { verdict = rw none tt; wire = tt; filing = λ wrong. absurd cc },
+    )
+
+-- these entries do nothing
+abbrev pub calm : List Entry → List Happened
+calm es = map (λ x. (x, calmly)) es
+
+pub record Stays (rooms : Rooms) (s : Settings) (p : Progress) (ms : List Entry) : Type 0 where
+  pub state : (progress_of rooms s p (calm ms)).state ≡ Sta1
+  pub message : ((progress_of rooms s p (calm ms)).message ≡ p.message) ⊎ ((progress_of rooms s p (calm ms)).message ≡ NoMessage)
+  pub sent : sent_of rooms s p (calm ms) ≡ []
+  pub files : files_of rooms s p (calm ms) ≡ []
+  pub fair : AreFair rooms s p (calm ms)
+  pub wires : wire_failures (calm ms) ≡ 0
+  pub filings : filing_failures (calm ms) false ≡ 0
+  pub told : entries_of (calm ms) ≡ ms
+
+message_then : (a b c : Begun) → (b ≡ a) ⊎ (b ≡ NoMessage) → (c ≡ b) ⊎ (c ≡ NoMessage) → (c ≡ a) ⊎ (c ≡ NoMessage)
+message_then a b c h (inr e) = inr e
+message_then a b c (inl x) (inl e) = inl (e ∙ x)
+message_then a b c (inr x) (inl e) = inr (e ∙ x)
+
+pub stays : (rooms : Rooms) (s : Settings) (p : Progress) (ms : List Entry) → p.state ≡ Sta1 → Stays rooms s p ms
+stays rooms s p [] e = record { state = e; message = inl refl; sent = refl; files = refl; fair = tt; wires = refl; filings = refl; told = refl }
+stays rooms s p (x ∷ ms) e =
+    let one = one_still rooms s p x e in
+    let i = one.0 in
+    let next = (gives rooms s p (x, calmly)).next in
+    let there : next ≡ i.next = ap (λ (g : Advance). g.next) i.is in
+    let rest = stays rooms s next ms (ap (λ (q : Progress). q.state) there ∙ i.state) in
+    let message : (next.message ≡ p.message) ⊎ (next.message ≡ NoMessage) = subst (λ (q : Progress). (q.message ≡ p.message) ⊎ (q.message ≡ NoMessage)) (sym there) i.message in
+    record {
+      state = rest.state;
+      message = message_then p.message next.message _ message rest.message;
+      sent = ap (λ (g : Advance). g.sent ++ sent_of rooms s next (calm ms)) i.is ∙ rest.sent;
+      files = ap (λ (g : Advance). g.files ++ files_of rooms s next (calm ms)) i.is ∙ rest.files;
+      fair = (one.1, rest.fair);
+      wires = omega (arith, rest.wires);
+      filings = omega (arith, rest.filings);
+      told = ap (λ (es : List Entry). x ∷ es) rest.told;
+    }
+
+pub nothing_after_the_end : NothingAfterTheEnd
+nothing_after_the_end rooms s p e finding x =
+    let same : p ≡ at_end_with p.request p.message p.filing_failed p.refused = ap (λ (q : State). record { state = q; request = p.request; refused = p.refused; message = p.message; filing_failed = p.filing_failed }) e in
+    let still : IsStill p (at_entry rooms s p finding x) = subst (λ (q : Progress). IsStill q (at_entry rooms s q finding x)) (sym same) (entry_still p.request p.message p.filing_failed rooms s finding p.refused x) in
+    record { sent = ap (λ (g : Advance). g.sent) still.is; files = ap (λ (g : Advance). g.files) still.is; ended = ap (λ (g : Advance). g.next.state) still.is ∙ still.state }

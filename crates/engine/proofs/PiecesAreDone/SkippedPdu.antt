@@ -1,0 +1,373 @@
+-- A PDU of which nothing counts may go by: its marks before its end do nothing (`passed_event`, `passed_none`), and the
+-- deframer may be told to skip it (`handled_passed`). Stands on EntriesJoin, EventIsDone, EventShape, FramesAndMarks,
+-- PieceIsDone, FieldsShow, MarksAreDone/PdvJoined and the laws of `pdu`.
+use Rattle.std.proofs.Common.{◌≡◌, ℕ, ◌<◌, ◌≤◌, Bool, true, false, not, ◌&&◌, ◌||◌, if◌then◌else◌, nat_eq, List, [], ◌∷◌, ◌++◌, length, drop, map, Option, Some, None, refl, sym, ap, subst, ◌∙◌, append_assoc, arith, inl, inr}
+use Rattle.std.proofs.lemmas.Grind.{common_steps}
+use Rattle.std.proofs.lemmas.Bool.{cases_Bool}
+use Rattle.std.proofs.lemmas.List.{append-nil, map-append}
+use Rattle.acceptor.specs.declared.state.State.{State}
+use Rattle.acceptor.specs.declared.state.State.TheVariants.{Sta1, Sta2, Sta3, Sta6, Sta8, Sta13}
+use Rattle.pdu.specs.declared.position.Position.{Position}
+use Rattle.pdu.specs.declared.position.Position.TheVariants as position
+use Rattle.pdu.specs.declared.event.Event.{Event}
+use Rattle.pdu.specs.declared.event.Event.TheVariants as event
+use Rattle.pdu.specs.Frames.{IsFrame, IsRest, rest_of}
+use Rattle.pdu.specs.Marks.{Mark, Head, PdvHead, Pdv, BadPdv, Leftover, End, frame_kind, new_marks}
+use Rattle.pdu.specs.Spot.{spot}
+use Rattle.pdu.specs.Parts.{end_mark}
+use Rattle.pdu.specs.Deframing.{At, SkipsAt, Skipped, goes_on, ends, IsInner, AreInner, Skip, no_frame, end_alone, skipped}
+use Rattle.pdu.specs.Steps.{body_kind, skip_of, IsInHead, IsSkipped, Steps}
+use Rattle.pdu.proofs.Public.{same_frame, rest_alone, marks_within, skip_at}
+use Rattle.negotiate.specs.Settings.{Settings}
+use Rattle.dimse.specs.Messages as messages
+use Rattle.dimse.specs.Messages.{Message, ended}
+use Rattle.part10.specs.Store.{Store}
+use Rattle.engine.specs.Timeline as timeline
+use Rattle.engine.specs.Timeline.{good}
+use Rattle.engine.specs.Progress.{Progress, Advance, absorb, nothing, is_due, is_established}
+use Rattle.engine.specs.Devices.{Devices}
+use Rattle.engine.specs.Run.{Rooms, gives, progress_of}
+use Rattle.engine.specs.Reached.{takes_pdvs, begun_in}
+use Rattle.engine.specs.Replies.{invalid, at_pdv_head, at_pdv}
+use Rattle.engine.specs.Held.{is_ended}
+use Rattle.engine.specs.Fair.{IsVerdict}
+use Rattle.engine.specs.Kept.{Kept, Pends, counted_body, body_in, takes_pdvs_in, takes_body_in}
+use Rattle.engine.specs.machine.Does.{Does, DoesAll}
+use Rattle.engine.specs.machine.Events.{Takes}
+use Rattle.engine.specs.FrameFields.{IsUncounted, StandsAt, reads, skips, body_of}
+use Rattle.engine.specs.machine.Skips.{passed, in_pdv_head}
+use Rattle.engine.specs.machine.Shows.{Handles, Pending}
+use Rattle.engine.proofs.FieldsShow.NothingCounts.{takes_shown}
+use Rattle.engine.proofs.FieldsShow.TriedIsDone.{does_nothing, taken_when, none_counted_body}
+use Rattle.engine.proofs.PiecesAreDone.EntriesJoin.{does_none, does_one, does_more, does_then}
+use Rattle.engine.proofs.MarksAreDone.PdvJoined.{pends_dropped}
+use Rattle.engine.proofs.PiecesAreDone.PieceIsDone.{spot_none}
+use Rattle.engine.proofs.PiecesAreDone.EventShape.{FitsAt, no_body, no_fragment}
+use Rattle.engine.proofs.PiecesAreDone.FramesAndMarks.{body_none}
+use Rattle.engine.proofs.PiecesAreDone.EventIsDone.{pending_none}
+
+-- ---- a frame that goes by
+
+pub record SkipsFrame (q : Position) (r : List ℕ) : Type 0 where
+  pub rest : IsRest r
+  pub headed : 6 ≤ length r
+  pub same : skip_of q ≡ q
+
+pub skips_frame : (q : Position) (r : List ℕ) → SkipsAt q r → SkipsFrame q r
+skips_frame (position.Head bytes) r s = absurd s
+skips_frame (position.Body kind left) r s = absurd s
+skips_frame (position.PdvHead left bytes) r s = absurd s
+skips_frame (position.Fragment left more) r s = absurd s
+skips_frame (position.Leftover left) r s = absurd s
+skips_frame (position.Skipped kind left) r s = record { rest = s.1; headed = s.2; same = refl }
+
+-- ---- nothing of it counts
+
+body_uncounted : (st : State) (a b one : Bool) (xs : List ℕ) → (is_ended st ≡ false → a ≡ b) → (is_due st && (not a && one)) ≡ false → (if is_due st && not b then (if one then xs else []) else []) ≡ []
+body_uncounted Sta1 a b one xs h e = refl
+body_uncounted Sta2 a true one xs h e = refl
+body_uncounted Sta2 a false false xs h e = refl
+body_uncounted Sta2 true false true xs h e = let wrong : true ≡ false = h refl in absurd cc
+body_uncounted Sta2 false false true xs h e = absurd cc
+body_uncounted Sta3 a b one xs h e = refl
+body_uncounted Sta6 a b one xs h e = refl
+body_uncounted Sta8 a b one xs h e = refl
+body_uncounted Sta13 a b one xs h e = refl
+
+pub none_counted : (k : Kept) (store : Store) (p : Progress) (body begun : List ℕ) (kind : ℕ) (xs : List ℕ) → takes_body_in k kind ≡ false → Pends k store p body begun → counted_body p (body_in kind xs) ≡ []
+none_counted k store p body begun kind xs u h =
+    let at_p : (is_due p.state && (not k.refused && nat_eq kind 1)) ≡ false = sym (ap (λ (st : State). is_due st && (not k.refused && nat_eq kind 1)) h.state_is) ∙ u in
+    body_uncounted p.state k.refused p.refused (nat_eq kind 1) xs h.refused_is at_p
+
+-- what has come of it may be anything
+pub pends_past : (k : Kept) (store : Store) (p : Progress) (body other begun begun_too : List ℕ) → counted_body p body ≡ counted_body p other → takes_pdvs_in k ≡ false → Pends k store p body begun → Pends k store p other begun_too
+pends_past k store p body other begun begun_too same t was =
+    let h = pends_dropped k store p body begun begun_too (sym (takes_shown k store p body begun was) ∙ t) was in
+    record {
+      state_is = h.state_is;
+      refused_is = h.refused_is;
+      body_is = h.body_is ∙ same;
+      join_is = h.join_is;
+      agreed = h.agreed;
+      unagreed = h.unagreed;
+      none_left = h.none_left;
+      walks = h.walks;
+      draft = h.draft;
+      failed_in = h.failed_in;
+    }
+
+not_due : (a b : Bool) → (a && (b && false)) ≡ false
+not_due a b = grind (arith, common_steps)
+
+data_uncounted : (k : Kept) (kind : ℕ) → kind ≡ 4 → takes_body_in k kind ≡ false
+data_uncounted k kind e = subst (λ (x : ℕ). takes_body_in k x ≡ false) (sym e) (not_due (is_due k.state) (not k.refused))
+
+uncounted_at : (q : Position) (k : Kept) (r : List ℕ) (due : List Mark) → At q r due → SkipsAt (skip_of q) r → takes_body_in k (body_kind q) ≡ false → takes_body_in k (frame_kind r) ≡ false
+uncounted_at (position.Head bytes) k r due a s t = absurd s
+uncounted_at (position.Body kind left) k r due a s t = subst (λ (x : ℕ). takes_body_in k x ≡ false) (sym s.3) t
+uncounted_at (position.PdvHead left bytes) k r due a s t = data_uncounted k (frame_kind r) s.3
+uncounted_at (position.Fragment left more) k r due a s t = data_uncounted k (frame_kind r) s.3
+uncounted_at (position.Leftover left) k r due a s t = data_uncounted k (frame_kind r) s.3
+uncounted_at (position.Skipped kind left) k r due a s t = absurd (omega (arith, a.none_left, s.0))
+
+-- ---- what is pending where marks within a frame are due
+
+pending_within : (k : Kept) (store : Store) (p : Progress) (r : List ℕ) (ms : List Mark) (body begun : List ℕ) → takes_body_in k (frame_kind r) ≡ false → AreInner ms → Pending r ms body begun → Pends k store p body begun → counted_body p body ≡ []
+pending_within k store p r [] body begun u i h pends = ap (counted_body p) h.0 ∙ none_counted k store p body begun (frame_kind r) (drop 6 r) u pends
+pending_within k store p r (Head kind n ∷ ms) body begun u i h pends = absurd i.0
+pending_within k store p r (PdvHead n context control ∷ ms) body begun u i h pends = ap (counted_body p) h.0 ∙ none_counted_body p
+pending_within k store p r (Pdv context control fragment ∷ ms) body begun u i h pends = ap (counted_body p) h.0 ∙ none_counted_body p
+pending_within k store p r (BadPdv ∷ ms) body begun u i h pends = ap (counted_body p) h.0 ∙ none_counted_body p
+pending_within k store p r (Leftover ∷ ms) body begun u i h pends = ap (counted_body p) h.0 ∙ none_counted_body p
+pending_within k store p r (End kind whole ∷ ms) body begun u i h pends = absurd i.0
+
+no_data_body : (kind : ℕ) (whole : List ℕ) → kind ≡ 4 → [] ≡ body_in kind whole
+no_data_body kind whole e = sym (ap (λ (x : ℕ). body_in x whole) e)
+
+pending_end : (r : List ℕ) (before : List Mark) (kind : ℕ) (whole body begun : List ℕ) → AreInner before → (0 < length before → kind ≡ 4) → Pending r (before ++ End kind whole ∷ []) body begun → body ≡ body_in kind whole
+pending_end r [] kind whole body begun i only h = h.0
+pending_end r (Head x n ∷ ms) kind whole body begun i only h = absurd i.0
+pending_end r (PdvHead n context control ∷ ms) kind whole body begun i only h = h.0 ∙ no_data_body kind whole (only (omega arith))
+pending_end r (Pdv context control fragment ∷ ms) kind whole body begun i only h = h.0 ∙ no_data_body kind whole (only (omega arith))
+pending_end r (BadPdv ∷ ms) kind whole body begun i only h = h.0 ∙ no_data_body kind whole (only (omega arith))
+pending_end r (Leftover ∷ ms) kind whole body begun i only h = h.0 ∙ no_data_body kind whole (only (omega arith))
+pending_end r (End x b ∷ ms) kind whole body begun i only h = absurd i.0
+
+some_last : (before : List Mark) (m : Mark) → before ++ m ∷ [] ≡ [] → ⊥
+some_last before m h = grind (arith, common_steps)
+
+-- ---- the head of a PDV
+
+pub heads_still : (q : Position) (n : ℕ) (c : List ℕ) (new : Position) → Steps q n c None new → in_pdv_head q ≡ false → in_pdv_head new ≡ false
+heads_still (position.Head bytes) n c new s e = at_head new s where
+  at_head : (x : Position) → IsInHead x → in_pdv_head x ≡ false
+  at_head x h = grind (arith, common_steps)
+heads_still (position.Body kind left) n c new s e = ap in_pdv_head s.1
+heads_still (position.PdvHead left bytes) n c new s e = absurd cc
+heads_still (position.Fragment left more) n c new s e = ap in_pdv_head s.1
+heads_still (position.Leftover left) n c new s e = absurd s
+heads_still (position.Skipped kind left) n c new s e = at_skipped new s where
+  at_skipped : (x : Position) → IsSkipped x → in_pdv_head x ≡ false
+  at_skipped x h = grind (arith, common_steps)
+
+skipped_no_head : (q : Position) → in_pdv_head (skip_of q) ≡ false
+skipped_no_head q = grind (arith, common_steps)
+
+body_no_head : (q : Position) (k : Kept) → takes_body_in k (body_kind q) ≡ true → in_pdv_head q ≡ false
+body_no_head (position.Head bytes) k t = refl
+body_no_head (position.Body kind left) k t = refl
+body_no_head (position.PdvHead left bytes) k t = let wrong : true ≡ false = sym t ∙ not_due (is_due k.state) (not k.refused) in absurd cc
+body_no_head (position.Fragment left more) k t = refl
+body_no_head (position.Leftover left) k t = refl
+body_no_head (position.Skipped kind left) k t = refl
+
+pub heads_passed : (k : Kept) (q : Position) → takes_pdvs_in k ≡ false → in_pdv_head (passed k q) ≡ false
+heads_passed k q t =
+    elim (cases_Bool (takes_body_in k (body_kind q))) [
+      | inl b ↦ rw (t, b) (body_no_head q k b)
+      | inr b ↦ rw (t, b) (skipped_no_head q)
+    ]
+
+-- ---- room
+
+room_skipped : (room : ℕ) (k : Kept) (q : Position) → FitsAt room k q → FitsAt room k (skip_of q)
+room_skipped room k (position.Head bytes) h = h
+room_skipped room k (position.Body kind left) h = (no_body room k 0 0 (λ e. absurd cc), no_fragment k)
+room_skipped room k (position.PdvHead left bytes) h = (no_body room k 0 0 (λ e. absurd cc), no_fragment k)
+room_skipped room k (position.Fragment left more) h = (no_body room k 0 0 (λ e. absurd cc), no_fragment k)
+room_skipped room k (position.Leftover left) h = (no_body room k 0 0 (λ e. absurd cc), no_fragment k)
+room_skipped room k (position.Skipped kind left) h = (no_body room k 0 0 (λ e. absurd cc), no_fragment k)
+
+pub room_passed : (room : ℕ) (k : Kept) (q : Position) → FitsAt room k q → FitsAt room k (passed k q)
+room_passed room k q h =
+    elim (cases_Bool (takes_pdvs_in k || takes_body_in k (body_kind q))) [
+      | inl t ↦ rw t h
+      | inr t ↦ rw t (room_skipped room k q h)
+    ]
+
+-- ---- where it stands once it goes by
+
+neither : (a b : Bool) → (a || b) ≡ false → (a ≡ false) × (b ≡ false)
+neither a b h = grind (arith, common_steps)
+
+pub stands_passed : (q : Position) (k n : Kept) (r : List ℕ) → ((kind : ℕ) → IsUncounted k kind → IsUncounted n kind) → StandsAt q k r [] → StandsAt (passed n q) n r []
+stands_passed q k n r still h =
+    elim (cases_Bool (takes_pdvs_in n || takes_body_in n (body_kind q))) [
+      | inl t ↦ rw t (same h)
+      | inr t ↦ rw t (skip (neither (takes_pdvs_in n) (takes_body_in n (body_kind q)) t) h)
+    ]
+  where
+    same : StandsAt q k r [] → StandsAt q n r []
+    same (reads a) = reads a
+    same (skips s u none) = skips s (still (frame_kind r) u) refl
+
+    by : (takes_pdvs_in n ≡ false) × (takes_body_in n (body_kind q) ≡ false) → At q r [] → Skip (skip_of q) r [] → StandsAt (skip_of q) n r []
+    by t at (no_frame lt none a) = reads a
+    by t at (end_alone before kind body are only is a) = absurd (some_last before (End kind body) (sym is))
+    by t at (skipped are s) = skips s (record { pdvs = t.0; body = uncounted_at q n r [] at s t.1 }) refl
+
+    skip : (takes_pdvs_in n ≡ false) × (takes_body_in n (body_kind q) ≡ false) → StandsAt q k r [] → StandsAt (skip_of q) n r []
+    skip t (reads a) = by t a (skip_at q r [] a)
+    skip t (skips s u none) = subst (λ (x : Position). StandsAt x n r []) (sym (skips_frame q r s).same) (skips s (still (frame_kind r) u) refl)
+
+-- ---- marks within a frame give nothing
+
+pub dropped_by : (p : Progress) (g : Advance) → takes_pdvs p ≡ false → (if p.refused then nothing p else (if is_established p.state then g else nothing p)) ≡ nothing p
+dropped_by p g t = taken_when (is_established p.state) p.refused g (nothing p) ∙ ap (λ (y : Bool). if y then g else nothing p) t
+
+module _ (rooms : Rooms) (set : Settings) where
+  no_message : (p : Progress) (m : Option Message) → takes_pdvs p ≡ false → IsVerdict rooms set p good (if takes_pdvs p then m else None)
+  no_message p m t = subst (λ (o : Option Message). IsVerdict rooms set p good o) (sym (ap (λ (x : Bool). if x then m else None) t)) tt
+
+  does_within : (p : Progress) (m : Mark) (k : Kept) (body begun : List ℕ) (d : Devices) → IsInner m → takes_pdvs p ≡ false → Pends k d.store p body begun → Does rooms set p (timeline.At m) k body begun d d
+  does_within p (Head kind n) k body begun d i t h = absurd i
+  does_within p (PdvHead n context control) k body begun d i t h = does_nothing rooms set p (timeline.At (PdvHead n context control)) k body begun d (dropped_by p (at_pdv_head rooms.command p n context control) t) tt h
+  does_within p (Pdv context control fragment) k body begun d i t h =
+      let pdv : messages.Pdv = record { context = context; control = control; fragment = fragment } in
+      does_nothing rooms set p (timeline.At (Pdv context control fragment)) k body begun d (dropped_by p (at_pdv p good pdv) t) (no_message p (ended p.message pdv) t) h
+  does_within p BadPdv k body begun d i t h = does_nothing rooms set p (timeline.At BadPdv) k body begun d (dropped_by p (invalid p) t) tt h
+  does_within p Leftover k body begun d i t h = does_nothing rooms set p (timeline.At Leftover) k body begun d (dropped_by p (invalid p) t) tt h
+  does_within p (End kind whole) k body begun d i t h = absurd i
+
+  does_inner : (ms : List Mark) → AreInner ms → (p : Progress) (k : Kept) (body begun : List ℕ) (d : Devices) → takes_pdvs_in k ≡ false → Pends k d.store p body begun → DoesAll rooms set p (map timeline.At ms) k body begun d d
+  does_inner [] i p k body begun d t h = does_none rooms set p k body begun d h
+  does_inner (m ∷ ms) i p k body begun d t h =
+      let one = does_within p m k body begun d i.0 (sym (takes_shown k d.store p body begun h) ∙ t) h in
+      does_more rooms set p (timeline.At m) (map timeline.At ms) k k body begun body begun d d d one (does_inner ms i.1 (gives rooms set p (timeline.At m, one.outcome)).next k body begun d t one.pends)
+
+  -- some marks were done, and these within the frame after them
+  does_past : (p : Progress) (xs ys : List Mark) (k : Kept) (b f body begun : List ℕ) (d e : Devices) → AreInner ys → takes_pdvs_in k ≡ false → (h : DoesAll rooms set p (map timeline.At xs) k b f d e)
+      → Pends k e.store (absorb h.failed (progress_of rooms set p h.story)) body begun → DoesAll rooms set p (map timeline.At (xs ++ ys)) k body begun d e
+  does_past p xs ys k b f body begun d e i t h pends =
+      let q = absorb h.failed (progress_of rooms set p h.story) in
+      rw (map-append timeline.At xs ys) (does_then rooms set p (map timeline.At xs) (map timeline.At ys) k k b f body begun d e e h (does_inner ys i q k body begun e t pends))
+
+  -- ---- a call in a frame that goes by
+
+  skipped_on : (new : Position) (k : Kept) (p : Progress) (r c : List ℕ) (due : List Mark) (d : Devices) → IsUncounted k (frame_kind r) → IsRest r → 6 ≤ length r → due ≡ [] → SkipsAt new (r ++ c)
+      → (body begun : List ℕ) → Pending r due body begun → Pends k d.store p body begun → Handles rooms set (record { position = new; kept = k }) p r due c false d d
+  skipped_on new k p r c due d u rest headed none at body begun pending pends =
+      let there = skips_frame new (r ++ c) at in
+      let same : rest_of (r ++ c) ≡ r ++ c = rest_alone (r ++ c) there.rest in
+      let u_then : IsUncounted k (frame_kind (r ++ c)) = subst (λ (x : ℕ). IsUncounted k x) (sym (same_frame r c headed).kind) u in
+      let x = pending_none r due body begun none pending in
+      let nothing_was : counted_body p body ≡ [] = ap (counted_body p) x.0 ∙ none_counted k d.store p body begun (frame_kind r) (drop 6 r) u.body pends in
+      let nothing_is : counted_body p (body_of (r ++ c)) ≡ [] = none_counted k d.store p body begun (frame_kind (r ++ c)) (drop 6 (r ++ c)) u_then.body pends in
+      let was = pends_past k d.store p body (body_of (r ++ c)) begun (begun_in (spot (r ++ c))) (nothing_was ∙ sym nothing_is) u.pdvs pends in
+      record {
+        marks = new_marks r c;
+        later = [];
+        all = ap (λ (ms : List Mark). ms ++ new_marks r c) none ∙ sym (append-nil (new_marks r c));
+        body = body_of (r ++ c);
+        begun = begun_in (spot (r ++ c));
+        does = does_inner (new_marks r c) ((marks_within r c rest headed).goes_on there.rest) p k (body_of (r ++ c)) (begun_in (spot (r ++ c))) d u.pdvs was;
+        pending = subst (λ (z : List ℕ). Pending z [] (body_of (r ++ c)) (begun_in (spot (r ++ c)))) (sym same) (refl, refl);
+        is_at = subst (λ (z : List ℕ). StandsAt new k z []) (sym same) (skips at u_then refl);
+        none_due = λ _. refl;
+      }
+
+  skipped_end : (new : Position) (k k2 : Kept) (p : Progress) (r c : List ℕ) (due : List Mark) (d d2 : Devices) → IsUncounted k (frame_kind r) → IsRest r → 6 ≤ length r → due ≡ [] → IsFrame (r ++ c) → At new [] []
+      → ((q : Progress) (whole : List ℕ) → Pends k d.store q (body_in (frame_kind r) whole) [] → Does rooms set q (timeline.At (End (frame_kind r) whole)) k2 [] [] d d2)
+      → (body begun : List ℕ) → Pending r due body begun → Pends k d.store p body begun → Handles rooms set (record { position = new; kept = k2 }) p r due c true d d2
+  skipped_end new k k2 p r c due d d2 u rest headed none whole at takes body begun pending pends =
+      let w = (marks_within r c rest headed).ends whole in
+      let text = drop 6 (r ++ c) in
+      let last : Mark = end_mark (r ++ c) in
+      let mark : End (frame_kind r) text ≡ last = ap (λ (x : ℕ). End x text) (sym (same_frame r c headed).kind) in
+      let x = pending_none r due body begun none pending in
+      let nothing_was : counted_body p body ≡ [] = ap (counted_body p) x.0 ∙ none_counted k d.store p body begun (frame_kind r) (drop 6 r) u.body pends in
+      let nothing_is : counted_body p (body_in (frame_kind r) text) ≡ [] = none_counted k d.store p body begun (frame_kind r) text u.body pends in
+      let was = pends_past k d.store p body (body_in (frame_kind r) text) begun [] (nothing_was ∙ sym nothing_is) u.pdvs pends in
+      let first = does_inner w.inner w.are_inner p k (body_in (frame_kind r) text) [] d u.pdvs was in
+      let q = absorb first.failed (progress_of rooms set p first.story) in
+      let last_did : Does rooms set q (timeline.At last) k2 [] [] d d2 = subst (λ (m : Mark). Does rooms set q (timeline.At m) k2 [] [] d d2) mark (takes q text first.pends) in
+      record {
+        marks = w.inner ++ last ∷ [];
+        later = [];
+        all = ap (λ (ms : List Mark). ms ++ new_marks r c) none ∙ w.marks ∙ sym (append-nil (w.inner ++ last ∷ []));
+        body = [];
+        begun = [];
+        does = rw (map-append timeline.At w.inner (last ∷ []))
+            (does_then rooms set p (map timeline.At w.inner) (timeline.At last ∷ []) k k2 (body_in (frame_kind r) text) [] [] [] d d d2 first (does_one rooms set q (timeline.At last) k2 [] [] d d2 last_did));
+        pending = subst (λ (z : List ℕ). Pending z [] [] []) (sym w.rest) (sym (body_none [] (omega arith)), sym (ap begun_in spot_none));
+        is_at = subst (λ (z : List ℕ). StandsAt new k2 z []) (sym w.rest) (reads at);
+        none_due = λ wrong. absurd cc;
+      }
+
+  pub passed_none : (q new : Position) (c : List ℕ) (k : Kept) (p : Progress) (r : List ℕ) (due : List Mark) (d : Devices) → SkipsAt q r → IsUncounted k (frame_kind r) → due ≡ [] → Skipped new r c None
+      → (body begun : List ℕ) → Pending r due body begun → Pends k d.store p body begun → Handles rooms set (record { position = new; kept = k }) p r due c false d d
+  passed_none q new c k p r due d s u none (goes_on e at) body begun pending pends = let f = skips_frame q r s in skipped_on new k p r c due d u f.rest f.headed none at body begun pending pends
+  passed_none q new c k p r due d s u none (ends e w at) body begun pending pends = absurd cc
+
+  pub passed_event : (q new : Position) (c : List ℕ) (e : Event) (k k2 : Kept) (p : Progress) (r : List ℕ) (due : List Mark) (d d2 : Devices) → SkipsAt q r → IsUncounted k (frame_kind r) → due ≡ [] → Skipped new r c (Some e)
+      → Takes rooms set k k2 (body_kind new) e d d2 → (body begun : List ℕ) → Pending r due body begun → Pends k d.store p body begun → Handles rooms set (record { position = new; kept = k2 }) p r due c true d d2
+  passed_event q new c e k k2 p r due d d2 s u none (goes_on is at) takes body begun pending pends = absurd cc
+  passed_event q new c e k k2 p r due d d2 s u none (ends is w at) takes body begun pending pends =
+      let f = skips_frame q r s in
+      let same : e ≡ event.PduEnd (frame_kind r) = cc in
+      let takes_end : Takes rooms set k k2 (body_kind new) (event.PduEnd (frame_kind r)) d d2 = subst (λ (x : Event). Takes rooms set k k2 (body_kind new) x d d2) same takes in
+      skipped_end new k k2 p r c due d d2 u f.rest f.headed none w at takes_end body begun pending pends
+
+  -- ---- the rest of a frame goes by after an event
+
+  handled_skip : (q : Position) (k : Kept) (p : Progress) (r : List ℕ) (due : List Mark) (c : List ℕ) (more : Bool) (d e : Devices) → takes_pdvs_in k ≡ false → takes_body_in k (body_kind q) ≡ false
+      → Handles rooms set (record { position = q; kept = k }) p r due c more d e → Handles rooms set (record { position = skip_of q; kept = k }) p r due c more d e
+  handled_skip q k p r due c more d e t b x = go x.is_at where
+    rest : List ℕ
+    rest = rest_of (r ++ c)
+
+    there : Progress
+    there = absorb x.does.failed (progress_of rooms set p x.does.story)
+
+    by : At q rest x.later → Skip (skip_of q) rest x.later → Handles rooms set (record { position = skip_of q; kept = k }) p r due c more d e
+    by at (no_frame lt none a) = record {
+      marks = x.marks;
+      later = [];
+      all = x.all ∙ ap (λ (ms : List Mark). x.marks ++ ms) none;
+      body = x.body;
+      begun = x.begun;
+      does = x.does;
+      pending = subst (λ (ms : List Mark). Pending rest ms x.body x.begun) none x.pending;
+      is_at = reads a;
+      none_due = λ _. refl;
+    }
+    by at (skipped are s) =
+        let u : IsUncounted k (frame_kind rest) = record { pdvs = t; body = uncounted_at q k rest x.later at s b } in
+        let nothing_was : counted_body there x.body ≡ [] = pending_within k e.store there rest x.later x.body x.begun u.body are x.pending x.does.pends in
+        let nothing_is : counted_body there (body_of rest) ≡ [] = none_counted k e.store there x.body x.begun (frame_kind rest) (drop 6 rest) u.body x.does.pends in
+        record {
+          marks = x.marks ++ x.later;
+          later = [];
+          all = x.all ∙ sym (append-nil (x.marks ++ x.later));
+          body = body_of rest;
+          begun = begun_in (spot rest);
+          does = does_past p x.marks x.later k x.body x.begun (body_of rest) (begun_in (spot rest)) d e are t x.does (pends_past k e.store there x.body (body_of rest) x.begun (begun_in (spot rest)) (nothing_was ∙ sym nothing_is) t x.does.pends);
+          pending = (refl, refl);
+          is_at = skips s u refl;
+          none_due = λ _. refl;
+        }
+    by at (end_alone before kind whole are only is a) =
+        let same : x.body ≡ body_in kind whole = pending_end rest before kind whole x.body x.begun are only (subst (λ (ms : List Mark). Pending rest ms x.body x.begun) is x.pending) in
+        record {
+          marks = x.marks ++ before;
+          later = End kind whole ∷ [];
+          all = x.all ∙ ap (λ (ms : List Mark). x.marks ++ ms) is ∙ sym (append_assoc x.marks before (End kind whole ∷ []));
+          body = body_in kind whole;
+          begun = [];
+          does = does_past p x.marks before k x.body x.begun (body_in kind whole) [] d e are t x.does (pends_past k e.store there x.body (body_in kind whole) x.begun [] (ap (counted_body there) same) t x.does.pends);
+          pending = (refl, refl);
+          is_at = reads a;
+          none_due = λ last. absurd (some_last before (End kind whole) (sym is ∙ x.none_due last));
+        }
+
+    go : StandsAt q k rest x.later → Handles rooms set (record { position = skip_of q; kept = k }) p r due c more d e
+    go (reads a) = by a (skip_at q rest x.later a)
+    go (skips s u none) = subst (λ (y : Position). Handles rooms set (record { position = y; kept = k }) p r due c more d e) (sym (skips_frame q rest s).same) x
+
+  pub handled_passed : (q : Position) (k : Kept) (p : Progress) (r : List ℕ) (due : List Mark) (c : List ℕ) (more : Bool) (d e : Devices)
+      → Handles rooms set (record { position = q; kept = k }) p r due c more d e → Handles rooms set (record { position = passed k q; kept = k }) p r due c more d e
+  handled_passed q k p r due c more d e x =
+      elim (cases_Bool (takes_pdvs_in k || takes_body_in k (body_kind q))) [
+        | inl t ↦ rw t x
+        | inr t ↦ let neither_of = neither (takes_pdvs_in k) (takes_body_in k (body_kind q)) t in rw t (handled_skip q k p r due c more d e neither_of.0 neither_of.1 x)
+      ]

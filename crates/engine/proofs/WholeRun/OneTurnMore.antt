@@ -1,0 +1,214 @@
+-- A running association takes one turn more as the source gives it (`running_more`), and its turns are a run
+-- (`turns_are_a_run`), reported as it stands (`answered_by`). Stands on AlongTimelines and FieldsShow/NothingCounts.
+use Rattle.std.proofs.Common.{◌≡◌, ◌≢◌, ℕ, zero, suc, ◌+◌, ◌*◌, ◌≤◌, Bool, false, List, [], ◌∷◌, ◌++◌, length, take, drop, option_map, Option, Some, None, refl, sym, ap, subst, ◌∙◌, arith, inl, inr}
+use Rattle.std.proofs.lemmas.Grind.{common_steps}
+use Rattle.std.proofs.lemmas.Bool.{cases_lt}
+use Rattle.std.proofs.lemmas.List.{append_assoc, append-nil, length-append, length-map, take-append-drop, take-append-le, take_all}
+use Rattle.acceptor.specs.declared.state.State.TheVariants.{Sta1, Sta6}
+use Rattle.part10.specs.Store.{Shelf, Store, told_after, without_draft, stepped}
+use Rattle.negotiate.specs.Settings.{Settings}
+use Rattle.engine.specs.declared.source.Input.{Input}
+use Rattle.engine.specs.declared.report.Report.{Report}
+use Rattle.engine.specs.Devices.{Devices, with_files, filed}
+use Rattle.engine.specs.Held.{Held, is_ended}
+use Rattle.engine.specs.Inputs.{Received, Supply, first_of, others_of, first_inputs, input_of, stream_of, TakesFirst, Gives, with_given}
+use Rattle.engine.specs.Moves.{Moved}
+use Rattle.engine.specs.Progress.{at_start}
+use Rattle.engine.specs.Ran.{inputs_after, story_after, EndsLast, LeavesOthers, standing_of, Answered}
+use Rattle.engine.specs.Reached.{reached}
+use Rattle.engine.specs.Run.{Rooms, progress_of, sent_of, files_of}
+use Rattle.engine.specs.Stands.{Stands}
+use Rattle.engine.specs.FrameFields.{Fields}
+use Rattle.engine.specs.StoredData.{drafting_in}
+use Rattle.engine.specs.TurnLaws.{TurnsBegin, OneTurnMore, TurnsAreARun, EndedHasNoDraft}
+use Rattle.engine.specs.Timeline.{Happened, Entry, entries, entries_of}
+use Rattle.engine.specs.Turns.{TakesFront, Follows, Stood, TookTurns, TookInput, Reports}
+use Rattle.engine.proofs.AlongTimelines.StoriesJoin.{gains_nothing, gains_then}
+use Rattle.engine.proofs.AlongTimelines.TimelineGrows.{entries_append}
+use Rattle.engine.proofs.FieldsShow.NothingCounts.{ended_stored}
+
+-- ---- the inputs of a source
+
+first_more : (n : ℕ) (xs : List Received) → first_inputs (suc n) xs ≡ first_inputs n xs ++ first_of (inputs_after n xs) ∷ []
+first_more zero xs = refl
+first_more (suc n) xs = ap (λ (ys : List Received). first_of xs ∷ ys) (first_more n (others_of xs))
+
+after_more : (n : ℕ) (xs : List Received) → inputs_after (suc n) xs ≡ others_of (inputs_after n xs)
+after_more zero xs = refl
+after_more (suc n) xs = after_more n (others_of xs)
+
+front_more : (old now next : Option (List Received)) (taken : List Received) (x : Received) → TakesFront old now taken → TakesFirst now next x → TakesFront old next (taken ++ x ∷ [])
+front_more None now next taken x f g = rw f at g
+front_more (Some all) now next taken x f g =
+    let k : (x ≡ first_of (inputs_after (length taken) all)) × (next ≡ Some (others_of (inputs_after (length taken) all))) = rw f.1 at g in
+    let len : length (taken ++ x ∷ []) ≡ suc (length taken) = length-append taken (x ∷ []) ∙ omega arith in (
+      rw (len, first_more (length taken) all, k.0) (ap (λ (ys : List Received). ys ++ first_of (inputs_after (length taken) all) ∷ []) f.0),
+      rw (len, after_more (length taken) all) k.1,
+    )
+
+given_more : (old : Option (List Received)) (taken more : List Received) → with_given more (with_given taken old) ≡ with_given (taken ++ more) old
+given_more None taken more = refl
+given_more (Some given) taken more = ap (λ (xs : List Received). Some xs) (append_assoc given taken more)
+
+given_nothing : (old : Option (List Received)) → old ≡ with_given [] old
+given_nothing None = refl
+given_nothing (Some given) = ap (λ (xs : List Received). Some xs) (sym (append-nil given))
+
+follows_more : (old now next : Supply) (taken : List Received) (bytes : List ℕ) (kind : Input) → Follows old now taken → Gives now next bytes kind → Follows old next (taken ++ input_of kind bytes ∷ [])
+follows_more old now next taken bytes kind f g = record {
+  front = front_more old.to_come now.to_come next.to_come taken (input_of kind bytes) f.front g.first;
+  given = g.added ∙ ap (with_given (input_of kind bytes ∷ [])) f.given ∙ given_more old.given taken (input_of kind bytes ∷ []);
+}
+
+front_start : (source : Option (List Received)) → TakesFront source source []
+front_start source = grind (arith, common_steps)
+
+follows_start : (source : Supply) → Follows source source []
+follows_start source = record { front = front_start source.to_come; given = given_nothing source.given }
+
+pub follows_all : (old now : Option (List Received)) (taken all : List Received) → TakesFront old now taken → old ≡ Some all → LeavesOthers taken all now
+follows_all old now taken all f e = let g : TakesFront (Some all) now taken = subst (λ (x : Option (List Received)). TakesFront x now taken) e f in record { first = g.0; others = g.1 }
+
+-- ---- the story of a front of the inputs
+
+length_take : (n : ℕ) (xs ys : List Received) → n ≤ length xs → take n (xs ++ ys) ≡ take n xs
+length_take n xs ys h = take-append-le n xs ys h
+
+-- the timeline of a front is no longer than that of all
+few_entries : (n : ℕ) (taken : List Received) → n ≤ length taken → length (entries [] (take n taken)) ≤ length (entries [] taken)
+few_entries n taken h =
+    let front = take n taken in
+    let parts : entries [] taken ≡ entries [] front ++ entries (stream_of front) (drop n taken) = sym (ap (entries []) (take-append-drop n taken)) ∙ entries_append front (drop n taken) in
+    omega (arith, ap length parts, length-append (entries [] front) (entries (stream_of front) (drop n taken)))
+
+story_length : (story : List Happened) (es : List Entry) → entries_of story ≡ es → length story ≡ length es
+story_length story es e = sym (length-map story (λ (h : Happened). h.0)) ∙ ap length e
+
+-- with one input more, and its part of the story, it is as before
+story_before : (n : ℕ) (taken : List Received) (x : Received) (story more : List Happened) → entries_of story ≡ entries [] taken → n ≤ length taken
+    → story_after n (taken ++ x ∷ []) (story ++ more) ≡ story_after n taken story
+story_before n taken x story more told h =
+    let same : take n (taken ++ x ∷ []) ≡ take n taken = length_take n taken (x ∷ []) h in
+    let k = length (entries [] (take n taken)) in
+    ap (λ (xs : List Received). take (length (entries [] xs)) (story ++ more)) same
+    ∙ take-append-le k story more (omega (arith, few_entries n taken h, story_length story (entries [] taken) told))
+
+story_whole : (taken : List Received) (story : List Happened) → entries_of story ≡ entries [] taken → story_after (length taken) taken story ≡ story
+story_whole taken story told =
+    ap (λ (xs : List Received). take (length (entries [] xs)) story) (take_all (length taken) taken (omega arith))
+    ∙ take_all (length (entries [] taken)) story (omega (arith, story_length story (entries [] taken) told))
+
+module _ (rooms : Rooms) (s : Settings) where
+  ends_last_start : EndsLast rooms s [] []
+  ends_last_start n h = absurd (omega (arith, h))
+
+  -- the inputs so far did not end the association
+  ends_last_more : (taken : List Received) (x : Received) (story more : List Happened) → entries_of story ≡ entries [] taken → (progress_of rooms s at_start story).state ≢ Sta1 → EndsLast rooms s taken story
+      → EndsLast rooms s (taken ++ x ∷ []) (story ++ more)
+  ends_last_more taken x story more told open_still last n h e =
+      let within : n ≤ length taken = omega (arith, h, length-append taken (x ∷ [])) in
+      let state : (progress_of rooms s at_start (story_after n taken story)).state ≡ Sta1 =
+      ap (λ (t : List Happened). (progress_of rooms s at_start t).state) (sym (story_before n taken x story more told within)) ∙ e in
+      elim (cases_lt n (length taken)) [
+        | inl lt ↦ last n lt state
+        | inr le ↦ open_still (ap (λ (t : List Happened). (progress_of rooms s at_start t).state)
+            (sym (ap (λ (k : ℕ). story_after k taken story) (omega (arith, le, within)) ∙ story_whole taken story told)) ∙ state)
+      ]
+
+  -- ---- one turn more
+
+  pub running_start : (seen : Fields) (source : Supply) (d : Devices) → Stands rooms s [] [] false seen d.store → TookTurns rooms s 0 source source seen d d
+  running_start seen source d h = record {
+    taken = [];
+    number = refl;
+    follows = follows_start source;
+    stood = record { story = []; failed = false; stands = h; last = ends_last_start; gains = gains_nothing rooms s at_start d };
+  }
+
+  -- what an association that is set so does with an input
+  abbrev OnInput : Fields → Fields → Devices → Devices → Received → Settings → Type 0
+  OnInput seen seen_new now new x set = (inputs : List Received) (story : List Happened) (failed : Bool) → Stands rooms set inputs story failed seen now.store
+      → Moved rooms set inputs story failed x seen seen_new now new
+
+  pub running_more : (seen seen_new : Fields) (source now next : Supply) (turns : ℕ) (old mid new : Devices) (bytes : List ℕ) (kind : Input) (set : Settings) → set ≡ s → seen.kept.state ≢ Sta1 → (r : TookTurns rooms s turns source now seen old mid)
+      → Gives now next bytes kind → OnInput seen seen_new mid new (input_of kind bytes) set → TookTurns rooms s (turns + 1) source next seen_new old new
+  running_more seen seen_new source now next turns old mid new bytes kind set is open_still r g k = record {
+    taken = r.taken ++ input_of kind bytes ∷ [];
+    number = omega (arith, r.number, length-append r.taken (input_of kind bytes ∷ []));
+    follows = follows_more source now next r.taken bytes kind r.follows g;
+    stood =
+        let before = r.stood in
+        let m = subst (OnInput seen seen_new mid new (input_of kind bytes)) is k r.taken before.story before.failed before.stands in
+        record {
+          story = before.story ++ m.more;
+          failed = m.failed_then;
+          stands = m.stands;
+          last = ends_last_more r.taken (input_of kind bytes) before.story m.more before.stands.story_is.told
+              (λ e. open_still (before.stands.shows.frame.pends.state_is ∙ e)) before.last;
+          gains = gains_then rooms s at_start before.story m.more false before.failed m.failed_then old mid new before.gains m.gains;
+        };
+  }
+
+  -- ---- the end
+
+  -- the draft is dropped
+  told_filed : (old now : Option Shelf) (files : List (List ℕ)) → option_map (λ shelf. shelf.files) now ≡ with_files files (option_map (λ shelf. shelf.files) old)
+      → told_after without_draft now ≡ told_after (filed files) old
+  told_filed None None files e = refl
+  told_filed None (Some shelf) files e = absurd cc
+  told_filed (Some old) None files e = absurd cc
+  told_filed (Some old) (Some now) files e =
+      let same : now.files ≡ old.files ++ files = cc in
+      ap (λ (fs : List (List ℕ)). Some (record { files = fs; draft = [] })) same
+
+  pub answered_by : (taken : List Received) (report : Report) (seen : Fields) (old now new : Devices) → Stood rooms s taken seen old now → report.standing ≡ standing_of seen.kept.state
+      → ((story : List Happened) (failed : Bool) → Stands rooms s taken story failed seen now.store → Held rooms s (reached rooms s taken story failed) report.held)
+      → (seen.kept.state ≡ Sta6 → report.held ≤ 544 + rooms.command + rooms.values + 16 * rooms.depth)
+      → new.line ≡ now.line → new.store ≡ stepped without_draft false now.store → Answered rooms s taken report old new
+  answered_by taken report seen old now new h e held accepted line store = record {
+    story = h.story;
+    failed = h.failed;
+    sent = sent_of rooms s at_start h.story;
+    files = files_of rooms s at_start h.story;
+    state = seen.kept.state;
+    run = record { story_is = h.stands.story_is; sent_is = refl; files_are = refl; state_is = h.stands.shows.frame.pends.state_is };
+    last = h.last;
+    standing = e;
+    held = held h.story h.failed h.stands;
+    accepted_room = accepted;
+    line = line ∙ h.gains.line;
+    told = ap (λ (x : Store). x.told) store ∙ told_filed old.store.told now.store.told (files_of rooms s at_start h.story) h.gains.files;
+    count = omega (arith, ap (λ (x : Store). x.failures) store, h.gains.count);
+  }
+
+-- ---- the laws of turns
+
+pub turns_begin : TurnsBegin
+turns_begin rooms s seen source d h = running_start rooms s seen source d h
+
+pub one_turn_more : OneTurnMore
+one_turn_more rooms s turns source now next seen seen_new old mid new open_still r t =
+    running_more rooms s seen seen_new source now next turns old mid new t.bytes t.kind s refl open_still r t.gives t.moved
+
+pub turns_are_a_run : TurnsAreARun
+turns_are_a_run rooms s turns most source now seen old mid new report r few ended reports line store = record {
+  taken = r.taken;
+  most_turns = omega (arith, r.number, few);
+  all_turns = λ lt. reports.standing ∙ ap standing_of (ended (omega (arith, r.number, lt)));
+  source = λ all e. follows_all _ _ r.taken all r.follows.front e;
+  given = r.follows.given;
+  answered = answered_by rooms s r.taken report seen old mid new r.stood reports.standing (λ story failed h. reports.held r.taken story failed h) reports.accepted_room line store;
+  no_draft = ap (λ (x : Store). x.has_draft) store;
+}
+
+pub ended_has_no_draft : EndedHasNoDraft
+ended_has_no_draft rooms s inputs story failed seen store h e =
+    let pends = h.shows.frame.pends in
+    ap drafting_in (ended_stored seen.kept store (reached rooms s inputs story failed).progress _ _ (ap is_ended (sym pends.state_is) ∙ e) pends)
+
+-- with the settings that an association has
+pub took_set : (rooms : Rooms) (set s : Settings) (now next : Supply) (seen seen_new : Fields) (old new : Devices) → set ≡ s → TookInput rooms set now next seen seen_new old new → TookInput rooms s now next seen seen_new old new
+took_set rooms set s now next seen seen_new old new e t = subst (λ (x : Settings). TookInput rooms x now next seen seen_new old new) e t
+
+pub reports_set : (rooms : Rooms) (set s : Settings) (seen : Fields) (store : Store) (report : Report) → set ≡ s → Reports rooms set seen store report → Reports rooms s seen store report
+reports_set rooms set s seen store report e r = subst (λ (x : Settings). Reports rooms x seen store report) e r

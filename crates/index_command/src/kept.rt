@@ -1,0 +1,80 @@
+//! The files that a folder's present directory keeps.
+use checkdir_command::PathText;
+use dicomdir::{DirFault, FileId, Tree, check, kept_of, left_out};
+use failures::{Failure, ProgramError, read_whole};
+use inspection::Printable;
+use std::alloc::Allocator;
+use std::fs;
+use std::io::Write;
+use std::rt::Files;
+
+/// The name of the directory of a folder.
+pub(crate) const DIRECTORY: &str = "DICOMDIR";
+
+/// The files that a directory is of.
+#[derive(Drop)]
+pub(crate) struct IndexedFiles<A: Allocator> {
+    pub ids: Vec<FileId, A>,
+    /// How many files the present directory names, and the new one leaves out.
+    pub left_out: usize,
+}
+
+/// Reads the folder's directory whole.
+fn present_directory<R: Files + Alloc>(rt: &R, dir: &str) -> Result<Vec<u8, R::A>, ProgramError>
+where
+    R::A: Copy,
+{
+    let path = format!(in rt.alloc(); "{dir}/{DIRECTORY}")?;
+    match fs::open(rt, path.as_str()) {
+        Ok(mut file) => read_whole(rt.alloc(), &mut file, Failure::NoDirectory),
+        Err(error) => Err(ProgramError::System(Failure::NoDirectory, error)),
+    }
+}
+
+/// Tells of each record of a directory that names a file and is left out, and returns how many there are.
+fn tell_left_out<A: Allocator + Copy, E: Write>(
+    dir: &str,
+    tree: &Tree<'_, A>,
+    err: &mut E,
+) -> usize {
+    let mut count: usize = 0;
+    for record in tree.records() {
+        if let Some(file_id) = left_out(record) {
+            let (dir, path) = (Printable(dir.as_bytes()), PathText(file_id));
+            let kind = Printable(record.kind());
+            let _ = writeln!(
+                err,
+                "dcmbox: {dir}/{path}: left out: its record is of type {kind}, not IMAGE"
+            );
+            count = count.saturating_add(1);
+        }
+    }
+    count
+}
+
+/// Returns the images that a directory keeps, or its fault; tells of the other records that name files.
+fn kept_in<A: Allocator + Copy, E: Write>(
+    alloc: A,
+    dir: &str,
+    bytes: &[u8],
+    err: &mut E,
+) -> Result<IndexedFiles<A>, DirFault> {
+    let tree = check(alloc, bytes)?;
+    let ids = kept_of(alloc, &tree)?;
+    let left_out = tell_left_out(dir, &tree, err);
+    Ok(IndexedFiles { ids, left_out })
+}
+
+/// Returns the images that the folder's directory keeps, or the fault of the directory. Each record that names a file
+/// and is no image's is told of.
+pub(crate) fn kept_files<R: Files + Alloc, E: Write>(
+    rt: &R,
+    dir: &str,
+    err: &mut E,
+) -> Result<Result<IndexedFiles<R::A>, DirFault>, ProgramError>
+where
+    R::A: Copy,
+{
+    let bytes = present_directory(rt, dir)?;
+    Ok(kept_in(rt.alloc(), dir, bytes.as_slice(), err))
+}

@@ -1,0 +1,2 @@
+pub mod NamedTag
+pub mod MetaRules

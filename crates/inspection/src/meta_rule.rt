@@ -1,0 +1,200 @@
+//! Which rule of the file meta information a file breaks (PS3.10 section 7.1).
+ghost use Rattle.std.specs.Prelude.{◌≡◌};
+ghost use Rattle.inspection.specs.MetaRules as rules;
+
+use crate::front::KEPT;
+use crate::keyword::known_keyword;
+use crate::origin::{first_header, identifier_of};
+use crate::texts::TagText;
+use element::{Header, Need, Syntax, Tag, need};
+use part10::{MetaFault, read_any_meta};
+use std::fmt;
+
+/// Where the element stands that has the length of group 0002, and where those after it begin.
+const LENGTH: usize = 132;
+
+const ELEMENTS: usize = 144;
+
+/// The tags of the class, the instance and the transfer syntax.
+const NEEDED: [Tag; 3] = [
+    Tag(0x0002, 0x0002),
+    Tag(0x0002, 0x0003),
+    Tag(0x0002, 0x0010),
+];
+
+/// The rule of the file meta information that a file breaks. It prints as what is wrong.
+#[derive(Clone, Copy, Debug, PartialEq, Eq)]
+pub enum MetaRule {
+    /// Group 0002 begins with its length: (0002,0000), UL, of four bytes.
+    Length,
+    /// The file goes on to the end of group 0002.
+    Whole,
+    /// Elements of group 0002 have VRs.
+    Vr,
+    /// Group 0002 ends where an element does.
+    End,
+    /// What the length of group 0002 spans is of that group. This element is not.
+    Group(Tag),
+    /// Tags rise. This one does not.
+    Order(Tag),
+    /// Lengths are even and defined. That of this element is not.
+    Even(Tag),
+    /// The class, the instance and the transfer syntax are there. This one is not, or is no UID.
+    Needed(Tag),
+}
+
+/// A tag and its keyword.
+#[derive(Clone, Copy)]
+struct NamedTag(Tag);
+
+impl fmt::Display for NamedTag {
+    fn fmt<W: fmt::Write>(&self, f: &mut fmt::Formatter<W>) -> fmt::Result {
+        let tag = TagText(self.0);
+        match known_keyword(self.0) {
+            Some(keyword) => write!(f, "{tag} {keyword}"),
+            None => write!(f, "{tag}"),
+        }
+    }
+}
+
+impl fmt::Display for MetaRule {
+    fn fmt<W: fmt::Write>(&self, f: &mut fmt::Formatter<W>) -> fmt::Result {
+        match *self {
+            MetaRule::Length => f.write_str("group 0002 does not begin with its length"),
+            MetaRule::Whole => f.write_str("the file ends inside group 0002"),
+            MetaRule::Vr => f.write_str("an element of group 0002 has no VR"),
+            MetaRule::End => f.write_str("the length of group 0002 ends inside an element"),
+            MetaRule::Group(tag) => {
+                let tag = NamedTag(tag);
+                write!(f, "{tag} stands within the length of group 0002")
+            }
+            MetaRule::Order(tag) => {
+                let tag = NamedTag(tag);
+                write!(f, "{tag} does not rise above the tag before it")
+            }
+            MetaRule::Even(tag) => {
+                let tag = NamedTag(tag);
+                write!(f, "{tag} has an odd or undefined length")
+            }
+            MetaRule::Needed(tag) => {
+                let tag = NamedTag(tag);
+                write!(f, "{tag} is missing or no UID")
+            }
+        }
+    }
+}
+
+/// Returns the rule that an element breaks, whose header has this size, after an element with the number `last` where
+/// so many bytes of the group are left.
+fn rule_of(header: Header, size: u64, last: u16, left: u64) -> Option<MetaRule>
+    ensures { result ≡ rules.rule_of header size last left }
+{
+    let Tag(group, number) = header.tag;
+    if left < size {
+        Some(MetaRule::End)
+    } else if group != 2 {
+        Some(MetaRule::Group(header.tag))
+    } else if number <= last {
+        Some(MetaRule::Order(header.tag))
+    } else if header.length % 2 != 0 {
+        Some(MetaRule::Even(header.tag))
+    } else if left - size < u64::from(header.length) {
+        Some(MetaRule::End)
+    } else {
+        None
+    }
+}
+
+/// Returns the length of group 0002.
+fn group_length(file: &[u8]) -> Result<u32, MetaRule> {
+    let Some(bytes) = file.get(LENGTH..ELEMENTS) else {
+        return Err(MetaRule::Whole);
+    };
+    match bytes {
+        [2, 0, 0, 0, b'U', b'L', 4, 0, a, b, c, d] => Ok(u32::from_le_bytes([*a, *b, *c, *d])),
+        _ => Err(MetaRule::Length),
+    }
+}
+
+/// Returns the header that the bytes begin with and its size, where so many bytes of the group are left.
+fn header_within(bytes: &[u8], left: u64) -> Result<(Header, u64), MetaRule> {
+    match need(Syntax::Explicit, bytes) {
+        Need::More => Err(MetaRule::Whole),
+        Need::BadVr => Err(MetaRule::Vr),
+        Need::Size(size) => {
+            if left < size as u64 {
+                return Err(MetaRule::End);
+            }
+            match first_header(bytes) {
+                Some((header, size)) => Ok((header, size as u64)),
+                None => Err(MetaRule::Whole),
+            }
+        }
+    }
+}
+
+/// Returns the first rule that an element of group 0002 of this length breaks.
+fn rule_of_elements(file: &[u8], length: u32) -> Option<MetaRule> {
+    let mut rest = file.get(ELEMENTS..)?;
+    let mut left = u64::from(length);
+    let mut last = 0;
+    // Each element has at least eight bytes.
+    for _ in 0..file.len() {
+        if left == 0 {
+            return None;
+        }
+        let (header, size) = match header_within(rest, left) {
+            Ok(found) => found,
+            Err(rule) => return Some(rule),
+        };
+        let (tag, length) = (header.tag, header.length);
+        if let Some(rule) = rule_of(header, size, last, left) {
+            return Some(rule);
+        }
+        let whole = size.saturating_add(u64::from(length));
+        let Some(after) = rest.get(whole as usize..) else {
+            return Some(MetaRule::Whole);
+        };
+        rest = after;
+        left = left.saturating_sub(whole);
+        let Tag(_, number) = tag;
+        last = number;
+    }
+    None
+}
+
+/// Returns the rule that the first element breaks which is needed in group 0002 of this length.
+fn rule_of_needed(file: &[u8], length: u32) -> Option<MetaRule> {
+    let end = ELEMENTS.saturating_add(length as usize);
+    let header = file.get(..end)?;
+    for tag in NEEDED {
+        if identifier_of(header, tag).is_none() {
+            return Some(MetaRule::Needed(tag));
+        }
+    }
+    None
+}
+
+/// Returns the first rule that the file meta information breaks.
+fn first_rule(file: &[u8]) -> Option<MetaRule> {
+    match group_length(file) {
+        Ok(length) => match rule_of_elements(file, length) {
+            Some(rule) => Some(rule),
+            None => rule_of_needed(file, length),
+        },
+        Err(rule) => Some(rule),
+    }
+}
+
+/// Returns the rule of the file meta information that a file breaks whose header is `BadMeta`. The bytes are the
+/// beginning of the file as `FileFront` keeps it; where they end before the rule is broken, it is not known.
+pub fn broken_rule_of(file: &[u8]) -> Option<MetaRule> {
+    let mut input = file;
+    match read_any_meta(&mut input) {
+        Err(MetaFault::BadMeta) => match first_rule(file) {
+            Some(MetaRule::Whole) if KEPT <= file.len() => None,
+            rule => rule,
+        },
+        _ => None,
+    }
+}

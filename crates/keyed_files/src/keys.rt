@@ -1,0 +1,98 @@
+//! The values that were read of a file.
+use arrayvec::ArrayVec;
+use element::{Tag, unpadded};
+
+/// The greatest number of values.
+const MOST_KEYS: usize = 11;
+
+/// The greatest number of bytes kept of a value.
+const LONGEST_KEPT: usize = 256;
+
+/// The greatest number of bytes of all values together.
+const ROOM: usize = 2816;
+
+/// The tag of a value, and the index of its first byte in the buffer.
+#[derive(Clone, Copy)]
+struct Start {
+    tag: Tag,
+    place: usize,
+}
+
+impl Default for Start {
+    fn default() -> Start {
+        Start {
+            tag: Tag(0, 0),
+            place: 0,
+        }
+    }
+}
+
+/// The requested values of a file: at most eleven, of each at most its first 256 bytes.
+#[derive(Drop)]
+pub struct FileKeys {
+    starts: ArrayVec<Start, MOST_KEYS>,
+    bytes: ArrayVec<u8, ROOM>,
+    /// Whether the next bytes belong to the last value.
+    is_open: bool,
+}
+
+impl FileKeys {
+    /// Creates an empty list of values.
+    pub(crate) fn new() -> FileKeys {
+        FileKeys {
+            starts: ArrayVec::new(),
+            bytes: ArrayVec::new(),
+            is_open: false,
+        }
+    }
+
+    /// Starts the value with this tag.
+    pub(crate) fn begin(&mut self, tag: Tag) {
+        let place = self.bytes.len();
+        self.is_open = self.starts.try_push(Start { tag, place }).is_ok();
+    }
+
+    /// Ends the value that was started, if there is one.
+    pub(crate) fn end(&mut self) {
+        self.is_open = false;
+    }
+
+    /// Returns the number of bytes of the last value.
+    fn last_length(&self) -> usize {
+        match self.starts.as_slice().last() {
+            Some(start) => self.bytes.len().saturating_sub(start.place),
+            None => 0,
+        }
+    }
+
+    /// Appends bytes to the value that was started, up to 256. Drops them if there is none.
+    pub(crate) fn take(&mut self, bytes: &[u8]) {
+        if !self.is_open {
+            return;
+        }
+        let room = LONGEST_KEPT.saturating_sub(self.last_length());
+        let count = bytes.len().min(room);
+        let _ = self.bytes.try_extend_from_slice(&bytes[..count]);
+    }
+
+    /// Returns the value with this tag, including padding, or `None` if the file has none. Of a value
+    /// of more than 256 bytes it returns the first 256.
+    pub fn value(&self, tag: Tag) -> Option<&[u8]> {
+        let starts = self.starts.as_slice();
+        for number in 0..starts.len() {
+            if starts[number].tag == tag {
+                let end = match starts.get(number + 1) {
+                    Some(next) => next.place,
+                    None => self.bytes.len(),
+                };
+                return self.bytes.as_slice().get(starts[number].place..end);
+            }
+        }
+        None
+    }
+
+    /// Returns the value with this tag without its padding, or an empty slice if the file has none.
+    pub fn text(&self, tag: Tag) -> &[u8] {
+        unpadded(self.value(tag).unwrap_or(&[]))
+    }
+}

@@ -1,0 +1,21 @@
+//! The identity of files and folders.
+use std::fs::Metadata;
+use std::os::unix::fs::MetadataExt;
+
+/// The identity of a file or a folder, its device and inode numbers: the same for all paths that lead
+/// to it.
+#[derive(Clone, Copy, PartialEq, Eq)]
+pub struct NodeId {
+    device: u64,
+    inode: u64,
+}
+
+impl NodeId {
+    /// Returns the identity of a file or a folder.
+    pub fn of(found: &Metadata) -> NodeId {
+        NodeId {
+            device: found.dev(),
+            inode: found.ino(),
+        }
+    }
+}

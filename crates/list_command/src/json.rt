@@ -1,0 +1,150 @@
+//! Prints studies as one JSON object.
+use crate::grouping::Grouping;
+use crate::listing::ListOptions;
+use crate::order::{modalities_of, order_of_instances, order_of_series, order_of_studies};
+use crate::studies::{Instance, Series, Study};
+use crate::texts::{JsonPath, JsonText, JsonTexts};
+use failures::ProgramError;
+use std::alloc::Allocator;
+use std::io::{self, Write};
+
+/// Writes the comma before each element of an array except the first.
+fn separate<O: Write>(is_first: bool, out: &mut O) -> io::Result<()> {
+    if is_first { Ok(()) } else { write!(out, ",") }
+}
+
+/// Writes the members of a study's object, except its series and the closing brace.
+fn write_study<A: Allocator, O: Write>(
+    study: &Study<A>,
+    modalities: &[&[u8]],
+    out: &mut O,
+) -> io::Result<()> {
+    let (date, uid) = (
+        JsonText::ascii(study.date.as_slice()),
+        JsonText::ascii(study.uid.as_slice()),
+    );
+    let id = JsonText(study.patient_id.as_slice(), study.repertoire);
+    let name = JsonText(study.patient_name.as_slice(), study.repertoire);
+    let modalities = JsonTexts(modalities);
+    let (series, images) = (study.series.len(), study.images);
+    write!(
+        out,
+        "{{\"study\":{uid},\"date\":{date},\"patient_id\":{id},\"patient_name\":{name},"
+    )?;
+    write!(
+        out,
+        "\"modalities\":{modalities},\"series_count\":{series},\"image_count\":{images}"
+    )
+}
+
+/// Writes the members of a series's object, except its files and the closing brace.
+fn write_series<A: Allocator, O: Write>(series: &Series<A>, out: &mut O) -> io::Result<()> {
+    let (number, uid) = (
+        JsonText::ascii(series.number.as_slice()),
+        JsonText::ascii(series.uid.as_slice()),
+    );
+    let modality = JsonText::ascii(series.modality.as_slice());
+    let description = JsonText(series.description.as_slice(), series.repertoire);
+    let images = series.images;
+    write!(
+        out,
+        "{{\"series\":{uid},\"number\":{number},\"modality\":{modality},"
+    )?;
+    write!(
+        out,
+        "\"description\":{description},\"image_count\":{images}"
+    )
+}
+
+/// Writes a file as a JSON object.
+fn write_instance<A: Allocator, O: Write>(instance: &Instance<A>, out: &mut O) -> io::Result<()> {
+    let (number, uid) = (
+        JsonText::ascii(instance.number.as_slice()),
+        JsonText::ascii(instance.uid.as_slice()),
+    );
+    let path = JsonPath(instance.path.as_str());
+    write!(
+        out,
+        "{{\"instance\":{uid},\"number\":{number},\"file\":{path}}}"
+    )
+}
+
+/// Writes the member `instances` of a series: the array of its files.
+fn write_instances<A: Allocator + Copy, O: Write>(
+    alloc: A,
+    series: &Series<A>,
+    out: &mut O,
+) -> Result<(), ProgramError> {
+    let instances = series.instances.as_slice();
+    let mut is_first = true;
+    write!(out, ",\"instances\":[").map_err(ProgramError::of_output)?;
+    for place in order_of_instances(alloc, instances)? {
+        if let Some(instance) = instances.get(place) {
+            separate(is_first, out).map_err(ProgramError::of_output)?;
+            write_instance(instance, out).map_err(ProgramError::of_output)?;
+            is_first = false;
+        }
+    }
+    write!(out, "]").map_err(ProgramError::of_output)
+}
+
+/// Writes the member `series` of a study: the array of its series.
+fn write_all_series<A: Allocator + Copy, O: Write>(
+    alloc: A,
+    (study, series): (&Study<A>, &[Series<A>]),
+    options: ListOptions,
+    out: &mut O,
+) -> Result<(), ProgramError> {
+    let mut is_first = true;
+    write!(out, ",\"series\":[").map_err(ProgramError::of_output)?;
+    for place in order_of_series(alloc, study, series)? {
+        if let Some(series) = series.get(place) {
+            separate(is_first, out).map_err(ProgramError::of_output)?;
+            write_series(series, out).map_err(ProgramError::of_output)?;
+            if options.instances {
+                write_instances(alloc, series, out)?;
+            }
+            write!(out, "}}").map_err(ProgramError::of_output)?;
+            is_first = false;
+        }
+    }
+    write!(out, "]").map_err(ProgramError::of_output)
+}
+
+/// Writes the studies, separated by commas, each with its series and files if these are listed.
+fn write_studies<A: Allocator + Copy, O: Write>(
+    alloc: A,
+    grouping: &Grouping<A>,
+    options: ListOptions,
+    out: &mut O,
+) -> Result<(), ProgramError> {
+    let series = grouping.series.as_slice();
+    let mut is_first = true;
+    for place in order_of_studies(alloc, grouping.studies.as_slice())? {
+        if let Some(study) = grouping.studies.as_slice().get(place) {
+            let modalities = modalities_of(alloc, study, series)?;
+            separate(is_first, out).map_err(ProgramError::of_output)?;
+            write_study(study, modalities.as_slice(), out).map_err(ProgramError::of_output)?;
+            if options.has_series() {
+                write_all_series(alloc, (study, series), options, out)?;
+            }
+            write!(out, "}}").map_err(ProgramError::of_output)?;
+            is_first = false;
+        }
+    }
+    Ok(())
+}
+
+/// Writes the JSON object with the members `studies`, an array, and `left_out`, the number of files
+/// that were left out.
+pub(crate) fn write_json<A: Allocator + Copy, O: Write>(
+    alloc: A,
+    grouping: &Grouping<A>,
+    options: ListOptions,
+    left_out: u64,
+    out: &mut O,
+) -> Result<(), ProgramError> {
+    write!(out, "{{\"studies\":[").map_err(ProgramError::of_output)?;
+    write_studies(alloc, grouping, options, out)?;
+    writeln!(out, "],\"left_out\":{left_out}}}").map_err(ProgramError::of_output)
+}

@@ -1,0 +1,62 @@
+//! `dcmbox list`: lists the studies of the files in a folder.
+use crate::grouping::{Grouping, LISTED};
+use crate::json::write_json;
+use crate::lines::write_lines;
+use failures::{ProgramError, flushed};
+use inspection::{Outcome, OutputForm};
+use keyed_files::{Counter, Visitor};
+use std::io::{self, BufWriter, Write};
+use std::rt::Files;
+
+/// The options of `list`.
+#[derive(Clone, Copy)]
+pub struct ListOptions {
+    /// Whether the series of each study are listed.
+    pub series: bool,
+    /// Whether the files of each series are listed, and so the series, too.
+    pub instances: bool,
+    pub form: OutputForm,
+}
+
+impl ListOptions {
+    /// Returns whether series are listed.
+    pub(crate) fn has_series(self) -> bool {
+        self.series || self.instances
+    }
+}
+
+/// Writes the studies of the files in a folder and its subfolders, ordered by date and then by UID: as
+/// a line each, or as one JSON object. Files that are no DICOM files, or have a fault before the listed
+/// values, are reported on `err`; the outcome is `Faulty` then. Files that cannot be read are reported,
+/// too, and the error is `Unread` then.
+///
+/// Memory grows with the number of studies and series, and with that of files if these are listed.
+///
+/// Fails also if the folder cannot be listed, the output cannot be written, or memory runs out.
+pub fn list_folder<R: Files + Alloc + Clone + Drop, O: Write, E: Write + Drop>(
+    rt: &R,
+    dir: &str,
+    options: ListOptions,
+    out: &mut O,
+    (err, counter): (E, Counter),
+) -> Result<Outcome, ProgramError>
+where
+    R::A: Copy,
+{
+    let mut grouping = Grouping::new(rt.alloc(), options.instances);
+    let tally = Visitor::new(rt, &LISTED, err, counter).visit_all(dir, &mut grouping)?;
+    match options.form {
+        OutputForm::Lines => write_lines(rt.alloc(), &grouping, options, out)?,
+        OutputForm::Json => write_json(rt.alloc(), &grouping, options, tally.left_out, out)?,
+    }
+    tally.outcome()
+}
+
+/// Prints the studies of the files in a folder, as [`list_folder`] writes them. What was written before
+/// an error is printed, too.
+pub fn list(rt: &HostRuntime, dir: &str, options: ListOptions) -> Result<Outcome, ProgramError> {
+    let mut out = BufWriter::new(rt.alloc(), io::writer(rt)).map_err(ProgramError::of_output)?;
+    let told = (rt.stderr(), Counter::new(rt));
+    let listed = list_folder(rt, dir, options, &mut out, told);
+    flushed(listed, &mut out)
+}

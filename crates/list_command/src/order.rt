@@ -1,0 +1,94 @@
+//! The order in which studies, series and files are listed.
+use crate::studies::{Instance, Series, Study};
+use std::alloc::{AllocError, Allocator};
+use std::str;
+
+/// What an item is ordered by, first the key and then the UID; and its index.
+type Rank<'a, K> = (K, &'a [u8], usize);
+
+/// Returns the indices of the items, in order. Fails if memory runs out.
+fn places_of<'a, A: Allocator + Copy, K: Ord + Drop>(
+    alloc: A,
+    ranks: Vec<Rank<'a, K>, A>,
+) -> Result<Vec<usize, A>, AllocError> {
+    let mut ranks = ranks;
+    ranks.sort()?;
+    let mut order = Vec::new(alloc);
+    for (_, _, place) in ranks {
+        order.push(place)?;
+    }
+    Ok(order)
+}
+
+/// Returns the integer in a decimal text, or the greatest one if the text is no number.
+fn number_in(text: &[u8]) -> i64 {
+    match str::from_utf8(text) {
+        Ok(text) => text.trim().parse::<i64>().unwrap_or(i64::MAX),
+        Err(_) => i64::MAX,
+    }
+}
+
+/// Returns the indices of the studies, ordered by date and then by UID. Fails if memory runs out.
+pub(crate) fn order_of_studies<A: Allocator + Copy>(
+    alloc: A,
+    studies: &[Study<A>],
+) -> Result<Vec<usize, A>, AllocError> {
+    let mut ranks = Vec::new(alloc);
+    for place in 0..studies.len() {
+        let study = &studies[place];
+        ranks.push((study.date.as_slice(), study.uid.as_slice(), place))?;
+    }
+    places_of(alloc, ranks)
+}
+
+/// Returns the indices of the series of a study, ordered by number and then by UID. Fails if memory
+/// runs out.
+pub(crate) fn order_of_series<A: Allocator + Copy>(
+    alloc: A,
+    study: &Study<A>,
+    series: &[Series<A>],
+) -> Result<Vec<usize, A>, AllocError> {
+    let mut ranks = Vec::new(alloc);
+    for place in &study.series {
+        if let Some(series) = series.get(*place) {
+            let number = number_in(series.number.as_slice());
+            ranks.push((number, series.uid.as_slice(), *place))?;
+        }
+    }
+    places_of(alloc, ranks)
+}
+
+/// Returns the indices of the files of a series, ordered by number and then by UID. Fails if memory
+/// runs out.
+pub(crate) fn order_of_instances<A: Allocator + Copy>(
+    alloc: A,
+    instances: &[Instance<A>],
+) -> Result<Vec<usize, A>, AllocError> {
+    let mut ranks = Vec::new(alloc);
+    for place in 0..instances.len() {
+        let instance = &instances[place];
+        let number = number_in(instance.number.as_slice());
+        ranks.push((number, instance.uid.as_slice(), place))?;
+    }
+    places_of(alloc, ranks)
+}
+
+/// Returns the modalities of the series of a study in ascending order, each once. Fails if memory runs
+/// out.
+pub(crate) fn modalities_of<'a, A: Allocator + Copy>(
+    alloc: A,
+    study: &Study<A>,
+    series: &'a [Series<A>],
+) -> Result<Vec<&'a [u8], A>, AllocError> {
+    let mut modalities = Vec::new(alloc);
+    for place in &study.series {
+        if let Some(series) = series.get(*place) {
+            if !series.modality.is_empty() {
+                modalities.push(series.modality.as_slice())?;
+            }
+        }
+    }
+    modalities.sort()?;
+    modalities.dedup();
+    Ok(modalities)
+}

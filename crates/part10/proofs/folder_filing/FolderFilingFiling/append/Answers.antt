@@ -1,0 +1,16 @@
+use Rattle.std.proofs.Common.{refl, arith, subst, sym}
+use Rattle.std.proofs.Math.Logic.{∥∥₁_map}
+use Rattle.part10.specs.Naming.{IsOrderly}
+use Rattle.part10.proofs.NamingLemmas.{goes_on, keeps_same, passed_on}
+use Rattle.part10.proofs.folder_filing.FolderFilingFiling.append.Goals as goal
+use Rattle.part10.proofs.folder_filing.FolderFilingFiling.append.Goals.{in-Some, in-None}
+
+pub invariant_of-self : goal.invariant_of-self
+invariant_of-self g c =
+    let was = subst (λ z. ∥ IsOrderly z.names ∥₁) (sym c.self-inside.view_is) c.self.invariant in
+    elim c.match-self.branch [
+      | in-Some w ↦
+          let asked = passed_on _ _ _ w.write_all-written.ensures.taken w.write_all-written.ensures.refused in
+          rw w.self-inside-is (∥∥₁_map was (goes_on _ _ refl (omega arith) (keeps_same _) asked.0 asked.1))
+      | in-None w ↦ rw w.self-inside-is was
+    ]

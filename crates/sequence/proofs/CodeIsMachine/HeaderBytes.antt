@@ -1,0 +1,216 @@
+-- The bytes of a header taken at once bring the machine where they bring it one by one (`refused_run`, `whole_run`,
+-- `part_run`), and keep the same (`whole_kept`, `part_kept`). Stands on WhereRulesBreak and MachineStands.
+use Rattle.std.proofs.Common.{◌≡◌, ℕ, suc, ◌+◌, ◌-◌, ◌<◌, ◌≤◌, Bool, true, false, List, [], ◌∷◌, ◌++◌, length, take, get_or, Some, None, nat_eq, eqb-true, false-eqb, refl, sym, ap, subst, ◌∙◌, arith, append_assoc, append-nil, length-append}
+use Rattle.std.proofs.lemmas.List.{take_more, take_all, take-take, length-take-le}
+use Rattle.element.specs.declared.tag.Tag.{Tag}
+use Rattle.element.specs.declared.header.Header.{Header}
+use Rattle.element.specs.Header.{is_whole, header_at}
+use Rattle.sequence.specs.Coding.{layout}
+use Rattle.sequence.specs.declared.level.Scope.{Scope}
+use Rattle.sequence.specs.declared.shape.Shape.{Shape}
+use Rattle.sequence.specs.declared.stage.Stage.{Stage}
+use Rattle.sequence.specs.declared.stage.Stage.TheVariants as stages
+use Rattle.sequence.specs.declared.heading.End.TheVariants as ends
+use Rattle.sequence.specs.Open.{IsUnfinishedHeader}
+use Rattle.sequence.specs.Wanted.{Values}
+use Rattle.sequence.specs.Rules.{Limits, broken}
+use Rattle.sequence.specs.machine.Machine.{at, Heading, Stopped, ArrivesAt, spot_of, take_header, headed, run}
+use Rattle.sequence.specs.machine.Keeping.{keeps, keep_header, keep_headed}
+use Rattle.sequence.specs.machine.State.{mode_of}
+use Rattle.sequence.specs.machine.Heading.{IsQuiet, IsEnd}
+use Rattle.sequence.specs.machine.Steps.{IsMade, IsTaken}
+use Rattle.sequence.specs.declared.rule.Rule.{Rule}
+use Rattle.sequence.specs.Names.{rule_number}
+use Rattle.sequence.proofs.MachineStands.UnbrokenHeader.{on_tail}
+use Rattle.sequence.proofs.CodeIsMachine.WhereRulesBreak.{take_both}
+use Rattle.sequence.proofs.MachineStands.HeaderParts.{part_short}
+
+-- what the bytes of a header come to
+
+headed_refused : (lim : Limits) (f : Scope) (fs : List Scope) (p b : ℕ) (t : List ℕ) (number : ℕ) (tag : Tag) → broken lim (spot_of f fs b) t ≡ Some (number, tag) → headed lim f fs p b t ≡ at f fs p (Stopped number b tag)
+unfolding headed
+headed_refused lim f fs p b t number tag e = rw e refl
+
+headed_whole : (lim : Limits) (f : Scope) (fs : List Scope) (p b : ℕ) (t : List ℕ) (h : Header) → broken lim (spot_of f fs b) t ≡ None → is_whole (layout f.syntax) t ≡ true → h ≡ header_at (layout f.syntax) t → headed lim f fs p b t ≡ take_header p f fs h
+unfolding headed
+headed_whole lim f fs p b t h e w r = rw (e, w) (ap (take_header p f fs) (sym r))
+
+headed_quiet : (lim : Limits) (f : Scope) (fs : List Scope) (p b : ℕ) (t : List ℕ) → IsQuiet lim (spot_of f fs b) t → headed lim f fs p b t ≡ at f fs p (Heading b t)
+unfolding headed
+headed_quiet lim f fs p b t q = let e = q.fine in let w : is_whole (layout f.syntax) t ≡ false = q.part in rw (e, w) refl
+
+kept_quiet : (lim : Limits) (f : Scope) (fs : List Scope) (b : ℕ) (t : List ℕ) (values : Values) → IsQuiet lim (spot_of f fs b) t → keep_headed lim (broken lim (spot_of f fs b) t) f fs t values ≡ values
+kept_quiet lim f fs b t values q = let e = q.fine in let w : is_whole (layout f.syntax) t ≡ false = q.part in rw (e, w) refl
+
+kept_refused : (lim : Limits) (f : Scope) (fs : List Scope) (b : ℕ) (t : List ℕ) (values : Values) (number : ℕ) (tag : Tag) → broken lim (spot_of f fs b) t ≡ Some (number, tag) → keep_headed lim (broken lim (spot_of f fs b) t) f fs t values ≡ values
+kept_refused lim f fs b t values number tag e = rw e refl
+
+kept_whole : (lim : Limits) (f : Scope) (fs : List Scope) (b : ℕ) (t : List ℕ) (values : Values) (h : Header) → broken lim (spot_of f fs b) t ≡ None → is_whole (layout f.syntax) t ≡ true → h ≡ header_at (layout f.syntax) t → keep_headed lim (broken lim (spot_of f fs b) t) f fs t values ≡ keep_header lim f fs h values
+kept_whole lim f fs b t values h e w r = rw (e, w) (ap (λ z. keep_header lim f fs z values) (sym r))
+
+abbrev AreQuiet : Limits → Scope → List Scope → ℕ → List ℕ → List ℕ → Type 0
+AreQuiet lim f fs b t taken = (m : ℕ) → 0 < m → m < length taken → IsQuiet lim (spot_of f fs b) (t ++ take m taken)
+
+quiet_rest : (lim : Limits) (f : Scope) (fs : List Scope) (b : ℕ) (t : List ℕ) (x : ℕ) (taken : List ℕ) → AreQuiet lim f fs b t (x ∷ taken) → AreQuiet lim f fs b (t ++ x ∷ []) taken
+quiet_rest lim f fs b t x taken q m some lt = subst (IsQuiet lim (spot_of f fs b)) (sym (append_assoc t (x ∷ []) (take m taken))) (q (suc m) (omega arith) (omega (arith, lt)))
+
+-- only the last of them counts
+run_headed : (lim : Limits) (f : Scope) (fs : List Scope) (p q b : ℕ) (t taken : List ℕ) → 0 < length taken → q ≡ p + length taken → AreQuiet lim f fs b t taken → run lim (at f fs p (Heading b t)) taken ≡ headed lim f fs q b (t ++ taken)
+unfolding run
+run_headed lim f fs p q b t [] some q-is quiet = absurd (omega (arith, some))
+run_headed lim f fs p q b t (x ∷ []) some q-is quiet = let k : p + 1 ≡ q = omega (arith, q-is) in ap (λ z. headed lim f fs z b (t ++ x ∷ [])) k
+run_headed lim f fs p q b t (x ∷ y ∷ taken) some q-is quiet =
+    let one : IsQuiet lim (spot_of f fs b) (t ++ x ∷ []) = quiet 1 (omega arith) (omega arith) in
+    ap (λ z. run lim z (y ∷ taken)) (headed_quiet lim f fs (p + 1) b (t ++ x ∷ []) one)
+    ∙ run_headed lim f fs (p + 1) q b (t ++ x ∷ []) (y ∷ taken) (omega arith) (omega (arith, q-is)) (quiet_rest lim f fs b t x (y ∷ taken) quiet)
+    ∙ ap (headed lim f fs q b) (append_assoc t (x ∷ []) (y ∷ taken))
+
+keeps_headed : (lim : Limits) (f : Scope) (fs : List Scope) (p b : ℕ) (t taken : List ℕ) (values : Values) → 0 < length taken → AreQuiet lim f fs b t taken → keeps lim (at f fs p (Heading b t)) values taken ≡ keep_headed lim (broken lim (spot_of f fs b) (t ++ taken)) f fs (t ++ taken) values
+unfolding keeps
+keeps_headed lim f fs p b t [] values some quiet = absurd (omega (arith, some))
+keeps_headed lim f fs p b t (x ∷ []) values some quiet = refl
+keeps_headed lim f fs p b t (x ∷ y ∷ taken) values some quiet =
+    let one : IsQuiet lim (spot_of f fs b) (t ++ x ∷ []) = quiet 1 (omega arith) (omega arith) in
+    ap (λ z. keeps lim z (keep_headed lim (broken lim (spot_of f fs b) (t ++ x ∷ [])) f fs (t ++ x ∷ []) values) (y ∷ taken)) (headed_quiet lim f fs (p + 1) b (t ++ x ∷ []) one)
+    ∙ ap (λ z. keeps lim (at f fs (p + 1) (Heading b (t ++ x ∷ []))) z (y ∷ taken)) (kept_quiet lim f fs b (t ++ x ∷ []) values one)
+    ∙ keeps_headed lim f fs (p + 1) b (t ++ x ∷ []) (y ∷ taken) values (omega arith) (quiet_rest lim f fs b t x (y ∷ taken) quiet)
+    ∙ ap (λ z. keep_headed lim (broken lim (spot_of f fs b) z) f fs z values) (append_assoc t (x ∷ []) (y ∷ taken))
+
+last_one : (xs : List ℕ) → 0 < length xs → xs ≡ take (length xs - 1) xs ++ get_or xs (length xs - 1) 0 ∷ []
+last_one xs some =
+    let one : length xs - 1 + 1 ≡ length xs = omega (arith, some) in
+    sym (ap (λ z. take z xs) one ∙ take_all (length xs) xs (omega arith)) ∙ take_more xs (length xs - 1) 0 (omega (arith, some))
+
+-- of a walker in a header, of which t came, after p bytes
+module _ (lim : Limits) (f : Scope) (fs : List Scope) (p : ℕ) (t piece : List ℕ) (behind : length t ≤ p) where
+  taken_text : (n : ℕ) → length t ≤ n → t ++ take (n - length t) piece ≡ take n (t ++ piece)
+  taken_text n le = sym (take_both t piece n le)
+
+  taken_size : (n : ℕ) → n ≤ length (t ++ piece) → length (take (n - length t) piece) ≡ n - length t
+  taken_size n le = length-take-le (n - length t) piece (omega (arith, le, length-append t piece))
+
+  taken_quiet : (n : ℕ) → length t < n → n ≤ length (t ++ piece) → ((m : ℕ) → length t < m → m < n → IsQuiet lim (spot_of f fs (p - length t)) (take m (t ++ piece))) → AreQuiet lim f fs (p - length t) t (take (n - length t) piece)
+  taken_quiet n lt le quiet m some less =
+      let size = taken_size n le in
+      let front : take m (take (n - length t) piece) ≡ take m piece = take-take m (n - length t) piece (omega (arith, less, size)) in
+      let rest : length t + m - length t ≡ m = omega arith in
+      let text : take (length t + m) (t ++ piece) ≡ t ++ take m piece = take_both t piece (length t + m) (omega arith) ∙ ap (λ z. t ++ take z piece) rest in
+      subst (IsQuiet lim (spot_of f fs (p - length t))) (text ∙ ap (λ z. t ++ z) (sym front)) (quiet (length t + m) (omega (arith, some)) (omega (arith, less, size)))
+
+  run_to : (n : ℕ) → length t < n → n ≤ length (t ++ piece) → ((m : ℕ) → length t < m → m < n → IsQuiet lim (spot_of f fs (p - length t)) (take m (t ++ piece)))
+      → run lim (at f fs p (Heading (p - length t) t)) (take (n - length t) piece) ≡ headed lim f fs (p - length t + n) (p - length t) (take n (t ++ piece))
+  run_to n lt le quiet =
+      let size = taken_size n le in
+      run_headed lim f fs p (p - length t + n) (p - length t) t (take (n - length t) piece) (omega (arith, size, lt)) (omega (arith, size, lt, behind)) (taken_quiet n lt le quiet)
+      ∙ ap (headed lim f fs (p - length t + n) (p - length t)) (taken_text n (omega (arith, lt)))
+
+  keeps_to : (values : Values) (n : ℕ) → length t < n → n ≤ length (t ++ piece) → ((m : ℕ) → length t < m → m < n → IsQuiet lim (spot_of f fs (p - length t)) (take m (t ++ piece)))
+      → keeps lim (at f fs p (Heading (p - length t) t)) values (take (n - length t) piece) ≡ keep_headed lim (broken lim (spot_of f fs (p - length t)) (take n (t ++ piece))) f fs (take n (t ++ piece)) values
+  keeps_to values n lt le quiet =
+      let size = taken_size n le in
+      keeps_headed lim f fs p (p - length t) t (take (n - length t) piece) values (omega (arith, size, lt)) (taken_quiet n lt le quiet)
+      ∙ ap (λ z. keep_headed lim (broken lim (spot_of f fs (p - length t)) z) f fs z values) (taken_text n (omega (arith, lt)))
+
+  module _ (stage : Stage) (is : stage ≡ stages.Heading) (begun : ℕ) (begun-is : begun ≡ length t) where
+    pub refused_run : (n : ℕ) (rule : Rule) (tag : Tag) → IsEnd lim (spot_of f fs (p - length t)) (t ++ piece) (length t) (ends.Refused n rule tag) → at f fs (p - begun + n) (Stopped (rule_number rule) (p - begun) tag) ≡ run lim (at f fs p (mode_of stage p t)) (take (n - begun) piece)
+    refused_run n rule tag k =
+        subst (λ z. at f fs (p - z + n) (Stopped (rule_number rule) (p - z) tag) ≡ run lim (at f fs p (mode_of stage p t)) (take (n - z) piece)) (sym begun-is)
+        (sym (ap (λ z. run lim (at f fs p (mode_of z p t)) (take (n - length t) piece)) is ∙ run_to n k.0.more k.0.some k.2 ∙ headed_refused lim f fs (p - length t + n) (p - length t) (take n (t ++ piece)) (rule_number rule) tag k.1))
+
+    pub refused_kept : (values : Values) (n : ℕ) (rule : Rule) (tag : Tag) → IsEnd lim (spot_of f fs (p - length t)) (t ++ piece) (length t) (ends.Refused n rule tag) → values ≡ keeps lim (at f fs p (mode_of stage p t)) values (take (n - begun) piece)
+    refused_kept values n rule tag k =
+        subst (λ z. values ≡ keeps lim (at f fs p (mode_of stage p t)) values (take (n - z) piece)) (sym begun-is)
+        (sym (ap (λ z. keeps lim (at f fs p (mode_of z p t)) values (take (n - length t) piece)) is ∙ keeps_to values n k.0.more k.0.some k.2 ∙ kept_refused lim f fs (p - length t) (take n (t ++ piece)) values (rule_number rule) tag k.1))
+
+    pub whole_run : (n : ℕ) (h : Header) (sh : Shape) → IsEnd lim (spot_of f fs (p - length t)) (t ++ piece) (length t) (ends.Whole n h sh) → take_header (p - begun + n) f fs h ≡ run lim (at f fs p (mode_of stage p t)) (take (n - begun) piece)
+    whole_run n h sh k =
+        subst (λ z. take_header (p - z + n) f fs h ≡ run lim (at f fs p (mode_of stage p t)) (take (n - z) piece)) (sym begun-is)
+        (sym (ap (λ z. run lim (at f fs p (mode_of z p t)) (take (n - length t) piece)) is ∙ run_to n k.0.more k.0.some k.2 ∙ headed_whole lim f fs (p - length t + n) (p - length t) (take n (t ++ piece)) h k.1.fine k.1.whole k.1.read))
+
+    pub whole_kept : (values : Values) (n : ℕ) (h : Header) (sh : Shape) → IsEnd lim (spot_of f fs (p - length t)) (t ++ piece) (length t) (ends.Whole n h sh) → keep_header lim f fs h values ≡ keeps lim (at f fs p (mode_of stage p t)) values (take (n - begun) piece)
+    whole_kept values n h sh k =
+        subst (λ z. keep_header lim f fs h values ≡ keeps lim (at f fs p (mode_of stage p t)) values (take (n - z) piece)) (sym begun-is)
+        (sym (ap (λ z. keeps lim (at f fs p (mode_of z p t)) values (take (n - length t) piece)) is ∙ keeps_to values n k.0.more k.0.some k.2 ∙ kept_whole lim f fs (p - length t) (take n (t ++ piece)) values h k.1.fine k.1.whole k.1.read))
+
+    made_by : (n : ℕ) (h : Header) (sh : Shape) → IsEnd lim (spot_of f fs (p - length t)) (t ++ piece) (length t) (ends.Whole n h sh) → IsUnfinishedHeader f.syntax t → IsMade f.syntax t (take (n - length t) piece) h
+    made_by n h sh k u =
+        let size = taken_size n k.0.some in
+        let text = taken_text n (omega (arith, k.0.more)) in
+        let xs = take (n - length t) piece in
+        record {
+          front = take (length xs - 1) xs;
+          byte = get_or xs (length xs - 1) 0;
+          text = last_one xs (omega (arith, size, k.0.more));
+          part = before (nat_eq (length xs - 1) 0) refl;
+          whole = ap (is_whole (layout f.syntax)) text ∙ k.1.whole;
+          read = ap (header_at (layout f.syntax)) text ∙ sym k.1.read;
+        }
+      where
+        before : (q : Bool) → nat_eq (length (take (n - length t) piece) - 1) 0 ≡ q → IsUnfinishedHeader f.syntax (t ++ take (length (take (n - length t) piece) - 1) (take (n - length t) piece))
+        before true e =
+            subst (IsUnfinishedHeader f.syntax) (sym (ap (λ z. t ++ take z (take (n - length t) piece)) (eqb-true (length (take (n - length t) piece) - 1) 0 e) ∙ append-nil t)) u
+        before false e =
+            let some = false-eqb (length (take (n - length t) piece) - 1) 0 (sym e) in
+            let q = taken_quiet n k.0.more k.0.some k.2 (length (take (n - length t) piece) - 1) (omega (arith, some)) (omega (arith, some)) in
+            on_tail lim (spot_of f fs (p - length t)) (t ++ take (length (take (n - length t) piece) - 1) (take (n - length t) piece)) q.fine q.part
+
+    told_by : (new : Stage) (place : ℕ) (header : List ℕ) (k : ℕ) (h : Header) → IsMade f.syntax t (take k piece) h → ArrivesAt (mode_of new place header) (p + k) → IsTaken f.syntax t piece p k new header (Some h)
+    told_by stages.Heading place header k h m arrives = (m, arrives)
+    told_by (stages.Value tag left kept) place header k h m arrives = m
+    told_by (stages.Stopped fault) place header k h m arrives = (m, arrives)
+
+    pub whole_told : (new : Stage) (place : ℕ) (header : List ℕ) (n : ℕ) (h : Header) (sh : Shape) → IsEnd lim (spot_of f fs (p - length t)) (t ++ piece) (length t) (ends.Whole n h sh) → IsUnfinishedHeader f.syntax t → ArrivesAt (mode_of new place header) (p - begun + n) → IsTaken f.syntax t piece p (n - begun) new header (Some h)
+    whole_told new place header n h sh k u arrives =
+        let end : p - begun + n ≡ p + (n - begun) = omega (arith, begun-is, k.0.more, behind) in
+        told_by new place header (n - begun) h (subst (λ z. IsMade f.syntax t (take (n - z) piece) h) (sym begun-is) (made_by n h sh k u)) (subst (ArrivesAt (mode_of new place header)) end arrives)
+
+    pub refused_told : (n : ℕ) (rule : Rule) (tag : Tag) (header : List ℕ) → IsEnd lim (spot_of f fs (p - length t)) (t ++ piece) (length t) (ends.Refused n rule tag) → IsTaken f.syntax t piece p (n - begun) (stages.Stopped (record { number = rule_number rule; place = p - begun; tag = tag })) header None
+    refused_told n rule tag header k = (omega (arith, begun-is, behind), omega (arith, begun-is, k.0.more))
+
+    -- the header goes on
+
+    pub all_quiet : 0 < length piece → IsEnd lim (spot_of f fs (p - length t)) (t ++ piece) (length t) ends.Part → IsQuiet lim (spot_of f fs (p - length t)) (t ++ piece)
+    all_quiet some k = subst (IsQuiet lim (spot_of f fs (p - length t))) (take_all (length (t ++ piece)) (t ++ piece) (omega arith)) (k (length (t ++ piece)) (omega (arith, some, length-append t piece)) (omega arith))
+
+    piece_is : take (length (t ++ piece) - length t) piece ≡ take (length piece) piece
+    piece_is = ap (λ z. take z piece) (let k : length (t ++ piece) - length t ≡ length piece = omega (arith, length-append t piece) in k)
+
+    pub part_run : (items : List ℕ) → items ≡ t ++ piece → 0 < length piece → IsEnd lim (spot_of f fs (p - length t)) (t ++ piece) (length t) ends.Part → at f fs (p + length piece) (mode_of stage (p + length piece) items) ≡ run lim (at f fs p (mode_of stage p t)) (take (length piece) piece)
+    part_run items items-is some k =
+        let n = length (t ++ piece) in
+        let size : n ≡ length t + length piece = length-append t piece in
+        let b : p + length piece - length items ≡ p - length t = omega (arith, ap length items-is, size, behind) in
+        let place : p - length t + n ≡ p + length piece = omega (arith, size, behind) in
+        let all = take_all n (t ++ piece) (omega arith) in
+        let q = all_quiet some k in
+        ap (λ z. at f fs (p + length piece) (mode_of z (p + length piece) items)) is
+        ∙ ap (λ z. at f fs (p + length piece) (Heading z items)) b ∙ ap (λ z. at f fs (p + length piece) (Heading (p - length t) z)) items-is
+        ∙ sym (headed_quiet lim f fs (p + length piece) (p - length t) (t ++ piece) q)
+        ∙ ap (λ z. headed lim f fs z (p - length t) (t ++ piece)) (sym place)
+        ∙ ap (headed lim f fs (p - length t + n) (p - length t)) (sym all)
+        ∙ sym (run_to n (omega (arith, size, some)) (omega arith) (λ m lt less. k m lt (omega (arith, less))))
+        ∙ ap (run lim (at f fs p (Heading (p - length t) t))) piece_is
+        ∙ ap (λ z. run lim (at f fs p (mode_of z p t)) (take (length piece) piece)) (sym is)
+
+    pub part_kept : (values : Values) → 0 < length piece → IsEnd lim (spot_of f fs (p - length t)) (t ++ piece) (length t) ends.Part → values ≡ keeps lim (at f fs p (mode_of stage p t)) values (take (length piece) piece)
+    part_kept values some k =
+        let n = length (t ++ piece) in
+        let size : n ≡ length t + length piece = length-append t piece in
+        let all = take_all n (t ++ piece) (omega arith) in
+        let q = all_quiet some k in
+        sym (kept_quiet lim f fs (p - length t) (t ++ piece) values q)
+        ∙ ap (λ z. keep_headed lim (broken lim (spot_of f fs (p - length t)) z) f fs z values) (sym all)
+        ∙ sym (keeps_to values n (omega (arith, size, some)) (omega arith) (λ m lt less. k m lt (omega (arith, less))))
+        ∙ ap (keeps lim (at f fs p (Heading (p - length t) t)) values) piece_is
+        ∙ ap (λ z. keeps lim (at f fs p (mode_of z p t)) values (take (length piece) piece)) (sym is)
+
+    pub part_told : (items : List ℕ) → items ≡ t ++ piece → 0 < length piece → IsEnd lim (spot_of f fs (p - length t)) (t ++ piece) (length t) ends.Part → IsTaken f.syntax t piece p (length piece) stage items None
+    part_told items items-is some k =
+        let q = all_quiet some k in
+        subst (λ z. IsTaken f.syntax t piece p (length piece) z items None) (sym is) (refl, items-is, on_tail lim (spot_of f fs (p - length t)) (t ++ piece) q.fine q.part)
+
+    pub part_short_of : 0 < length piece → IsEnd lim (spot_of f fs (p - length t)) (t ++ piece) (length t) ends.Part → length t + length piece < 12
+    part_short_of some k =
+        let q = all_quiet some k in
+        let short = part_short f.syntax (t ++ piece) (on_tail lim (spot_of f fs (p - length t)) (t ++ piece) q.fine q.part) in
+        omega (arith, short, length-append t piece)

@@ -1,0 +1,20 @@
+//! What a server and all its connections are held to, as contracts see it.
+ghost use Rattle.std.specs.Prelude.{[], ℕ};
+ghost use Rattle.negotiate.specs.Settings.{Settings};
+
+use std::marker::Brand;
+
+/// What one server and all its connections are held to. It stands for terms that are known only at run
+/// time: whoever calls a function that is generic in it, by the type `Brand`, picks them in the proof.
+pub trait Policy {
+    /// What each connection is held to.
+    ghost settings: { Settings };
+    /// How many connections there can be at once.
+    ghost at_once: { ℕ };
+}
+
+impl Policy for Brand {
+    ghost settings = { record { ae = []; callers = []; max_pdu = 0; max_data = 0; further = record { classes = []; transfers = [] } } };
+
+    ghost at_once = { 0 };
+}

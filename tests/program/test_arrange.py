@@ -1,0 +1,280 @@
+"""The tree that `arrange` makes of a folder: links, copies, names, and what is there already."""
+import os
+import pathlib
+import re
+
+import pytest
+from images import need
+from samples import DIRECTORY, HEADER, cases
+from studies import folder_of_images, image, measured, tree_of
+
+PATH = "P1/1.2.3/1.2.3.1/1.2.3.1.1.dcm"
+SECOND = "P1/1.2.3/1.2.3.1/1.2.3.1.1-2.dcm"
+THIRD = "P1/1.2.3/1.2.3.1/1.2.3.1.1-3.dcm"
+
+
+def counts(linked=0, passed=0, renamed=0, left=0, word="linked"):
+    return f"{word} {linked} passed over {passed} renamed {renamed} left out {left}\n"
+
+
+@pytest.fixture
+def arrange(run):
+    """Runs `arrange`: its status, its output and its errors."""
+
+    def arranged(*options, folder="in", **kinds):
+        done = run("arrange", folder, "--to", "tree", *options, **kinds)
+        return done.returncode, done.stdout, done.stderr
+
+    return arranged
+
+
+def test_links(arrange, put, work):
+    put({"in/I0000001": image(), "in/S0000001/I0000001": image(instance="1.2.3.1.2")})
+    assert arrange() == (0, counts(2), "")
+    assert set(tree_of(work / "tree")) == {PATH, "P1/1.2.3/1.2.3.1/1.2.3.1.2.dcm"}
+    assert (work / "tree" / PATH).samefile(work / "in/I0000001")
+    assert arrange() == (0, counts(0, 2), "")
+
+
+def test_a_tree_below_folders_that_are_not_there(run, put, work):
+    put({"in/I0000001": image()})
+    assert run("arrange", "in", "--to", "a/b/c").returncode == 0
+    assert (work / "a/b/c" / PATH).samefile(work / "in/I0000001")
+
+
+@pytest.mark.parametrize("option", ["", "--copy"])
+def test_the_same_name(arrange, put, work, option):
+    """Other bytes get a number, the same ones are passed over, and nothing is written over."""
+    put({"in/a": image(), "in/b": image(number="2"), "in/c": image(number="3"), "in/d": image()})
+    word = "copied" if option else "linked"
+    assert arrange(*option.split()) == (0, counts(1, 1, 2, word=word), "")
+    tree = tree_of(work / "tree")
+    assert set(tree) == {PATH, SECOND, THIRD}
+    assert {path.read_bytes() for path in tree.values()} == {
+        image(number=number) for number in "123"
+    }
+    kept = {name: (path.stat().st_ino, path.read_bytes()) for name, path in tree.items()}
+    assert arrange(*option.split()) == (0, counts(0, 4, word=word), "")
+    put({"in/e": image(number="4")})
+    assert arrange(*option.split()) == (0, counts(0, 4, 1, word=word), "")
+    tree = tree_of(work / "tree")
+    assert len(tree) == 4
+    assert kept.items() <= {n: (p.stat().st_ino, p.read_bytes()) for n, p in tree.items()}.items()
+
+
+@pytest.mark.parametrize("taken", ["file", "folder", "link", "dangling link"])
+def test_a_name_that_something_else_has(arrange, put, work, taken):
+    put({"in/a": image(), "other": b"x"})
+    path = work / "tree" / PATH
+    path.parent.mkdir(parents=True)
+    if taken == "file":
+        path.write_bytes(b"x" * len(image()))
+    elif taken == "folder":
+        path.mkdir()
+    else:
+        path.symlink_to(work / ("other" if taken == "link" else "missing"))
+    before = os.lstat(path)
+    assert arrange() == (0, counts(0, 0, 1), "")
+    assert (work / "tree" / SECOND).samefile(work / "in/a")
+    assert os.lstat(path) == before and (work / "other").read_bytes() == b"x"
+
+
+@pytest.mark.parametrize(
+    "value, name",
+    cases(
+        ("padded", "P1 ", "P1"),
+        ("zero bytes", b"P1\0\0", "P1"),
+        ("a space within", "P 1", "P 1"),
+        ("a slash", "../P1", "_._P1"),
+        ("a dot", ".", "_"),
+        ("two dots", "..", "_."),
+        ("a hidden file", ".ssh", "_ssh"),
+        ("dots within", "P.1.", "P.1."),
+        ("empty", "", "_"),
+        ("spaces", "  ", "_"),
+        ("missing", None, "UNKNOWN"),
+        ("control characters", b"a\n\t\x1b\x7fb", "a____b"),
+        ("not ASCII", b"M\xc3\xbcller", "M__ller"),
+        ("other characters", "a\\b:c*d?e\"f<g>h|i~", "a\\b:c*d?e\"f<g>h|i~"),
+        ("the longest", "x" * 230, "x" * 230),
+        ("too long", "x" * 232, "_"),
+        ("much too long", "x" * 60000, "_"),
+        ("too long with spaces", "x" + " " * 231, "_"),
+        ("a hyphen", "-rf", "-rf"),
+    ),
+)
+def test_names(arrange, put, work, value, name):
+    put({"in/a": image(patient=value)})
+    assert arrange() == (0, counts(1), "")
+    assert set(tree_of(work / "tree")) == {PATH.replace("P1", name)}
+    assert [path.name for path in (work / "tree").iterdir()] == [name]
+
+
+def test_the_longest_names(arrange, put, work):
+    """A number and the suffix fit after a name of 230 bytes."""
+    long = "1" * 230
+    put({"in/a": image(instance=long, study=long, series=long), "in/b": image(instance=long)})
+    put({"in/c": image(instance=long, number="7")})
+    assert arrange() == (0, counts(2, 0, 1), "")
+
+
+def test_values_that_are_missing(arrange, put, work):
+    put({"in/a": HEADER, "in/b": HEADER})
+    assert arrange() == (0, counts(1, 1), "")
+    assert set(tree_of(work / "tree")) == {"UNKNOWN/UNKNOWN/UNKNOWN/UNKNOWN.dcm"}
+
+
+def test_a_dry_run(arrange, put, work):
+    put({"in/a": image(), "in/b": image(number="2")})
+    assert arrange("--dry-run")[0] == 0 and not (work / "tree").exists()
+    os.rename(work / "in/b", work / "b")
+    assert arrange("--dry-run") == (0, f"link\tin/a\ttree/{PATH}\n" + counts(1), "")
+    copied = f"copy\tin/a\ttree/{PATH}\n" + counts(1, word="copied")
+    assert arrange("--dry-run", "--copy") == (0, copied, "")
+    arrange()
+    os.rename(work / "b", work / "in/b")
+    status, output, errors = arrange("--dry-run")
+    assert (status, errors) == (0, "") and sorted(output.splitlines()) == [
+        counts(0, 1, 1).strip(),
+        f"pass over\tin/a\ttree/{PATH}",
+        f"rename\tin/b\ttree/{SECOND}",
+    ]
+    assert set(tree_of(work / "tree")) == {PATH}
+
+
+def test_copies(arrange, put, work):
+    put({"in/a": image(), "in/b": image(instance="1.2.3.1.2"), "tree/DRAFT": b"what was left"})
+    assert arrange("--copy") == (0, counts(2, word="copied"), "")
+    tree = tree_of(work / "tree")
+    assert len(tree) == 2 and tree[PATH].read_bytes() == image()
+    assert not tree[PATH].samefile(work / "in/a") and tree[PATH].stat().st_nlink == 1
+    assert arrange("--copy") == (0, counts(0, 2, word="copied"), "")
+
+
+def test_a_draft_that_has_a_name(arrange, put, work):
+    """As a run leaves it that ends between the name and the removal: the named file stays as it is."""
+    put({"in/a": image(), "in/b": image(instance="1.2.3.1.2"), "tree/" + PATH: image()})
+    os.link(work / "tree" / PATH, work / "tree/DRAFT")
+    assert arrange("--copy") == (0, counts(1, 1, word="copied"), "")
+    tree = tree_of(work / "tree")
+    assert len(tree) == 2 and tree[PATH].read_bytes() == image()
+
+
+def test_a_copy_is_whole_before_it_has_its_name(run, put, work, trace):
+    put({"in/a": image()})
+    options = ("--trace=openat,fsync,link,linkat,rename,unlink,unlinkat",)
+    done = run("arrange", "in", "--to", "tree", "--copy", before=trace(*options))
+    assert done.returncode == 0
+    calls = (work / "calls.txt").read_text()
+    order = r'open\w*\(.*"tree/DRAFT".*fsync.*link\w*\(.*"tree/DRAFT".*\.dcm".*unlink\w*\(.*"tree/DRAFT"'
+    assert re.search(order, calls, re.DOTALL), calls
+
+
+def test_another_file_system(run, put, work, small_disk):
+    put({"in/a": image()})
+    disk = small_disk("disk", "-t", "tmpfs", "-o", "size=1m", "tmpfs")
+    done = run("arrange", "in", "--to", disk / "tree")
+    assert done.returncode == 3 and done.stdout == ""
+    assert re.fullmatch(
+        r"dcmbox: .*tree: a file can't be linked into it: .*cross-device.*; .*--copy\n",
+        done.stderr,
+        re.IGNORECASE,
+    )
+    done = run("arrange", "in", "--to", disk / "tree", "--copy")
+    assert (done.returncode, done.stdout) == (0, counts(1, word="copied"))
+    assert (disk / "tree" / PATH).read_bytes() == image()
+
+
+def test_a_disk_that_is_full(run, put, work, small_disk):
+    """No part of a copy has a name."""
+    put({f"in/{number}": image(instance=f"1.{number}") + bytes(200_000) for number in range(12)})
+    disk = small_disk("disk", "-t", "tmpfs", "-o", "size=1m", "tmpfs")
+    done = run("arrange", "in", "--to", disk / "tree", "--copy")
+    assert done.returncode == 3 and "it can't be written into: " in done.stderr
+    whole = {path.read_bytes() for path in (work / "in").iterdir()}
+    left = [path.read_bytes() for path in tree_of(disk / "tree").values()]
+    assert left and set(left) < whole
+
+
+def test_a_tree_in_the_folder(run, put, work):
+    put({"in/a": image()})
+    for linked, passed in ((1, 0), (0, 1)):
+        done = run("arrange", "in", "--to", "in/tree")
+        assert (done.returncode, done.stdout) == (0, counts(linked, passed))
+    assert (work / "in/tree" / PATH).samefile(work / "in/a")
+
+
+@pytest.mark.parametrize("tree", ["in", "in/", "./in", "other/../in", "link"])
+def test_the_folder_itself(expect, put, work, tree):
+    put({"in/a": image(), "other/a": b""})
+    (work / "link").symlink_to("in")
+    expect(2, "", "error: --to takes another folder than DIR", "arrange", "in", "--to", tree)
+    assert set(tree_of(work / "in")) == {"a"}
+
+
+def test_what_is_left_out(arrange, put, work):
+    put({"in/a": image(), "in/notes.txt": b"x", "in/DICOMDIR": DIRECTORY, "in/DRAFT": b"x"})
+    fault = "dcmbox: in/notes.txt: left out: fault 50 NotPart10 at 128\n"
+    assert arrange() == (1, counts(1, left=1), fault)
+    assert set(tree_of(work / "tree")) == {PATH}
+
+
+@pytest.mark.parametrize("folder", ["missing", "file"])
+def test_no_folder(arrange, put, folder):
+    put({"file": image()})
+    status, output, errors = arrange(folder=folder)
+    assert (status, output) == (3, "")
+    assert errors.startswith(f"dcmbox: {folder}: the folder can't be opened: ")
+
+
+def test_a_tree_that_is_a_file(arrange, put):
+    put({"in/a": image(), "tree": b""})
+    status, output, errors = arrange()
+    assert (status, output) == (3, "") and errors.startswith("dcmbox: tree: it can't be written")
+
+
+def test_a_folder_that_a_box_receives_into(run, serve, put):
+    """A tree with copies has one writer; what a box receives can be arranged meanwhile."""
+    serve()
+    put({"in/a": image(), "received/I0000001": image()})
+    done = run("arrange", "in", "--to", "received", "--copy")
+    assert done.returncode == 3 and done.stderr.startswith("dcmbox: received: ")
+    assert run("arrange", "received", "--to", "tree").stdout == counts(1)
+
+
+def test_pydicoms_files(run, work):
+    """Each file has the path of what pydicom reads, and the same bytes."""
+    pydicom = pytest.importorskip("pydicom", reason="make packages installs it")
+    from pydicom.data import get_testdata_file
+
+    folder = pathlib.Path(get_testdata_file("CT_small.dcm")).parent
+    done = run("arrange", folder, "--to", "tree", "--copy")
+    found = re.fullmatch(counts(r"(\d+)", r"(\d+)", r"(\d+)", r"(\d+)", "copied"), done.stdout)
+    tree = tree_of(work / "tree")
+    put, passed, renamed, left = map(int, found.groups())
+    assert len(tree) == put + renamed > 80 and left == done.stderr.count(": left out: ")
+    for name, path in tree.items():
+        data = pydicom.dcmread(path, stop_before_pixels=True, force=True)
+        keys = ("PatientID", "StudyInstanceUID", "SeriesInstanceUID", "SOPInstanceUID")
+        parts = [data.get(key) if key in data else "UNKNOWN" for key in keys]
+        parts = [re.sub(r"^\.|[^ -.0-~]", "_", str(part or "").rstrip()) or "_" for part in parts]
+        assert re.sub(r"(-\d+)?\.dcm$", "", name) == "/".join(parts)
+    sources = [path for path in folder.rglob("*") if path.is_file()]
+    assert {path.read_bytes() for path in tree.values()} <= {p.read_bytes() for p in sources}
+
+
+def test_20000_files(program, shared):
+    """Memory does not grow with the number of files, and is less than DCMTK and pydicom take."""
+    need("dcmdump")
+    work = shared("many")
+    folder_of_images(work / "few", 1_000)
+    folder_of_images(work / "many", 20_000)
+    few = measured(program, "arrange", "few", "--to", "few_tree", cwd=work)
+    ours = measured(program, "arrange", "many", "--to", "tree", cwd=work)
+    again = measured(program, "arrange", "many", "--to", "tree", cwd=work)
+    dcmtk = measured("dcmdump", "-q", "+sd", "+r", "+P", "0020,000e", work / "many", cwd=work)
+    print(f"1,000 {few}, 20,000 {ours}, again {again}, dcmdump {dcmtk}")
+    assert few[0] == ours[0] == again[0] == dcmtk[0] == 0
+    assert len(tree_of(work / "tree")) == 20_000
+    assert max(ours[2], again[2]) <= few[2] + 1024
+    assert ours[2] < dcmtk[2]

@@ -1,0 +1,130 @@
+"""The texts of data sets in JSON: those of pydicom's files of character sets, and of made ones."""
+import json
+import pathlib
+
+import pytest
+from samples import HEADER
+from peer import element
+from studies import image
+
+# pydicom's files, and whether their set is one of those that are read.
+READ = [
+    *("chrArab.dcm", "chrFren.dcm", "chrFrenMulti.dcm", "chrGerm.dcm", "chrGreek.dcm"),
+    *("chrHbrw.dcm", "chrRuss.dcm", "chrX1.dcm"),
+]
+UNREAD = [
+    *("chrH31.dcm", "chrH32.dcm", "chrI2.dcm", "chrJapMulti.dcm", "chrJapMultiExplicitIR6.dcm"),
+    *("chrKoreanMulti.dcm", "chrX2.dcm", "chrSQEncoding1.dcm"),
+    # Of UTF-8, with an item in another set.
+    "chrSQEncoding.dcm",
+]
+TEXTS = ("SH", "LO", "ST", "LT", "PN", "UC", "UT")
+# Terms of Specific Character Set, and Python's names of the sets.
+PARTS = {
+    **{"ISO_IR 100": "latin-1", "ISO_IR 101": "iso8859-2", "ISO_IR 109": "iso8859-3"},
+    **{"ISO_IR 110": "iso8859-4", "ISO_IR 144": "iso8859-5", "ISO_IR 127": "iso8859-6"},
+    **{"ISO_IR 126": "iso8859-7", "ISO_IR 138": "iso8859-8", "ISO_IR 148": "iso8859-9"},
+    **{"ISO_IR 166": "iso8859-11", "ISO_IR 203": "iso8859-15"},
+}
+
+
+@pytest.fixture
+def shown(run):
+    """The elements that `show` finds in a file."""
+
+    def elements(path):
+        done = run("show", "--json", "--values", str(path))
+        assert done.returncode == 0 and done.stderr == ""
+        return json.loads(done.stdout)["elements"]
+
+    return elements
+
+
+def texts_of(path):
+    """The texts of a file that are not empty and have 64 bytes at most, as pydicom decodes them."""
+    pydicom = pytest.importorskip("pydicom")
+    raw = pydicom.dcmread(path)
+    for place in raw.iterall():
+        if place.VR in TEXTS and place.value:
+            several = isinstance(place.value, pydicom.multival.MultiValue)
+            values = place.value if several else [place.value]
+            text = "\\".join(str(value) for value in values)
+            yield f"{place.tag.group:04x},{place.tag.element:04x}", text
+
+
+def path_of(name):
+    pytest.importorskip("pydicom")
+    import pydicom.data
+
+    return pathlib.Path(pydicom.data.__file__).parent / "charset_files" / name
+
+
+@pytest.mark.parametrize("name", READ)
+def test_sets_that_are_read(shown, name):
+    path = path_of(name)
+    found = [
+        # pydicom leaves empty component groups out.
+        (one["tag"], one["value"].rstrip(" ="))
+        for one in shown(path)
+        if one["vr"] in TEXTS and "value" in one
+    ]
+    wanted = [(tag, text.rstrip(" =")) for tag, text in texts_of(path) if len(text) <= 20]
+    assert wanted and set(wanted) <= set(found)
+    assert not any("%" in value for _, value in found)
+
+
+@pytest.mark.parametrize("name", UNREAD)
+def test_sets_that_are_not_read(shown, name):
+    values = [one["value"] for one in shown(path_of(name)) if "value" in one]
+    assert any("%" in value for value in values)
+    assert all(value.isascii() for value in values)
+
+
+def of_set(term, text):
+    """A file of a patient's name in this set."""
+    padded = term.encode() + b" " * (len(term) % 2)
+    name = text + b" " * (len(text) % 2)
+    return HEADER + element((0x08, 0x05), "CS", padded) + element((0x10, 0x10), "PN", name)
+
+
+@pytest.mark.parametrize("term, codec", PARTS.items())
+def test_each_byte_of_a_part(shown, put, term, codec):
+    """Each byte from 80H on is as Python decodes it, or in hexadecimal where it is no letter."""
+    for first in range(0x80, 0x100, 0x20):
+        data = bytes(range(first, first + 0x20)) + b"."
+        path = put({"part.dcm": of_set(term, data)})
+        wanted = ""
+        for byte in data:
+            letter = bytes([byte]).decode(codec, "ignore")
+            is_control = not letter or ord(letter) < 0xA0 and ord(letter) > 0x7E
+            wanted += f"%{byte:02x}" if is_control else letter
+        assert shown(path)[-1]["value"] == wanted
+
+
+@pytest.mark.parametrize(
+    "text", [b"\xff", b"a\xc3", b"\xc3\xa9\xa9b", b"\xed\xa0\x80", b"\xf4\x90\x80\x80", b"\xc0\x80"]
+)
+def test_what_is_no_utf_8(shown, put, text):
+    """What Python does not decode is in hexadecimal, and each byte of the text comes back."""
+    path = put({"utf8.dcm": of_set("ISO_IR 192", text)})
+    value = shown(path)[-1]["value"]
+    back = b""
+    rest = value.encode()
+    while rest:
+        is_byte = rest[:1] == b"%"
+        back += bytes([int(rest[1:3], 16)]) if is_byte else rest[:1]
+        rest = rest[3 if is_byte else 1 :]
+    assert back == text and "%" in value
+
+
+def test_a_list_as_json(run, put):
+    term = "ISO_IR 144"
+    name = "\u041b\u044e\u043a".encode("iso8859-5")
+    data = image(name=name, description=name)
+    data = HEADER + element((0x08, 0x05), "CS", term.encode()) + data[len(HEADER) :]
+    put({"in/I0000001": data, "in/I0000002": image(study="1.2.4", name=b"J\xe9")})
+    found = json.loads(run("list", "in", "--json", "--series").stdout)["studies"]
+    assert found[0]["patient_name"] == "\u041b\u044e\u043a"
+    assert found[0]["series"][0]["description"] == "\u041b\u044e\u043a"
+    assert found[1]["patient_name"] == "J%e9"
+    assert run("list", "in").stdout.startswith("20260101\tP1\t%bb%ee%da\t")

@@ -1,0 +1,296 @@
+"""What the crates cite of each other.
+
+A crate cites of the crates below it their definitions, their contracts and the lemmas of their
+module `Public`, and no other lemma. Each lemma of `Public` is the contract of a law.
+`specs/machine` is a crate's own: no other crate names it, and no definition outside it stands on
+it, so that a public clause does not either. So that this is seen, no file names a crate's
+definitions, proofs or machine as a whole. What an association runs has no memory but its own: the
+crates that it is made of name no allocator and nothing that needs one, but for the devices over
+memory and over a folder.
+"""
+import re
+
+import pytest
+from cases import cases
+from trees import NUMBER, ROOT, change
+
+WHOLE = re.compile(
+    r"use (Rattle\.)?[a-z0-9_]+((\.|::)(specs|proofs))?((\.|::)machine)?"
+    r"( as [A-Za-z_]+|(\.|::)(\{|\*))"
+)
+LEMMA = re.compile(r"(?:Rattle\.(\w+)\.proofs\.|\b(\w+)::proofs::)([A-Za-z_]+)")
+MACHINE = re.compile(r"Rattle\.([a-z0-9_]+)\.specs\.machine|\b([a-z0-9_]+)::specs::machine")
+ALLOCATING = re.compile(
+    r"\b(Alloc|AllocGlobal|Allocator|Global|alloc|Vec|String|Box|Rc|Arc|format!)"
+)
+# What an association is made of, and which of its files are devices.
+ASSOCIATION = "element dictionary sequence pdu acceptor negotiate dimse part10 engine".split()
+DEVICES = (
+    "memory_wire memory_filing folder_calls folder_filing folder_writer given_names locked_folder "
+    "listing names numbers"
+).split()
+
+
+def crates(tree):
+    return sorted(path.name for path in (tree / "crates").iterdir())
+
+
+def lines(tree, crate, part="*", ends=(".antt", ".rt")):
+    """The lines of a crate's files, or of a part's: each with its file, its place and its text."""
+    for folder in sorted((tree / "crates" / crate).glob(part)):
+        # What a check leaves is in `out`.
+        for path in [] if folder.name == "out" else sorted(folder.rglob("*")):
+            if path.suffix in ends:
+                name = path.relative_to(tree)
+                for number, line in enumerate(path.read_text().splitlines(), 1):
+                    yield name, f"{name}:{number}", line
+
+
+def wholes(tree):
+    """Where a file names the definitions or the proofs of a crate as a whole."""
+    return [
+        f"{place}: {line}"
+        for crate in crates(tree)
+        for _, place, line in lines(tree, crate)
+        if WHOLE.search(line) and re.search(r"Rattle\.|::(specs|proofs)", line)
+    ]
+
+
+def private_lemmas(tree):
+    """Where a crate cites a lemma of another one that is not in its module Public."""
+    every = crates(tree)
+    return [
+        f"{place}: {found[0]}"
+        for crate in every
+        for _, place, line in lines(tree, crate)
+        for found in LEMMA.finditer(line)
+        if (found[1] or found[2]) in every and (found[1] or found[2]) != crate
+        if found[3] != "Public"
+    ]
+
+
+def foreign_machines(tree):
+    """Where a crate names the machine of another one."""
+    return [
+        f"{place}: {line}"
+        for crate in crates(tree)
+        for _, place, line in lines(tree, crate)
+        for found in MACHINE.finditer(line)
+        if found[1] != crate and found[2] != "crate"
+    ]
+
+
+def definitions_on_machines(tree):
+    """Where a definition outside a machine stands on it."""
+    return [
+        f"{place}: {line}"
+        for crate in crates(tree)
+        for name, place, line in lines(tree, crate, "specs", [".antt"])
+        if "specs/machine/" not in str(name) and "specs.machine." in line
+    ]
+
+
+def lemmas_of_no_law(tree):
+    """The lemmas of modules Public that are the contract of no law."""
+    found = []
+    for public in sorted((tree / "crates").glob("*/proofs/Public.antt")):
+        answers = "\n".join(path.read_text() for path in public.parent.rglob("Answers.antt"))
+        found += [
+            f"{public.relative_to(tree)}: {lemma}"
+            for lemma in re.findall(r"^pub (\S+) :", public.read_text(), re.M)
+            if not re.search(
+                rf"proofs\.Public\.\{{([^}}\n]* )?{re.escape(lemma)}[,}}]", answers
+            )
+        ]
+    return found
+
+
+def allocations(tree):
+    """Where a crate that an association is made of names an allocator, or what needs one."""
+    return [
+        f"{place}: {line}"
+        for crate in ASSOCIATION
+        for name, place, line in lines(tree, crate, "src", [".rt"])
+        if ALLOCATING.search(line)
+        if name.stem not in DEVICES and not line.lstrip(" ").startswith("//")
+    ]
+
+
+def test_no_file_names_a_crate_as_a_whole():
+    assert wholes(ROOT) == []
+
+
+def test_a_crate_cites_no_lemma_of_another_but_public_ones():
+    assert private_lemmas(ROOT) == []
+
+
+def test_a_crate_names_no_machine_of_another():
+    assert foreign_machines(ROOT) == []
+
+
+def test_no_definition_stands_on_the_machine():
+    assert definitions_on_machines(ROOT) == []
+
+
+def test_each_public_lemma_is_the_contract_of_a_law():
+    assert lemmas_of_no_law(ROOT) == []
+
+
+def test_an_association_names_no_allocator():
+    assert allocations(ROOT) == []
+
+
+CHECKS = [
+    wholes,
+    private_lemmas,
+    foreign_machines,
+    definitions_on_machines,
+    lemmas_of_no_law,
+    allocations,
+]
+
+
+@pytest.mark.parametrize("check", CHECKS)
+def test_small_tree_is_right(small_tree, check):
+    assert check(small_tree) == []
+
+
+SMALL, GREAT = "crates/low/specs/Small.antt", "crates/high/specs/Great.antt"
+TURNS = "crates/engine/specs/Turns.antt"
+LOOP = "use Rattle.low.specs.machine.Loop.{Loop}\n"
+TURNING = "use Rattle.engine.specs.machine.Turning.{Turning}\n"
+
+
+@pytest.mark.parametrize(
+    "check, file, old, new, seen",
+    cases(
+        (
+            "a definition that stands on the machine",
+            definitions_on_machines,
+            SMALL,
+            "use Rattle.std",
+            f"{LOOP}use Rattle.std",
+            f"{SMALL}:2: {LOOP}",
+        ),
+        (
+            "a definition of engine that stands on the machine",
+            definitions_on_machines,
+            TURNS,
+            "use Rattle.std",
+            f"{TURNING}use Rattle.std",
+            f"{TURNS}:2: {TURNING}",
+        ),
+        (
+            "a definition that names the machine as a whole",
+            wholes,
+            SMALL,
+            "use Rattle.std",
+            "use Rattle.low.specs.machine as loops\nuse Rattle.std",
+            f"{SMALL}:2: use Rattle.low.specs.machine as loops",
+        ),
+        (
+            "the definitions of a crate by another name",
+            wholes,
+            GREAT,
+            "use Rattle.low.specs.Small.{Small}",
+            "use Rattle.low.specs as low",
+            f"{GREAT}:2: use Rattle.low.specs as low",
+        ),
+        (
+            "the proofs of a crate by another name",
+            wholes,
+            GREAT,
+            "use Rattle.low",
+            "use Rattle.low.proofs as lemmas\nuse Rattle.low",
+            f"{GREAT}:2: use Rattle.low.proofs as lemmas",
+        ),
+        (
+            "a crate by another name",
+            wholes,
+            GREAT,
+            "use Rattle.low",
+            "use Rattle.low as low\nuse Rattle.low",
+            f"{GREAT}:2: use Rattle.low as low",
+        ),
+        (
+            "all definitions of a crate, in its code",
+            wholes,
+            NUMBER,
+            "pub struct",
+            "use low::specs::*;\npub struct",
+            f"{NUMBER}:3: use low::specs::*;",
+        ),
+        (
+            "the machine of another crate",
+            foreign_machines,
+            GREAT,
+            "use Rattle.low",
+            f"{LOOP}use Rattle.low",
+            f"{GREAT}:2: {LOOP}",
+        ),
+        (
+            "the machine of another crate beside its own",
+            foreign_machines,
+            GREAT,
+            "use Rattle.low",
+            f"use Rattle.high.specs.machine.Turn.{{Turn}} {LOOP}use Rattle.low",
+            f"{GREAT}:2: use Rattle.high.specs.machine.Turn.{{Turn}} {LOOP}",
+        ),
+        (
+            "a lemma of another crate",
+            private_lemmas,
+            GREAT,
+            "use Rattle.low",
+            "use Rattle.low.proofs.Lemmas.{small}\nuse Rattle.low",
+            f"{GREAT}:2: Rattle.low.proofs.Lemmas",
+        ),
+        (
+            "a lemma of another crate, in code",
+            private_lemmas,
+            "crates/high/src/lib.rt",
+            "pub use",
+            "use low::proofs::Lemmas;\npub use",
+            "crates/high/src/lib.rt:2: low::proofs::Lemmas",
+        ),
+        (
+            "a public lemma of no law",
+            lemmas_of_no_law,
+            "crates/low/proofs/laws/small/Answers.antt",
+            "{small}",
+            "{large}",
+            "crates/low/proofs/Public.antt: small",
+        ),
+    ),
+)
+def test_a_fault_is_seen(small_tree, check, file, old, new, seen):
+    change(small_tree, [(file, old, new)])
+    assert check(small_tree) == [seen.rstrip("\n")]
+
+
+TAKING = "crates/engine/src/association/taking.rt"
+WALKER = "crates/sequence/src/walker.rt"
+
+
+@pytest.mark.parametrize(
+    "file, old, new, seen",
+    cases(
+        (
+            "a body that allocates once",
+            TAKING,
+            "        let mut at = 0;",
+            "        let _ = Box::new(devices.alloc(), 0);\n        let mut at = 0;",
+            "        let _ = Box::new(devices.alloc(), 0);",
+        ),
+        (
+            "a walk that keeps what it has read",
+            WALKER,
+            "\n}\n",
+            "\n    kept: Vec<u8>,\n}\n",
+            "    kept: Vec<u8>,",
+        ),
+    ),
+)
+def test_an_allocation_is_seen(copied_tree, file, old, new, seen):
+    change(copied_tree, [(file, old, new)])
+    (found,) = allocations(copied_tree)
+    assert found.startswith(f"{file}:") and found.endswith(f": {seen}")

@@ -1,0 +1,119 @@
+"""What is made of docs/tables.json is what it gives, and it is what the code has (tools/tables)."""
+import pytest
+from cases import cases
+from trees import ROOT, change, run
+
+TABLES, STATEMENT = "docs/tables.json", "docs/CONFORMANCE.md"
+MANUAL, COMPLETION = "man/dcmbox.1", "packaging/dcmbox.bash"
+STALE = " isn't what docs/tables.json gives: run tools/tables\n"
+
+
+def test_tables_are_fresh():
+    assert run(ROOT, "tables", "--check") == (0, "")
+
+
+@pytest.mark.parametrize(
+    "file, old, new, expected",
+    cases(
+        (
+            "a fault that the code has not",
+            TABLES,
+            '"number": 62, "name": "TwiceReached"',
+            '"number": 62, "name": "TwiceNamed"',
+            f"{TABLES}: dicomdir has no fault 62 TwiceNamed\n",
+        ),
+        (
+            "another default",
+            TABLES,
+            '"default": "16384"',
+            '"default": "16385"',
+            f"{TABLES}: --max-pdu is not what serve has",
+        ),
+        (
+            "another help",
+            "crates/arguments/src/command.rt",
+            "Ends after one association",
+            "Ends after two associations",
+            f"{TABLES}: --once is not what serve has",
+        ),
+        (
+            "an option that the table misses",
+            TABLES,
+            '"no-sync", "once"',
+            '"no-sync"',
+            f"{TABLES}: serve has --once, too\n",
+        ),
+        (
+            "a limit that the code has not",
+            TABLES,
+            '"1,024 bytes", "code": "COMMAND"',
+            '"2,048 bytes", "code": "COMMAND"',
+            f"{TABLES}: Command set: the code has 1,024, and not 2,048 bytes\n",
+        ),
+        (
+            "another version on the cover page",
+            STATEMENT,
+            "| Version | ",
+            "| Version | 9",
+            f"{STATEMENT}{STALE}",
+        ),
+        (
+            "another version in the manual page",
+            MANUAL,
+            '"DCMBOX ',
+            '"DCMBOX 9',
+            f"{MANUAL}: its title doesn't name the version",
+        ),
+        (
+            "another version in the changelog",
+            "CHANGELOG.md",
+            "\n## ",
+            "\n## 9.",
+            "CHANGELOG.md: its newest release isn't",
+        ),
+        (
+            "a table that was changed by hand",
+            STATEMENT,
+            "| Command set | 1,024 bytes |",
+            "| Command set | 2,048 bytes |",
+            f"{STATEMENT}{STALE}",
+        ),
+        (
+            "an option of the manual page that was changed by hand",
+            MANUAL,
+            "Ends after one association.",
+            "Ends after two associations.",
+            f"{MANUAL}{STALE}",
+        ),
+        (
+            "a completion that was changed by hand",
+            COMPLETION,
+            "--once",
+            "--twice",
+            f"{COMPLETION}{STALE}",
+        ),
+        (
+            "a marker that is gone",
+            STATEMENT,
+            "<!-- limits: made by tools/tables -->",
+            "",
+            f"{STATEMENT}: the marker '<!-- limits: made by tools/tables -->' is missing\n",
+        ),
+    ),
+)
+def test_a_fault_is_seen(copied_tree, file, old, new, expected):
+    change(copied_tree, [(file, old, new)])
+    status, output = run(copied_tree, "tables", "--check")
+    assert status == 1 and expected in output, output
+
+
+def test_tables_are_written_anew(copied_tree):
+    edits = [
+        (STATEMENT, "| Command set | 1,024 bytes |", "| Command set | 2,048 bytes |"),
+        (MANUAL, "Ends after one association.", "Ends after two associations."),
+        (COMPLETION, "--once", "--twice"),
+    ]
+    change(copied_tree, edits)
+    assert run(copied_tree, "tables") == (0, "")
+    for file, _, _ in edits:
+        assert (copied_tree / file).read_text() == (ROOT / file).read_text()

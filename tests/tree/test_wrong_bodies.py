@@ -1,0 +1,127 @@
+"""tools/wrong-bodies tells wrong bodies that are refused from those that are not, and says why.
+
+It is tried on a crate of three functions, which it proves.
+"""
+import pathlib
+import tempfile
+
+import pytest
+from cases import cases
+from trees import ROOT, run, write
+
+DIGITS = {
+    "crates.txt": "digits:\n",
+    "crates/digits/src/lib.rt": """//! Digits.
+#![tactic(auto)]
+
+ghost use Rattle.std.specs.Prelude.{◌≡◌, ◌≤◌};
+
+/// Returns three.
+pub fn three() -> u8
+    ensures { result ≡ 3 }
+{
+    3
+}
+
+/// Returns a digit from 1 on.
+pub fn digit() -> u8
+    ensures least { 1 ≤ result }
+    ensures most { result ≤ 9 }
+{
+    5
+}
+
+/// Returns a digit, too.
+pub fn again() -> u8
+    ensures { result ≤ 9 }
+{
+    digit()
+}
+""",
+}
+MOST = "digits::digit returns-clause-most"
+
+# By name: the old and the new text, what the edit says is refused, and what is wrong with the edit.
+TAKEN = {
+    "returns_four": ("    3", "    4", "digits::three returns"),
+    "returns_nine_more": ("    digit()", "    digit() + 9", "digits::again returns"),
+    "returns_ten": ("    5", "    10", MOST),
+}
+REFUSED = {
+    "returns_zero": (
+        "    5",
+        "    0",
+        MOST,
+        "digits::digit falls for returns-clause-least, and",
+    ),
+    "returns_six": ("    5", "    6", MOST, "digits::digit is still proved"),
+    "returns_itself": (
+        "    3",
+        "    three",
+        "digits::three returns",
+        "it does not reach the prover: src/lib.rt:10:5: error",
+    ),
+    "returns_three": ("    3", "    3", "digits::three returns", "it changes nothing"),
+    "returns_words": (
+        "u8",
+        "u16",
+        "digits::three returns",
+        "its old text stands 3 times in src/lib.rt, and not once",
+    ),
+    "of_no_function": (
+        "    3",
+        "    4",
+        "digits::four returns",
+        "the crate has no function digits::four",
+    ),
+    "of_no_clause": ("    3", "    4", "", "it names nothing that is refused"),
+}
+
+
+def try_them(folder, *chosen):
+    """Runs the tool over the crate, and gives its status, and all that it prints."""
+    texts = dict(DIGITS)
+    for name, (old, new, refused, *_) in {**TAKEN, **REFUSED}.items():
+        lines = ["file: src/lib.rt", f"old: {old}", f"new: {new}"]
+        lines += [f"refused: {refused}"] * bool(refused)
+        texts[f"crates/digits/wrong-bodies/{name}.edit"] = "\n".join(lines) + "\n"
+    write(pathlib.Path(folder), texts)
+    # (pytest ends a test that takes too long)
+    return run(ROOT, "wrong-bodies", "--anew", "--tree", folder, *chosen, timeout=None)
+
+
+@pytest.fixture(scope="module")
+def said():
+    """The status of the tool and what it printed, of all edits."""
+    with tempfile.TemporaryDirectory(prefix="dcmbox-") as folder:
+        return try_them(folder)
+
+
+# They look at one run of the tool, so they go to one worker.
+together = pytest.mark.xdist_group("wrong_bodies")
+
+
+@together
+@pytest.mark.parametrize("name", TAKEN)
+def test_an_edit_that_is_refused_is_taken(said, name):
+    assert f"FAILED: digits/{name}:" not in said[1], said[1]
+    assert f" {len(TAKEN)} refused by the clause that they name" in said[1], said[1]
+
+
+@together
+@pytest.mark.parametrize("name, why", cases(*((it, it, row[3]) for it, row in REFUSED.items())))
+def test_an_edit_is_told_why_it_shows_nothing(said, name, why):
+    assert f"FAILED: digits/{name}: {why}" in said[1], said[1]
+
+
+@together
+def test_its_status_and_last_line_tell_of_failures(said):
+    status, output = said
+    every = len(TAKEN) + len(REFUSED)
+    last = f"{every} wrong bodies: {len(TAKEN)} refused by the clause that they name, "
+    assert status == 1 and f"{last}{len(REFUSED)} failed" in output, output
+
+
+def test_one_that_is_refused_passes(work):
+    status, output = try_them(work, "digits/returns_four")
+    assert status == 0, output
