@@ -3,6 +3,7 @@ ghost use Rattle.std.specs.Prelude.{◌≡◌, true, false, Some, None, option_m
 ghost use Rattle.dimse.specs.Command.{c_echo, c_store, is_request, is_uid_or_none};
 ghost use Rattle.element.specs.Uid.{is_uid};
 
+use crate::operation::Operation;
 use element::Uid;
 use std::marker::Model;
 
@@ -11,20 +12,19 @@ use std::marker::Model;
 #[derive(Debug, Drop)]
 pub struct Command {
     class: Uid,
-    field: u16,
     message: u16,
-    with_data: bool,
-    instance: Option<Uid>,
+    operation: Operation,
 }
 
 impl Model for Command {
     ghost use Rattle.dimse.specs.Command.{CommandRecord, IsCommand};
+    ghost use Rattle.dimse.specs.machine.Operations.{request_for};
 
     ghost Value = { CommandRecord };
 
-    ghost view = { λ c. record { class = c.class; field = c.field; message = c.message; with_data = c.with_data; instance = c.instance } };
+    ghost view = { λ c. request_for c.class c.message c.operation };
 
-    ghost invariant = { λ c. IsCommand (record { class = c.class; field = c.field; message = c.message; with_data = c.with_data; instance = c.instance }) };
+    ghost invariant = { λ c. IsCommand (request_for c.class c.message c.operation) };
 }
 
 impl Command {
@@ -41,10 +41,8 @@ impl Command {
     {
         Command {
             class,
-            field: Command::C_ECHO,
             message,
-            with_data: false,
-            instance: None,
+            operation: Operation::Echo,
         }
     }
 
@@ -56,10 +54,8 @@ impl Command {
     {
         Command {
             class,
-            field: Command::C_STORE,
             message,
-            with_data: true,
-            instance: Some(instance),
+            operation: Operation::Store { instance },
         }
     }
 
@@ -76,7 +72,10 @@ impl Command {
         ensures value { result ≡ self.now.field }
         ensures kind { is_request self.now.field self.now.with_data self.now.instance ≡ true }
     {
-        self.field
+        match self.operation {
+            Operation::Echo => Command::C_ECHO,
+            Operation::Store { .. } => Command::C_STORE,
+        }
     }
 
     /// Returns the Message ID (0000,0110), which the response repeats.
@@ -90,7 +89,7 @@ impl Command {
     pub fn with_data(&self) -> bool
         ensures { result ≡ self.now.with_data }
     {
-        self.with_data
+        matches!(self.operation, Operation::Store { .. })
     }
 
     /// Returns the Affected SOP Instance UID (0000,1000) of a C-STORE, or `None` for a C-ECHO.
@@ -98,6 +97,9 @@ impl Command {
         ensures value { option_map (λ u. u.now) result ≡ self.now.instance }
         ensures is_uid { is_uid_or_none self.now.instance ≡ true }
     {
-        self.instance.as_ref()
+        match &self.operation {
+            Operation::Echo => None,
+            Operation::Store { instance } => Some(instance),
+        }
     }
 }

@@ -10,6 +10,7 @@ mod fault;
 mod join;
 mod joined;
 pub mod laws;
+mod operation;
 mod reading;
 mod reply_set;
 mod response;

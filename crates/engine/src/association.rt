@@ -48,11 +48,11 @@ impl<const A: usize, const C: usize, const V: usize, const D: usize> Association
     ghost use Rattle.engine.specs.Held as holding;
     ghost use Rattle.engine.specs.Held.{Held};
     ghost use Rattle.engine.specs.Inputs.{Received, Bytes, Close, Expiry, UserAbort};
-    ghost use Rattle.engine.specs.Moves.{Moved, StaysEnded};
     ghost use Rattle.engine.specs.OutputLaws.{SendsFew};
     ghost use Rattle.engine.specs.Reached.{reached};
     ghost use Rattle.engine.specs.Stands.{Stands};
     ghost use Rattle.engine.specs.Timeline.{Happened};
+    ghost use Rattle.engine.specs.Takes.{Takes, TakesNoMore};
     ghost use Rattle.engine.specs.machine.DoesDue.{Stays};
     ghost use Rattle.engine.specs.machine.Events.{MovesOutside};
     ghost use Rattle.engine.specs.machine.Lent.{before, after};
@@ -139,12 +139,8 @@ impl<const A: usize, const C: usize, const V: usize, const D: usize> Association
         requires draft { IsThere (drafting_of self.old) (F.store filing.old) }
         ensures draft { IsThere (drafting_of self.new) (F.store filing.new) }
         ensures settings { settings_in self.new ≡ settings_in self.old }
-        ensures moved { (inputs : List Received) (story : List Happened) (failed : Bool)
-            → Stands (rooms_of A C V D) (settings_in self.old) inputs story failed (fields_of self.old) (F.store filing.old)
-            → Moved (rooms_of A C V D) (settings_in self.old) inputs story failed (Bytes piece.now) (fields_of self.old) (fields_of self.new)
-            (devices (W.line wire.old) (F.store filing.old)) (devices (W.line wire.new) (F.store filing.new)) }
-        ensures ended { state_of self.old ≡ Sta1
-            → StaysEnded (fields_of self.old) (fields_of self.new) (devices (W.line wire.old) (F.store filing.old)) (devices (W.line wire.new) (F.store filing.new)) }
+        ensures moved { Takes self.old self.new (Bytes piece.now) (devices (W.line wire.old) (F.store filing.old)) (devices (W.line wire.new) (F.store filing.new)) }
+        ensures ended { TakesNoMore self.old self.new (devices (W.line wire.old) (F.store filing.old)) (devices (W.line wire.new) (F.store filing.new)) }
     {
         if self.is_ended() {
             return;
@@ -158,12 +154,8 @@ impl<const A: usize, const C: usize, const V: usize, const D: usize> Association
         requires draft { IsThere (drafting_of self.old) (F.store filing.old) }
         ensures draft { IsThere (drafting_of self.new) (F.store filing.new) }
         ensures settings { settings_in self.new ≡ settings_in self.old }
-        ensures moved { (inputs : List Received) (story : List Happened) (failed : Bool)
-            → Stands (rooms_of A C V D) (settings_in self.old) inputs story failed (fields_of self.old) (F.store filing.old)
-            → Moved (rooms_of A C V D) (settings_in self.old) inputs story failed Close (fields_of self.old) (fields_of self.new)
-            (devices (W.line wire.old) (F.store filing.old)) (devices (W.line wire.new) (F.store filing.new)) }
-        ensures ended { state_of self.old ≡ Sta1
-            → StaysEnded (fields_of self.old) (fields_of self.new) (devices (W.line wire.old) (F.store filing.old)) (devices (W.line wire.new) (F.store filing.new)) }
+        ensures moved { Takes self.old self.new Close (devices (W.line wire.old) (F.store filing.old)) (devices (W.line wire.new) (F.store filing.new)) }
+        ensures ended { TakesNoMore self.old self.new (devices (W.line wire.old) (F.store filing.old)) (devices (W.line wire.new) (F.store filing.new)) }
     {
         self.happens(Event::Closed, Devices { wire, filing });
     }
@@ -173,12 +165,8 @@ impl<const A: usize, const C: usize, const V: usize, const D: usize> Association
         requires draft { IsThere (drafting_of self.old) (F.store filing.old) }
         ensures draft { IsThere (drafting_of self.new) (F.store filing.new) }
         ensures settings { settings_in self.new ≡ settings_in self.old }
-        ensures moved { (inputs : List Received) (story : List Happened) (failed : Bool)
-            → Stands (rooms_of A C V D) (settings_in self.old) inputs story failed (fields_of self.old) (F.store filing.old)
-            → Moved (rooms_of A C V D) (settings_in self.old) inputs story failed Expiry (fields_of self.old) (fields_of self.new)
-            (devices (W.line wire.old) (F.store filing.old)) (devices (W.line wire.new) (F.store filing.new)) }
-        ensures ended { state_of self.old ≡ Sta1
-            → StaysEnded (fields_of self.old) (fields_of self.new) (devices (W.line wire.old) (F.store filing.old)) (devices (W.line wire.new) (F.store filing.new)) }
+        ensures moved { Takes self.old self.new Expiry (devices (W.line wire.old) (F.store filing.old)) (devices (W.line wire.new) (F.store filing.new)) }
+        ensures ended { TakesNoMore self.old self.new (devices (W.line wire.old) (F.store filing.old)) (devices (W.line wire.new) (F.store filing.new)) }
     {
         self.happens(Event::Expired, Devices { wire, filing });
     }
@@ -188,12 +176,8 @@ impl<const A: usize, const C: usize, const V: usize, const D: usize> Association
         requires draft { IsThere (drafting_of self.old) (F.store filing.old) }
         ensures draft { IsThere (drafting_of self.new) (F.store filing.new) }
         ensures settings { settings_in self.new ≡ settings_in self.old }
-        ensures moved { (inputs : List Received) (story : List Happened) (failed : Bool)
-            → Stands (rooms_of A C V D) (settings_in self.old) inputs story failed (fields_of self.old) (F.store filing.old)
-            → Moved (rooms_of A C V D) (settings_in self.old) inputs story failed UserAbort (fields_of self.old) (fields_of self.new)
-            (devices (W.line wire.old) (F.store filing.old)) (devices (W.line wire.new) (F.store filing.new)) }
-        ensures ended { state_of self.old ≡ Sta1
-            → StaysEnded (fields_of self.old) (fields_of self.new) (devices (W.line wire.old) (F.store filing.old)) (devices (W.line wire.new) (F.store filing.new)) }
+        ensures moved { Takes self.old self.new UserAbort (devices (W.line wire.old) (F.store filing.old)) (devices (W.line wire.new) (F.store filing.new)) }
+        ensures ended { TakesNoMore self.old self.new (devices (W.line wire.old) (F.store filing.old)) (devices (W.line wire.new) (F.store filing.new)) }
     {
         self.happens(Event::UserAborts, Devices { wire, filing });
     }
@@ -216,8 +200,7 @@ impl<const A: usize, const C: usize, const V: usize, const D: usize> Association
         ensures settings { settings_in self.new ≡ settings_in self.old }
         ensures moved { MovesOutside (rooms_of A C V D) (settings_in self.old) event (fields_of self.old) (fields_of self.new)
             (before W.line F.store devices.entry) (after W.line F.store devices.exit) }
-        ensures ended { state_of self.old ≡ Sta1
-            → StaysEnded (fields_of self.old) (fields_of self.new) (before W.line F.store devices.entry) (after W.line F.store devices.exit) }
+        ensures ended { TakesNoMore self.old self.new (before W.line F.store devices.entry) (after W.line F.store devices.exit) }
     {
         if self.is_ended() {
             return;

@@ -31,7 +31,7 @@ impl<const A: usize, const C: usize, const V: usize, const D: usize> Running<A, 
     ghost use Rattle.engine.specs.Fields.{association_in, drafting_of, fields_of, settings_in, state_of};
     ghost use Rattle.engine.specs.Held as holding;
     ghost use Rattle.engine.specs.Inputs.{Received, input_of, shown_after};
-    ghost use Rattle.engine.specs.Moves.{Moved, StaysEnded};
+    ghost use Rattle.engine.specs.Takes.{Takes, TakesNoMore};
     ghost use Rattle.engine.specs.OutputLaws.{SendsFew};
     ghost use Rattle.engine.specs.Stands.{Stands};
     ghost use Rattle.engine.specs.Timeline.{Happened};
@@ -102,12 +102,10 @@ impl<const A: usize, const C: usize, const V: usize, const D: usize> Running<A, 
         requires draft { IsThere (drafting_of (association_in self.old)) (F.store filing.old) }
         ensures draft { IsThere (drafting_of (association_in self.new)) (F.store filing.new) }
         ensures settings { settings_in (association_in self.new) ≡ settings_in (association_in self.old) }
-        ensures moved { (inputs : List Received) (story : List Happened) (failed : Bool)
-            → Stands (rooms_of A C V D) (settings_in (association_in self.old)) inputs story failed (fields_of (association_in self.old)) (F.store filing.old)
-            → Moved (rooms_of A C V D) (settings_in (association_in self.old)) inputs story failed (input_of input piece.now) (fields_of (association_in self.old)) (fields_of (association_in self.new))
+        ensures moved { Takes (association_in self.old) (association_in self.new) (input_of input piece.now)
             (devices (W.line wire.old) (F.store filing.old)) (devices (W.line wire.new) (F.store filing.new)) }
-        ensures ended { state_of (association_in self.old) ≡ Sta1
-            → StaysEnded (fields_of (association_in self.old)) (fields_of (association_in self.new)) (devices (W.line wire.old) (F.store filing.old)) (devices (W.line wire.new) (F.store filing.new)) }
+        ensures ended { TakesNoMore (association_in self.old) (association_in self.new)
+            (devices (W.line wire.old) (F.store filing.old)) (devices (W.line wire.new) (F.store filing.new)) }
     {
         match input {
             Input::Piece => self.association.feed(piece, wire, filing),

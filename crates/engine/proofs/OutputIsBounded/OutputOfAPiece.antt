@@ -46,7 +46,7 @@ use Rattle.engine.specs.Replies.{invalid, user_aborts, aborted_if_refused, repli
 use Rattle.engine.specs.Requests.{keeping, accepting, declined, answered}
 use Rattle.engine.specs.Run.{Rooms, released, at_end, at_mark, at_entry, cut, gives, sent_of}
 use Rattle.engine.specs.Timeline.{At, Shut, TimedOut, Aborted, Entry, Finding, Happened, entries}
-use Rattle.engine.specs.OutputLaws.{FewMarks, AnswersHave, BoundedOutput, answer_length, FewBytesButAnswers, AnswersAreShort, StoriesAnswerShortly, OutputOfAPiece, most_sent}
+use Rattle.engine.specs.OutputLaws.{FewMarks, AnswersHave, BoundedOutput, answer_length, FewBytesButAnswers, AnswersAreShort, StoriesAnswerShortly, OutputOfAPiece}
 use Rattle.engine.proofs.PiecesAreDone.FramesAndMarks.{more}
 use Rattle.engine.proofs.StoresAreKept.DraftAndWalk.{is_long}
 

@@ -1,5 +1,4 @@
 -- The values that are kept of an accepted request.
-use Rattle.std.specs.Prelude.{List, ℕ}
 use Rattle.pdu.specs.Record.{RequestRecord}
 use Rattle.engine.specs.declared.phase.Peer.{Peer}
 use Rattle.engine.specs.Kept.{Agreed}
