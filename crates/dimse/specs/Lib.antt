@@ -4,6 +4,7 @@ pub mod Reading
 pub mod Status
 pub mod Detail
 pub mod Reply
+pub mod ReplyLaws
 pub mod Messages
 pub mod MessageLaws
 pub mod Joining

@@ -1,9 +1,9 @@
 -- Example messages for the definitions.
-use Rattle.std.specs.Prelude.{ℕ, false, true, List, [], ◌∷◌, drop, Option, Some, None, codes}
+use Rattle.std.specs.Prelude.{ℕ, false, true, List, [], ◌∷◌, take, drop, Option, Some, None, codes}
 use Rattle.byteorder.specs.Endian.{little_number}
 use Rattle.dimse.specs.Command.{CommandRecord}
 use Rattle.dimse.specs.declared.detail.Detail.{Detail}
-use Rattle.dimse.specs.Messages.{Pdv}
+use Rattle.dimse.specs.Messages.{Pdv, Message}
 use Rattle.dimse.specs.Reply.{reply_command}
 
 abbrev pub pdv : ℕ → ℕ → List ℕ → Pdv
@@ -60,3 +60,23 @@ after_status status detail = drop 86 (reply_command store_record status detail)
 -- the element Affected SOP Instance UID with `1.2.3`
 abbrev pub instance_123 : List ℕ
 instance_123 = 0 ∷ 0 ∷ 0 ∷ 16 ∷ 6 ∷ 0 ∷ 0 ∷ 0 ∷ 49 ∷ 46 ∷ 50 ∷ 46 ∷ 51 ∷ 0 ∷ []
+
+-- the fragments of `store` and of its data set, and the first fragment of another message
+abbrev pub store_in_parts : List Pdv
+store_in_parts =
+    pdv 5 1 (take 99 store) ∷ pdv 5 3 (drop 99 store)
+    ∷ pdv 5 0 (8 ∷ []) ∷ pdv 5 0 [] ∷ pdv 5 2 (0 ∷ 24 ∷ []) ∷ pdv 7 1 (0 ∷ []) ∷ []
+
+abbrev pub stored : Message
+stored = record { context = 5; command = store; set = 8 ∷ 0 ∷ 24 ∷ [] }
+
+-- Offending Element and Error Comment of a value of undefined length; those of another SOP instance and of another
+-- SOP class follow
+abbrev pub undefined_length_elements : List ℕ
+undefined_length_elements = 0 ∷ 0 ∷ 1 ∷ 9 ∷ 4 ∷ 0 ∷ 0 ∷ 0 ∷ 224 ∷ 127 ∷ 16 ∷ 0 ∷ 0 ∷ 0 ∷ 2 ∷ 9 ∷ 24 ∷ 0 ∷ 0 ∷ 0 ∷ codes "fault 14 UndefinedLength"
+
+abbrev pub other_instance_elements : List ℕ
+other_instance_elements = 0 ∷ 0 ∷ 1 ∷ 9 ∷ 4 ∷ 0 ∷ 0 ∷ 0 ∷ 8 ∷ 0 ∷ 24 ∷ 0 ∷ 0 ∷ 0 ∷ 2 ∷ 9 ∷ 26 ∷ 0 ∷ 0 ∷ 0 ∷ codes "fault 46 InstanceMismatch "
+
+abbrev pub other_class_elements : List ℕ
+other_class_elements = 0 ∷ 0 ∷ 1 ∷ 9 ∷ 4 ∷ 0 ∷ 0 ∷ 0 ∷ 8 ∷ 0 ∷ 22 ∷ 0 ∷ 0 ∷ 0 ∷ 2 ∷ 9 ∷ 22 ∷ 0 ∷ 0 ∷ 0 ∷ codes "fault 45 ClassMismatch"

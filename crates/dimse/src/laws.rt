@@ -3,15 +3,16 @@
 ghost use Rattle.std.specs.Prelude.{◌≡◌, ◌≤◌, ◌∷◌, ◌++◌, [], ◌*◌, ◌-◌, ◌^◌, ℕ, true, false, List, Option, Some, None, Ok, Err, length, take, drop, codes};
 ghost use Rattle.dimse.specs.Command.{CommandRecord, CommandText, c_echo, c_store};
 ghost use Rattle.dimse.specs.Messages.{Begun, InCommand, IsMessage, Message, NoMessage, Pdv, messages, messages_from, with_message};
-ghost use Rattle.dimse.specs.MessageLaws.{BeginsWith, and_then};
+ghost use Rattle.dimse.specs.MessageLaws.{BeginsWith, MessagesGoOn};
 ghost use Rattle.dimse.specs.declared.fault.DimseFault.TheVariants.{BadCommand, CommandTooLong, OtherContext, UnknownField, WrongKind};
 ghost use Rattle.dimse.specs.Reading.{command_in};
 ghost use Rattle.pdu.specs.Texts.{data_text};
-ghost use Rattle.dimse.specs.Worked.{after_status, cause, echo, echo_record, echo_reply, group_length, instance_123, pdv, store, store_record};
+ghost use Rattle.dimse.specs.Worked.{after_status, cause, other_class_elements, echo, echo_record, echo_reply, group_length, instance_123, other_instance_elements, pdv, store, store_in_parts, store_record, stored, undefined_length_elements};
 ghost use Rattle.dimse.specs.declared.detail.Detail.{Detail};
 ghost use Rattle.dimse.specs.Detail.{class_mismatch, instance_mismatch};
 ghost use Rattle.dimse.specs.Status.{cannot_understand, class_not_supported, data_set_mismatch, out_of_resources, success};
-ghost use Rattle.dimse.specs.Reply.{IsFragmented, IsMaximum, fragments, reply_bytes, reply_command};
+ghost use Rattle.dimse.specs.Reply.{IsFragmented, fragments, reply_bytes, reply_command};
+ghost use Rattle.dimse.specs.ReplyLaws.{EachReplyHasABound, RepliesAreShort};
 
 use crate::command::Command;
 use crate::detail::{CLASS_MISMATCH, INSTANCE_MISMATCH};
@@ -36,10 +37,8 @@ pub fn one_cut()
 /// at most 3,158 for any maximum length.
 pub fn replies_are_short()
     ensures command { (text : List ℕ) (command : CommandRecord) (status : ℕ) (detail : Option Detail) → command_in text ≡ Ok command → length (reply_command command status detail) ≤ 242 }
-    ensures reply { (text : List ℕ) (command : CommandRecord) (status : ℕ) (detail : Option Detail) (context maximum : ℕ)
-        → command_in text ≡ Ok command → IsMaximum maximum → length (reply_bytes command status detail context maximum) ≤ 1706 }
-    ensures any { (text : List ℕ) (command : CommandRecord) (status : ℕ) (detail : Option Detail) (context maximum : ℕ)
-        → command_in text ≡ Ok command → length (reply_bytes command status detail context maximum) ≤ 3158 }
+    ensures reply { RepliesAreShort }
+    ensures any { EachReplyHasABound }
 {}
 
 /// If a list of presentation data values begins with the fragments of a message, that message is the
@@ -49,8 +48,7 @@ pub fn messages_are_joined()
     ensures message { (room : ℕ) (m : Message) (commands sets more : List Pdv) → IsMessage room m commands sets
         → messages room ((commands ++ sets) ++ more) ≡ with_message m (messages room more) }
     ensures only { (room : ℕ) (ps : List Pdv) (m : Message) (later : List Message) → (messages room ps).whole ≡ m ∷ later → BeginsWith room m later ps }
-    ensures continued { (room : ℕ) (b : Begun) (first more : List Pdv)
-        → messages_from room b (first ++ more) ≡ and_then (messages_from room b first) (messages_from room (messages_from room b first).begun more) }
+    ensures continued { MessagesGoOn }
 {}
 
 /// Examples of messages: a C-ECHO-RQ in two fragments; its second fragment in another presentation
@@ -64,8 +62,7 @@ pub fn worked_messages()
     ensures other_kind { (messages 1024 (pdv 1 1 (take 10 echo) ∷ pdv 1 2 (drop 10 echo) ∷ [])).fault ≡ Some WrongKind }
     ensures context_before_kind { (messages 1024 (pdv 1 1 (take 10 echo) ∷ pdv 3 2 (drop 10 echo) ∷ [])).fault ≡ Some OtherContext }
     ensures too_long { (messages 67 (pdv 1 1 (take 10 echo) ∷ pdv 1 3 (drop 10 echo) ∷ [])).fault ≡ Some CommandTooLong }
-    ensures with_set { messages 1024 (pdv 5 1 (take 99 store) ∷ pdv 5 3 (drop 99 store) ∷ pdv 5 0 (8 ∷ []) ∷ pdv 5 0 [] ∷ pdv 5 2 (0 ∷ 24 ∷ []) ∷ pdv 7 1 (0 ∷ []) ∷ [])
-        ≡ record { whole = record { context = 5; command = store; set = 8 ∷ 0 ∷ 24 ∷ [] } ∷ []; begun = InCommand 7 (0 ∷ []); fault = None } }
+    ensures with_set { messages 1024 store_in_parts ≡ record { whole = stored ∷ []; begun = InCommand 7 (0 ∷ []); fault = None } }
     ensures command_in_set { (messages 1024 (pdv 5 3 store ∷ pdv 5 3 echo ∷ [])).fault ≡ Some WrongKind }
     ensures unreadable { (messages 1024 (pdv 1 3 (take 66 echo) ∷ [])).fault ≡ Some BadCommand }
 {}
@@ -97,14 +94,11 @@ pub fn worked_responses()
 pub fn worked_causes()
     ensures overrun { after_status 0xc000 (cause 17 0 0) ≡ 0 ∷ 0 ∷ 2 ∷ 9 ∷ 16 ∷ 0 ∷ 0 ∷ 0 ∷ (codes "fault 17 Overrun" ++ instance_123) }
     ensures overrun_length { group_length 0xc000 (cause 17 0 0) ≡ 112 }
-    ensures undefined { after_status 0xc000 (cause 14 0x7fe0 0x0010)
-        ≡ 0 ∷ 0 ∷ 1 ∷ 9 ∷ 4 ∷ 0 ∷ 0 ∷ 0 ∷ 224 ∷ 127 ∷ 16 ∷ 0 ∷ 0 ∷ 0 ∷ 2 ∷ 9 ∷ 24 ∷ 0 ∷ 0 ∷ 0 ∷ (codes "fault 14 UndefinedLength" ++ instance_123) }
+    ensures undefined { after_status 0xc000 (cause 14 0x7fe0 0x0010) ≡ undefined_length_elements ++ instance_123 }
     ensures undefined_length { group_length 0xc000 (cause 14 0x7fe0 0x0010) ≡ 132 }
-    ensures instance { after_status 0xa900 (cause 46 0x0008 0x0018)
-        ≡ 0 ∷ 0 ∷ 1 ∷ 9 ∷ 4 ∷ 0 ∷ 0 ∷ 0 ∷ 8 ∷ 0 ∷ 24 ∷ 0 ∷ 0 ∷ 0 ∷ 2 ∷ 9 ∷ 26 ∷ 0 ∷ 0 ∷ 0 ∷ (codes "fault 46 InstanceMismatch " ++ instance_123) }
+    ensures instance { after_status 0xa900 (cause 46 0x0008 0x0018) ≡ other_instance_elements ++ instance_123 }
     ensures instance_length { group_length 0xa900 (cause 46 0x0008 0x0018) ≡ 134 }
-    ensures class { after_status 0xa900 (cause 45 0x0008 0x0016)
-        ≡ 0 ∷ 0 ∷ 1 ∷ 9 ∷ 4 ∷ 0 ∷ 0 ∷ 0 ∷ 8 ∷ 0 ∷ 22 ∷ 0 ∷ 0 ∷ 0 ∷ 2 ∷ 9 ∷ 22 ∷ 0 ∷ 0 ∷ 0 ∷ (codes "fault 45 ClassMismatch" ++ instance_123) }
+    ensures class { after_status 0xa900 (cause 45 0x0008 0x0016) ≡ other_class_elements ++ instance_123 }
     ensures class_length { group_length 0xa900 (cause 45 0x0008 0x0016) ≡ 130 }
     ensures other_status { after_status 0x0122 (cause 17 0x0008 0x0016) ≡ instance_123 }
     ensures echo { reply_bytes echo_record 0xc000 (cause 17 0 0) 1 0 ≡ reply_bytes echo_record 0xc000 None 1 0 }

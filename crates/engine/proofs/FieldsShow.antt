@@ -5,10 +5,10 @@
 -- KeptInPhases     what each phase keeps, and that nothing is kept after the end
 -- AfterAnEvent     the fields after an event of the table
 -- TriedIsDone      what was tried of the devices is what the entry does (`Does`)
--- DueIsDone        so is what a call without devices left due, once it happens
+-- ReactionIsPerformed        so is what a call without devices left due, once it happens
 pub mod ByState
 pub mod NothingCounts
 pub mod KeptInPhases
 pub mod AfterAnEvent
 pub mod TriedIsDone
-pub mod DueIsDone
+pub mod ReactionIsPerformed

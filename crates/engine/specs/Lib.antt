@@ -21,7 +21,7 @@ pub mod Stands
 pub mod Gains
 pub mod Moves
 pub mod Fields
-pub mod Takes
+pub mod MovesOn
 pub mod Ran
 pub mod Turns
 pub mod TurnLaws

@@ -6,7 +6,7 @@ pub mod Accepted
 pub mod Storing
 pub mod Verdicts
 pub mod Capacity
-pub mod DoesDue
+pub mod PerformsReaction
 pub mod Tries
 pub mod Judged
 pub mod Messages

@@ -12,7 +12,7 @@ mod taking;
 use crate::devices::Devices;
 use crate::phase::Phase;
 use crate::provider::Provider;
-use crate::sending::{Answering, Due};
+use crate::sending::{Answering, Reaction};
 use acceptor::{Event, State};
 use negotiate::Config;
 use part10::Filing;
@@ -52,8 +52,8 @@ impl<const A: usize, const C: usize, const V: usize, const D: usize> Association
     ghost use Rattle.engine.specs.Reached.{reached};
     ghost use Rattle.engine.specs.Stands.{Stands};
     ghost use Rattle.engine.specs.Timeline.{Happened};
-    ghost use Rattle.engine.specs.Takes.{Takes, TakesNoMore};
-    ghost use Rattle.engine.specs.machine.DoesDue.{Stays};
+    ghost use Rattle.engine.specs.MovesOn.{MovesOn, StaysOnceEnded};
+    ghost use Rattle.engine.specs.machine.PerformsReaction.{Stays};
     ghost use Rattle.engine.specs.machine.Events.{MovesOutside};
     ghost use Rattle.engine.specs.machine.Lent.{before, after};
     ghost use Rattle.engine.specs.Run.{rooms_of};
@@ -139,8 +139,8 @@ impl<const A: usize, const C: usize, const V: usize, const D: usize> Association
         requires draft { IsThere (drafting_of self.old) (F.store filing.old) }
         ensures draft { IsThere (drafting_of self.new) (F.store filing.new) }
         ensures settings { settings_in self.new ≡ settings_in self.old }
-        ensures moved { Takes self.old self.new (Bytes piece.now) (devices (W.line wire.old) (F.store filing.old)) (devices (W.line wire.new) (F.store filing.new)) }
-        ensures ended { TakesNoMore self.old self.new (devices (W.line wire.old) (F.store filing.old)) (devices (W.line wire.new) (F.store filing.new)) }
+        ensures moved { MovesOn self.old self.new (Bytes piece.now) (devices (W.line wire.old) (F.store filing.old)) (devices (W.line wire.new) (F.store filing.new)) }
+        ensures ended { StaysOnceEnded self.old self.new (devices (W.line wire.old) (F.store filing.old)) (devices (W.line wire.new) (F.store filing.new)) }
     {
         if self.is_ended() {
             return;
@@ -154,10 +154,10 @@ impl<const A: usize, const C: usize, const V: usize, const D: usize> Association
         requires draft { IsThere (drafting_of self.old) (F.store filing.old) }
         ensures draft { IsThere (drafting_of self.new) (F.store filing.new) }
         ensures settings { settings_in self.new ≡ settings_in self.old }
-        ensures moved { Takes self.old self.new Close (devices (W.line wire.old) (F.store filing.old)) (devices (W.line wire.new) (F.store filing.new)) }
-        ensures ended { TakesNoMore self.old self.new (devices (W.line wire.old) (F.store filing.old)) (devices (W.line wire.new) (F.store filing.new)) }
+        ensures moved { MovesOn self.old self.new Close (devices (W.line wire.old) (F.store filing.old)) (devices (W.line wire.new) (F.store filing.new)) }
+        ensures ended { StaysOnceEnded self.old self.new (devices (W.line wire.old) (F.store filing.old)) (devices (W.line wire.new) (F.store filing.new)) }
     {
-        self.happens(Event::Closed, Devices { wire, filing });
+        self.perform(Event::Closed, Devices { wire, filing });
     }
 
     /// Handles the expiry of the ARTIM timer. For `filing` see `feed`.
@@ -165,10 +165,10 @@ impl<const A: usize, const C: usize, const V: usize, const D: usize> Association
         requires draft { IsThere (drafting_of self.old) (F.store filing.old) }
         ensures draft { IsThere (drafting_of self.new) (F.store filing.new) }
         ensures settings { settings_in self.new ≡ settings_in self.old }
-        ensures moved { Takes self.old self.new Expiry (devices (W.line wire.old) (F.store filing.old)) (devices (W.line wire.new) (F.store filing.new)) }
-        ensures ended { TakesNoMore self.old self.new (devices (W.line wire.old) (F.store filing.old)) (devices (W.line wire.new) (F.store filing.new)) }
+        ensures moved { MovesOn self.old self.new Expiry (devices (W.line wire.old) (F.store filing.old)) (devices (W.line wire.new) (F.store filing.new)) }
+        ensures ended { StaysOnceEnded self.old self.new (devices (W.line wire.old) (F.store filing.old)) (devices (W.line wire.new) (F.store filing.new)) }
     {
-        self.happens(Event::Expired, Devices { wire, filing });
+        self.perform(Event::Expired, Devices { wire, filing });
     }
 
     /// Aborts the association as its local user (A-ABORT request primitive). For `filing` see `feed`.
@@ -176,10 +176,10 @@ impl<const A: usize, const C: usize, const V: usize, const D: usize> Association
         requires draft { IsThere (drafting_of self.old) (F.store filing.old) }
         ensures draft { IsThere (drafting_of self.new) (F.store filing.new) }
         ensures settings { settings_in self.new ≡ settings_in self.old }
-        ensures moved { Takes self.old self.new UserAbort (devices (W.line wire.old) (F.store filing.old)) (devices (W.line wire.new) (F.store filing.new)) }
-        ensures ended { TakesNoMore self.old self.new (devices (W.line wire.old) (F.store filing.old)) (devices (W.line wire.new) (F.store filing.new)) }
+        ensures moved { MovesOn self.old self.new UserAbort (devices (W.line wire.old) (F.store filing.old)) (devices (W.line wire.new) (F.store filing.new)) }
+        ensures ended { StaysOnceEnded self.old self.new (devices (W.line wire.old) (F.store filing.old)) (devices (W.line wire.new) (F.store filing.new)) }
     {
-        self.happens(Event::UserAborts, Devices { wire, filing });
+        self.perform(Event::UserAborts, Devices { wire, filing });
     }
 
     /// Returns whether the association has ended, by a close or a failed send. It handles no input
@@ -193,20 +193,20 @@ impl<const A: usize, const C: usize, const V: usize, const D: usize> Association
 
     /// Performs an event that does not come from the stream: a close, the timer's expiry or a local
     /// abort.
-    fn happens<W: Wire, F: Filing>(&mut self, event: Event, devices: Devices<'_, W, F>)
+    fn perform<W: Wire, F: Filing>(&mut self, event: Event, devices: Devices<'_, W, F>)
         requires draft { IsThere (drafting_of self.old) (F.store devices.filing.now) }
         requires stays { Stays (state_of self.old) event }
         ensures draft { IsThere (drafting_of self.new) (after W.line F.store devices.exit).store }
         ensures settings { settings_in self.new ≡ settings_in self.old }
         ensures moved { MovesOutside (rooms_of A C V D) (settings_in self.old) event (fields_of self.old) (fields_of self.new)
             (before W.line F.store devices.entry) (after W.line F.store devices.exit) }
-        ensures ended { TakesNoMore self.old self.new (before W.line F.store devices.entry) (after W.line F.store devices.exit) }
+        ensures ended { StaysOnceEnded self.old self.new (before W.line F.store devices.entry) (after W.line F.store devices.exit) }
     {
         if self.is_ended() {
             return;
         }
         self.provider
-            .happens(Due::Happens(event, Answering::Nothing), devices);
+            .perform(Reaction::Perform(event, Answering::Nothing), devices);
         self.provider.skip_uncounted(&mut self.deframer);
         self.drop_heads();
     }

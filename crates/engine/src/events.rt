@@ -31,30 +31,30 @@ impl<const A: usize, const C: usize, const V: usize, const D: usize> Provider<A,
         match event {
             Event::PduHead(head) => {
                 let due = self.on_head(head.kind, head.length);
-                self.happens(due, devices);
+                self.perform(due, devices);
             }
             Event::Body(part) => self.on_body(kind, part),
             Event::PdvHead(head) => {
                 let due = self.on_pdv_head(head);
-                self.happens(due, devices);
+                self.perform(due, devices);
             }
             Event::Fragment(part) => self.on_data(part, devices.filing),
             Event::PdvEnd => self.on_pdv(devices),
             Event::BadPdv => {
                 let due = self.on_invalid();
-                self.happens(due, devices);
+                self.perform(due, devices);
             }
             // As above: the proof answers each arm for itself.
             Event::Leftover => {
                 let due = self.on_invalid();
-                self.happens(due, devices);
+                self.perform(due, devices);
             }
             Event::PduEnd(kind) => {
                 if self.takes_body(kind) {
                     self.on_request(devices);
                 } else {
                     let due = self.on_end(kind);
-                    self.happens(due, devices);
+                    self.perform(due, devices);
                 }
             }
         }

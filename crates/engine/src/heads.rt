@@ -1,12 +1,12 @@
 //! Judges a PDU by its head, before its body is received.
 ghost use Rattle.std.specs.Prelude.{◌≡◌, ◌≤◌, ℕ};
-ghost use Rattle.engine.specs.machine.DoesDue.{Stays};
+ghost use Rattle.engine.specs.machine.PerformsReaction.{Stays};
 ghost use Rattle.acceptor.specs.declared.state.State.TheVariants.{Sta2};
 ghost use Rattle.engine.specs.Heads as spelling;
 ghost use Rattle.engine.specs.machine.HeadEvents.{brings};
 
 use crate::provider::Provider;
-use crate::sending::{Answering, Due};
+use crate::sending::{Answering, Reaction};
 use acceptor::{Action, Event, State, act};
 use pdu::pdu_type;
 
@@ -141,7 +141,7 @@ impl<const A: usize, const C: usize, const V: usize, const D: usize> Provider<A,
     ghost use Rattle.engine.specs.Run.{rooms_of};
 
     /// Handles the head of a PDU: judges it by its type, its length and the state.
-    pub(crate) fn on_head(&mut self, kind: u8, length: u32) -> Due
+    pub(crate) fn on_head(&mut self, kind: u8, length: u32) -> Reaction
         ensures fits { BodyFits (A - 12) (kept_of self.new) kind length }
         ensures settings { settings_in self.new ≡ settings_in self.old }
         ensures storing { (kept_of self.new).storing ≡ (kept_of self.old).storing }
@@ -155,10 +155,10 @@ impl<const A: usize, const C: usize, const V: usize, const D: usize> Provider<A,
         match event {
             HeadEvent::Nothing => {
                 self.refused = false;
-                Due::Nothing
+                Reaction::Nothing
             }
-            HeadEvent::AtOnce(event, reason) => Due::Happens(event, Answering::Abort(reason)),
-            HeadEvent::TooLong => Due::Happens(Event::Request(false), Answering::TooLong),
+            HeadEvent::AtOnce(event, reason) => Reaction::Perform(event, Answering::Abort(reason)),
+            HeadEvent::TooLong => Reaction::Perform(Event::Request(false), Answering::TooLong),
         }
     }
 }

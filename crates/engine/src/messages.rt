@@ -7,7 +7,7 @@ use crate::devices::Devices;
 use crate::heads::INVALID_PARAMETER;
 use crate::phase::{Message, Peer, Phase};
 use crate::provider::Provider;
-use crate::sending::{Answering, Due};
+use crate::sending::{Answering, Reaction};
 use crate::status::echo_status;
 use crate::stores::{begin_store, is_of_context};
 use acceptor::{Event, State};
@@ -107,7 +107,7 @@ impl<const A: usize, const C: usize, const V: usize, const D: usize> Provider<A,
     /// Handles the head of a presentation data value. A presentation context that was not accepted
     /// leads to an A-ABORT of the service provider; a fragment that does not continue the message to an
     /// abort of the local user.
-    pub(crate) fn on_pdv_head(&mut self, head: PdvHead) -> Due
+    pub(crate) fn on_pdv_head(&mut self, head: PdvHead) -> Reaction
         requires two { 2 ≤ head.length }
         ensures settings { settings_in self.new ≡ settings_in self.old }
         ensures storing { (kept_of self.new).storing ≡ (kept_of self.old).storing }
@@ -116,20 +116,20 @@ impl<const A: usize, const C: usize, const V: usize, const D: usize> Provider<A,
         ensures due { (store : Store) → JudgesPdvHead (rooms_of A C V D) (settings_in self.old) (kept_of self.old) (kept_of self.new) head result store }
     {
         if self.refused {
-            return Due::Nothing;
+            return Reaction::Nothing;
         }
         let Phase::Established { peer, message } = &mut self.phase else {
-            return Due::Nothing;
+            return Reaction::Nothing;
         };
         let Some(_) = peer.context(&self.config, head.context) else {
             self.refused = true;
-            return Due::Happens(Event::Invalid, Answering::Abort(INVALID_PARAMETER));
+            return Reaction::Perform(Event::Invalid, Answering::Abort(INVALID_PARAMETER));
         };
         match message.join.head(&head) {
-            Ok(()) => Due::Nothing,
+            Ok(()) => Reaction::Nothing,
             Err(_) => {
                 self.refused = true;
-                Due::Happens(Event::UserAborts, Answering::Nothing)
+                Reaction::Perform(Event::UserAborts, Answering::Nothing)
             }
         }
     }
@@ -181,7 +181,10 @@ impl<const A: usize, const C: usize, const V: usize, const D: usize> Provider<A,
                 }
                 Ok(Joined::DataDue) => message.begin(origin, devices.filing),
                 Err(_) => {
-                    self.happens(Due::Happens(Event::UserAborts, Answering::Nothing), devices);
+                    self.perform(
+                        Reaction::Perform(Event::UserAborts, Answering::Nothing),
+                        devices,
+                    );
                     self.refused = true;
                 }
             }

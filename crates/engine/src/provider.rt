@@ -8,7 +8,7 @@ ghost use Rattle.engine.specs.StoredData.{drafting_in};
 use crate::devices::Devices;
 use crate::heads::INVALID_PARAMETER;
 use crate::phase::Phase;
-use crate::sending::{Answering, Due, state_after, step};
+use crate::sending::{Answering, Reaction, state_after, step};
 use acceptor::{Event, State, act};
 use arrayvec::ArrayVec;
 use negotiate::Config;
@@ -44,7 +44,7 @@ impl<const A: usize, const C: usize, const V: usize, const D: usize> Provider<A,
     ghost use Rattle.pdu.specs.Deframed.{position_of};
     ghost use Rattle.pdu.specs.Steps.{events_due};
     ghost use Rattle.engine.specs.machine.Skips.{passed};
-    ghost use Rattle.engine.specs.machine.DoesDue.{ComesTo, is_left};
+    ghost use Rattle.engine.specs.machine.PerformsReaction.{ComesTo, is_left};
     ghost use Rattle.engine.specs.machine.Judged.{StaysThen, Judges};
     ghost use Rattle.engine.specs.Timeline.{At};
     ghost use Rattle.engine.specs.Run.{rooms_of};
@@ -175,8 +175,8 @@ impl<const A: usize, const C: usize, const V: usize, const D: usize> Provider<A,
         }
     }
 
-    /// Performs a reaction ([`Due`]): the event's action and the next state.
-    pub(crate) fn happens<W: Wire, F: Filing>(&mut self, due: Due, devices: Devices<'_, W, F>)
+    /// Performs a reaction: the event's action and the next state.
+    pub(crate) fn perform<W: Wire, F: Filing>(&mut self, due: Reaction, devices: Devices<'_, W, F>)
         requires draft { DraftIsThere (kept_of self.old) (F.store devices.filing.now) }
         requires stays { StaysThen (kept_of self.old).state due }
         ensures drafts { KeepsDraft (kept_of self.old) (kept_of self.new) (F.store devices.entry.filing.now) (after W.line F.store devices.exit).store }
@@ -185,12 +185,12 @@ impl<const A: usize, const C: usize, const V: usize, const D: usize> Provider<A,
         ensures tries { TriesDue (due_at due) (kept_of self.old) (kept_of self.new) (before W.line F.store devices.entry) (after W.line F.store devices.exit) }
     {
         match due {
-            Due::Nothing => {}
-            Due::Happens(event, answering) => {
+            Reaction::Nothing => {}
+            Reaction::Perform(event, answering) => {
                 let (next, sent) = step(self.phase.state(), event, answering, devices.wire);
                 self.settle(next, sent, devices.filing);
             }
-            Due::Releases => {
+            Reaction::Release => {
                 let (_, asked) = act(State::Sta6, Event::ReleaseRq);
                 let answering = Answering::Nothing;
                 let (next, sent) = step(asked, Event::UserReleases, answering, devices.wire);
@@ -201,16 +201,16 @@ impl<const A: usize, const C: usize, const V: usize, const D: usize> Provider<A,
 
     /// Returns the reaction to an invalid head of a presentation data value, or to bytes left over
     /// after one: an A-ABORT, if presentation data values are handled.
-    pub(crate) fn on_invalid(&mut self) -> Due
+    pub(crate) fn on_invalid(&mut self) -> Reaction
         ensures settings { settings_in self.new ≡ settings_in self.old }
         ensures storing { (kept_of self.new).storing ≡ (kept_of self.old).storing }
         ensures stays { StaysThen (kept_of self.new).state result }
         ensures due { (store : Store) → Judges (rooms_of A C V D) (settings_in self.old) (kept_of self.old) (kept_of self.new) (At BadPdv) result store }
     {
         if !self.takes_pdvs() {
-            return Due::Nothing;
+            return Reaction::Nothing;
         }
         self.refused = true;
-        Due::Happens(Event::Invalid, Answering::Abort(INVALID_PARAMETER))
+        Reaction::Perform(Event::Invalid, Answering::Abort(INVALID_PARAMETER))
     }
 }

@@ -7,7 +7,7 @@ ghost use Rattle.pdu.specs.Sent.{Sends};
 ghost use Rattle.negotiate.specs.Contexts.{offered};
 ghost use Rattle.negotiate.specs.Settings.{settings_of};
 ghost use Rattle.negotiate.specs.Accept.{answer_bytes};
-ghost use Rattle.engine.specs.machine.DoesDue.{rejected_state, rejected_text, is_left};
+ghost use Rattle.engine.specs.machine.PerformsReaction.{rejected_state, rejected_text, is_left};
 ghost use Rattle.engine.specs.machine.Accepted.{IsPeerOf};
 ghost use Rattle.engine.specs.Progress.{at_start};
 ghost use Rattle.engine.specs.Requests.{at_request};
@@ -16,7 +16,7 @@ use crate::devices::Devices;
 use crate::heads::INVALID_PARAMETER;
 use crate::phase::{Message, Peer, Phase};
 use crate::provider::Provider;
-use crate::sending::{Answering, Due, step};
+use crate::sending::{Answering, Reaction, step};
 use crate::stores::Storing;
 use acceptor::{Event, State, act};
 use arrayvec::ArrayVec;
@@ -164,24 +164,24 @@ impl<const A: usize, const C: usize, const V: usize, const D: usize> Provider<A,
     /// Returns the reaction to the end of a PDU of this type whose body is not buffered: that to an
     /// A-ABORT, or to an A-RELEASE-RQ of an established association. Other PDUs have none, nor has one
     /// that was already answered.
-    pub(crate) fn on_end(&self, kind: u8) -> Due
+    pub(crate) fn on_end(&self, kind: u8) -> Reaction
         requires unkept { takes_body_in (kept_of self.now) kind ≡ false }
         ensures stays { StaysThen (kept_of self.now).state result }
         ensures due { (store : Store) → JudgesEnd (rooms_of A C V D) (settings_in self.now) (kept_of self.now) kind result store }
     {
         if let Phase::Ended = &self.phase {
-            return Due::Nothing;
+            return Reaction::Nothing;
         }
         if self.refused {
-            return Due::Nothing;
+            return Reaction::Nothing;
         }
         match kind {
-            pdu_type::A_ABORT => Due::Happens(Event::Abort, Answering::Nothing),
+            pdu_type::A_ABORT => Reaction::Perform(Event::Abort, Answering::Nothing),
             pdu_type::A_RELEASE_RQ => match &self.phase {
-                Phase::Established { .. } => Due::Releases,
-                _ => Due::Nothing,
+                Phase::Established { .. } => Reaction::Release,
+                _ => Reaction::Nothing,
             },
-            _ => Due::Nothing,
+            _ => Reaction::Nothing,
         }
     }
 }

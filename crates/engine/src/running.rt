@@ -31,7 +31,7 @@ impl<const A: usize, const C: usize, const V: usize, const D: usize> Running<A, 
     ghost use Rattle.engine.specs.Fields.{association_in, drafting_of, fields_of, settings_in, state_of};
     ghost use Rattle.engine.specs.Held as holding;
     ghost use Rattle.engine.specs.Inputs.{Received, input_of, shown_after};
-    ghost use Rattle.engine.specs.Takes.{Takes, TakesNoMore};
+    ghost use Rattle.engine.specs.MovesOn.{MovesOn, StaysOnceEnded};
     ghost use Rattle.engine.specs.OutputLaws.{SendsFew};
     ghost use Rattle.engine.specs.Stands.{Stands};
     ghost use Rattle.engine.specs.Timeline.{Happened};
@@ -102,9 +102,9 @@ impl<const A: usize, const C: usize, const V: usize, const D: usize> Running<A, 
         requires draft { IsThere (drafting_of (association_in self.old)) (F.store filing.old) }
         ensures draft { IsThere (drafting_of (association_in self.new)) (F.store filing.new) }
         ensures settings { settings_in (association_in self.new) ≡ settings_in (association_in self.old) }
-        ensures moved { Takes (association_in self.old) (association_in self.new) (input_of input piece.now)
+        ensures moved { MovesOn (association_in self.old) (association_in self.new) (input_of input piece.now)
             (devices (W.line wire.old) (F.store filing.old)) (devices (W.line wire.new) (F.store filing.new)) }
-        ensures ended { TakesNoMore (association_in self.old) (association_in self.new)
+        ensures ended { StaysOnceEnded (association_in self.old) (association_in self.new)
             (devices (W.line wire.old) (F.store filing.old)) (devices (W.line wire.new) (F.store filing.new)) }
     {
         match input {
@@ -115,7 +115,7 @@ impl<const A: usize, const C: usize, const V: usize, const D: usize> Running<A, 
         }
     }
 
-    /// Takes the next input of the source, which is given the state of the association, and handles it.
+    /// MovesOn the next input of the source, which is given the state of the association, and handles it.
     pub fn turn<S: Source, W: Wire, F: Filing>(
         &mut self,
         source: &mut S,

@@ -5,8 +5,8 @@ ghost use Rattle.acceptor.specs.Table.{table};
 ghost use Rattle.pdu.specs.Sent.{Sends};
 ghost use Rattle.pdu.specs.Texts.{abort_text, release_text};
 ghost use Rattle.acceptor.specs.Effect.{bytes_sent};
-ghost use Rattle.engine.specs.machine.DoesDue.{step_text};
-ghost use Rattle.engine.specs.machine.DoesDue as machine;
+ghost use Rattle.engine.specs.machine.PerformsReaction.{step_text};
+ghost use Rattle.engine.specs.machine.PerformsReaction as machine;
 ghost use Rattle.engine.specs.machine.Answers.{answer_text, reason_of};
 
 use acceptor::{Event, Sending, State, act};
@@ -27,16 +27,16 @@ pub(crate) enum Answering<'a> {
 }
 
 /// The reaction to an event of the stream, to be performed by
-/// [`Provider::happens`](crate::provider::Provider::happens).
+/// [`Provider::perform`](crate::provider::Provider::perform).
 #[derive(Clone, Copy)]
-pub(crate) enum Due {
+pub(crate) enum Reaction {
     /// No reaction.
     Nothing,
     /// This event of the acceptor's state table, with what its action needs to send.
-    Happens(Event, Answering<'static>),
+    Perform(Event, Answering<'static>),
     /// The release of an established association: an A-RELEASE-RQ, to which the local user agrees at
     /// once.
-    Releases,
+    Release,
 }
 
 /// Sends the A-ASSOCIATE-AC or A-ASSOCIATE-RJ to an association request.

@@ -12,6 +12,7 @@ pub mod Pdvs
 pub mod Marks
 pub mod Spot
 pub mod Parts
+pub mod PartLaws
 pub mod Left
 pub mod Events
 pub mod Examples

@@ -9,6 +9,7 @@ ghost use Rattle.pdu.specs.Marks.{Head, BadPdv, pdv_size, head_mark, pdv_mark, f
 ghost use Rattle.pdu.specs.Spot.{Opening, Plain, InPdv, spot, room_left};
 ghost use Rattle.pdu.specs.Parts.{IsInData, IsUnfinishedPdv, SameFrame, SameHead, GoesOn, Comes, leftover_marks, leftover_spot, body_spot};
 ghost use Rattle.pdu.specs.Deframing.{MarksWithin};
+ghost use Rattle.pdu.specs.PartLaws.{BadPdvHeads, PdvHeads, EmptyPdvs, WholePdvs};
 
 /// The fields in the head of a PDU or of a presentation data value do not depend on the bytes after it.
 pub fn heads_are_final()
@@ -61,18 +62,14 @@ pub fn a_part_of_a_pdv_head()
 /// or passes the PDU, and of a valid head otherwise. If the fragment is empty, the marks of the value's
 /// end and of bytes left over follow.
 pub fn a_pdv_head_is_whole()
-    ensures bad { (r c b : List ℕ) → IsRest r → spot r ≡ InPdv b → length b < 6 → length (b ++ c) ≡ 6
-        → (big_number 4 (b ++ c) < 2) ⊎ (room_left r + length b < pdv_size (b ++ c)) → Comes r c (BadPdv ∷ []) Plain }
-    ensures more { (r c b : List ℕ) → IsRest r → spot r ≡ InPdv b → length b < 6 → length (b ++ c) ≡ 6 → 2 < big_number 4 (b ++ c)
-        → pdv_size (b ++ c) ≤ room_left r + length b → Comes r c (head_mark (b ++ c) ∷ []) (InPdv (b ++ c)) }
-    ensures none { (r c b : List ℕ) → IsRest r → spot r ≡ InPdv b → length c ≤ room_left r → length b < 6 → length (b ++ c) ≡ 6 → big_number 4 (b ++ c) ≡ 2
-        → Comes r c (head_mark (b ++ c) ∷ pdv_mark (b ++ c) ∷ leftover_marks (room_left r - length c)) (leftover_spot (room_left r - length c)) }
+    ensures bad { BadPdvHeads }
+    ensures more { PdvHeads }
+    ensures none { EmptyPdvs }
 {}
 
 /// The bytes of a fragment have no marks before the last, which has those of the value's end and of
 /// bytes left over.
 pub fn a_part_of_a_fragment()
     ensures more { (r c b : List ℕ) → IsRest r → spot r ≡ InPdv b → 6 ≤ length b → length (b ++ c) < pdv_size b → Comes r c [] (InPdv (b ++ c)) }
-    ensures whole { (r c b : List ℕ) → IsRest r → spot r ≡ InPdv b → length c ≤ room_left r → 6 ≤ length b → length (b ++ c) ≡ pdv_size b
-        → Comes r c (pdv_mark (b ++ c) ∷ leftover_marks (room_left r - length c)) (leftover_spot (room_left r - length c)) }
+    ensures whole { WholePdvs }
 {}

@@ -1,5 +1,5 @@
 -- What a `Command` keeps, as the contents of its request.
-use Rattle.std.specs.Prelude.{ℕ, Bool, true, false, List, Option, Some, None}
+use Rattle.std.specs.Prelude.{ℕ, true, false, List, Some, None}
 use Rattle.dimse.specs.declared.operation.Operation.{Operation}
 use Rattle.dimse.specs.declared.operation.Operation.TheVariants.{Echo, Store}
 use Rattle.dimse.specs.Command.{CommandRecord, c_echo, c_store}

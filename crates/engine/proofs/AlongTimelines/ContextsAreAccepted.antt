@@ -37,7 +37,7 @@ use Rattle.engine.specs.Replies.{invalid, user_aborts, aborted_if_refused, at_pd
 use Rattle.engine.specs.Run.{Rooms, at_entry, at_end, cut, gives, released}
 use Rattle.engine.specs.Fair.{message_at}
 use Rattle.engine.specs.Reached.{takes_pdvs}
-use Rattle.engine.specs.machine.DoesDue.{is_left, Stays}
+use Rattle.engine.specs.machine.PerformsReaction.{is_left, Stays}
 use Rattle.engine.proofs.FieldsShow.AfterAnEvent.{moved_left, moved_stays}
 use Rattle.engine.proofs.AlongTimelines.HeadsComeFirst.{Opened, Between, OfPdu, OfPdv, opens_at, IsHeadedAt, AreHeadedAt, timeline_headed}
 use Rattle.engine.proofs.MarksAreDone.PduHead.{head_stays, head_too_long}

@@ -25,7 +25,7 @@ use Rattle.engine.specs.StoredData.{Nothing, Walks, drafting_in}
 use Rattle.engine.specs.Kept.{Kept, Pends, IsUnagreed, counted_body, counted_pdv}
 use Rattle.engine.specs.machine.Capacity.{BodyFits, FragmentFits}
 use Rattle.engine.specs.FrameFields.{IsUncounted}
-use Rattle.engine.specs.machine.DoesDue.{DoesDue, step_text, is_left, IsLeft, with_state, ComesTo, Stays}
+use Rattle.engine.specs.machine.PerformsReaction.{PerformsReaction, step_text, is_left, IsLeft, with_state, ComesTo, Stays}
 use Rattle.engine.proofs.StoresAreKept.DraftAndWalk.{Carried, so_far, none_carried}
 use Rattle.engine.proofs.FieldsShow.NothingCounts.{no_store}
 use Rattle.engine.proofs.FieldsShow.ByState.{by_left}
@@ -139,7 +139,7 @@ settled p st old new so sn body begun false l h e n s =
 
 happened_at : (p : Progress) (e : Event) (reason : ℕ) (answer : List ℕ) (r : Result (Unit {0}) WireFailed) (old new : Kept) (body begun : List ℕ) (lo ln : Line) (so sn : Store)
     → Pends old so p body begun → Stays p.state e → ComesTo (table p.state e).1 r old new so sn → Sends (step_text p.state e reason answer) r lo ln
-    → OnErr r (0 < length (step_text p.state e reason answer)) → DoesDue p (done answer reason p e) new body begun (devices lo so) (devices ln sn)
+    → OnErr r (0 < length (step_text p.state e reason answer)) → PerformsReaction p (done answer reason p e) new body begun (devices lo so) (devices ln sn)
 happened_at p e reason answer (Ok u) old new body begun lo ln so sn h stays s sends due = record {
   wire = None;
   fair = tt;
@@ -157,7 +157,7 @@ happened_at p e reason answer (Err f) old new body begun lo ln so sn h stays s s
 
 pub happened : (p : Progress) (e : Event) (reason : ℕ) (answer : List ℕ) (r : Result (Unit {0}) WireFailed) (old new : Kept) (body begun : List ℕ) (lo ln : Line) (so sn : Store)
     → Pends old so p body begun → Stays p.state e → ComesTo (table old.state e).1 r old new so sn → Sends (step_text old.state e reason answer) r lo ln
-    → OnErr r (0 < length (step_text old.state e reason answer)) → DoesDue p (done answer reason p e) new body begun (devices lo so) (devices ln sn)
+    → OnErr r (0 < length (step_text old.state e reason answer)) → PerformsReaction p (done answer reason p e) new body begun (devices lo so) (devices ln sn)
 happened p e reason answer r old new body begun lo ln so sn h stays s sends due =
     let is = h.state_is in
     happened_at p e reason answer r old new body begun lo ln so sn h stays
@@ -222,9 +222,9 @@ ended_from : (k : Kept) (store : Store) (p q : Progress) (body begun : List ℕ)
 ended_from k store p q body begun h =
     record { state_is = h.state_is; refused_is = λ n. absurd cc; body_is = h.body_is; join_is = h.join_is; agreed = λ six. absurd cc; none_left = λ e. refl; unagreed = h.unagreed; walks = h.walks; draft = h.draft; failed_in = λ n. absurd cc }
 
-pub tries_from : (p q : Progress) (g : Advance) (k : Kept) (body begun : List ℕ) (old new : Devices) → DoesDue q g k body begun old new → DoesDue p g k body begun old new
+pub tries_from : (p q : Progress) (g : Advance) (k : Kept) (body begun : List ℕ) (old new : Devices) → PerformsReaction q g k body begun old new → PerformsReaction p g k body begun old new
 tries_from p q g k body begun old new t = by t.wire refl where
-  by : (w : Option ℕ) → w ≡ t.wire → DoesDue p g k body begun old new
+  by : (w : Option ℕ) → w ≡ t.wire → PerformsReaction p g k body begun old new
   by None e = record {
     wire = None;
     fair = tt;

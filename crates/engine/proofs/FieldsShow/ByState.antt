@@ -6,7 +6,7 @@ use Rattle.acceptor.specs.declared.state.State.{State}
 use Rattle.acceptor.specs.declared.state.State.TheVariants.{Sta1, Sta2, Sta6, Sta13}
 use Rattle.engine.specs.Held.{is_ended}
 use Rattle.engine.specs.Progress.{is_due, is_established}
-use Rattle.engine.specs.machine.DoesDue.{is_left}
+use Rattle.engine.specs.machine.PerformsReaction.{is_left}
 
 -- what holds in Sta1 and Sta13 holds where the association is left
 pub by_left : (P : State → Type 0) → P Sta1 → P Sta13 → (st : State) → is_left st ≡ true → P st

@@ -19,7 +19,7 @@ use Rattle.engine.specs.StoredData.{Nothing}
 use Rattle.engine.specs.Progress.{is_due, is_established}
 use Rattle.engine.specs.Held.{is_ended}
 use Rattle.engine.specs.Kept.{Kept, IsUnagreed, kept_in, takes_pdvs_in, takes_body_in}
-use Rattle.engine.specs.machine.DoesDue.{IsLeft, is_left, state_after}
+use Rattle.engine.specs.machine.PerformsReaction.{IsLeft, is_left, state_after}
 
 -- a join without any fragment
 pub no_fragment : (room : ℕ) → ShowsMessage room (shown NoMessage []) NoMessage []

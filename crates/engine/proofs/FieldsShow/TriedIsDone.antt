@@ -21,7 +21,7 @@ use Rattle.engine.specs.Fair.{IsVerdict, message_at}
 use Rattle.engine.specs.Kept.{Kept, Pends, counted_body, counted_pdv}
 use Rattle.engine.specs.Drafts.{IsDraft}
 use Rattle.engine.specs.StoredData.{Walks, drafting_in}
-use Rattle.engine.specs.machine.DoesDue.{DoesDue, Stays}
+use Rattle.engine.specs.machine.PerformsReaction.{PerformsReaction, Stays}
 use Rattle.engine.proofs.StoresAreKept.DraftAndWalk.{unfiled_same}
 use Rattle.engine.specs.machine.Does.{Does}
 use Rattle.std.proofs.lemmas.Grind.{common_steps}
@@ -49,7 +49,7 @@ files_cut wire p g = grind (arith, common_steps)
 -- ---- an entry
 
 pub does_by : (rooms : Rooms) (s : Settings) (p : Progress) (e : Entry) (g : Advance) (new : Kept) (body begun : List ℕ) (old later : Devices)
-    → at_entry rooms s p good e ≡ g → g.files ≡ [] → IsVerdict rooms s p good (message_at p e) → DoesDue p g new body begun old later → Does rooms s p e new body begun old later
+    → at_entry rooms s p good e ≡ g → g.files ≡ [] → IsVerdict rooms s p good (message_at p e) → PerformsReaction p g new body begun old later → Does rooms s p e new body begun old later
 does_by rooms s p e g new body begun old later is none verdict t = record {
   outcome = record { wire = t.wire; filing = false; finding = good };
   fair = record { verdict = verdict; wire = subst (λ (x : Advance). IsFront t.wire x.sent) (sym is) t.fair; filing = λ yes. absurd cc };
@@ -60,7 +60,7 @@ does_by rooms s p e g new body begun old later is none verdict t = record {
   count = omega (arith, t.unfiled.count);
 }
 
-pub tries_nothing : (p : Progress) (k : Kept) (body begun : List ℕ) (d : Devices) → Pends k d.store p body begun → DoesDue p (nothing p) k body begun d d
+pub tries_nothing : (p : Progress) (k : Kept) (body begun : List ℕ) (d : Devices) → Pends k d.store p body begun → PerformsReaction p (nothing p) k body begun d d
 tries_nothing p k body begun d h = record { wire = None; fair = tt; pends = h; line = line_same d.line; unfiled = unfiled_same d.store }
 
 pub does_nothing : (rooms : Rooms) (s : Settings) (p : Progress) (e : Entry) (k : Kept) (body begun : List ℕ) (d : Devices)
@@ -94,9 +94,9 @@ ended_refused p mid store body begun body2 begun2 h =
     record { state_is = h.state_is; refused_is = λ n. absurd cc; body_is = h.body_is; join_is = h.join_is; agreed = λ six. absurd cc; none_left = λ e. refl; unagreed = h.unagreed; walks = h.walks; draft = h.draft; failed_in = λ n. absurd cc }
 
 pub refused_by : (p : Progress) (g : Advance) (mid : Kept) (body begun body2 begun2 : List ℕ) (old new : Devices) → counted_body g.next body ≡ [] → counted_pdv g.next begun ≡ []
-    → DoesDue p g mid body begun old new → DoesDue p (refusing g) (record mid { refused = true }) body2 begun2 old new
+    → PerformsReaction p g mid body begun old new → PerformsReaction p (refusing g) (record mid { refused = true }) body2 begun2 old new
 refused_by p g mid body begun body2 begun2 old new b d t = by t.wire refl where
-  by : (w : Option ℕ) → w ≡ t.wire → DoesDue p (refusing g) (record mid { refused = true }) body2 begun2 old new
+  by : (w : Option ℕ) → w ≡ t.wire → PerformsReaction p (refusing g) (record mid { refused = true }) body2 begun2 old new
   by None e = record {
     wire = None;
     fair = tt;

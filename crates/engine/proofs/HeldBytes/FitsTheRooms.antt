@@ -42,7 +42,7 @@ use Rattle.engine.specs.Requested.{request_record}
 use Rattle.engine.specs.Requests.{declined, answered, at_request, keeping}
 use Rattle.engine.specs.Run.{Rooms, at_end, at_entry, cut, gives, progress_of, released}
 use Rattle.engine.specs.Timeline.{Entry, At, Shut, TimedOut, Aborted, Finding, Happened, entries_of}
-use Rattle.engine.specs.machine.DoesDue.{is_left, Stays}
+use Rattle.engine.specs.machine.PerformsReaction.{is_left, Stays}
 use Rattle.engine.proofs.AlongTimelines.ContextsAreAccepted.{by_value, by_context, by_head, by_fault}
 use Rattle.engine.proofs.FieldsShow.TriedIsDone.{stays_invalid, stays_aborts, stays_closed, stays_expired, stays_abort}
 use Rattle.engine.proofs.AlongTimelines.HeadsComeFirst.{Opened, Between, OfPdu, OfPdv, opens_at, IsHeadedAt, AreHeadedAt, open_at_end}

@@ -39,7 +39,7 @@ use Rattle.engine.specs.machine.Storing as storing
 use Rattle.engine.specs.StoredData.{Stored, Nothing, Walks, not_walked, walked, drafting_in}
 use Rattle.engine.specs.machine.Storing.{BeginsStore, Begins, Drops, EndsDraft, commit_failed, dropped, EndsStore}
 use Rattle.engine.specs.machine.Verdicts.{EndsAs}
-use Rattle.engine.specs.machine.DoesDue.{ComesTo, Unfiled, is_left}
+use Rattle.engine.specs.machine.PerformsReaction.{ComesTo, Unfiled, is_left}
 use Rattle.engine.specs.machine.Does.{Does}
 use Rattle.engine.proofs.StoresAreKept.DraftAndWalk.{none_carried, meta_by, file_due, undrafted, drafted, drops_unfiled, files_kept}
 use Rattle.engine.proofs.FieldsShow.AfterAnEvent.{settled_failed}

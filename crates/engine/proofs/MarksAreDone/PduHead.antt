@@ -14,7 +14,7 @@ use Rattle.engine.specs.Timeline.{At, good}
 use Rattle.engine.specs.Run.{Rooms, at_entry}
 use Rattle.engine.specs.Progress.{Progress, nothing, done, refusing, is_due, is_established}
 use Rattle.engine.specs.Heads.{HeadEvent, NoEvent, AtOnce, TooLong, event_of, is_known, has_four_bytes, is_abort, out_of_place, request_length, data_length, head_event}
-use Rattle.engine.specs.machine.DoesDue.{is_left, Stays}
+use Rattle.engine.specs.machine.PerformsReaction.{is_left, Stays}
 use Rattle.engine.proofs.FieldsShow.TriedIsDone.{stays_invalid}
 
 -- an action that answers by an abort leaves the association

@@ -38,7 +38,7 @@ use Rattle.engine.specs.machine.Messages.{with_join, Aside, HasCome}
 use Rattle.engine.specs.StoredData.{Stored}
 use Rattle.engine.proofs.StoresAreKept.DraftAndWalk.{Carried, so_far, carried, no_store_yet, long_pdv, store_fragment, head_carried}
 use Rattle.engine.specs.Devices.{Devices}
-use Rattle.engine.specs.machine.DoesDue.{DoesDue}
+use Rattle.engine.specs.machine.PerformsReaction.{PerformsReaction}
 use Rattle.engine.proofs.FieldsShow.AfterAnEvent.{tries_from}
 use Rattle.engine.proofs.FieldsShow.TriedIsDone.{taken_when, if_nothing, none_counted_pdv, tries_nothing}
 use Rattle.engine.proofs.FieldsShow.NothingCounts.{no_store}
@@ -338,7 +338,7 @@ aborted_pdv p begun t = ap (λ (st : State). counted_pdv (done [] 0 (record p { 
 pub aborted_body : (p : Progress) → takes_pdvs p ≡ true → counted_body (done [] 0 p event.UserAborts).next [] ≡ []
 aborted_body p t = ap (λ (st : State). counted_body (done [] 0 (record p { state = st }) event.UserAborts).next []) (taken_state p t)
 
-pub tries_still : (p q : Progress) (k : Kept) (body begun : List ℕ) (d : Devices) → Pends k d.store q body begun → DoesDue p (nothing q) k body begun d d
+pub tries_still : (p q : Progress) (k : Kept) (body begun : List ℕ) (d : Devices) → Pends k d.store q body begun → PerformsReaction p (nothing q) k body begun d d
 tries_still p q k body begun d h = tries_from p q (nothing q) k body begun d d (tries_nothing q k body begun d h)
 
 -- ---- the context of a value

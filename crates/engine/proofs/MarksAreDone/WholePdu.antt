@@ -17,8 +17,8 @@ use Rattle.engine.specs.Requests.{at_request}
 use Rattle.engine.specs.Devices.{Devices, line_after, IsFront}
 use Rattle.engine.specs.Run.{Rooms, cut, at_end, at_entry, released}
 use Rattle.engine.specs.Kept.{Kept, Pends, counted_body, body_in, takes_body_in}
-use Rattle.engine.specs.declared.sending.Due.TheVariants.{Nothing}
-use Rattle.engine.specs.machine.DoesDue.{DoesDue}
+use Rattle.engine.specs.declared.sending.Reaction.TheVariants.{Nothing}
+use Rattle.engine.specs.machine.PerformsReaction.{PerformsReaction}
 use Rattle.engine.specs.machine.Does.{Does}
 use Rattle.engine.specs.machine.Judged.{LeavesDue}
 use Rattle.engine.specs.machine.Tries.{TriesRequest}
@@ -112,9 +112,9 @@ pends_recounted k store q xs e h = record {
   failed_in = h.failed_in;
 }
 
-tries_recounted : (p : Progress) (g : Advance) (k : Kept) (xs : List ℕ) (old new : Devices) → counted_body g.next xs ≡ [] → DoesDue p g k xs [] old new → DoesDue p g k [] [] old new
+tries_recounted : (p : Progress) (g : Advance) (k : Kept) (xs : List ℕ) (old new : Devices) → counted_body g.next xs ≡ [] → PerformsReaction p g k xs [] old new → PerformsReaction p g k [] [] old new
 tries_recounted p g k xs old new e t = by t.wire refl where
-  by : (w : Option ℕ) → w ≡ t.wire → DoesDue p g k [] [] old new
+  by : (w : Option ℕ) → w ≡ t.wire → PerformsReaction p g k [] [] old new
   by None is = record {
     wire = None;
     fair = tt;

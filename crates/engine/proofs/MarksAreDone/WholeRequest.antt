@@ -32,7 +32,7 @@ use Rattle.engine.specs.Devices.{devices}
 use Rattle.engine.specs.Run.{released}
 use Rattle.engine.specs.Kept.{Kept, Pends, Agreed, counted_pdv}
 use Rattle.engine.specs.StoredData.{Nothing}
-use Rattle.engine.specs.machine.DoesDue.{DoesDue, ComesTo, step_text, is_left, rejected_state, rejected_text}
+use Rattle.engine.specs.machine.PerformsReaction.{PerformsReaction, ComesTo, step_text, is_left, rejected_state, rejected_text}
 use Rattle.engine.proofs.StoresAreKept.DraftAndWalk.{so_far, none_carried}
 use Rattle.engine.proofs.FieldsShow.AfterAnEvent.{pends_left, settled_failed}
 use Rattle.engine.proofs.FieldsShow.TriedIsDone.{none_counted_pdv, if_nothing}
@@ -181,7 +181,7 @@ module _ (further : Taken) (p : Progress) (g first : Advance) (body : List ℕ) 
 
   tries_answered : (r : Result (Unit {0}) WireFailed) → Pends old so p body [] → old.state ≡ Sta2 → given.refused ≡ old.refused → LeavesOrStands further body p g first → n ≡ first.next.state → ComesTo n r given new so sn
       → (n ≡ Sta6 → IsEstablishedBy given (requested.request_record (asked further body)))
-      → Sends first.sent r lo ln → OnErr r (0 < length first.sent) → DoesDue p g new body [] (devices lo so) (devices ln sn)
+      → Sends first.sent r lo ln → OnErr r (0 < length first.sent) → PerformsReaction p g new body [] (devices lo so) (devices ln sn)
   tries_answered (Ok u) h due same c e settles fresh sends some =
       record { wire = None; fair = tt; pends = pends_answered h due same c e settles fresh; line = sends ∙ ap (λ (t : List ℕ). sent_all t lo) (sym c.0); unfiled = settles.unfiled }
   tries_answered (Err f) h due same c e settles fresh sends some =
@@ -198,7 +198,7 @@ pub request_tries : (s : Settings) (p : Progress) (body : List ℕ) (n : State) 
     → Pends old so p body [] → old.state ≡ Sta2 → p.refused ≡ false → given.refused ≡ old.refused → n ≡ (at_request s at_start old.body).next.state → ComesTo n r given new so sn
     → (n ≡ Sta6 → IsEstablishedBy given (requested.request_record (asked s.further old.body)))
     → Sends (at_request s at_start old.body).sent r lo ln → OnErr r (0 < length (at_request s at_start old.body).sent)
-    → DoesDue p (at_request s p body) new body [] (devices lo so) (devices ln sn)
+    → PerformsReaction p (at_request s p body) new body [] (devices lo so) (devices ln sn)
 request_tries s p body n r old given new lo ln so sn h due unrefused kept state settles fresh sends some =
     let same = pends_due p old so body h due unrefused in
     tries_answered s.further p (at_request s p body) (at_request s at_start body) body n old given new lo ln so sn r h due kept (request_comes s body p (sym h.state_is ∙ due))
@@ -210,7 +210,7 @@ request_tries s p body n r old given new lo ln so sn h due unrefused kept state 
 -- ---- a release
 
 tries_left : (p : Progress) (g : Advance) (n : State) (r : Result (Unit {0}) WireFailed) (old new : Kept) (body begun : List ℕ) (lo ln : Line) (so sn : Store) → Pends old so p body begun → p.state ≡ Sta6
-    → n ≡ Sta13 → g.next ≡ left Sta13 p → ComesTo n r old new so sn → Sends g.sent r lo ln → OnErr r (0 < length g.sent) → DoesDue p g new body begun (devices lo so) (devices ln sn)
+    → n ≡ Sta13 → g.next ≡ left Sta13 p → ComesTo n r old new so sn → Sends g.sent r lo ln → OnErr r (0 < length g.sent) → PerformsReaction p g new body begun (devices lo so) (devices ln sn)
 tries_left p g n (Ok u) old new body begun lo ln so sn h six e next settles sends some =
     let gone : is_left new.state ≡ true = ap is_left (settles.state_is ∙ e) in
     record {
@@ -229,7 +229,7 @@ release_comes p e = subst (λ (y : State). ((released (record p { state = y })).
 
 pub release_tries : (p : Progress) (x : Action × State) (n : State) (r : Result (Unit {0}) WireFailed) (old new : Kept) (body begun : List ℕ) (lo ln : Line) (so sn : Store) → Pends old so p body begun → old.state ≡ Sta6
     → x ≡ table old.state event.ReleaseRq → n ≡ (table x.1 event.UserReleases).1 → ComesTo n r old new so sn → Sends (step_text x.1 event.UserReleases 0 []) r lo ln
-    → OnErr r (0 < length (step_text x.1 event.UserReleases 0 [])) → DoesDue p (released p) new body begun (devices lo so) (devices ln sn)
+    → OnErr r (0 < length (step_text x.1 event.UserReleases 0 [])) → PerformsReaction p (released p) new body begun (devices lo so) (devices ln sn)
 release_tries p x n r old new body begun lo ln so sn h six e f settles sends some =
     let c = release_comes p (sym h.state_is ∙ six) in
     let asked : x.1 ≡ Sta8 = ap (λ (y : Action × State). y.1) e ∙ ap (λ (y : State). (table y event.ReleaseRq).1) six in

@@ -28,7 +28,7 @@ use Rattle.engine.specs.machine.Verdicts.{Commits, done, undone}
 use Rattle.engine.specs.machine.Messages.{Proceeds}
 use Rattle.engine.specs.StoredData.{Stored, Nothing, Walking, Walks, not_walked, walked, drafting_in}
 use Rattle.engine.specs.machine.Storing.{Drops, Grows, GoesOn}
-use Rattle.engine.specs.machine.DoesDue.{Unfiled}
+use Rattle.engine.specs.machine.PerformsReaction.{Unfiled}
 use Rattle.engine.proofs.FieldsShow.NothingCounts.{no_store}
 
 -- ---- what is walked and the draft, together

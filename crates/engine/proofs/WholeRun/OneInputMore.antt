@@ -29,7 +29,7 @@ use Rattle.engine.specs.Kept.{Kept, Pends}
 use Rattle.engine.specs.StoredData.{drafting_in}
 use Rattle.engine.specs.machine.Does.{Does, DoesAll, push, still_failed}
 use Rattle.engine.specs.FrameFields.{StandsAt, IsUncounted, reads, Fields, ShowsFrame, body_of}
-use Rattle.engine.specs.machine.DoesDue.{DoesDue}
+use Rattle.engine.specs.machine.PerformsReaction.{PerformsReaction}
 use Rattle.engine.specs.machine.Events.{Outside, closed, expired, aborted}
 use Rattle.engine.specs.machine.Skips.{passed}
 use Rattle.engine.specs.machine.Shows.{DoesPart}
@@ -64,7 +64,7 @@ stream_outside : (event : Event) (x : Received) (entry : Entry) → Outside even
 stream_outside event x entry h = grind (arith, common_steps)
 
 does_outside : (rooms : Rooms) (s : Settings) (p : Progress) (new : Kept) (body begun : List ℕ) (old later : Devices) (event : Event) (x : Received) (entry : Entry) → Outside event x entry
-    → DoesDue p (done [] 0 p event) new body begun old later → Does rooms s p entry new body begun old later
+    → PerformsReaction p (done [] 0 p event) new body begun old later → Does rooms s p entry new body begun old later
 does_outside rooms s p new body begun old later _ _ _ closed t = does_by rooms s p Shut _ new body begun old later refl refl tt t
 does_outside rooms s p new body begun old later _ _ _ expired t = does_by rooms s p TimedOut _ new body begun old later refl refl tt t
 does_outside rooms s p new body begun old later _ _ _ aborted t = does_by rooms s p Aborted _ new body begun old later refl refl tt t
@@ -211,7 +211,7 @@ module _ (rooms : Rooms) (s : Settings) where
   -- a call that takes another input
   pub moved_call : (inputs : List Received) (story : List Happened) (failed : Bool) (event : Event) (x : Received) (entry : Entry) → Outside event x entry → (ps : Position) (k n : Kept) (g : Fields) (d e : Devices)
       → Stands rooms s inputs story failed (record { position = ps; kept = k }) d.store → is_ended k.state ≡ false
-      → ((p : Progress) (body begun : List ℕ) → Pends k d.store p body begun → DoesDue p (done [] 0 p event) n body begun d e)
+      → ((p : Progress) (body begun : List ℕ) → Pends k d.store p body begun → PerformsReaction p (done [] 0 p event) n body begun d e)
       → ((kind : ℕ) → IsUncounted k kind → IsUncounted n kind)
       → Dropped (record { position = passed n ps; kept = n }) g → Drafts (drafting_in k.storing) d.store (drafting_in n.storing) e.store
       → Moved rooms s inputs story failed x (record { position = ps; kept = k }) g d e

@@ -7,8 +7,8 @@ use Rattle.negotiate.specs.Accept.{answer_bytes}
 use Rattle.engine.specs.declared.sending.Answering.{Answering}
 use Rattle.engine.specs.declared.sending.Answering.TheVariants as answering
 use Rattle.acceptor.specs.declared.event.Event.{Event}
-use Rattle.engine.specs.declared.sending.Due.{Due}
-use Rattle.engine.specs.declared.sending.Due.TheVariants as due
+use Rattle.engine.specs.declared.sending.Reaction.{Reaction}
+use Rattle.engine.specs.declared.sending.Reaction.TheVariants as due
 use Rattle.engine.specs.Progress.{Progress, Advance, nothing, done}
 use Rattle.engine.specs.Run.{released}
 
@@ -27,7 +27,7 @@ abbrev pub done_by : Answering → Event → Progress → Advance
 done_by a event p = done (answer_text a) (reason_of a) p event
 
 -- the effect of this reaction in this state of the timeline
-abbrev pub due_at : Due → Progress → Advance
+abbrev pub due_at : Reaction → Progress → Advance
 due_at due.Nothing p = nothing p
-due_at (due.Happens event a) p = done_by a event p
-due_at due.Releases p = released p
+due_at (due.Perform event a) p = done_by a event p
+due_at due.Release p = released p

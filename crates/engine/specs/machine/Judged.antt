@@ -8,36 +8,36 @@ use Rattle.pdu.specs.Marks.{End, head_mark}
 use Rattle.pdu.specs.Sizes.{pdv_head_size}
 use Rattle.negotiate.specs.Settings.{Settings}
 use Rattle.part10.specs.Store.{Store}
-use Rattle.engine.specs.declared.sending.Due.{Due}
-use Rattle.engine.specs.declared.sending.Due.TheVariants as due
+use Rattle.engine.specs.declared.sending.Reaction.{Reaction}
+use Rattle.engine.specs.declared.sending.Reaction.TheVariants as due
 use Rattle.engine.specs.Timeline.{Entry, At, good}
 use Rattle.engine.specs.Progress.{Progress, Advance}
 use Rattle.engine.specs.Run.{Rooms, at_entry}
 use Rattle.engine.specs.Kept.{Kept, Pends, body_in}
 use Rattle.engine.specs.machine.Answers.{due_at}
-use Rattle.engine.specs.machine.DoesDue.{Stays}
+use Rattle.engine.specs.machine.PerformsReaction.{Stays}
 
 -- the reaction ends the association or keeps the state
-abbrev pub StaysThen : State → Due → Type 0
+abbrev pub StaysThen : State → Reaction → Type 0
 StaysThen state due.Nothing = Unit {0}
-StaysThen state (due.Happens event answering) = Stays state event
-StaysThen state due.Releases = state ≡ Sta6
+StaysThen state (due.Perform event answering) = Stays state event
+StaysThen state due.Release = state ≡ Sta6
 
 -- the fields are those of a state of the timeline in which the reaction has the effect g
-pub record LeavesDue (g : Advance) (due : Due) (new : Kept) (store : Store) (body begun : List ℕ) : Type 0 where
+pub record LeavesDue (g : Advance) (due : Reaction) (new : Kept) (store : Store) (body begun : List ℕ) : Type 0 where
   pub shown : Progress
   pub pends : Pends new store shown body begun
   pub gives : g ≡ due_at due shown
 
 -- an entry was handled without devices: the reaction has the rest of its effect
-abbrev pub Judges : Rooms → Settings → Kept → Kept → Entry → Due → Store → Type 0
+abbrev pub Judges : Rooms → Settings → Kept → Kept → Entry → Reaction → Store → Type 0
 Judges rooms s old new entry due store = (p : Progress) → Pends old store p [] [] → LeavesDue (at_entry rooms s p good entry) due new store [] []
 
 -- the same for the head of a presentation data value
-abbrev pub JudgesPdvHead : Rooms → Settings → Kept → Kept → PdvHead → Due → Store → Type 0
+abbrev pub JudgesPdvHead : Rooms → Settings → Kept → Kept → PdvHead → Reaction → Store → Type 0
 JudgesPdvHead rooms s old new head due store = (p : Progress) (begun : List ℕ) → length begun ≡ pdv_head_size → head ≡ pdv_head_of begun → Pends old store p [] []
     → LeavesDue (at_entry rooms s p good (At (head_mark begun))) due new store [] begun
 
 -- the same for the end of a PDU of this type, of whose body nothing is held any more
-abbrev pub JudgesEnd : Rooms → Settings → Kept → ℕ → Due → Store → Type 0
+abbrev pub JudgesEnd : Rooms → Settings → Kept → ℕ → Reaction → Store → Type 0
 JudgesEnd rooms s kept kind due store = (p : Progress) (body : List ℕ) → Pends kept store p (body_in kind body) [] → LeavesDue (at_entry rooms s p good (At (End kind body))) due kept store [] []

@@ -5,12 +5,12 @@ use Rattle.engine.specs.Progress.{Progress, Advance, is_due}
 use Rattle.engine.specs.Devices.{Devices}
 use Rattle.engine.specs.Requests.{at_request}
 use Rattle.engine.specs.Kept.{Kept, Pends}
-use Rattle.engine.specs.machine.DoesDue.{DoesDue}
+use Rattle.engine.specs.machine.PerformsReaction.{PerformsReaction}
 
 -- the call performs the effect `due p` in the state p
 abbrev pub TriesDue : (Progress → Advance) → Kept → Kept → Devices → Devices → Type 0
-TriesDue due old new d e = (p : Progress) (body begun : List ℕ) → Pends old d.store p body begun → DoesDue p (due p) new body begun d e
+TriesDue due old new d e = (p : Progress) (body begun : List ℕ) → Pends old d.store p body begun → PerformsReaction p (due p) new body begun d e
 
 -- the call performs the effect of a whole association request, which was awaited
 abbrev pub TriesRequest : Settings → Kept → Kept → Devices → Devices → Type 0
-TriesRequest s old new d e = (p : Progress) (body : List ℕ) → Pends old d.store p body [] → p.refused ≡ false → is_due p.state ≡ true → DoesDue p (at_request s p body) new body [] d e
+TriesRequest s old new d e = (p : Progress) (body : List ℕ) → Pends old d.store p body [] → p.refused ≡ false → is_due p.state ≡ true → PerformsReaction p (at_request s p body) new body [] d e

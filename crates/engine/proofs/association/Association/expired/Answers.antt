@@ -4,7 +4,7 @@ use Rattle.engine.proofs.AssociationSize.{association_small}
 use Rattle.engine.proofs.association.Association.expired.Goals as goal
 
 pub returns-clause-moved : goal.returns-clause-moved
-returns-clause-moved g c = c.happens.ensures.moved _ _ expired
+returns-clause-moved g c = c.perform.ensures.moved _ _ expired
 
-pub happens-requires : goal.happens-requires
-happens-requires g c = (association_small c.args.self.now.provider, (c.requires.draft, stays_expired _))
+pub perform-requires : goal.perform-requires
+perform-requires g c = (association_small c.args.self.now.provider, (c.requires.draft, stays_expired _))

@@ -4,7 +4,7 @@ use Rattle.engine.proofs.AssociationSize.{association_small}
 use Rattle.engine.proofs.association.Association.local_abort.Goals as goal
 
 pub returns-clause-moved : goal.returns-clause-moved
-returns-clause-moved g c = c.happens.ensures.moved _ _ aborted
+returns-clause-moved g c = c.perform.ensures.moved _ _ aborted
 
-pub happens-requires : goal.happens-requires
-happens-requires g c = (association_small c.args.self.now.provider, (c.requires.draft, stays_aborts _))
+pub perform-requires : goal.perform-requires
+perform-requires g c = (association_small c.args.self.now.provider, (c.requires.draft, stays_aborts _))

@@ -5,7 +5,7 @@ use Rattle.engine.specs.Progress.{is_established}
 use Rattle.engine.specs.Kept.{kept_of, settings_in, body_in}
 use Rattle.engine.specs.Run.{rooms_of}
 use Rattle.engine.proofs.FieldsShow.TriedIsDone.{stays_abort}
-use Rattle.engine.proofs.FieldsShow.DueIsDone.{leaves_due}
+use Rattle.engine.proofs.FieldsShow.ReactionIsPerformed.{leaves_due}
 use Rattle.engine.proofs.FieldsShow.KeptInPhases.{unended, unestablished}
 use Rattle.engine.proofs.MarksAreDone.WholePdu.{leaves_ended, refused_shown, refused_end, taken_end, whole_abort, whole_release, whole_other, undue, pends_unkept}
 use Rattle.engine.proofs.provider.Provider.on_end.Goals as goal

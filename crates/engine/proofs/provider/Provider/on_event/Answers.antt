@@ -1,20 +1,20 @@
 use Rattle.std.proofs.Common.{refl, sym, ◌∙◌}
 use Rattle.engine.proofs.FieldsShow.AfterAnEvent.{body_fits_then, fragment_fits_then}
 use Rattle.engine.proofs.MarksAreDone.WholePdu.{does_request}
-use Rattle.engine.proofs.FieldsShow.DueIsDone.{does_judged}
+use Rattle.engine.proofs.FieldsShow.ReactionIsPerformed.{does_judged}
 use Rattle.engine.proofs.provider.Provider.on_event.Goals as goal
 
 pub returns-in-PduHead-clause-room : goal.returns-in-PduHead-clause-room
-returns-in-PduHead-clause-room g c = rw c.in-PduHead.is (body_fits_then _ _ c.happens.ensures.same _ _ _ c.on_head-due.ensures.fits)
+returns-in-PduHead-clause-room g c = rw c.in-PduHead.is (body_fits_then _ _ c.perform.ensures.same _ _ _ c.on_head-due.ensures.fits)
 
 pub returns-in-PduHead-clause-takes : goal.returns-in-PduHead-clause-takes
-returns-in-PduHead-clause-takes g c = rw c.in-PduHead.is (λ p h. does_judged _ _ p _ _ _ _ _ _ _ _ tt (c.on_head-due.ensures.due _ p h) c.happens.ensures.tries)
+returns-in-PduHead-clause-takes g c = rw c.in-PduHead.is (λ p h. does_judged _ _ p _ _ _ _ _ _ _ _ tt (c.on_head-due.ensures.due _ p h) c.perform.ensures.tries)
 
 pub returns-in-PdvHead-clause-room : goal.returns-in-PdvHead-clause-room
-returns-in-PdvHead-clause-room g c = rw c.in-PdvHead.is (fragment_fits_then _ _ c.happens-in-PdvHead.ensures.same _ c.on_pdv_head-due.ensures.fits)
+returns-in-PdvHead-clause-room g c = rw c.in-PdvHead.is (fragment_fits_then _ _ c.perform-in-PdvHead.ensures.same _ c.on_pdv_head-due.ensures.fits)
 
 pub returns-in-PdvHead-clause-takes : goal.returns-in-PdvHead-clause-takes
-returns-in-PdvHead-clause-takes g c = rw c.in-PdvHead.is (λ p begun six head h. does_judged _ _ p _ _ _ _ _ _ _ _ tt (c.on_pdv_head-due.ensures.due _ p begun six head h) c.happens-in-PdvHead.ensures.tries)
+returns-in-PdvHead-clause-takes g c = rw c.in-PdvHead.is (λ p begun six head h. does_judged _ _ p _ _ _ _ _ _ _ _ tt (c.on_pdv_head-due.ensures.due _ p begun six head h) c.perform-in-PdvHead.ensures.tries)
 
 pub returns-in-Body-clause-takes : goal.returns-in-Body-clause-takes
 returns-in-Body-clause-takes g c = rw c.in-Body.is (refl, λ p body h. c.on_body.ensures.pends _ p body h)
@@ -23,13 +23,13 @@ pub returns-in-Fragment-clause-takes : goal.returns-in-Fragment-clause-takes
 returns-in-Fragment-clause-takes g c = rw c.in-Fragment.is (λ p begun six h. c.on_data.ensures.takes _ p begun six h)
 
 pub returns-in-BadPdv-clause-takes : goal.returns-in-BadPdv-clause-takes
-returns-in-BadPdv-clause-takes g c = rw c.in-BadPdv.is (λ p h. does_judged _ _ p _ _ _ _ _ _ _ _ tt (c.on_invalid-due.ensures.due _ p h) c.happens-in-BadPdv.ensures.tries)
+returns-in-BadPdv-clause-takes g c = rw c.in-BadPdv.is (λ p h. does_judged _ _ p _ _ _ _ _ _ _ _ tt (c.on_invalid-due.ensures.due _ p h) c.perform-in-BadPdv.ensures.tries)
 
 pub returns-in-Leftover-clause-takes : goal.returns-in-Leftover-clause-takes
-returns-in-Leftover-clause-takes g c = rw c.in-Leftover.is (λ p h. does_judged _ _ p _ _ _ _ _ _ _ _ tt (c.on_invalid-due-in-Leftover.ensures.due _ p h) c.happens-in-Leftover.ensures.tries)
+returns-in-Leftover-clause-takes g c = rw c.in-Leftover.is (λ p h. does_judged _ _ p _ _ _ _ _ _ _ _ tt (c.on_invalid-due-in-Leftover.ensures.due _ p h) c.perform-in-Leftover.ensures.tries)
 
 pub returns-then-takes_body-clause-takes : goal.returns-then-takes_body-clause-takes
 returns-then-takes_body-clause-takes g c = rw c.in-PduEnd.is (λ p body h. does_request _ _ p _ body _ _ _ _ (sym c.takes_body.ensures ∙ c.if-takes_body.true) h c.on_request.ensures.tries)
 
 pub returns-else-takes_body-clause-takes : goal.returns-else-takes_body-clause-takes
-returns-else-takes_body-clause-takes g c = rw c.in-PduEnd.is (λ p body h. does_judged _ _ p _ _ _ _ _ _ _ _ tt (c.on_end-due.ensures.due _ p body h) c.happens-else-takes_body.ensures.tries)
+returns-else-takes_body-clause-takes g c = rw c.in-PduEnd.is (λ p body h. does_judged _ _ p _ _ _ _ _ _ _ _ tt (c.on_end-due.ensures.due _ p body h) c.perform-else-takes_body.ensures.tries)

@@ -8,12 +8,12 @@ use Rattle.engine.specs.Heads.{head_event}
 use Rattle.engine.specs.Progress.{Progress}
 use Rattle.engine.specs.Kept.{Kept, Pends, kept_of, settings_in}
 use Rattle.engine.specs.machine.Messages.{with_body}
-use Rattle.engine.specs.machine.DoesDue.{Stays}
+use Rattle.engine.specs.machine.PerformsReaction.{Stays}
 use Rattle.engine.specs.machine.HeadEvents.{brings}
 use Rattle.engine.specs.Run.{rooms_of}
 use Rattle.engine.proofs.FieldsShow.AfterAnEvent.{pends_begins}
 use Rattle.engine.proofs.MarksAreDone.PduHead.{head_nothing, head_at_once, head_rejected}
-use Rattle.engine.proofs.FieldsShow.DueIsDone.{leaves_due, leaves_refused}
+use Rattle.engine.proofs.FieldsShow.ReactionIsPerformed.{leaves_due, leaves_refused}
 use Rattle.engine.proofs.provider.Provider.on_head.Goals as goal
 
 -- a PDU begins, and no part of a body has come

@@ -6,7 +6,7 @@ use Rattle.engine.specs.Kept.{kept_of, settings_in}
 use Rattle.engine.specs.Run.{rooms_of}
 use Rattle.engine.proofs.FieldsShow.NothingCounts.{takes_shown}
 use Rattle.engine.proofs.FieldsShow.TriedIsDone.{at_invalid, stays_invalid}
-use Rattle.engine.proofs.FieldsShow.DueIsDone.{leaves_due, leaves_refused}
+use Rattle.engine.proofs.FieldsShow.ReactionIsPerformed.{leaves_due, leaves_refused}
 use Rattle.engine.proofs.AssociationSize.{provider_small}
 use Rattle.engine.proofs.provider.Provider.on_invalid.Goals as goal
 

@@ -139,7 +139,7 @@ returns-in-Err-clause-does g c = rw c.in-Established.is (λ p begun six whole h.
     let told = subst (λ (r : Result Joined DimseFault). Joins g.row.C p.message (brought p.message (pdv_of begun)) k.join j r) c.in-Err.is joins in
     let got = refuses_of g.row.C p.message begun six (was.accepted six) k.join j c.in-Err.field-0 told in
     let pends : Pends (with_join j k) so p [] begun = subst (λ (x : Joining). Pends (with_join x k) so p [] begun) (sym got.1) h in
-    let new = kept_of c.happens.new.self in
+    let new = kept_of c.perform.new.self in
     does_by rooms s p (At (entry_of begun)) (user_aborts p) (record new { refused = true }) [] [] _ _
     (pdv_taken rooms s p good begun taken ∙ pdv_comes p good begun (Refuses c.in-Err.field-0) got.0) refl (verdict_by rooms s p p good begun (Refuses c.in-Err.field-0) taken got.0 tt)
-    (refused_by p (done [] 0 p event.UserAborts) new [] begun [] [] _ _ (aborted_body p taken) (aborted_pdv p begun taken) (c.happens.ensures.tries p [] begun pends)))
+    (refused_by p (done [] 0 p event.UserAborts) new [] begun [] [] _ _ (aborted_body p taken) (aborted_pdv p begun taken) (c.perform.ensures.tries p [] begun pends)))

@@ -14,7 +14,7 @@ use Rattle.engine.specs.machine.Messages.{with_join}
 use Rattle.engine.specs.Run.{rooms_of}
 use Rattle.engine.proofs.FieldsShow.NothingCounts.{takes_shown}
 use Rattle.engine.proofs.FieldsShow.TriedIsDone.{stays_invalid, stays_aborts}
-use Rattle.engine.proofs.FieldsShow.DueIsDone.{leaves_due, leaves_refused}
+use Rattle.engine.proofs.FieldsShow.ReactionIsPerformed.{leaves_due, leaves_refused}
 use Rattle.engine.proofs.MarksAreDone.PdvJoined.{head_taken, head_dropped, head_unaccepted, head_accepted, pends_dropped, context_shown, join_between, judged_none, judged_some, pends_headed}
 use Rattle.engine.proofs.MarksAreDone.StoreAsked.{not_taking}
 use Rattle.engine.proofs.FieldsShow.KeptInPhases.{refused_pdvs, kept_by, unestablished}

@@ -11,7 +11,7 @@ use Rattle.engine.specs.Kept.{kept_of, settings_in}
 use Rattle.engine.specs.declared.stores.Storing.TheVariants.{Nothing}
 use Rattle.engine.specs.StoredData.{Stored, drafting_in}
 use Rattle.engine.specs.machine.Accepted.{IsPeerOf}
-use Rattle.engine.specs.machine.DoesDue.{is_left}
+use Rattle.engine.specs.machine.PerformsReaction.{is_left}
 use Rattle.engine.proofs.FieldsShow.KeptInPhases.{kept_by, awaiting_stored, awaiting_room, unawaited}
 use Rattle.engine.proofs.MarksAreDone.WholeRequest.{asked, request_tries}
 use Rattle.engine.proofs.StoresAreKept.DraftAndWalk.{same_drafts}

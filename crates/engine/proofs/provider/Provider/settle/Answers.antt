@@ -2,7 +2,7 @@
 use Rattle.std.proofs.Common.{◌∙◌, ap, sym, refl}
 use Rattle.engine.specs.Kept.{Kept}
 use Rattle.engine.specs.StoredData.{Nothing}
-use Rattle.engine.specs.machine.DoesDue.{is_left}
+use Rattle.engine.specs.machine.PerformsReaction.{is_left}
 use Rattle.engine.proofs.FieldsShow.AfterAnEvent.{stays_there}
 use Rattle.engine.proofs.FieldsShow.KeptInPhases.{ended_keeps_nothing, close_keeps_nothing, state_kept}
 use Rattle.engine.proofs.StoresAreKept.DraftAndWalk.{unfiled_same, same_drafts, drops_unfiled, drops_drafts}

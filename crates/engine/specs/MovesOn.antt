@@ -11,11 +11,11 @@ use Rattle.engine.specs.Moves.{Moved, StaysEnded}
 use Rattle.engine.specs.Stands.{Stands}
 
 -- whatever came before, the input has moved the association and its devices on
-abbrev pub Takes : {A C V D : ℕ} → Association A C V D → Association A C V D → Received → Devices → Devices → Type 0
-Takes {A} {C} {V} {D} before after input old new = (inputs : List Received) (story : List Happened) (failed : Bool)
+abbrev pub MovesOn : {A C V D : ℕ} → Association A C V D → Association A C V D → Received → Devices → Devices → Type 0
+MovesOn {A} {C} {V} {D} before after input old new = (inputs : List Received) (story : List Happened) (failed : Bool)
     → Stands (rooms_of A C V D) (settings_in before) inputs story failed (fields_of before) old.store
     → Moved (rooms_of A C V D) (settings_in before) inputs story failed input (fields_of before) (fields_of after) old new
 
 -- if the association had ended, it and its devices are as they were
-abbrev pub TakesNoMore : {A C V D : ℕ} → Association A C V D → Association A C V D → Devices → Devices → Type 0
-TakesNoMore before after old new = state_of before ≡ Sta1 → StaysEnded (fields_of before) (fields_of after) old new
+abbrev pub StaysOnceEnded : {A C V D : ℕ} → Association A C V D → Association A C V D → Devices → Devices → Type 0
+StaysOnceEnded before after old new = state_of before ≡ Sta1 → StaysEnded (fields_of before) (fields_of after) old new

@@ -26,7 +26,7 @@ pub record Unfiled (old new : Store) : Type 0 where
 
 -- the effect g in the state p was performed: its bytes were sent, or the send failed after some of them (`wire`), and
 -- the fields are those of the state afterwards
-pub record DoesDue (p : Progress) (g : Advance) (new : Kept) (body begun : List ℕ) (devices_old devices_new : Devices) : Type 0 where
+pub record PerformsReaction (p : Progress) (g : Advance) (new : Kept) (body begun : List ℕ) (devices_old devices_new : Devices) : Type 0 where
   pub wire : Option ℕ
   pub fair : IsFront wire g.sent
   pub pends : Pends new devices_new.store (cut wire p g).next body begun
