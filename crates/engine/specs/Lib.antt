@@ -21,11 +21,11 @@ pub mod Stands
 pub mod Gains
 pub mod Moves
 pub mod Fields
-pub mod MovesOn
 pub mod Ran
 pub mod Turns
 pub mod TurnLaws
 pub mod OutputLaws
+pub mod MovesOn
 pub mod Laws
 pub mod HeldLaws
 pub mod StoreLaws

@@ -1,16 +1,22 @@
--- What an association does with one more input.
+-- What an association does with one more input, and what it holds: relations of an association, whatever came before.
 use Rattle.std.specs.Prelude.{◌≡◌, ℕ, Bool, List}
 use Rattle.acceptor.specs.declared.state.State.TheVariants.{Sta1}
+use Rattle.part10.specs.Store.{Store}
 use Rattle.engine.specs.declared.association.Association.{Association}
+use Rattle.engine.specs.declared.running.Running.{Running}
 use Rattle.engine.specs.Devices.{Devices}
-use Rattle.engine.specs.Fields.{fields_of, settings_in, state_of}
-use Rattle.engine.specs.Inputs.{Received}
+use Rattle.engine.specs.Fields.{association_in, fields_of, settings_in, state_of}
+use Rattle.engine.specs.Held.{Held}
+use Rattle.engine.specs.Inputs.{Received, Supply}
 use Rattle.engine.specs.Timeline.{Happened}
 use Rattle.engine.specs.Run.{rooms_of}
 use Rattle.engine.specs.Moves.{Moved, StaysEnded}
+use Rattle.engine.specs.OutputLaws.{SendsFew}
+use Rattle.engine.specs.Reached.{reached}
 use Rattle.engine.specs.Stands.{Stands}
+use Rattle.engine.specs.Turns.{TookInput}
 
--- whatever came before, the input has moved the association and its devices on
+-- the input has moved the association and its devices on
 abbrev pub MovesOn : {A C V D : ℕ} → Association A C V D → Association A C V D → Received → Devices → Devices → Type 0
 MovesOn {A} {C} {V} {D} before after input old new = (inputs : List Received) (story : List Happened) (failed : Bool)
     → Stands (rooms_of A C V D) (settings_in before) inputs story failed (fields_of before) old.store
@@ -19,3 +25,28 @@ MovesOn {A} {C} {V} {D} before after input old new = (inputs : List Received) (s
 -- if the association had ended, it and its devices are as they were
 abbrev pub StaysOnceEnded : {A C V D : ℕ} → Association A C V D → Association A C V D → Devices → Devices → Type 0
 StaysOnceEnded before after old new = state_of before ≡ Sta1 → StaysEnded (fields_of before) (fields_of after) old new
+
+-- so many of the received bytes are held
+abbrev pub HoldsBytes : {A C V D : ℕ} → Association A C V D → ℕ → Type 0
+HoldsBytes {A} {C} {V} {D} seen n = (inputs : List Received) (story : List Happened) (failed : Bool) (store : Store)
+    → Stands (rooms_of A C V D) (settings_in seen) inputs story failed (fields_of seen) store
+    → Held (rooms_of A C V D) (settings_in seen) (reached (rooms_of A C V D) (settings_in seen) inputs story failed) n
+
+-- few bytes are sent for a piece of at most so many
+abbrev pub HasPortion : {A C V D : ℕ} → Association A C V D → ℕ → Type 0
+HasPortion {A} {C} {V} {D} seen most = (inputs : List Received) (story : List Happened) (failed : Bool) (store : Store)
+    → Stands (rooms_of A C V D) (settings_in seen) inputs story failed (fields_of seen) store
+    → SendsFew (rooms_of A C V D) (settings_in seen) inputs story most
+
+-- ---- a run, which is the association inside it
+
+abbrev pub RunsOn : {A C V D : ℕ} → Running A C V D → Running A C V D → Received → Devices → Devices → Type 0
+RunsOn before after input old new = MovesOn (association_in before) (association_in after) input old new
+
+abbrev pub StaysOnceOver : {A C V D : ℕ} → Running A C V D → Running A C V D → Devices → Devices → Type 0
+StaysOnceOver before after old new = StaysOnceEnded (association_in before) (association_in after) old new
+
+-- the source gave an input, and that moved the run on
+abbrev pub TakesTurn : {A C V D : ℕ} → Running A C V D → Running A C V D → Supply → Supply → Devices → Devices → Type 0
+TakesTurn {A} {C} {V} {D} before after given_old given_new old new =
+    TookInput (rooms_of A C V D) (settings_in (association_in before)) given_old given_new (fields_of (association_in before)) (fields_of (association_in after)) old new

@@ -52,7 +52,7 @@ impl<const A: usize, const C: usize, const V: usize, const D: usize> Association
     ghost use Rattle.engine.specs.Reached.{reached};
     ghost use Rattle.engine.specs.Stands.{Stands};
     ghost use Rattle.engine.specs.Timeline.{Happened};
-    ghost use Rattle.engine.specs.MovesOn.{MovesOn, StaysOnceEnded};
+    ghost use Rattle.engine.specs.MovesOn.{HasPortion, HoldsBytes, MovesOn, StaysOnceEnded};
     ghost use Rattle.engine.specs.machine.PerformsReaction.{Stays};
     ghost use Rattle.engine.specs.machine.Events.{MovesOutside};
     ghost use Rattle.engine.specs.machine.Lent.{before, after};
@@ -105,9 +105,7 @@ impl<const A: usize, const C: usize, const V: usize, const D: usize> Association
     /// those of an unfinished command set; and what [`Walker::held`](sequence::Walker::held) counts of
     /// a data set. No field holds other received bytes.
     pub fn held(&self) -> usize
-        ensures held { (inputs : List Received) (story : List Happened) (failed : Bool) (store : Store)
-            → Stands (rooms_of A C V D) (settings_in self.now) inputs story failed (fields_of self.now) store
-            → Held (rooms_of A C V D) (settings_in self.now) (reached (rooms_of A C V D) (settings_in self.now) inputs story failed) result }
+        ensures held { HoldsBytes self.now result }
         ensures sum { result ≡ held_in (fields_of self.now) }
         ensures room { result ≤ A + C + V + 16 * D }
         ensures accepted_room { state_of self.now ≡ Sta6 → result ≤ 544 + C + V + 16 * D }
@@ -120,9 +118,7 @@ impl<const A: usize, const C: usize, const V: usize, const D: usize> Association
     /// presentation data value, a fragment, or a PDU that is skipped), and at least one.
     pub fn portion(&self) -> usize
         ensures some { 0 < result }
-        ensures few { (inputs : List Received) (story : List Happened) (failed : Bool) (store : Store)
-            → Stands (rooms_of A C V D) (settings_in self.now) inputs story failed (fields_of self.now) store
-            → SendsFew (rooms_of A C V D) (settings_in self.now) inputs story result }
+        ensures few { HasPortion self.now result }
     {
         let due = self.deframer.due();
         if self.is_ended() || due == 0 {

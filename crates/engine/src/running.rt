@@ -31,11 +31,11 @@ impl<const A: usize, const C: usize, const V: usize, const D: usize> Running<A, 
     ghost use Rattle.engine.specs.Fields.{association_in, drafting_of, fields_of, settings_in, state_of};
     ghost use Rattle.engine.specs.Held as holding;
     ghost use Rattle.engine.specs.Inputs.{Received, input_of, shown_after};
-    ghost use Rattle.engine.specs.MovesOn.{MovesOn, StaysOnceEnded};
+    ghost use Rattle.engine.specs.MovesOn.{HasPortion, RunsOn, StaysOnceOver, TakesTurn};
     ghost use Rattle.engine.specs.OutputLaws.{SendsFew};
     ghost use Rattle.engine.specs.Stands.{Stands};
     ghost use Rattle.engine.specs.Timeline.{Happened};
-    ghost use Rattle.engine.specs.Turns.{TookInput, Reports};
+    ghost use Rattle.engine.specs.Turns.{Reports};
 
     /// Creates the association of a transport connection that was just opened.
     pub fn open(config: &Config) -> Self
@@ -76,9 +76,7 @@ impl<const A: usize, const C: usize, const V: usize, const D: usize> Running<A, 
     /// value, a fragment, or a PDU that is skipped), and at least one.
     pub fn portion(&self) -> usize
         ensures some { 0 < result }
-        ensures few { (inputs : List Received) (story : List Happened) (failed : Bool) (store : Store)
-            → Stands (rooms_of A C V D) (settings_in (association_in self.now)) inputs story failed (fields_of (association_in self.now)) store
-            → SendsFew (rooms_of A C V D) (settings_in (association_in self.now)) inputs story result }
+        ensures few { HasPortion (association_in self.now) result }
     {
         self.association.portion()
     }
@@ -102,9 +100,9 @@ impl<const A: usize, const C: usize, const V: usize, const D: usize> Running<A, 
         requires draft { IsThere (drafting_of (association_in self.old)) (F.store filing.old) }
         ensures draft { IsThere (drafting_of (association_in self.new)) (F.store filing.new) }
         ensures settings { settings_in (association_in self.new) ≡ settings_in (association_in self.old) }
-        ensures moved { MovesOn (association_in self.old) (association_in self.new) (input_of input piece.now)
+        ensures moved { RunsOn self.old self.new (input_of input piece.now)
             (devices (W.line wire.old) (F.store filing.old)) (devices (W.line wire.new) (F.store filing.new)) }
-        ensures ended { StaysOnceEnded (association_in self.old) (association_in self.new)
+        ensures ended { StaysOnceOver self.old self.new
             (devices (W.line wire.old) (F.store filing.old)) (devices (W.line wire.new) (F.store filing.new)) }
     {
         match input {
@@ -115,7 +113,7 @@ impl<const A: usize, const C: usize, const V: usize, const D: usize> Running<A, 
         }
     }
 
-    /// MovesOn the next input of the source, which is given the state of the association, and handles it.
+    /// Takes the next input of the source, which is given the state of the association, and handles it.
     pub fn turn<S: Source, W: Wire, F: Filing>(
         &mut self,
         source: &mut S,
@@ -126,8 +124,8 @@ impl<const A: usize, const C: usize, const V: usize, const D: usize> Running<A, 
         ensures draft { IsThere (drafting_of (association_in self.new)) (F.store filing.new) }
         ensures settings { settings_in (association_in self.new) ≡ settings_in (association_in self.old) }
         ensures shown { S.shown source.new ≡ shown_after (state_of (association_in self.old)) (S.shown source.old) }
-        ensures took { TookInput (rooms_of A C V D) (settings_in (association_in self.old)) (S.supply source.old) (S.supply source.new)
-            (fields_of (association_in self.old)) (fields_of (association_in self.new)) (devices (W.line wire.old) (F.store filing.old)) (devices (W.line wire.new) (F.store filing.new)) }
+        ensures took { TakesTurn self.old self.new (S.supply source.old) (S.supply source.new)
+            (devices (W.line wire.old) (F.store filing.old)) (devices (W.line wire.new) (F.store filing.new)) }
     {
         let input = source.next(self.state());
         self.take(input, source.piece(), wire, filing);
