@@ -4,7 +4,7 @@ use Rattle.std.proofs.Common.{◌≡◌, ◌≢◌, ◌⊎◌, inl, inr, ◌↔�
 use Rattle.acceptor.specs.declared.state.State.{State}
 use Rattle.acceptor.specs.declared.state.State.TheVariants.{Sta1, Sta2, Sta3, Sta6, Sta8, Sta13}
 use Rattle.acceptor.specs.declared.event.Event.{Event}
-use Rattle.acceptor.specs.declared.event.Event.TheVariants.{Connected, Request, Ac, Rj, Data, ReleaseRq, ReleaseRp, Abort, Invalid, Closed, Expired, UserAccepts, UserRefuses, UserReleases, UserAborts}
+use Rattle.acceptor.specs.declared.event.Event.TheVariants.{Connected, AcceptableRq, UnacceptableRq, Ac, Rj, Data, ReleaseRq, ReleaseRp, Abort, Invalid, Closed, Expired, UserAccepts, UserRefuses, UserReleases, UserAborts}
 use Rattle.acceptor.specs.declared.effect.Timer.{Timer}
 use Rattle.acceptor.specs.declared.effect.Timer.TheVariants.{Starts, Stops, GoesOn}
 use Rattle.acceptor.specs.Effect.{timer, timer_runs}
@@ -26,8 +26,8 @@ Step a b starts = ((b ≡ a) × (starts ≡ false)) ⊎ ((rank a < rank b) × (s
 
 step : (state : State) (event : Event) → event ≢ Connected → Step state (table state event).1 (is_start (timer (table state event).0 (table state event).1))
 step Sta1 Connected n = absurd (n refl)
-step Sta2 (Request true) n = inr (omega arith, refl)
-step Sta2 (Request false) n = inr (omega arith, refl)
+step Sta2 AcceptableRq n = inr (omega arith, refl)
+step Sta2 UnacceptableRq n = inr (omega arith, refl)
 step Sta2 Ac n = inr (omega arith, refl)
 step Sta2 Rj n = inr (omega arith, refl)
 step Sta2 Data n = inr (omega arith, refl)
@@ -40,7 +40,8 @@ step Sta2 Closed n = inr (omega arith, refl)
 step Sta3 UserAccepts n = inr (omega arith, refl)
 step Sta3 UserRefuses n = inr (omega arith, refl)
 step Sta6 ReleaseRq n = inr (omega arith, refl)
-step Sta6 (Request acceptable) n = inr (omega arith, refl)
+step Sta6 AcceptableRq n = inr (omega arith, refl)
+step Sta6 UnacceptableRq n = inr (omega arith, refl)
 step Sta6 Ac n = inr (omega arith, refl)
 step Sta6 Rj n = inr (omega arith, refl)
 step Sta6 ReleaseRp n = inr (omega arith, refl)

@@ -1,9 +1,8 @@
 -- The acceptor's part of the upper layer's state table (PS3.8 section 9.2.3, Table 9-10).
-use Rattle.std.specs.Prelude.{true, false}
 use Rattle.acceptor.specs.declared.state.State.{State}
 use Rattle.acceptor.specs.declared.state.State.TheVariants.{Sta1, Sta2, Sta3, Sta6, Sta8, Sta13}
 use Rattle.acceptor.specs.declared.event.Event.{Event}
-use Rattle.acceptor.specs.declared.event.Event.TheVariants.{Connected, Request, Ac, Rj, Data, ReleaseRq, ReleaseRp, Abort, Invalid, Closed, Expired, UserAccepts, UserRefuses, UserReleases, UserAborts}
+use Rattle.acceptor.specs.declared.event.Event.TheVariants.{Connected, AcceptableRq, UnacceptableRq, Ac, Rj, Data, ReleaseRq, ReleaseRp, Abort, Invalid, Closed, Expired, UserAccepts, UserRefuses, UserReleases, UserAborts}
 use Rattle.acceptor.specs.declared.action.Action.{Action}
 use Rattle.acceptor.specs.declared.action.Action.TheVariants.{Nothing, Ae5, Ae6, Ae7, Ae8, Ar2, Ar4, Ar5, Aa1, Aa2, Aa3, Aa4, Aa5, Aa6, Aa7, Aa8, Dt2}
 
@@ -12,8 +11,8 @@ use Rattle.acceptor.specs.declared.action.Action.TheVariants.{Nothing, Ae5, Ae6,
 -- read, so no PDU is received in them.
 abbrev pub table : State → Event → Action × State
 table Sta1 Connected = (Ae5, Sta2)
-table Sta2 (Request true) = (Ae6, Sta3)
-table Sta2 (Request false) = (Ae6, Sta13)
+table Sta2 AcceptableRq = (Ae6, Sta3)
+table Sta2 UnacceptableRq = (Ae6, Sta13)
 table Sta2 Ac = (Aa1, Sta13)
 table Sta2 Rj = (Aa1, Sta13)
 table Sta2 Data = (Aa1, Sta13)
@@ -27,7 +26,8 @@ table Sta3 UserAccepts = (Ae7, Sta6)
 table Sta3 UserRefuses = (Ae8, Sta13)
 table Sta6 Data = (Dt2, Sta6)
 table Sta6 ReleaseRq = (Ar2, Sta8)
-table Sta6 (Request acceptable) = (Aa8, Sta13)
+table Sta6 AcceptableRq = (Aa8, Sta13)
+table Sta6 UnacceptableRq = (Aa8, Sta13)
 table Sta6 Ac = (Aa8, Sta13)
 table Sta6 Rj = (Aa8, Sta13)
 table Sta6 ReleaseRp = (Aa8, Sta13)
@@ -41,7 +41,8 @@ table Sta13 Rj = (Aa6, Sta13)
 table Sta13 Data = (Aa6, Sta13)
 table Sta13 ReleaseRq = (Aa6, Sta13)
 table Sta13 ReleaseRp = (Aa6, Sta13)
-table Sta13 (Request acceptable) = (Aa7, Sta13)
+table Sta13 AcceptableRq = (Aa7, Sta13)
+table Sta13 UnacceptableRq = (Aa7, Sta13)
 table Sta13 Invalid = (Aa7, Sta13)
 table Sta13 Abort = (Aa2, Sta1)
 table Sta13 Expired = (Aa2, Sta1)

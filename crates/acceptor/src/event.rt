@@ -5,9 +5,11 @@
 pub enum Event {
     /// Transport connection indication: the transport connection is open.
     Connected,
-    /// An A-ASSOCIATE-RQ PDU was received: `true` if it is acceptable to the service provider, `false`
-    /// if the provider rejects it. These are the two outcomes of action AE-6.
-    Request(bool),
+    /// An A-ASSOCIATE-RQ PDU was received that is acceptable to the service provider. This event and the
+    /// next are the two outcomes of action AE-6.
+    AcceptableRq,
+    /// An A-ASSOCIATE-RQ PDU was received that the service provider rejects.
+    UnacceptableRq,
     /// An A-ASSOCIATE-AC PDU was received.
     Ac,
     /// An A-ASSOCIATE-RJ PDU was received.

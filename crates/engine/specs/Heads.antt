@@ -32,7 +32,7 @@ pub data HeadEvent : Type 0 where
 -- the event of the state table for a received PDU of this type
 abbrev pub event_of : ℕ → Event
 event_of kind =
-    if nat_eq kind associate_rq then event.Request true
+    if nat_eq kind associate_rq then event.AcceptableRq
     else (if nat_eq kind associate_ac then event.Ac
     else (if nat_eq kind associate_rj then event.Rj
     else (if nat_eq kind p_data_tf then event.Data

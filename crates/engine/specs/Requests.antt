@@ -1,6 +1,6 @@
 -- The effect of a whole association request (PS3.8 sections 7.1 and 9.2): a rejection by the service provider, or the
 -- response of the local user, who responds at once (this product's own profile).
-use Rattle.std.specs.Prelude.{ℕ, List, [], Some, None, true, false, nat_eq, if◌then◌else◌}
+use Rattle.std.specs.Prelude.{ℕ, List, [], Some, None, nat_eq, if◌then◌else◌}
 use Rattle.acceptor.specs.declared.event.Event.TheVariants as event
 use Rattle.pdu.specs.Record.{RequestRecord}
 use Rattle.pdu.specs.Items.{request_record}
@@ -22,17 +22,17 @@ keeping s body p = record p { request = record { further = s.further; body = bod
 -- the effect of a request that is acceptable to the service provider and accepted by the local user, with these bytes
 -- as its answer
 abbrev pub accepting : Progress → List ℕ → Advance
-accepting p answer = followed_by (done [] 0 p (event.Request true)) (λ q. done answer 0 q event.UserAccepts)
+accepting p answer = followed_by (done [] 0 p event.AcceptableRq) (λ q. done answer 0 q event.UserAccepts)
 
 abbrev pub declined : Progress → List ℕ → Advance
-declined p answer = followed_by (done [] 0 p (event.Request true)) (λ q. done answer 0 q event.UserRefuses)
+declined p answer = followed_by (done [] 0 p event.AcceptableRq) (λ q. done answer 0 q event.UserRefuses)
 
 -- the effect of the answer to a request; a rejection whose source is the service provider (ACSE) is its own, any
 -- other the local user's
 abbrev pub answered : Settings → RequestRecord → Progress → Answer → Advance
 answered s r p Accept = accepting p (accept_text s r)
 answered s r p (Reject result source reason) =
-    if nat_eq source service_provider_acse then done (reject_text result source reason) 0 p (event.Request false)
+    if nat_eq source service_provider_acse then done (reject_text result source reason) 0 p event.UnacceptableRq
     else declined p (reject_text result source reason)
 
 abbrev pub at_request : Settings → Progress → List ℕ → Advance

@@ -35,7 +35,7 @@ abbrev pub at_head : Rooms → Settings → Progress → ℕ → ℕ → Advance
 at_head rooms s p kind n = elim (head_event (rooms.request - heads_size) s.max_pdu p.state kind n) [
   | NoEvent ↦ nothing p
   | AtOnce e reason ↦ refusing (done [] reason p e)
-  | TooLong ↦ refusing (done (reject_text rejected_transient service_provider_presentation local_limit_exceeded) 0 p (event.Request false))
+  | TooLong ↦ refusing (done (reject_text rejected_transient service_provider_presentation local_limit_exceeded) 0 p event.UnacceptableRq)
 ]
 
 abbrev pub released : Progress → Advance

@@ -43,7 +43,7 @@ fn event_of(kind: u8) -> Event
     ensures { result ≡ spelling.event_of kind }
 {
     match kind {
-        pdu_type::A_ASSOCIATE_RQ => Event::Request(true),
+        pdu_type::A_ASSOCIATE_RQ => Event::AcceptableRq,
         pdu_type::A_ASSOCIATE_AC => Event::Ac,
         pdu_type::A_ASSOCIATE_RJ => Event::Rj,
         pdu_type::P_DATA_TF => Event::Data,
@@ -158,7 +158,7 @@ impl<const A: usize, const C: usize, const V: usize, const D: usize> Provider<A,
                 Reaction::Nothing
             }
             HeadEvent::AtOnce(event, reason) => Reaction::Perform(event, Answering::Abort(reason)),
-            HeadEvent::TooLong => Reaction::Perform(Event::Request(false), Answering::TooLong),
+            HeadEvent::TooLong => Reaction::Perform(Event::UnacceptableRq, Answering::TooLong),
         }
     }
 }

@@ -39,9 +39,9 @@ fn reject<W: Wire>(
 {
     let answering = Answering::Request(config, request);
     if source == rejection::SERVICE_PROVIDER_ACSE {
-        step(State::Sta2, Event::Request(false), answering, wire)
+        step(State::Sta2, Event::UnacceptableRq, answering, wire)
     } else {
-        let (_, asked) = act(State::Sta2, Event::Request(true));
+        let (_, asked) = act(State::Sta2, Event::AcceptableRq);
         step(asked, Event::UserRefuses, answering, wire)
     }
 }
@@ -86,7 +86,7 @@ fn answer_request<W: Wire>(
         Ok(request) => match judge(config, &request) {
             Answer::Accept => {
                 let peer = peer_of(config, &request);
-                let (_, asked) = act(State::Sta2, Event::Request(true));
+                let (_, asked) = act(State::Sta2, Event::AcceptableRq);
                 let answering = Answering::Request(config, &request);
                 let (next, sent) = step(asked, Event::UserAccepts, answering, wire);
                 (Some(peer), next, sent)

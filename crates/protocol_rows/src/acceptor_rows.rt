@@ -21,8 +21,8 @@ fn are_given(rows: &[Row]) -> bool {
 
 const BEFORE: [Row; 14] = [
     (Sta1, Connected, Ae5, Sta2),
-    (Sta2, Request(true), Ae6, Sta3),
-    (Sta2, Request(false), Ae6, Sta13),
+    (Sta2, AcceptableRq, Ae6, Sta3),
+    (Sta2, UnacceptableRq, Ae6, Sta13),
     (Sta2, Ac, Aa1, Sta13),
     (Sta2, Rj, Aa1, Sta13),
     (Sta2, Data, Aa1, Sta13),
@@ -44,8 +44,8 @@ fn rows_before_the_association(rt: HostRuntime) {
 const DURING: [Row; 12] = [
     (Sta6, Data, Dt2, Sta6),
     (Sta6, ReleaseRq, Ar2, Sta8),
-    (Sta6, Request(true), Aa8, Sta13),
-    (Sta6, Request(false), Aa8, Sta13),
+    (Sta6, AcceptableRq, Aa8, Sta13),
+    (Sta6, UnacceptableRq, Aa8, Sta13),
     (Sta6, Ac, Aa8, Sta13),
     (Sta6, Rj, Aa8, Sta13),
     (Sta6, ReleaseRp, Aa8, Sta13),
@@ -67,8 +67,8 @@ const AFTER: [Row; 11] = [
     (Sta13, Data, Aa6, Sta13),
     (Sta13, ReleaseRq, Aa6, Sta13),
     (Sta13, ReleaseRp, Aa6, Sta13),
-    (Sta13, Request(true), Aa7, Sta13),
-    (Sta13, Request(false), Aa7, Sta13),
+    (Sta13, AcceptableRq, Aa7, Sta13),
+    (Sta13, UnacceptableRq, Aa7, Sta13),
     (Sta13, Invalid, Aa7, Sta13),
     (Sta13, Event::Abort, Aa2, Sta1),
     (Sta13, Expired, Aa2, Sta1),

@@ -149,7 +149,7 @@ abbrev pub by_head : Progress → HeadEvent → Advance
 by_head p e = elim e [
   | NoEvent ↦ nothing p
   | AtOnce ev reason ↦ refusing (done [] reason p ev)
-  | TooLong ↦ refusing (done (reject_text 2 3 2) 0 p (event.Request false))
+  | TooLong ↦ refusing (done (reject_text 2 3 2) 0 p event.UnacceptableRq)
 ]
 
 module _ (p : Progress) (finding : Finding) (context control : ℕ) (fragment : List ℕ) where
@@ -174,8 +174,8 @@ head_sound : (room most : ℕ) (p : Progress) (kind n : ℕ) (e : HeadEvent) →
 head_sound room most p kind n NoEvent e h = record { message = h.message; quiet = h.quiet; head = tt }
 head_sound room most p kind n (AtOnce ev reason) e h = refused_sound (done [] reason p ev).next Between _ (event_sound p Between ev (head_stays room most p.state kind n ev reason e) h)
 head_sound room most p kind n TooLong e h =
-    let stays : Stays p.state (event.Request false) = subst (λ (st : State). Stays st (event.Request false)) (sym (head_too_long room most p.state kind n e)) (λ l. absurd cc) in
-    refused_sound (done (reject_text 2 3 2) 0 p (event.Request false)).next Between _ (event_sound p Between (event.Request false) stays h)
+    let stays : Stays p.state event.UnacceptableRq = subst (λ (st : State). Stays st event.UnacceptableRq) (sym (head_too_long room most p.state kind n e)) (λ l. absurd cc) in
+    refused_sound (done (reject_text 2 3 2) 0 p event.UnacceptableRq).next Between _ (event_sound p Between event.UnacceptableRq stays h)
 
 -- ---- a whole PDU
 
@@ -189,12 +189,12 @@ twice_quiet : (answer : List ℕ) (p : Progress) (a b : Event) → p.message ≡
 twice_quiet answer p a b q = done_quiet answer 0 (done [] 0 p a).next b (done_quiet [] 0 p a q)
 
 rejected_quiet : (by_acse : Bool) (p : Progress) (text : List ℕ) → p.message ≡ NoMessage
-    → (if by_acse then done text 0 p (event.Request false) else record { next = (done text 0 (done [] 0 p (event.Request true)).next event.UserRefuses).next; sent = (done [] 0 p (event.Request true)).sent ++ (done text 0 (done [] 0 p (event.Request true)).next event.UserRefuses).sent; files = [] }).next.message ≡ NoMessage
-rejected_quiet true p text q = done_quiet text 0 p (event.Request false) q
-rejected_quiet false p text q = twice_quiet text p (event.Request true) event.UserRefuses q
+    → (if by_acse then done text 0 p event.UnacceptableRq else record { next = (done text 0 (done [] 0 p event.AcceptableRq).next event.UserRefuses).next; sent = (done [] 0 p event.AcceptableRq).sent ++ (done text 0 (done [] 0 p event.AcceptableRq).next event.UserRefuses).sent; files = [] }).next.message ≡ NoMessage
+rejected_quiet true p text q = done_quiet text 0 p event.UnacceptableRq q
+rejected_quiet false p text q = twice_quiet text p event.AcceptableRq event.UserRefuses q
 
 answered_quiet : (s : Settings) (r : RequestRecord) (p : Progress) (a : Answer) → p.message ≡ NoMessage → (answered s r p a).next.message ≡ NoMessage
-answered_quiet s r p Accept q = twice_quiet (accept_text s r) p (event.Request true) event.UserAccepts q
+answered_quiet s r p Accept q = twice_quiet (accept_text s r) p event.AcceptableRq event.UserAccepts q
 answered_quiet s r p (Reject result source reason) q = rejected_quiet (nat_eq source 2) p (reject_text result source reason) q
 
 abbrev pub by_fault : Settings → Progress → List ℕ → Option PduFault → Advance

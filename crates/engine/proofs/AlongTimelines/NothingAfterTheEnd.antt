@@ -34,7 +34,7 @@ pub record IsStill (p : Progress) (g : Advance) : Type 0 where
   pub message : (next.message ≡ p.message) ⊎ (next.message ≡ NoMessage)
 
 -- no PDU's type has an event in Sta1
-idle_event : (a b c d e f g : Bool) → table Sta1 (if a then event.Request true else (if b then event.Ac else (if c then event.Rj else (if d then event.Data else (if e then event.ReleaseRq else (if f then event.ReleaseRp else (if g then event.Abort else event.Invalid))))))) ≡ (action.Nothing, Sta1)
+idle_event : (a b c d e f g : Bool) → table Sta1 (if a then event.AcceptableRq else (if b then event.Ac else (if c then event.Rj else (if d then event.Data else (if e then event.ReleaseRq else (if f then event.ReleaseRp else (if g then event.Abort else event.Invalid))))))) ≡ (action.Nothing, Sta1)
 idle_event a b c d e f g = grind (arith, common_steps)
 
 -- a head by_head nothing, or an event that does nothing

@@ -7,7 +7,7 @@ use Rattle.std.proofs.lemmas.Bool.{cases_Bool}
 use Rattle.acceptor.specs.declared.state.State.{State}
 use Rattle.acceptor.specs.declared.state.State.TheVariants.{Sta1, Sta2, Sta3, Sta6, Sta8, Sta13}
 use Rattle.acceptor.specs.declared.event.Event.{Event}
-use Rattle.acceptor.specs.declared.event.Event.TheVariants.{Connected, Request, Ac, Rj, Data, ReleaseRq, ReleaseRp, Abort, Invalid, Closed, Expired, UserAccepts, UserRefuses, UserReleases, UserAborts}
+use Rattle.acceptor.specs.declared.event.Event.TheVariants.{Connected, AcceptableRq, UnacceptableRq, Ac, Rj, Data, ReleaseRq, ReleaseRp, Abort, Invalid, Closed, Expired, UserAccepts, UserRefuses, UserReleases, UserAborts}
 use Rattle.acceptor.specs.Table.{table}
 use Rattle.engine.specs.Requested.{no_request}
 use Rattle.engine.specs.Held.{is_ended}
@@ -105,7 +105,8 @@ opened k store state refused body join none unagreed =
 -- no event but a connection's leaves an association that has ended
 ended_stays : (e : Event) → Stays Sta1 e → (table Sta1 e).1 ≡ Sta1
 ended_stays Connected h = let x : Sta2 ≡ Sta1 = h refl in absurd cc
-ended_stays (Request acceptable) h = refl
+ended_stays AcceptableRq h = refl
+ended_stays UnacceptableRq h = refl
 ended_stays Ac h = refl
 ended_stays Rj h = refl
 ended_stays Data h = refl

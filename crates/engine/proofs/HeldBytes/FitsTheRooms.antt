@@ -224,8 +224,8 @@ module _ (rooms : Rooms) where
   pdu_head_fits most p kind n NoEvent e h = record { command = h.command; bytes = h.bytes; agreed = h.agreed; room = λ due r one. head_fits (rooms.request - 12) most p.state kind n e due one }
   pdu_head_fits most p kind n (AtOnce ev reason) e h = refused_fits (done [] reason p ev).next Between _ (event_fits p Between ev (head_stays (rooms.request - 12) most p.state kind n ev reason e) h)
   pdu_head_fits most p kind n TooLong e h =
-      let stays : Stays p.state (event.Request false) = subst (λ (st : State). Stays st (event.Request false)) (sym (head_too_long (rooms.request - 12) most p.state kind n e)) (λ l. absurd cc) in
-      refused_fits (done (reject_text 2 3 2) 0 p (event.Request false)).next Between _ (event_fits p Between (event.Request false) stays h)
+      let stays : Stays p.state event.UnacceptableRq = subst (λ (st : State). Stays st event.UnacceptableRq) (sym (head_too_long (rooms.request - 12) most p.state kind n e)) (λ l. absurd cc) in
+      refused_fits (done (reject_text 2 3 2) 0 p event.UnacceptableRq).next Between _ (event_fits p Between event.UnacceptableRq stays h)
 
   -- ---- a whole PDU
 
@@ -241,7 +241,7 @@ module _ (rooms : Rooms) where
         text : List ℕ
         text = reject_text result source reason
 
-        by : (b : Bool) → Fits rooms (if b then done text 0 (asking Sta2 body) (event.Request false) else declined (asking Sta2 body) text).next Between
+        by : (b : Bool) → Fits rooms (if b then done text 0 (asking Sta2 body) event.UnacceptableRq else declined (asking Sta2 body) text).next Between
         by true = left_fits Sta13 (asking Sta2 body) Between refl
         by false = left_fits Sta13 (record (asking Sta2 body) { state = Sta3 }) Between refl
 

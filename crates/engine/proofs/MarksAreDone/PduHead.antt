@@ -5,7 +5,7 @@ use Rattle.std.proofs.lemmas.Grind.{common_steps}
 use Rattle.acceptor.specs.declared.state.State.{State}
 use Rattle.acceptor.specs.declared.state.State.TheVariants.{Sta2}
 use Rattle.acceptor.specs.declared.event.Event.{Event}
-use Rattle.acceptor.specs.declared.event.Event.TheVariants.{Request, Invalid}
+use Rattle.acceptor.specs.declared.event.Event.TheVariants.{UnacceptableRq, Invalid}
 use Rattle.acceptor.specs.Table.{table}
 use Rattle.pdu.specs.Marks.{Head}
 use Rattle.pdu.specs.Texts.{reject_text}
@@ -65,12 +65,12 @@ head_too_long room most st kind n =
 
 module _ (rooms : Rooms) (s : Settings) (p : Progress) (kind n : ℕ) where
   pub head_nothing : head_event (rooms.request - 12) s.max_pdu p.state kind n ≡ NoEvent → at_entry rooms s p good (At (Head kind n)) ≡ nothing (record p { refused = false })
-  head_nothing e = ap (λ (h : HeadEvent). elim h [ NoEvent ↦ nothing (record p { refused = false }) | AtOnce event reason ↦ refusing (done [] reason (record p { refused = false }) event) | TooLong ↦ refusing (done (reject_text 2 3 2) 0 (record p { refused = false }) (Request false)) ]) e
+  head_nothing e = ap (λ (h : HeadEvent). elim h [ NoEvent ↦ nothing (record p { refused = false }) | AtOnce event reason ↦ refusing (done [] reason (record p { refused = false }) event) | TooLong ↦ refusing (done (reject_text 2 3 2) 0 (record p { refused = false }) UnacceptableRq) ]) e
 
   pub head_at_once : (e : Event) (r : ℕ) → head_event (rooms.request - 12) s.max_pdu p.state kind n ≡ AtOnce e r
       → at_entry rooms s p good (At (Head kind n)) ≡ refusing (done [] r (record p { refused = false }) e)
-  head_at_once e r h = ap (λ (h : HeadEvent). elim h [ NoEvent ↦ nothing (record p { refused = false }) | AtOnce event reason ↦ refusing (done [] reason (record p { refused = false }) event) | TooLong ↦ refusing (done (reject_text 2 3 2) 0 (record p { refused = false }) (Request false)) ]) h
+  head_at_once e r h = ap (λ (h : HeadEvent). elim h [ NoEvent ↦ nothing (record p { refused = false }) | AtOnce event reason ↦ refusing (done [] reason (record p { refused = false }) event) | TooLong ↦ refusing (done (reject_text 2 3 2) 0 (record p { refused = false }) UnacceptableRq) ]) h
 
   pub head_rejected : head_event (rooms.request - 12) s.max_pdu p.state kind n ≡ TooLong
-      → at_entry rooms s p good (At (Head kind n)) ≡ refusing (done (reject_text 2 3 2) 0 (record p { refused = false }) (Request false))
-  head_rejected h = ap (λ (h : HeadEvent). elim h [ NoEvent ↦ nothing (record p { refused = false }) | AtOnce event reason ↦ refusing (done [] reason (record p { refused = false }) event) | TooLong ↦ refusing (done (reject_text 2 3 2) 0 (record p { refused = false }) (Request false)) ]) h
+      → at_entry rooms s p good (At (Head kind n)) ≡ refusing (done (reject_text 2 3 2) 0 (record p { refused = false }) UnacceptableRq)
+  head_rejected h = ap (λ (h : HeadEvent). elim h [ NoEvent ↦ nothing (record p { refused = false }) | AtOnce event reason ↦ refusing (done [] reason (record p { refused = false }) event) | TooLong ↦ refusing (done (reject_text 2 3 2) 0 (record p { refused = false }) UnacceptableRq) ]) h

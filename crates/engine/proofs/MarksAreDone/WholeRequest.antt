@@ -62,34 +62,34 @@ module _ (s : Settings) (body : List ℕ) (none : request_fault body ≡ None) w
   accepted_request p e = good_request p ∙ ap (λ (a : Answer). answered s (request_record body) (keeping s body p) a) e
 
   pub rejected_request : (p : Progress) (x b c : ℕ) → judged s (request_record body) ≡ Reject x b c
-      → at_request s p body ≡ (if nat_eq b 2 then done (reject_text x b c) 0 (keeping s body p) (event.Request false) else declined (keeping s body p) (reject_text x b c))
+      → at_request s p body ≡ (if nat_eq b 2 then done (reject_text x b c) 0 (keeping s body p) event.UnacceptableRq else declined (keeping s body p) (reject_text x b c))
   rejected_request p x b c e = good_request p ∙ ap (λ (a : Answer). answered s (request_record body) (keeping s body p) a) e
 
 -- ---- the code's steps from Sta2
 
 module _ (s : Settings) (body : List ℕ) (st : State) (due : st ≡ Sta2) (none : request_fault body ≡ None) where
-  pub accepted_state : (x : Action × State) (n : State) → x ≡ table st (event.Request true) → n ≡ (table x.1 event.UserAccepts).1 → judged s (request_record body) ≡ Accept
+  pub accepted_state : (x : Action × State) (n : State) → x ≡ table st event.AcceptableRq → n ≡ (table x.1 event.UserAccepts).1 → judged s (request_record body) ≡ Accept
       → n ≡ (at_request s at_start body).next.state
   accepted_state x n e f accept =
-      f ∙ ap (λ (y : Action × State). (table y.1 event.UserAccepts).1) e ∙ ap (λ (y : State). (table (table y (event.Request true)).1 event.UserAccepts).1) due
+      f ∙ ap (λ (y : Action × State). (table y.1 event.UserAccepts).1) e ∙ ap (λ (y : State). (table (table y event.AcceptableRq).1 event.UserAccepts).1) due
       ∙ ap (λ (g : Advance). g.next.state) (sym (accepted_request s body none at_start accept))
 
-  pub accepted_sent : (x : Action × State) (q : RequestRecord) → x ≡ table st (event.Request true) → q ≡ request_record body → judged s (request_record body) ≡ Accept
+  pub accepted_sent : (x : Action × State) (q : RequestRecord) → x ≡ table st event.AcceptableRq → q ≡ request_record body → judged s (request_record body) ≡ Accept
       → step_text x.1 event.UserAccepts 0 (answer_bytes s q) ≡ (at_request s at_start body).sent
   accepted_sent x q e f accept =
-      ap (λ (y : Action × State). step_text y.1 event.UserAccepts 0 (answer_bytes s q)) e ∙ ap (λ (y : State). step_text (table y (event.Request true)).1 event.UserAccepts 0 (answer_bytes s q)) due
+      ap (λ (y : Action × State). step_text y.1 event.UserAccepts 0 (answer_bytes s q)) e ∙ ap (λ (y : State). step_text (table y event.AcceptableRq).1 event.UserAccepts 0 (answer_bytes s q)) due
       ∙ ap (λ (r : RequestRecord). answer_bytes s r) f ∙ ap (λ (a : Answer). text_by a s (request_record body)) accept
       ∙ ap (λ (g : Advance). g.sent) (sym (accepted_request s body none at_start accept))
 
   if_state : (t : Bool) (text : List ℕ) (q : Progress) → q.state ≡ Sta2
-      → (if t then (table st (event.Request false)).1 else (table (table st (event.Request true)).1 event.UserRefuses).1) ≡ (if t then done text 0 q (event.Request false) else declined q text).next.state
-  if_state true text q e = ap (λ (y : State). (table y (event.Request false)).1) due ∙ sym (ap (λ (y : State). (done text 0 (record q { state = y }) (event.Request false)).next.state) e)
-  if_state false text q e = ap (λ (y : State). (table (table y (event.Request true)).1 event.UserRefuses).1) due ∙ sym (ap (λ (y : State). (declined (record q { state = y }) text).next.state) e)
+      → (if t then (table st event.UnacceptableRq).1 else (table (table st event.AcceptableRq).1 event.UserRefuses).1) ≡ (if t then done text 0 q event.UnacceptableRq else declined q text).next.state
+  if_state true text q e = ap (λ (y : State). (table y event.UnacceptableRq).1) due ∙ sym (ap (λ (y : State). (done text 0 (record q { state = y }) event.UnacceptableRq).next.state) e)
+  if_state false text q e = ap (λ (y : State). (table (table y event.AcceptableRq).1 event.UserRefuses).1) due ∙ sym (ap (λ (y : State). (declined (record q { state = y }) text).next.state) e)
 
   if_sent : (t : Bool) (text : List ℕ) (q : Progress) → q.state ≡ Sta2
-      → (if t then step_text st (event.Request false) 0 text else step_text (table st (event.Request true)).1 event.UserRefuses 0 text) ≡ (if t then done text 0 q (event.Request false) else declined q text).sent
-  if_sent true text q e = ap (λ (y : State). step_text y (event.Request false) 0 text) due ∙ sym (ap (λ (y : State). (done text 0 (record q { state = y }) (event.Request false)).sent) e)
-  if_sent false text q e = ap (λ (y : State). step_text (table y (event.Request true)).1 event.UserRefuses 0 text) due ∙ sym (ap (λ (y : State). (declined (record q { state = y }) text).sent) e)
+      → (if t then step_text st event.UnacceptableRq 0 text else step_text (table st event.AcceptableRq).1 event.UserRefuses 0 text) ≡ (if t then done text 0 q event.UnacceptableRq else declined q text).sent
+  if_sent true text q e = ap (λ (y : State). step_text y event.UnacceptableRq 0 text) due ∙ sym (ap (λ (y : State). (done text 0 (record q { state = y }) event.UnacceptableRq).sent) e)
+  if_sent false text q e = ap (λ (y : State). step_text (table y event.AcceptableRq).1 event.UserRefuses 0 text) due ∙ sym (ap (λ (y : State). (declined (record q { state = y }) text).sent) e)
 
   pub rejection_state : (x b c : ℕ) → judged s (request_record body) ≡ Reject x b c → rejected_state st b ≡ (at_request s at_start body).next.state
   rejection_state x b c e = if_state (nat_eq b 2) (reject_text x b c) (keeping s body at_start) refl ∙ ap (λ (g : Advance). g.next.state) (sym (rejected_request s body none at_start x b c e))
@@ -111,8 +111,8 @@ LeavesOrStands further body p g first =
     (g.sent ≡ first.sent) × (g.files ≡ []) × (((first.next.state ≡ Sta13) × (g.next ≡ left Sta13 p)) ⊎ ((first.next.state ≡ Sta6) × (g.next ≡ record p { state = Sta6; request = asked further body })))
 
 rejects : (s : Settings) (body : List ℕ) (p : Progress) (t : Bool) (text : List ℕ) → p.state ≡ Sta2
-    → LeavesOrStands s.further body p (if t then done text 0 (keeping s body p) (event.Request false) else declined (keeping s body p) text) (if t then done text 0 (keeping s body at_start) (event.Request false) else declined (keeping s body at_start) text)
-rejects s body p true text e = subst (λ (y : State). LeavesOrStands s.further body (record p { state = y }) (done text 0 (keeping s body (record p { state = y })) (event.Request false)) (done text 0 (keeping s body at_start) (event.Request false))) (sym e) (refl, refl, inl (refl, refl))
+    → LeavesOrStands s.further body p (if t then done text 0 (keeping s body p) event.UnacceptableRq else declined (keeping s body p) text) (if t then done text 0 (keeping s body at_start) event.UnacceptableRq else declined (keeping s body at_start) text)
+rejects s body p true text e = subst (λ (y : State). LeavesOrStands s.further body (record p { state = y }) (done text 0 (keeping s body (record p { state = y })) event.UnacceptableRq) (done text 0 (keeping s body at_start) event.UnacceptableRq)) (sym e) (refl, refl, inl (refl, refl))
 rejects s body p false text e = subst (λ (y : State). LeavesOrStands s.further body (record p { state = y }) (declined (keeping s body (record p { state = y })) text) (declined (keeping s body at_start) text)) (sym e) (refl, refl, inl (refl, refl))
 
 comes_to : (s : Settings) (body : List ℕ) (p : Progress) (o : Option PduFault) (a : Answer) → p.state ≡ Sta2 → LeavesOrStands s.further body p (by_fault s body p o a) (by_fault s body at_start o a)

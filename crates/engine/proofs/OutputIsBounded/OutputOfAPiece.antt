@@ -174,11 +174,11 @@ followed_few g f m n a b = omega (arith, length-append g.sent (f g.next).sent, a
 head_few : (p : Progress) (n : ℕ) (h : HeadEvent) → Few (30 + n) (elim h [
   | NoEvent ↦ nothing p
   | AtOnce e reason ↦ refusing (done [] reason p e)
-  | TooLong ↦ refusing (done (reject_text rejected_transient service_provider_presentation local_limit_exceeded) 0 p (event.Request false))
+  | TooLong ↦ refusing (done (reject_text rejected_transient service_provider_presentation local_limit_exceeded) 0 p event.UnacceptableRq)
 ])
 head_few p n NoEvent = omega arith
 head_few p n (AtOnce e reason) = omega (arith, done_few [] reason p e)
-head_few p n TooLong = omega (arith, done_few (reject_text rejected_transient service_provider_presentation local_limit_exceeded) 0 p (event.Request false))
+head_few p n TooLong = omega (arith, done_few (reject_text rejected_transient service_provider_presentation local_limit_exceeded) 0 p event.UnacceptableRq)
 
 pdv_head_few : (p : Progress) (refused : Option DimseFault) (known : Option Context) → Few 30 (elim known [ None ↦ invalid p | Some accepted ↦ aborted_if_refused refused p ])
 pdv_head_few p refused known = grind (arith, common_steps)
@@ -194,18 +194,18 @@ pdv_few p finding (Refuses fault) = omega (arith, done_few [] 0 p event.UserAbor
 
 accepting_few : (p : Progress) (answer : List ℕ) → Few (20 + length answer) (accepting p answer)
 accepting_few p answer =
-    let first = done [] 0 p (event.Request true) in
-    omega (arith, followed_few first (λ q. done answer 0 q event.UserAccepts) 10 (length answer + 10) (done_few [] 0 p (event.Request true)) (done_few answer 0 first.next event.UserAccepts))
+    let first = done [] 0 p event.AcceptableRq in
+    omega (arith, followed_few first (λ q. done answer 0 q event.UserAccepts) 10 (length answer + 10) (done_few [] 0 p event.AcceptableRq) (done_few answer 0 first.next event.UserAccepts))
 
 declined_few : (p : Progress) (answer : List ℕ) → Few (20 + length answer) (declined p answer)
 declined_few p answer =
-    let first = done [] 0 p (event.Request true) in
-    omega (arith, followed_few first (λ q. done answer 0 q event.UserRefuses) 10 (length answer + 10) (done_few [] 0 p (event.Request true)) (done_few answer 0 first.next event.UserRefuses))
+    let first = done [] 0 p event.AcceptableRq in
+    omega (arith, followed_few first (λ q. done answer 0 q event.UserRefuses) 10 (length answer + 10) (done_few [] 0 p event.AcceptableRq) (done_few answer 0 first.next event.UserRefuses))
 
 answered_few : (s : Settings) (r : RequestRecord) (p : Progress) (a : Answer) → Few (30 + length (accept_text s r)) (answered s r p a)
 answered_few s r p Accept = let few = accepting_few p (accept_text s r) in omega (arith, few)
 answered_few s r p (Reject result source reason) =
-    pick (nat_eq source 2) _ _ _ (omega (arith, done_few (reject_text result source reason) 0 p (event.Request false))) (omega (arith, declined_few p (reject_text result source reason)))
+    pick (nat_eq source 2) _ _ _ (omega (arith, done_few (reject_text result source reason) 0 p event.UnacceptableRq)) (omega (arith, declined_few p (reject_text result source reason)))
 
 request_few : (s : Settings) (p q : Progress) (r : RequestRecord) (a : Answer) (fault : Option PduFault) → Few (30 + elim fault [ None ↦ length (accept_text s r) | Some f ↦ 0 ]) (elim fault [ Some f ↦ done [] invalid_parameter p event.Invalid | None ↦ answered s r q a ])
 request_few s p q r a (Some f) = omega (arith, done_few [] invalid_parameter p event.Invalid)

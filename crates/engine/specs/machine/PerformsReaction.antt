@@ -4,7 +4,7 @@ use Rattle.std.specs.Prelude.{◌≡◌, ℕ, Bool, true, false, List, [], Optio
 use Rattle.acceptor.specs.declared.state.State.{State}
 use Rattle.acceptor.specs.declared.state.State.TheVariants.{Sta1, Sta13}
 use Rattle.acceptor.specs.declared.event.Event.{Event}
-use Rattle.acceptor.specs.declared.event.Event.TheVariants.{Request, UserRefuses}
+use Rattle.acceptor.specs.declared.event.Event.TheVariants.{AcceptableRq, UnacceptableRq, UserRefuses}
 use Rattle.acceptor.specs.Table.{table}
 use Rattle.acceptor.specs.Effect.{sending, bytes_sent}
 use Rattle.pdu.specs.declared.wire.WireFailed.{WireFailed}
@@ -77,8 +77,8 @@ Stays state event = is_left (table state event).1 ≡ false → (table state eve
 
 abbrev pub rejected_state : State → ℕ → State
 rejected_state state source =
-    if nat_eq source service_provider_acse then (table state (Request false)).1 else (table (table state (Request true)).1 UserRefuses).1
+    if nat_eq source service_provider_acse then (table state UnacceptableRq).1 else (table (table state AcceptableRq).1 UserRefuses).1
 
 abbrev pub rejected_text : State → ℕ → List ℕ → List ℕ
 rejected_text state source answer =
-    if nat_eq source service_provider_acse then step_text state (Request false) 0 answer else step_text (table state (Request true)).1 UserRefuses 0 answer
+    if nat_eq source service_provider_acse then step_text state UnacceptableRq 0 answer else step_text (table state AcceptableRq).1 UserRefuses 0 answer

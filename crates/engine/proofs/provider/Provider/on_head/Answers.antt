@@ -34,7 +34,7 @@ returns-in-AtOnce-clause-due g c = λ store p h.
 
 pub returns-in-TooLong-clause-due : goal.returns-in-TooLong-clause-due
 returns-in-TooLong-clause-due g c = λ store p h.
-    leaves_refused (record p { refused = false }) _ answering.TooLong (event.Request false) (record (kept_of c.clear_body.new.self) { refused = false }) store _ _ (head_rejected (rooms_of g.row.A g.row.C g.row.V g.row.D) (settings_in c.args.self.now) p c.args.kind c.args.length
+    leaves_refused (record p { refused = false }) _ answering.TooLong event.UnacceptableRq (record (kept_of c.clear_body.new.self) { refused = false }) store _ _ (head_rejected (rooms_of g.row.A g.row.C g.row.V g.row.D) (settings_in c.args.self.now) p c.args.kind c.args.length
     (ap (λ (st : State). head_event (g.row.A - 12) (settings_in c.args.self.now).max_pdu st c.args.kind c.args.length) (sym h.state_is ∙ sym c.state-state.ensures) ∙ sym c.head_event-event.ensures.brings ∙ ap brings c.in-TooLong.is))
     (begun_pends _ _ store p c.clear_body.ensures.kept h)
 
