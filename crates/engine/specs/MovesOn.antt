@@ -33,8 +33,8 @@ HoldsBytes {A} {C} {V} {D} seen n = (inputs : List Received) (story : List Happe
     → Held (rooms_of A C V D) (settings_in seen) (reached (rooms_of A C V D) (settings_in seen) inputs story failed) n
 
 -- few bytes are sent for a piece of at most so many
-abbrev pub HasPortion : {A C V D : ℕ} → Association A C V D → ℕ → Type 0
-HasPortion {A} {C} {V} {D} seen most = (inputs : List Received) (story : List Happened) (failed : Bool) (store : Store)
+abbrev pub HasInputLimit : {A C V D : ℕ} → Association A C V D → ℕ → Type 0
+HasInputLimit {A} {C} {V} {D} seen most = (inputs : List Received) (story : List Happened) (failed : Bool) (store : Store)
     → Stands (rooms_of A C V D) (settings_in seen) inputs story failed (fields_of seen) store
     → SendsFew (rooms_of A C V D) (settings_in seen) inputs story most
 
@@ -47,6 +47,6 @@ abbrev pub StaysOnceOver : {A C V D : ℕ} → Running A C V D → Running A C V
 StaysOnceOver before after old new = StaysOnceEnded (association_in before) (association_in after) old new
 
 -- the source gave an input, and that moved the run on
-abbrev pub TakesTurn : {A C V D : ℕ} → Running A C V D → Running A C V D → Supply → Supply → Devices → Devices → Type 0
-TakesTurn {A} {C} {V} {D} before after given_old given_new old new =
+abbrev pub TakesNext : {A C V D : ℕ} → Running A C V D → Running A C V D → Supply → Supply → Devices → Devices → Type 0
+TakesNext {A} {C} {V} {D} before after given_old given_new old new =
     TookInput (rooms_of A C V D) (settings_in (association_in before)) given_old given_new (fields_of (association_in before)) (fields_of (association_in after)) old new

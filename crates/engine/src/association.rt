@@ -52,7 +52,7 @@ impl<const A: usize, const C: usize, const V: usize, const D: usize> Association
     ghost use Rattle.engine.specs.Reached.{reached};
     ghost use Rattle.engine.specs.Stands.{Stands};
     ghost use Rattle.engine.specs.Timeline.{Happened};
-    ghost use Rattle.engine.specs.MovesOn.{HasPortion, HoldsBytes, MovesOn, StaysOnceEnded};
+    ghost use Rattle.engine.specs.MovesOn.{HasInputLimit, HoldsBytes, MovesOn, StaysOnceEnded};
     ghost use Rattle.engine.specs.machine.PerformsReaction.{Stays};
     ghost use Rattle.engine.specs.machine.Events.{MovesOutside};
     ghost use Rattle.engine.specs.machine.Lent.{before, after};
@@ -116,9 +116,9 @@ impl<const A: usize, const C: usize, const V: usize, const D: usize> Association
     /// Returns how many bytes may be passed to `feed` at once so that it sends at most 18,600: those
     /// that are missing from the unfinished part of a PDU (its head, its body, the head of a
     /// presentation data value, a fragment, or a PDU that is skipped), and at least one.
-    pub fn portion(&self) -> usize
+    pub fn input_limit(&self) -> usize
         ensures some { 0 < result }
-        ensures few { HasPortion self.now result }
+        ensures few { HasInputLimit self.now result }
     {
         let due = self.deframer.due();
         if self.is_ended() || due == 0 {

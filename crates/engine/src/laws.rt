@@ -45,18 +45,18 @@ pub fn nothing_after_the_end()
 {}
 
 /// An association that was just opened satisfies the invariant of calls of
-/// [`Running::turn`](crate::Running::turn), for zero calls.
+/// [`Running::take_next`](crate::Running::take_next), for zero calls.
 pub fn turns_begin()
     ensures { TurnsBegin }
 {}
 
-/// One more call of [`Running::turn`](crate::Running::turn) on an association that has not ended
+/// One more call of [`Running::take_next`](crate::Running::take_next) on an association that has not ended
 /// preserves the invariant of these calls.
 pub fn one_turn_more()
     ensures { OneTurnMore }
 {}
 
-/// Calls of [`Running::turn`](crate::Running::turn), a given number or fewer if the association ends
+/// Calls of [`Running::take_next`](crate::Running::take_next), a given number or fewer if the association ends
 /// before, have the effect that the contract of [`run`](crate::run) states.
 pub fn turns_are_a_run()
     ensures { TurnsAreARun }

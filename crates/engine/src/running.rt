@@ -31,7 +31,7 @@ impl<const A: usize, const C: usize, const V: usize, const D: usize> Running<A, 
     ghost use Rattle.engine.specs.Fields.{association_in, drafting_of, fields_of, settings_in, state_of};
     ghost use Rattle.engine.specs.Held as holding;
     ghost use Rattle.engine.specs.Inputs.{Received, input_of, shown_after};
-    ghost use Rattle.engine.specs.MovesOn.{HasPortion, RunsOn, StaysOnceOver, TakesTurn};
+    ghost use Rattle.engine.specs.MovesOn.{HasInputLimit, RunsOn, StaysOnceOver, TakesNext};
     ghost use Rattle.engine.specs.OutputLaws.{SendsFew};
     ghost use Rattle.engine.specs.Stands.{Stands};
     ghost use Rattle.engine.specs.Timeline.{Happened};
@@ -74,11 +74,11 @@ impl<const A: usize, const C: usize, const V: usize, const D: usize> Running<A, 
     /// Returns how many bytes a piece may have so that at most 18,600 are sent for it: those that are
     /// missing from the unfinished part of a PDU (its head, its body, the head of a presentation data
     /// value, a fragment, or a PDU that is skipped), and at least one.
-    pub fn portion(&self) -> usize
+    pub fn input_limit(&self) -> usize
         ensures some { 0 < result }
-        ensures few { HasPortion (association_in self.now) result }
+        ensures few { HasInputLimit (association_in self.now) result }
     {
-        self.association.portion()
+        self.association.input_limit()
     }
 
     /// Returns whether the filing has the draft of an unfinished C-STORE of the association.
@@ -114,7 +114,7 @@ impl<const A: usize, const C: usize, const V: usize, const D: usize> Running<A, 
     }
 
     /// Takes the next input of the source, which is given the state of the association, and handles it.
-    pub fn turn<S: Source, W: Wire, F: Filing>(
+    pub fn take_next<S: Source, W: Wire, F: Filing>(
         &mut self,
         source: &mut S,
         wire: &mut W,
@@ -124,7 +124,7 @@ impl<const A: usize, const C: usize, const V: usize, const D: usize> Running<A, 
         ensures draft { IsThere (drafting_of (association_in self.new)) (F.store filing.new) }
         ensures settings { settings_in (association_in self.new) ≡ settings_in (association_in self.old) }
         ensures shown { S.shown source.new ≡ shown_after (state_of (association_in self.old)) (S.shown source.old) }
-        ensures took { TakesTurn self.old self.new (S.supply source.old) (S.supply source.new)
+        ensures took { TakesNext self.old self.new (S.supply source.old) (S.supply source.new)
             (devices (W.line wire.old) (F.store filing.old)) (devices (W.line wire.new) (F.store filing.new)) }
     {
         let input = source.next(self.state());
@@ -178,7 +178,7 @@ pub fn run<
         if over {
             break;
         }
-        running.turn(source, wire, filing);
+        running.take_next(source, wire, filing);
     }
     filing.discard();
     running.report()

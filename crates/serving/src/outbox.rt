@@ -7,7 +7,7 @@ use element::count::Count;
 use pdu::{Wire, WireFailed};
 
 /// How many bytes may wait for a peer to take them: the 18,600 that an association sends at most for a
-/// portion of what it receives (`engine::Running::portion`), then an A-ABORT, and one more, so that an
+/// portion of what it receives (`engine::Running::input_limit`), then an A-ABORT, and one more, so that an
 /// outbox that is full is known to have refused a send.
 pub const OUTBOX: usize = 18_631;
 

@@ -188,7 +188,7 @@ impl<S: Read + Write, F: Filing> Connection<S, F> {
         ensures opening { opening_of self.new ≡ opening_of self.old }
         ensures nothing { result ≡ Arrival.Nothing → untaken_at self.new ≡ [] }
     {
-        let arrival = self.link.receive(self.running.portion().min(most));
+        let arrival = self.link.receive(self.running.input_limit().min(most));
         match arrival {
             Arrival::Nothing => {}
             Arrival::Bytes(len) => {
@@ -224,7 +224,7 @@ impl<S: Read + Write, F: Filing> Connection<S, F> {
                 Flush::Blocked => return true,
                 Flush::Over => return false,
             }
-            if left == 0 || left < self.running.portion().min(most) {
+            if left == 0 || left < self.running.input_limit().min(most) {
                 return false;
             }
             match self.receive(now, left, observer) {

@@ -25,9 +25,9 @@ loop-turn-preserved g c =
     let i = c.loop-turn.invariant in
     let open_still : state_of (association_in c.loop-turn.running) ≢ Sta1 = λ e. absurd (let wrong : true ≡ false = sym (ap is_ended e) ∙ sym c.is_ended-over.ensures.ended ∙ c.if-over.false in cc) in
     record {
-      settings = c.turn.ensures.settings ∙ i.settings;
-      there = c.turn.ensures.draft;
-      took = one_turn_more rooms s _ _ _ _ _ _ _ _ _ open_still i.took (took_set rooms _ s _ _ _ _ _ _ i.settings c.turn.ensures.took);
+      settings = c.take_next.ensures.settings ∙ i.settings;
+      there = c.take_next.ensures.draft;
+      took = one_turn_more rooms s _ _ _ _ _ _ _ _ _ open_still i.took (took_set rooms _ s _ _ _ _ _ _ i.settings c.take_next.ensures.took);
     }
 
 pub returns-clause-ran : goal.returns-clause-ran

@@ -15,8 +15,8 @@ invariant_of-self-in-Bytes g c =
     let are = more_bytes _ _ _ refl was.bytes c.is_of_bytes.ensures in
     let kept = same_link _ _ _ _ _ _ _ _ _ _ lent.same_written lent.same_outbox (record { never = was.never; fits = was.fits; whole = refl; taken = was.taken }) in
     let none = ap (λ (o : Outbox). o.bytes.items) lent.same_outbox ∙ c.requires.flushed in
-    let k = keeps_piece _ _ _ _ _ _ _ _ _ _ _ _ _ _ _ _ _ c.take.ensures.settings c.push.ensures c.requires.open c.take.new.wire.full c.take.ensures.moved kept c.portion.result _ refl none (within_portion _ _ _ _ _ c.min.ensures lent.arrives.1) refl are
-    (λ inputs story failed h. c.portion.ensures.few inputs story failed _ h) in
+    let k = keeps_piece _ _ _ _ _ _ _ _ _ _ _ _ _ _ _ _ _ c.take.ensures.settings c.push.ensures c.requires.open c.take.new.wire.full c.take.ensures.moved kept c.input_limit.result _ refl none (within_portion _ _ _ _ _ c.min.ensures lent.arrives.1) refl are
+    (λ inputs story failed h. c.input_limit.ensures.few inputs story failed _ h) in
     record {
       there = c.take.ensures.draft;
       never = k.never;

@@ -1,5 +1,5 @@
 use Rattle.engine.proofs.AssociationSize.{running_small}
-use Rattle.engine.proofs.running.Running.turn.Goals as goal
+use Rattle.engine.proofs.running.Running.take_next.Goals as goal
 
 pub returns : goal.returns
 returns g c = record {
