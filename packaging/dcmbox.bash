@@ -7,7 +7,7 @@ _dcmbox() {
     return
   fi
   case $previous in
-    --out | --to)
+    --out | --quarantine | --to)
       compopt -o filenames
       mapfile -t COMPREPLY < <(compgen -d -- "$current")
       return
@@ -20,12 +20,12 @@ _dcmbox() {
       mapfile -t COMPREPLY < <(compgen -W 'text json' -- "$current")
       return
       ;;
-    --port | --ae | --caller | --timeout | --idle | --max-pdu | --max-data | --per | --numbers | --at-once | --per-peer | --longest | --stop-file | --grace | --storage-class | --transfer-syntax | --cut | --tag | --uid)
+    --port | --ae | --caller | --callers | --timeout | --idle | --max-pdu | --max-data | --per | --numbers | --quarantine-most | --at-once | --per-peer | --longest | --stop-file | --grace | --metrics | --storage-class | --transfer-syntax | --cut | --tag | --uid)
       return
       ;;
   esac
   case ${COMP_WORDS[1]} in
-    serve) options='--port --out --bind --ae --caller --timeout --idle --max-pdu --max-data --verbose --quiet --log --per --numbers --no-sync --once --at-once --per-peer --longest --stop-file --grace --all-storage --storage-class --all-syntaxes --transfer-syntax --help' ;;
+    serve) options='--port --out --bind --ae --caller --callers --timeout --idle --max-pdu --max-data --verbose --quiet --log --per --numbers --quarantine --quarantine-most --no-sync --once --at-once --per-peer --longest --stop-file --grace --metrics --all-storage --storage-class --all-syntaxes --transfer-syntax --help' ;;
     replay) options='--out --ae --cut --per --all-storage --storage-class --all-syntaxes --transfer-syntax --help' ;;
     show) options='--recursive --values --tag --json --all-syntaxes --help' ;;
     check) options='--recursive --strict --values --json --all-syntaxes --help' ;;

@@ -97,6 +97,11 @@ class Box:
     def printed(self):
         return self.out_path.read_text()
 
+    def most_resident(self):
+        """The most memory that it has had so far, in kilobytes, as the kernel counts it."""
+        status = pathlib.Path(f"/proc/{self.pid}/status").read_text()
+        return int(re.search(r"VmHWM:\s*(\d+) kB", status)[1])
+
     def files(self):
         """The names in its folder, in order."""
         return sorted(path.name for path in self.folder.iterdir())

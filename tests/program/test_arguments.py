@@ -89,7 +89,7 @@ REPLAY = "replay empty.bin --out ."
         ("a form that no log has", ".*--log takes text or json.*", f"{SERVE} --log xml"),
         ("a log both quiet and not", ".*--verbose and --quiet.*", f"{SERVE} -v -q"),
         ("a PDU that is too short", ".*--max-pdu.*", f"{SERVE} --max-pdu 1023"),
-        ("too many titles", ".*--caller.*16 times.*", SERVE + " --caller SCANNER1" * 17),
+        ("too many titles", ".*--caller.*64 times.*", SERVE + " --caller SCANNER1" * 65),
         ("no time", ".*--timeout.*", f"{SERVE} --timeout 0"),
         ("all classes twice", ".*--all-storage.*", f"{SERVE} --all-storage --all-storage"),
         (

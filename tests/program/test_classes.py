@@ -163,19 +163,32 @@ def test_a_filed_report(replay, expect, work):
     assert (work / "I0000001").read_bytes().endswith(data_set(REPORT))
 
 
-SIXTEEN = [word for n in range(1, 17) for word in ("--storage-class", f"2.25.{n}")]
+MOST = [word for n in range(1, 65) for word in ("--storage-class", f"2.25.{n}")]
 SERVE, REPLAY = "serve --out . --port 11112", "replay one.bin --out ."
 
 
-def test_sixteen_classes(expect):
+def test_sixty_four_classes(expect):
     errors = "dcmbox: missing: the folder .*"
-    expect(3, "", errors, "serve", "--out", "missing", "--port", "11112", *SIXTEEN)
+    expect(3, "", errors, "serve", "--out", "missing", "--port", "11112", *MOST)
+
+
+def test_the_sixty_fourth_class_is_taken(replay, work):
+    classes = [*MOST[:-1], REPORT]
+    answer = replay("one.bin", *classes, "--out", ".")
+    assert re.fullmatch(f"02[0-9a-f]*{accepted(1)}{STORED}", answer)
+    assert (work / "I0000001").exists()
+
+
+def test_the_last_class_of_the_standard_after_sixty_four_others(replay):
+    answer = replay("retired.bin", "--all-storage", *MOST, "--out", ".")
+    every = "".join(accepted(2 * n + 1) for n in range(20))
+    assert re.fullmatch(f"02[0-9a-f]*{every}{STORED}", answer)
 
 
 @pytest.mark.parametrize("command", [SERVE, REPLAY], ids=["serve", "replay"])
-def test_a_seventeenth_class(expect, replay, command):
-    errors = "error: --storage-class may be given 16 times at most"
-    expect(2, "", errors, *command.split(), *SIXTEEN, "--storage-class", "2.25.17")
+def test_a_class_more(expect, replay, command):
+    errors = "error: --storage-class may be given 64 times at most"
+    expect(2, "", errors, *command.split(), *MOST, "--storage-class", "2.25.65")
 
 
 @pytest.mark.parametrize(

@@ -149,6 +149,19 @@ def test_an_echo_while_each_allocation_is_refused(boxed, is_refused):
     box.until_logged('calling "" called "" released contexts 0 of 0')
 
 
+def test_a_store_of_160_mb_in_4_mb(serve):
+    """However large an object is: the program, the C library, and what one association takes."""
+    store = LargeStore(160_000_000)
+    box = serve("--no-sync")
+    with box.connect() as peer:
+        peer.send(store.opening)
+        peer.send(store.middle)
+        answer = peer.exchange(store.last, 293)
+    assert answer == FIRST_REPLY + RELEASED
+    box.until_logged(" released contexts ")
+    assert box.most_resident() * 1024 <= 4_000_000
+
+
 def test_a_store_of_64_mib(serve):
     """It is answered, and filed in 16 MB of memory."""
     store = LargeStore(67059712)

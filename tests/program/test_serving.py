@@ -71,6 +71,84 @@ def test_a_caller_that_is_named_is_served(start):
     assert start("--caller", "SCANNER2", "--caller", "SCANNER1").echoes()
 
 
+class TestCallers:
+    """A file of titles that may call, one a line."""
+
+    @pytest.fixture
+    def refused(self, expect, put):
+        """Expects that a box with this file of titles is refused."""
+
+        def expected(errors, listed, *options):
+            put({"callers.txt": listed})
+            words = ("--port", "11112", "--out", ".", "--callers", "callers.txt")
+            expect(2, "", errors, "serve", *words, *options)
+
+        return expected
+
+    @pytest.mark.parametrize(
+        "listed, options",
+        cases(
+            ("alone", b"SCANNER1\n", ""),
+            ("without an end of its line", b"SCANNER2\nSCANNER1", ""),
+            ("in lines that end in CR LF", b"# R\366ntgen\r\n\r\nSCANNER2\r\nSCANNER1\r\n", ""),
+            ("the last of 64", b"SCANNER2\n" * 63 + b"SCANNER1\n", ""),
+            ("by an option", b"SCANNER2\n", "--caller SCANNER1"),
+            ("before an option", b"SCANNER1\n", "--caller SCANNER2"),
+            ("the last of 64 with those of options", b"A\n" * 62, "--caller B --caller SCANNER1"),
+            ("in the longest file", b"SCANNER1\n#" + b"-" * 65526, ""),
+        ),
+    )
+    def test_that_are_named(self, start, put, listed, options):
+        put({"callers.txt": listed})
+        assert start("--callers", "callers.txt", *options.split()).echoes()
+
+    @pytest.mark.parametrize(
+        "listed",
+        cases(
+            ("beside others", b"SCANNER2\nSCANNER\n"),
+            ("but in a comment", b"# or\n#SCANNER1\nSCANNER2\n"),
+        ),
+    )
+    def test_that_are_not_named(self, start, put, listed):
+        put({"callers.txt": listed})
+        with start("--callers", "callers.txt").connect() as peer:
+            peer.send(ECHO_REQUEST)
+            assert peer.rest() == bytes.fromhex("03000000000400010103")
+
+    @pytest.mark.parametrize(
+        "errors, listed, options",
+        cases(
+            ("in an empty file", "has no title", b"", ""),
+            ("in a comment", "has no title", b"\n# SCANNER1\n", "--caller SCANNER1"),
+            (
+                "a title that is too long",
+                'line 3 is no AE title of 1 to 16 characters: "SEVENTEENLETTERSX"',
+                b"SCANNER1\r\n\r\nSEVENTEENLETTERSX\r\n",
+                "",
+            ),
+            ("in UTF-16", "line 1 is no AE title .*", b"\377\376S\0", ""),
+            ("in a longer file", "has more than 65536 bytes", b"SCANNER1\n#" + b"-" * 65527, ""),
+        ),
+    )
+    def test_that_are_refused(self, refused, errors, listed, options):
+        errors = f"error: --callers names 'callers.txt', wh[a-z]+ {errors}"
+        refused(errors, listed, *options.split())
+
+    def test_that_are_too_many(self, refused):
+        errors = "error: --callers and --caller may name 64 titles at most"
+        refused(errors, b"SCANNER1\n" * 65)
+        refused(errors, b"SCANNER1\n" * 64, "--caller", "SCANNER1")
+
+    @pytest.mark.parametrize("name", ["missing.txt", "."])
+    def test_that_cannot_be_read(self, expect, name):
+        errors = f"dcmbox: {re.escape(name)}: the file of titles can't be read: .*; check .*"
+        expect(3, "", errors, "serve", "--port", "11112", "--out", ".", "--callers", name)
+
+    def test_of_a_file_without_end(self, expect):
+        errors = "error: --callers names '/dev/zero', which has more than 65536 bytes"
+        expect(2, "", errors, "serve", "--port", "11112", "--out", ".", "--callers", "/dev/zero")
+
+
 @pytest.mark.parametrize(
     "length, options",
     cases(

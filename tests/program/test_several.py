@@ -244,5 +244,4 @@ def test_at_most_6_mib_for_sixteen_associations(serve, senders, stall_in_a_store
     for _ in range(3):
         stall_in_a_store(box)
     assert [process.wait(PATIENCE) for process in senders(2)] == [0] * 16
-    status = open(f"/proc/{box.pid}/status").read()
-    assert int(re.search(r"VmHWM:\s*(\d+) kB", status)[1]) <= 6144
+    assert box.most_resident() <= 6144

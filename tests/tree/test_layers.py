@@ -27,7 +27,7 @@ ALLOCATING = re.compile(
 ASSOCIATION = "element dictionary sequence pdu acceptor negotiate dimse part10 engine".split()
 DEVICES = (
     "memory_wire memory_filing folder_calls folder_filing folder_writer given_names locked_folder "
-    "listing names numbers"
+    "listing names numbers aside notes quarantine quarantine_names"
 ).split()
 
 

@@ -5,6 +5,8 @@
 #[cfg(test)]
 mod at_once_rows;
 #[cfg(test)]
+mod caller_rows;
+#[cfg(test)]
 mod class_rows;
 #[cfg(test)]
 mod inspection_rows;

@@ -13,9 +13,18 @@ use std::test::Fail;
 
 /// Reads the settings of `serve` for a command line.
 pub(crate) fn serve_for<'a>(alloc: Global, words: &'a [&'a str]) -> Result<Serve<'a>, WordsError> {
+    serve_listing(alloc, words, "")
+}
+
+/// Reads the settings of `serve` for a command line and the text of a file of titles.
+pub(crate) fn serve_listing<'a>(
+    alloc: Global,
+    words: &'a [&'a str],
+    listed: &str,
+) -> Result<Serve<'a>, WordsError> {
     let job = read_words(alloc, words)?;
     match &job {
-        Job::Serve(arguments) => serve_settings(alloc, arguments),
+        Job::Serve(arguments) => serve_settings(alloc, arguments, listed),
         _ => Err(WordsError::Refused(String::from_str(alloc, "another job")?)),
     }
 }
@@ -50,7 +59,7 @@ fn per_of(layout: Layout) -> u32 {
 }
 
 /// Returns whether these are the titles, in order.
-fn are_titles(titles: &[AeTitle], texts: &[&[u8; 16]]) -> bool {
+pub(crate) fn are_titles(titles: &[AeTitle], texts: &[&[u8; 16]]) -> bool {
     titles.len() == texts.len()
         && titles
             .iter()
@@ -95,6 +104,8 @@ fn settings_of_serve_are_its_arguments(rt: HostRuntime) -> Result<(), Fail> {
         "5",
         "--no-sync",
         "--once",
+        "--metrics",
+        "box.prom",
     ];
     let serve = serve_for(rt.alloc(), &words)?;
     assert!(rt; serve.port == 11112 && serve.out == "received" && serve.bind == "0.0.0.0");
@@ -103,6 +114,7 @@ fn settings_of_serve_are_its_arguments(rt: HostRuntime) -> Result<(), Fail> {
     assert!(rt; are_titles(serve.config.callers.as_slice(), &callers));
     assert!(rt; serve.timeouts.artim.as_secs() == 7 && serve.timeouts.idle.as_secs() == 11);
     assert!(rt; per_of(serve.layout) == 5 && !serve.sync && serve.once);
+    assert!(rt; serve.metrics == Some("box.prom") && serve.numbers.is_none());
     assert!(rt; serve.level == Level::Debug && matches!(serve.form, Form::Json(_)));
     Ok(())
 }
@@ -116,6 +128,7 @@ fn settings_of_serve_have_defaults(rt: HostRuntime) -> Result<(), Fail> {
     assert!(rt; serve.config.callers.is_empty());
     assert!(rt; serve.timeouts.artim.as_secs() == 30 && serve.timeouts.idle.as_secs() == 600);
     assert!(rt; per_of(serve.layout) == 0 && serve.sync && !serve.once);
+    assert!(rt; serve.metrics.is_none());
     assert!(rt; serve.level == Level::Info && matches!(serve.form, Form::Text));
     Ok(())
 }

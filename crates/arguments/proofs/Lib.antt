@@ -2,3 +2,4 @@ mod WordsLemmas
 mod TableLemmas
 mod ValuesLemmas
 mod TransferLemmas
+mod CallersLemmas

@@ -32,9 +32,9 @@ text_at fs vs n k d e lt below =
     ∙ get_or-map (λ (v : Bor Text). Some v.now) (take n vs) k d None (omega (arith, lt, length-map (take n vs) (λ (v : Bor Text). Some v.now), ap length e))
     ∙ ap (λ (v : Bor Text). Some v.now) (get_or-take n vs k d below)
 
-pub too_many : (given items : List (Bor Text)) (texts : List Text) (i : ℕ) → items ≡ take i given → i < length given → true ≡ (length items == 16) → map (λ w. w.now) given ≡ texts → 16 < length texts
-too_many given items texts i e lt full is =
-    let counted : length items ≡ 16 = search (rules, full) in
+pub too_many : (most : ℕ) (given items : List (Bor Text)) (texts : List Text) (i : ℕ) → items ≡ take i given → i < length given → true ≡ (length items == most) → map (λ w. w.now) given ≡ texts → most < length texts
+too_many most given items texts i e lt full is =
+    let counted : length items ≡ most = search (rules, full) in
     omega (arith, counted, lt, ap length e ∙ length-take given i lt, sym (length-map given (λ (w : Bor Text). w.now)) ∙ ap length is)
   where
     length-take : (xs : List (Bor Text)) (n : ℕ) → n < length xs → length (take n xs) ≡ n

@@ -71,7 +71,6 @@ pub record IsServed (serve : Serve) (a : ServeArguments) : Type 0 where
   pub port : Spells 1 65535 a.port.now serve.port
   pub out : serve.out.now ≡ a.out.now
   pub ae : title_of_text a.ae.now ≡ Some (settings_of serve.config).ae
-  pub callers : map (λ t. title_of_text t.now) a.callers.items ≡ map Some (settings_of serve.config).callers
   pub max_pdu : Spells 1024 131_072 a.max_pdu.now (settings_of serve.config).max_pdu
   pub max_data : Spells 1024 (2 ^ 48) a.max_data.now (settings_of serve.config).max_data
   pub classes : map Some (settings_of serve.config).further.classes ≡ map (λ t. uid_of t.now) a.storage_classes.items ++ map Some (registered a.all_storage)
@@ -84,6 +83,7 @@ pub record IsServed (serve : Serve) (a : ServeArguments) : Type 0 where
   pub numbers : option_map (λ t. t.now) serve.numbers ≡ option_map (λ t. t.now) a.numbers
   pub sync : serve.sync ≡ not a.no_sync
   pub once : serve.once ≡ a.once
+  pub metrics : option_map (λ t. t.now) serve.metrics ≡ option_map (λ t. t.now) a.metrics
 
 -- what `replay` does is what its arguments say; any title may call, and the limits are the defaults
 pub record IsReplayed (replay : Replay) (a : ReplayArguments) : Type 0 where

@@ -66,7 +66,7 @@ replay_app = with_rules (new_app (codes "replay"))
 abbrev pub listening_app : App
 listening_app = with_rules (new_app (codes "serve"))
     (needed (codes "port") ∷ needed (codes "out") ∷ optional (codes "bind") (codes "127.0.0.1") ∷ optional (codes "ae") (codes "DCMBOX")
-    ∷ repeated (codes "caller") ∷ [])
+    ∷ repeated (codes "caller") ∷ free (codes "callers") ∷ [])
 
 abbrev pub limited_app : App
 limited_app = with_rules listening_app
@@ -78,12 +78,12 @@ abbrev pub logging_app : App
 logging_app = with_rules limited_app (counted_rule (codes "verbose") 118 ∷ letter_rule (codes "quiet") 113 ∷ free (codes "log") ∷ [])
 
 abbrev pub filing_app : App
-filing_app = with_rules logging_app (free (codes "per") ∷ free (codes "numbers") ∷ flag_rule (codes "no-sync") ∷ flag_rule (codes "once") ∷ [])
+filing_app = with_rules logging_app (free (codes "per") ∷ free (codes "numbers") ∷ free (codes "quarantine") ∷ free (codes "quarantine-most") ∷ flag_rule (codes "no-sync") ∷ flag_rule (codes "once") ∷ [])
 
 -- and how many are served at once, how long, and how that is ended
 abbrev pub serve_app : App
 serve_app = with_rules filing_app (optional (codes "at-once") (codes "1") ∷ free (codes "per-peer") ∷ free (codes "longest")
-    ∷ free (codes "stop-file") ∷ optional (codes "grace") (codes "10") ∷ flag_rule (codes "all-storage") ∷ repeated (codes "storage-class")
+    ∷ free (codes "stop-file") ∷ optional (codes "grace") (codes "10") ∷ free (codes "metrics") ∷ flag_rule (codes "all-storage") ∷ repeated (codes "storage-class")
     ∷ flag_rule (codes "all-syntaxes") ∷ repeated (codes "transfer-syntax") ∷ [])
 
 -- a command that takes one file
@@ -187,6 +187,7 @@ pub record IsServe (a : ServeArguments) (rows : List Row) : Type 0 where
   pub bind : first_of (codes "bind") rows ≡ Some a.bind.now
   pub ae : first_of (codes "ae") rows ≡ Some a.ae.now
   pub callers : map (λ w. w.now) a.callers.items ≡ values_of rows (codes "caller")
+  pub callers_file : first_of (codes "callers") rows ≡ option_map (λ w. w.now) a.callers_file
   pub timeout : first_of (codes "timeout") rows ≡ Some a.timeout.now
   pub idle : first_of (codes "idle") rows ≡ Some a.idle.now
   pub max_pdu : first_of (codes "max-pdu") rows ≡ Some a.max_pdu.now
@@ -196,6 +197,8 @@ pub record IsServe (a : ServeArguments) (rows : List Row) : Type 0 where
   pub log : first_of (codes "log") rows ≡ option_map (λ w. w.now) a.log
   pub per : first_of (codes "per") rows ≡ option_map (λ w. w.now) a.per
   pub numbers : first_of (codes "numbers") rows ≡ option_map (λ w. w.now) a.numbers
+  pub quarantine : first_of (codes "quarantine") rows ≡ option_map (λ w. w.now) a.quarantine
+  pub quarantine_most : first_of (codes "quarantine-most") rows ≡ option_map (λ w. w.now) a.quarantine_most
   pub no_sync : IsFlag rows (codes "no-sync") a.no_sync
   pub once : IsFlag rows (codes "once") a.once
   pub at_once : first_of (codes "at-once") rows ≡ Some a.at_once.now
@@ -203,6 +206,7 @@ pub record IsServe (a : ServeArguments) (rows : List Row) : Type 0 where
   pub longest : first_of (codes "longest") rows ≡ option_map (λ w. w.now) a.longest
   pub stop_file : first_of (codes "stop-file") rows ≡ option_map (λ w. w.now) a.stop_file
   pub grace : first_of (codes "grace") rows ≡ Some a.grace.now
+  pub metrics : first_of (codes "metrics") rows ≡ option_map (λ w. w.now) a.metrics
   pub all_storage : IsFlag rows (codes "all-storage") a.all_storage
   pub storage_classes : map (λ w. w.now) a.storage_classes.items ≡ values_of rows (codes "storage-class")
   pub all_syntaxes : IsFlag rows (codes "all-syntaxes") a.all_syntaxes

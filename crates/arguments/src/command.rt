@@ -37,7 +37,12 @@ const SERVE: Subcommand<'static> = Subcommand {
         Argument::Repeated(
             "caller",
             "TITLE",
-            "An AE title that may call, up to 16 times; any may where none is given",
+            "An AE title that may call, up to 64 times; any may where none is named",
+        ),
+        Argument::Free(
+            "callers",
+            "FILE",
+            "A file of AE titles that may call, one a line; a line that begins with # is a comment",
         ),
         Argument::Default(
             "timeout",
@@ -84,6 +89,16 @@ const SERVE: Subcommand<'static> = Subcommand {
             "FILE",
             "A file that keeps the greatest numbers that were given, so that none comes again",
         ),
+        Argument::Free(
+            "quarantine",
+            "DIR",
+            "A folder that keeps the data sets that are refused for what is in them, as they came",
+        ),
+        Argument::Free(
+            "quarantine-most",
+            "COUNT",
+            "How many of them it keeps at most, from 1 to 999999; 100 where none is given",
+        ),
         Argument::Flag(
             "no-sync",
             "Answers a store before its file is surely on the disk",
@@ -116,11 +131,16 @@ const SERVE: Subcommand<'static> = Subcommand {
             "10",
             "How long stores that have begun may go on then, from 0 to 86400",
         ),
+        Argument::Free(
+            "metrics",
+            "FILE",
+            "A file that has counters in the text form of Prometheus",
+        ),
         Argument::Flag("all-storage", "Takes every storage class of the standard"),
         Argument::Repeated(
             "storage-class",
             "UID",
-            "A further storage class that is taken, up to 16 times",
+            "A further storage class that is taken, up to 64 times",
         ),
         Argument::Flag("all-syntaxes", "Takes compressed transfer syntaxes, too"),
         Argument::Repeated(
@@ -159,7 +179,7 @@ const REPLAY: Subcommand<'static> = Subcommand {
         Argument::Repeated(
             "storage-class",
             "UID",
-            "A further storage class that is taken, up to 16 times",
+            "A further storage class that is taken, up to 64 times",
         ),
         Argument::Flag("all-syntaxes", "Takes compressed transfer syntaxes, too"),
         Argument::Repeated(

@@ -3,8 +3,10 @@
 
 mod argument;
 mod at_once;
+mod callers;
 mod command;
 mod options;
+mod quarantine;
 mod settings;
 mod transfers;
 mod values;
@@ -12,10 +14,10 @@ mod words;
 
 pub use command::VERSION;
 pub use failures::WordsError;
-pub use options::{AtOnce, Index, Layout, Per, Replay, Serve};
+pub use options::{AtOnce, Index, Layout, Per, QuarantineOption, Replay, Serve};
 pub use settings::{index_settings, replay_settings, serve_settings};
 pub use values::{
-    ArrangeArguments, CheckArguments, FileArguments, IndexArguments, ListArguments, MOST_VALUES,
-    ReplayArguments, ServeArguments, ShowArguments,
+    ArrangeArguments, CheckArguments, FileArguments, IndexArguments, ListArguments, MOST_SYNTAXES,
+    MOST_VALUES, ReplayArguments, ServeArguments, ShowArguments,
 };
 pub use words::{Job, read_words};

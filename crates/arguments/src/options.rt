@@ -50,10 +50,22 @@ pub struct Serve<'a> {
     pub layout: Layout,
     /// The path of the file that keeps the greatest numbers, if one does.
     pub numbers: Option<&'a str>,
+    /// The quarantine, if there is one.
+    pub quarantine: Option<QuarantineOption<'a>>,
     /// Whether a store is answered only once its file is on the disk.
     pub sync: bool,
     pub once: bool,
+    /// The path of the file that has counters, if one does.
+    pub metrics: Option<&'a str>,
     pub at_once: AtOnce<'a>,
+}
+
+/// Where data sets are kept whose stores were refused, and how many of them at most.
+#[derive(Clone, Copy)]
+pub struct QuarantineOption<'a> {
+    pub dir: &'a str,
+    /// 1 to 999,999.
+    pub most: u32,
 }
 
 /// How many associations `serve` serves at once, how long, and how that is ended.

@@ -5,11 +5,15 @@ ghost use Rattle.element.specs.Uid.{uid_of};
 ghost use Rattle.negotiate.specs.Settings.{registered, settings_of};
 ghost use Rattle.arguments.specs.Asked.{AsksFor, Spells, SpellsTime, IsLevel, IsForm, IsLayout, IsDirectoryUid, IsServed, IsReplayed, IsIndexed};
 ghost use Rattle.arguments.specs.AskedAtOnce.{IsAtOnce};
+ghost use Rattle.arguments.specs.AskedCallers.{AreCallers};
+ghost use Rattle.arguments.specs.AskedQuarantine.{IsQuarantine};
 
 use crate::at_once::at_once_of;
+use crate::callers::callers_of;
 use crate::options::{Index, Layout, Per, Replay, Serve};
+use crate::quarantine::quarantine_of;
 use crate::transfers::taking_transfers;
-use crate::values::{IndexArguments, MOST_VALUES, ReplayArguments, ServeArguments};
+use crate::values::{IndexArguments, MOST_SYNTAXES, MOST_VALUES, ReplayArguments, ServeArguments};
 use arrayvec::ArrayVec;
 use connection::Timeouts;
 use element::{AeTitle, Uid};
@@ -46,7 +50,7 @@ pub(crate) fn number(
 }
 
 /// Reads an AE title: 1 to 16 characters, not all of them spaces, without a backslash.
-fn title(alloc: Global, option: &str, text: &str) -> Result<AeTitle, WordsError>
+pub(crate) fn title(alloc: Global, option: &str, text: &str) -> Result<AeTitle, WordsError>
     ensures { IfOk result (λ t. title_of_text text.now ≡ Some t.0) }
 {
     match AeTitle::of_text(text) {
@@ -77,7 +81,7 @@ fn identifier(alloc: Global, option: &str, text: &str) -> Result<Uid, WordsError
 
 /// Reads the storage classes that are named, each of them once.
 fn classes_of(alloc: Global, classes: &ArrayVec<&str, MOST_VALUES>) -> Result<Vec<Uid>, WordsError>
-    ensures few { IfOk result (λ uids. length uids.items ≤ 16) }
+    ensures few { IfOk result (λ uids. length uids.items ≤ 64) }
     ensures read { IfOk result (λ uids. map (λ t. uid_of t.now) classes.now.items ≡ map Some uids.items) }
 {
     let mut uids = Vec::new(alloc);
@@ -105,7 +109,7 @@ fn with_storage(
     all_storage: bool,
     classes: &ArrayVec<&str, MOST_VALUES>,
     all_syntaxes: bool,
-    syntaxes: &ArrayVec<&str, MOST_VALUES>,
+    syntaxes: &ArrayVec<&str, MOST_SYNTAXES>,
 ) -> Result<Config, WordsError>
     ensures ae { IfOk result (λ c. c.ae ≡ config.ae) }
     ensures callers { IfOk result (λ c. c.callers ≡ config.callers) }
@@ -150,17 +154,20 @@ pub fn replay_settings<'a>(
     })
 }
 
-/// Returns what `serve` does with these arguments.
+/// Returns what `serve` does with these arguments, and with the text of the file of titles, where they name one.
 pub fn serve_settings<'a>(
     alloc: Global,
     arguments: &ServeArguments<'a>,
+    listed: &str,
 ) -> Result<Serve<'a>, WordsError>
     ensures served { IfOk result (λ s. IsServed s arguments.now) }
+    ensures callers { IfOk result (λ s. AreCallers (settings_of s.config).callers arguments.now listed.now) }
     ensures at_once { IfOk result (λ s. IsAtOnce s.at_once arguments.now) }
+    ensures quarantine { IfOk result (λ s. IsQuarantine s.quarantine (option_map (λ t. t.now) arguments.now.quarantine) (option_map (λ t. t.now) arguments.now.quarantine_most)) }
 {
     let port = number(alloc, "port", arguments.port, 1, 65535)?;
     let ae = title(alloc, "ae", arguments.ae)?;
-    let callers = callers_of(alloc, &arguments.callers)?;
+    let callers = callers_of(alloc, arguments, listed)?;
     let limits = limits_of(alloc, arguments)?;
     let config = Config::new(ae, callers, limits.max_pdu, limits.max_data);
     Ok(Serve {
@@ -180,24 +187,12 @@ pub fn serve_settings<'a>(
         form: form_of(alloc, arguments.log)?,
         layout: limits.layout,
         numbers: arguments.numbers,
+        quarantine: quarantine_of(alloc, arguments)?,
         sync: !arguments.no_sync,
         once: arguments.once,
+        metrics: arguments.metrics,
         at_once: at_once_of(alloc, arguments)?,
     })
-}
-
-/// Reads the titles of the callers that are taken.
-fn callers_of(
-    alloc: Global,
-    callers: &ArrayVec<&str, MOST_VALUES>,
-) -> Result<ArrayVec<AeTitle, MOST_VALUES>, WordsError>
-    ensures read { IfOk result (λ titles. map (λ t. title_of_text t.now) callers.now.items ≡ map Some (map (λ t. t.0) titles.items)) }
-{
-    let mut titles = ArrayVec::new();
-    for caller in callers.as_slice() {
-        titles.push(title(alloc, "caller", *caller)?);
-    }
-    Ok(titles)
 }
 
 /// The limits of `serve`, and how it lays out files.

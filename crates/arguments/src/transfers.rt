@@ -4,7 +4,7 @@ ghost use Rattle.dictionary.specs.Transfers.{transfer_of};
 ghost use Rattle.negotiate.specs.Settings.{settings_of};
 ghost use Rattle.arguments.specs.Asked.{AsksFor};
 
-use crate::values::MOST_VALUES;
+use crate::values::MOST_SYNTAXES;
 use arrayvec::ArrayVec;
 use dictionary::Transfer;
 use failures::WordsError;
@@ -48,8 +48,8 @@ fn transfer(alloc: Global, text: &str) -> Result<Transfer, WordsError>
 /// Reads the transfer syntaxes that are named.
 fn transfers_of(
     alloc: Global,
-    syntaxes: &ArrayVec<&str, MOST_VALUES>,
-) -> Result<ArrayVec<Transfer, MOST_VALUES>, WordsError>
+    syntaxes: &ArrayVec<&str, MOST_SYNTAXES>,
+) -> Result<ArrayVec<Transfer, MOST_SYNTAXES>, WordsError>
     ensures read { IfOk result (λ transfers. map (λ t. transfer_of t.now) syntaxes.now.items ≡ map Some transfers.items) }
 {
     let mut transfers = ArrayVec::new();
@@ -65,7 +65,7 @@ pub(crate) fn taking_transfers(
     alloc: Global,
     config: Config,
     all: bool,
-    syntaxes: &ArrayVec<&str, MOST_VALUES>,
+    syntaxes: &ArrayVec<&str, MOST_SYNTAXES>,
 ) -> Result<Config, WordsError>
     ensures ae { IfOk result (λ c. c.ae ≡ config.ae) }
     ensures callers { IfOk result (λ c. c.callers ≡ config.callers) }

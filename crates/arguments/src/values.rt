@@ -9,8 +9,11 @@ use arrayvec::ArrayVec;
 use clap::ArgMatches;
 use std::alloc::{AllocError, Global};
 
-/// How often an argument may be given that may be given more than once.
-pub const MOST_VALUES: usize = 16;
+/// How many titles may be named, and how many storage classes.
+pub const MOST_VALUES: usize = 64;
+
+/// How many transfer syntaxes may be named.
+pub const MOST_SYNTAXES: usize = 16;
 
 /// The arguments of a command that takes one file.
 #[derive(Debug, Drop)]
@@ -49,11 +52,11 @@ pub struct ReplayArguments<'a> {
     pub cut: &'a str,
     pub per: Option<&'a str>,
     pub all_storage: bool,
-    /// At most 16 of them count.
+    /// At most 64 of them count.
     pub storage_classes: ArrayVec<&'a str, MOST_VALUES>,
     pub all_syntaxes: bool,
     /// At most 16 of them count.
-    pub transfer_syntaxes: ArrayVec<&'a str, MOST_VALUES>,
+    pub transfer_syntaxes: ArrayVec<&'a str, MOST_SYNTAXES>,
 }
 
 /// The arguments of `index`.
@@ -93,8 +96,10 @@ pub struct ServeArguments<'a> {
     pub out: &'a str,
     pub bind: &'a str,
     pub ae: &'a str,
-    /// At most 16 of them count.
+    /// At most 64 of them count.
     pub callers: ArrayVec<&'a str, MOST_VALUES>,
+    /// The path of a file of further titles.
+    pub callers_file: Option<&'a str>,
     pub timeout: &'a str,
     pub idle: &'a str,
     pub max_pdu: &'a str,
@@ -105,6 +110,8 @@ pub struct ServeArguments<'a> {
     pub log: Option<&'a str>,
     pub per: Option<&'a str>,
     pub numbers: Option<&'a str>,
+    pub quarantine: Option<&'a str>,
+    pub quarantine_most: Option<&'a str>,
     pub no_sync: bool,
     pub once: bool,
     pub at_once: &'a str,
@@ -112,12 +119,13 @@ pub struct ServeArguments<'a> {
     pub longest: Option<&'a str>,
     pub stop_file: Option<&'a str>,
     pub grace: &'a str,
+    pub metrics: Option<&'a str>,
     pub all_storage: bool,
-    /// At most 16 of them count.
+    /// At most 64 of them count.
     pub storage_classes: ArrayVec<&'a str, MOST_VALUES>,
     pub all_syntaxes: bool,
     /// At most 16 of them count.
-    pub transfer_syntaxes: ArrayVec<&'a str, MOST_VALUES>,
+    pub transfer_syntaxes: ArrayVec<&'a str, MOST_SYNTAXES>,
 }
 
 /// The values of up to ten arguments, in order.
@@ -205,7 +213,7 @@ pub fn check_arguments<'a>(
     })
 }
 
-/// Returns the arguments of `replay`, where each has its value and at most 16 storage classes and as many transfer
+/// Returns the arguments of `replay`, where each has its value and at most 64 storage classes and 16 transfer
 /// syntaxes are named.
 pub fn replay_arguments<'a>(matches: &ArgMatches<'a>) -> Option<ReplayArguments<'a>>
     ensures some { IfSome result (λ a. IsReplay a (rows_of (found_of matches.now))) }
@@ -280,13 +288,14 @@ pub fn arrange_arguments<'a>(matches: &ArgMatches<'a>) -> Option<ArrangeArgument
     })
 }
 
-/// Returns the values of an argument that may be given more than once, or `None` for more than 16.
-pub(crate) fn values<'a>(
+/// Returns the values of an argument that may be given more than once, or `None` for more than `MOST`.
+pub(crate) fn values<'a, const MOST: usize>(
     matches: &ArgMatches<'a>,
     id: &str,
-) -> Option<ArrayVec<&'a str, MOST_VALUES>>
+) -> Option<ArrayVec<&'a str, MOST>>
+    requires { MOST ≤ 64 }
     ensures some { IfSome result (λ v. map (λ w. w.now) v.items ≡ values_of (rows_of (found_of matches.now)) id.now) }
-    ensures none { IfNone result (16 < length (values_of (rows_of (found_of matches.now)) id.now)) }
+    ensures none { IfNone result (MOST < length (values_of (rows_of (found_of matches.now)) id.now)) }
 {
     let given = matches.get_strs(id).unwrap_or(&[]);
     let mut values = ArrayVec::new();
@@ -299,8 +308,8 @@ pub(crate) fn values<'a>(
     Some(values)
 }
 
-/// Returns the arguments of `serve`, where each has its value, at most 16 titles may call and at most 16
-/// storage classes and as many transfer syntaxes are named.
+/// Returns the arguments of `serve`, where each has its value and at most 64 titles, as many storage classes and
+/// 16 transfer syntaxes are named.
 pub fn serve_arguments<'a>(matches: &ArgMatches<'a>) -> Option<ServeArguments<'a>>
     ensures some { IfSome result (λ a. IsServe a (rows_of (found_of matches.now))) }
     ensures none { IfNone result ((have_values (rows_of (found_of matches.now)) serve_needs && (callers_fit (rows_of (found_of matches.now)) && (classes_fit (rows_of (found_of matches.now)) && transfers_fit (rows_of (found_of matches.now))))) ≡ false) }
@@ -326,15 +335,19 @@ pub fn serve_arguments<'a>(matches: &ArgMatches<'a>) -> Option<ServeArguments<'a
         ],
     )?;
     let callers = values(matches, "caller")?;
+    let callers_file = matches.get_str("callers");
     let storage_classes = values(matches, "storage-class")?;
     let transfer_syntaxes = values(matches, "transfer-syntax")?;
     let verbose = matches.get_count("verbose");
     let quiet = matches.get_flag("quiet");
     let log = matches.get_str("log");
     let numbers = matches.get_str("numbers");
+    let quarantine = matches.get_str("quarantine");
+    let quarantine_most = matches.get_str("quarantine-most");
     let per_peer = matches.get_str("per-peer");
     let longest = matches.get_str("longest");
     let stop_file = matches.get_str("stop-file");
+    let metrics = matches.get_str("metrics");
     Some(ServeArguments {
         port,
         out,
@@ -349,6 +362,8 @@ pub fn serve_arguments<'a>(matches: &ArgMatches<'a>) -> Option<ServeArguments<'a
         log,
         per: matches.get_str("per"),
         numbers,
+        quarantine,
+        quarantine_most,
         no_sync: matches.get_flag("no-sync"),
         once: matches.get_flag("once"),
         at_once,
@@ -356,8 +371,10 @@ pub fn serve_arguments<'a>(matches: &ArgMatches<'a>) -> Option<ServeArguments<'a
         longest,
         stop_file,
         grace,
+        metrics,
         all_storage: matches.get_flag("all-storage"),
         callers,
+        callers_file,
         storage_classes,
         all_syntaxes: matches.get_flag("all-syntaxes"),
         transfer_syntaxes,

@@ -8,10 +8,10 @@ ghost use Rattle.arguments.specs.CommandLine.{the_command, Names};
 
 use crate::command::command;
 use crate::values::{
-    ArrangeArguments, CheckArguments, FileArguments, IndexArguments, ListArguments, MOST_VALUES,
-    ReplayArguments, ServeArguments, ShowArguments, arrange_arguments, check_arguments,
-    file_arguments, index_arguments, list_arguments, replay_arguments, serve_arguments,
-    show_arguments, values,
+    ArrangeArguments, CheckArguments, FileArguments, IndexArguments, ListArguments, MOST_SYNTAXES,
+    MOST_VALUES, ReplayArguments, ServeArguments, ShowArguments, arrange_arguments,
+    check_arguments, file_arguments, index_arguments, list_arguments, replay_arguments,
+    serve_arguments, show_arguments, values,
 };
 use clap::error::ErrorKind;
 use clap::{ArgMatches, Error};
@@ -56,12 +56,14 @@ fn refusal(alloc: Global, error: Error) -> WordsError {
 /// The only arguments that clap takes and this program does not: more titles, storage classes or transfer
 /// syntaxes than it keeps.
 fn too_many(alloc: Global, matches: &ArgMatches) -> WordsError {
-    let option = match (values(matches, "caller"), values(matches, "storage-class")) {
-        (None, _) => "caller",
-        (Some(_), None) => "storage-class",
-        (Some(_), Some(_)) => "transfer-syntax",
+    let (option, most) = if values::<MOST_VALUES>(matches, "caller").is_none() {
+        ("caller", MOST_VALUES)
+    } else if values::<MOST_VALUES>(matches, "storage-class").is_none() {
+        ("storage-class", MOST_VALUES)
+    } else {
+        ("transfer-syntax", MOST_SYNTAXES)
     };
-    match format!(in alloc; "error: --{option} may be given {MOST_VALUES} times at most\n") {
+    match format!(in alloc; "error: --{option} may be given {most} times at most\n") {
         Ok(text) => WordsError::Refused(text),
         Err(error) => WordsError::Memory(error),
     }

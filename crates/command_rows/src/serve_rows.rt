@@ -32,8 +32,10 @@ fn settings() -> Serve<'static> {
         form: Form::Text,
         layout: Layout::Flat,
         numbers: None,
+        quarantine: None,
         sync: true,
         once: true,
+        metrics: None,
         at_once: AtOnce {
             associations: 1,
             per_peer: 1,

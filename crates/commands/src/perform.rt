@@ -11,11 +11,12 @@ use index_command::index;
 use inspection::{CheckOptions, Outcome, OutputForm, ShowOptions, Syntaxes, tag_named};
 use list_command::{ListOptions, list};
 use replay_command::replay;
-use serve_command::serve_into;
+use serve_command::{callers_text, serve_into};
 use std::alloc::Global;
 
 fn perform_serve(rt: &HostRuntime, arguments: &ServeArguments) -> Result<Outcome, ProgramError> {
-    let settings = serve_settings(rt.alloc(), arguments)?;
+    let listed = callers_text(rt, arguments.callers_file)?;
+    let settings = serve_settings(rt.alloc(), arguments, listed.as_str())?;
     serve_into(rt, &settings)?;
     Ok(Outcome::Good)
 }

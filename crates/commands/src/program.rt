@@ -33,6 +33,7 @@ fn subject<'a>(job: &Job<'a>, error: &ProgramError) -> &'a str {
         (Job::Serve(arguments), Some(Failure::Listen | Failure::KeptPort)) => arguments.port,
         (Job::Serve(arguments), Some(Failure::Address)) => arguments.bind,
         (Job::Serve(arguments), Some(Failure::Numbers)) => arguments.numbers.unwrap_or(""),
+        (Job::Serve(arguments), Some(Failure::Callers)) => arguments.callers_file.unwrap_or(""),
         (Job::Serve(arguments), Some(failure)) if failure.is_of_folder() => arguments.out,
         (Job::Replay(arguments), Some(failure)) if failure.is_of_folder() => arguments.out,
         (Job::Replay(arguments), _) => arguments.file,

@@ -20,6 +20,10 @@ pub enum Failure {
     UnwrittenFolder,
     /// The file of numbers (option `--numbers`) cannot be read or created.
     Numbers,
+    /// The file of titles (option `--callers`) cannot be read.
+    Callers,
+    /// The quarantine (option `--quarantine`) cannot be opened, or no file can be moved there.
+    Quarantine,
     /// The DICOMDIR of a folder cannot be read.
     NoDirectory,
     /// The DICOMDIR of a folder cannot be read to see which program wrote it.
@@ -56,6 +60,8 @@ impl Failure {
             Failure::BusyFolder => "the folder can't be opened",
             Failure::UnwrittenFolder => "the folder can't be written into",
             Failure::Numbers => "the file of numbers can't be read or made",
+            Failure::Callers => "the file of titles can't be read",
+            Failure::Quarantine => "the quarantine can't be used",
             Failure::NoDirectory => "the folder's DICOMDIR can't be read",
             Failure::UnreadDirectory => "the folder's DICOMDIR can't be looked at",
             Failure::Random => "no UID can be made",
@@ -84,6 +90,9 @@ impl Failure {
                 "check that you may, and that its disk is not read-only or full",
             Failure::Numbers =>
                 "check that you may write it; once it is damaged, put the greatest number that was given into it, as I0000100 S0000007",
+            Failure::Callers => "check its name, and that you may read it",
+            Failure::Quarantine =>
+                "--quarantine takes a folder other than that of --out, on its file system, that no other program uses",
             Failure::NoDirectory => "run index without --keep",
             Failure::UnreadDirectory =>
                 "check that you may read it, or write over it with --replace",

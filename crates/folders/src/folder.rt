@@ -1,7 +1,7 @@
 //! Opens the folder that received files go to.
-use arguments::Layout;
+use arguments::{Layout, QuarantineOption};
 use failures::{Failure, ProgramError};
-use part10::{Filing, FolderFiling, FolderWriter};
+use part10::{Filing, FolderFiling, FolderWriter, QuarantineFound};
 use std::fs::File;
 use std::io::{Error, ErrorKind};
 use std::rt::Files;
@@ -40,6 +40,23 @@ pub fn numbered<R: Files<File = File> + Alloc + Clone + Drop>(
     match writer.with_numbers(path) {
         Ok(writer) => Ok(writer),
         Err(error) => Err(ProgramError::of(Failure::Numbers, error)),
+    }
+}
+
+/// Moves the drafts of refused stores to a quarantine, as [`FolderWriter::with_quarantine`] does. Returns
+/// what is there, or `None` without a quarantine.
+///
+/// Fails if it cannot be opened, or a file cannot be moved there from the folder.
+pub fn quarantined<R: Files<File = File> + Alloc + Clone + Drop>(
+    writer: FolderWriter<R>,
+    quarantine: Option<QuarantineOption<'_>>,
+) -> Result<(FolderWriter<R>, Option<QuarantineFound>), ProgramError> {
+    let Some(quarantine) = quarantine else {
+        return Ok((writer, None));
+    };
+    match writer.with_quarantine(quarantine.dir, quarantine.most) {
+        Ok((writer, found)) => Ok((writer, Some(found))),
+        Err(error) => Err(ProgramError::of(Failure::Quarantine, error)),
     }
 }
 

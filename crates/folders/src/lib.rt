@@ -3,4 +3,4 @@
 
 mod folder;
 
-pub use folder::{numbered, open_folder, open_writer, try_draft};
+pub use folder::{numbered, open_folder, open_writer, quarantined, try_draft};

@@ -1,3 +1,4 @@
 pub mod Printable
 pub mod Outcomes
 pub mod Fragments
+pub mod Ends

@@ -1,5 +1,5 @@
 -- What the statuses of replies say of stores, and how stores are counted (PS3.7 annex C, PS3.4 annex B.2.3).
-use Rattle.std.specs.Prelude.{ℕ, ◌+◌, ◌-◌, ◌^◌, Bool, ◌||◌, nat_eq, min, if◌then◌else◌}
+use Rattle.std.specs.Prelude.{ℕ, ◌+◌, ◌-◌, ◌^◌, Bool, ◌||◌, ◌&&◌, not, nat_eq, min, if◌then◌else◌}
 use Rattle.journal.specs.declared.outcome.Outcome.{Outcome}
 use Rattle.journal.specs.declared.outcome.Outcome.TheVariants.{Stored, Refused, Failed}
 use Rattle.journal.specs.declared.outcome.Counts.{Counts}
@@ -19,3 +19,8 @@ abbrev pub counted : Outcome → Counts → Counts
 counted Stored c = record c { stored = one_more c.stored }
 counted Refused c = record c { refused = one_more c.refused }
 counted Failed c = record c { failed = one_more c.failed }
+
+-- a data set that is kept in a quarantine: cannot understand (C000), data set does not match SOP class (A900), or out of
+-- resources (A700) where no file failed to be written
+abbrev pub is_quarantined : ℕ → Bool → Bool
+is_quarantined status has_filing_failed = nat_eq status 0xc000 || (nat_eq status 0xa900 || (nat_eq status 0xa700 && not has_filing_failed))

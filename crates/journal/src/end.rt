@@ -1,7 +1,10 @@
 //! How an association ended.
+ghost use Rattle.std.specs.Prelude.{◌≡◌};
+
 use crate::cause::Cause;
 use crate::words::{provider_words, rejection_words};
 use connection::{REQUEST, ReadEnd};
+use metrics::CountedEnd;
 use std::fmt;
 
 /// The bytes of the heads of a PDU and of a presentation data value, which a request leaves free.
@@ -82,6 +85,28 @@ pub(crate) enum End {
     Read(ReadEnd),
     /// A send failed.
     SendFailed,
+}
+
+impl End {
+    ghost use Rattle.journal.specs.Ends.{counted_as};
+
+    /// Returns as what it is counted: as what its words in the log say.
+    pub(crate) fn counted(self) -> CountedEnd
+        ensures { result ≡ counted_as self }
+    {
+        match self {
+            End::Released => CountedEnd::Released,
+            End::Rejected(_) => CountedEnd::Rejected,
+            End::AbortedByPeer(_) => CountedEnd::AbortedByPeer,
+            End::Aborted(..) => CountedEnd::AbortedByBox,
+            End::Read(ReadEnd::Closed) => CountedEnd::Closed,
+            End::Read(ReadEnd::Timer) => CountedEnd::TimerExpired,
+            End::Read(ReadEnd::Idle) => CountedEnd::Idle,
+            End::Read(ReadEnd::Longest) => CountedEnd::TooLong,
+            End::Read(ReadEnd::Stopped) => CountedEnd::Stopping,
+            End::Read(ReadEnd::Failed) | End::SendFailed => CountedEnd::ConnectionFailed,
+        }
+    }
 }
 
 impl fmt::Display for End {

@@ -126,7 +126,7 @@ impl Entry for FilingFailed<'_> {
 }
 
 /// Gives the calling title, where it is known.
-fn give_calling<F: Fields>(calling: &Title, out: &mut F) {
+pub(crate) fn give_calling<F: Fields>(calling: &Title, out: &mut F) {
     if calling.len() > 0 {
         out.text(CALLING, calling.as_str());
     }
@@ -253,7 +253,7 @@ impl Entry for ContextRefused<'_> {
 }
 
 /// Gives the status of a reply in hexadecimal, and its cause.
-fn give_status<F: Fields>(reply: &Reply, out: &mut F) {
+pub(crate) fn give_status<F: Fields>(reply: &Reply, out: &mut F) {
     let mut status = Text::<4>::new();
     let _ = write!(status, "{:04X}", reply.status);
     out.text(STATUS, status.as_str());

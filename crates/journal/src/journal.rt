@@ -6,6 +6,7 @@ use crate::entries::{
     Aborted, Answered, ClassesRefused, ContextRefused, Ended, FilingFailed, NotConfirmed,
     NotStored, Rejected, Served, Unanswered,
 };
+use crate::entry::Entry;
 use crate::incoming::Heard;
 use crate::limits::Limits;
 use crate::outcome::Outcome;
@@ -13,6 +14,7 @@ use crate::refusal::{Reason, resources_words};
 use crate::refused::{RefusedClasses, shown_class};
 use crate::reply::{Reply, Value, status_of};
 use crate::server_entries::NumbersLow;
+use crate::sheet::sheet_of;
 use crate::state::{Phase, State};
 use crate::teller::Teller;
 use crate::text::Text;
@@ -20,24 +22,30 @@ use connection::{Observer, ReadEnd};
 use dimse::{read_command, status};
 use keywords::syntax_keyword;
 use log::{Level, Log};
-use part10::{DraftNotes, Place};
+use metrics::CountedStatus;
+use part10::{DraftNotes, Place, StoredFile};
 use pdu::{Proposal, Request, read_request};
-use std::alloc::{Allocator, Global};
+use std::alloc::{AllocError, Global};
 use std::cell::RefCell;
 use std::fmt::Write;
 use std::io;
 use std::rc::Rc;
+use std::rt::Files;
 use std::time::Clock;
 
 /// Is shown what goes over one connection, and writes the lines that tell of it: at once what an
 /// operator has to act on, and at the end what the association came to.
 #[derive(Drop)]
-pub struct Journal<'a, R: Log + Clock, A: Allocator> {
-    teller: Teller<'a, R>,
+pub struct Journal<'a, R: Log + Clock, S: Files + Alloc + Clone + Drop>
+where
+    S::File: StoredFile,
+{
+    pub(crate) teller: Teller<'a, R>,
     /// What became of the drafts of its filing.
-    notes: Rc<DraftNotes, A>,
-    limits: Limits,
+    pub(crate) notes: Rc<DraftNotes<S>, S::A>,
+    pub(crate) limits: Limits,
     state: RefCell<State>,
+    alloc: Global,
 }
 
 /// The class and the instance of a store, as they are shown.
@@ -75,7 +83,10 @@ fn shown_syntaxes(proposal: &Proposal) -> Text<300> {
     syntaxes
 }
 
-impl<'a, R: Log + Clock, A: Allocator> Journal<'a, R, A> {
+impl<'a, R: Log + Clock, S: Files + Alloc + Clone + Drop> Journal<'a, R, S>
+where
+    S::File: StoredFile,
+{
     /// Returns the journal of a new connection that is held to these limits, whose files become what these
     /// notes say.
     ///
@@ -84,15 +95,21 @@ impl<'a, R: Log + Clock, A: Allocator> Journal<'a, R, A> {
     pub fn new(
         alloc: Global,
         teller: Teller<'a, R>,
-        notes: Rc<DraftNotes, A>,
+        notes: Rc<DraftNotes<S>, S::A>,
         limits: Limits,
-    ) -> Journal<'a, R, A> {
+    ) -> Journal<'a, R, S> {
         Journal {
             teller,
             notes,
             limits,
             state: RefCell::new(State::new(alloc)),
+            alloc,
         }
+    }
+
+    /// Returns the text of an entry about this connection. Fails if memory runs out.
+    pub(crate) fn sheet<E: Entry>(&self, entry: &E) -> Result<String, AllocError> {
+        sheet_of(self.alloc, self.teller.head(), entry)
     }
 
     /// Writes the lines of an association that has ended.
@@ -101,11 +118,21 @@ impl<'a, R: Log + Clock, A: Allocator> Journal<'a, R, A> {
             return;
         };
         self.tell_filing(&mut state);
+        self.remove_aside();
         self.tell_unanswered(&state);
+        self.count_end(&state, served.received);
         self.teller.tell(&Ended {
             served,
             state: &state,
         });
+    }
+
+    /// Counts the association, and the stores without a reply.
+    fn count_end(&self, state: &State, received: u64) {
+        if let Some(metrics) = self.teller.metrics() {
+            metrics.count_unanswered(state.counts.unanswered());
+            metrics.count_end(state.counted_end(), received);
+        }
     }
 
     /// Writes of the store that was not answered, or whose reply was not all sent.
@@ -240,8 +267,13 @@ impl<'a, R: Log + Clock, A: Allocator> Journal<'a, R, A> {
         let Some(status) = status_of(reply) else {
             return;
         };
-        let outcome = Outcome::of(status);
+        let counted = CountedStatus::of(status);
+        let outcome = Outcome::counted(counted);
         state.counts.answer(outcome);
+        if let Some(metrics) = self.teller.metrics() {
+            metrics.count_answer(counted);
+        }
+        self.settle_aside(state, reply);
         let place = self.notes.take_place();
         if outcome == Outcome::Stored {
             state.unconfirmed = Some(place);
@@ -283,7 +315,10 @@ impl<'a, R: Log + Clock, A: Allocator> Journal<'a, R, A> {
     }
 }
 
-impl<R: Log + Clock, A: Allocator> Observer for Journal<'_, R, A> {
+impl<R: Log + Clock, S: Files + Alloc + Clone + Drop> Observer for Journal<'_, R, S>
+where
+    S::File: StoredFile,
+{
     fn took(&self, bytes: &[u8], ahead: &[u8], answer: &[u8]) {
         let Ok(mut state) = self.state.try_borrow_mut() else {
             return;

@@ -17,10 +17,13 @@ mod line;
 mod message;
 mod outcome;
 mod output;
+mod quarantine;
+mod quarantine_entries;
 mod refusal;
 mod refused;
 mod reply;
 mod server_entries;
+mod sheet;
 mod state;
 mod teller;
 mod text;
@@ -33,9 +36,10 @@ pub use limits::Limits;
 pub use line::{LINE, Line};
 pub use outcome::{Counts, Outcome};
 pub use output::Output;
+pub use quarantine_entries::{QuarantineCleared, QuarantineFull};
 pub use server_entries::{
-    ConnectionFailed, Listening, NotAccepted, PeerFull, PlacesFull, Started, Stopped, Stopping,
-    TurnedAway, Waited,
+    ConnectionFailed, Listening, MetricsNotWritten, MetricsWritten, NotAccepted, PeerFull,
+    PlacesFull, Started, Stopped, Stopping, TurnedAway, Waited,
 };
 pub use teller::{TARGET, Teller};
 pub use text::Text;

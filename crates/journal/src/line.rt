@@ -22,10 +22,10 @@ pub(crate) struct Head {
 }
 
 /// A time in UTC, of fixed width: whole milliseconds (RFC 3339).
-type Time = Text<32>;
+pub(crate) type Time = Text<32>;
 
 /// The address of a peer, with its port.
-type Peer = Text<64>;
+pub(crate) type Peer = Text<64>;
 
 /// The line where there is no memory for its JSON.
 const NO_MEMORY: &[u8] =
@@ -45,14 +45,14 @@ impl Fields for Line {
 }
 
 /// Returns the time as it is shown.
-fn shown_time(time: Timestamp) -> Time {
+pub(crate) fn shown_time(time: Timestamp) -> Time {
     let mut text = Time::new();
     let _ = write!(text, "{time:.3}");
     text
 }
 
 /// Returns the peer as it is shown.
-fn shown_peer(peer: SocketAddr) -> Peer {
+pub(crate) fn shown_peer(peer: SocketAddr) -> Peer {
     let mut text = Peer::new();
     let _ = write!(text, "{peer}");
     text

@@ -1,8 +1,10 @@
 //! What became of stores, by the statuses of their replies, and how many there were.
-ghost use Rattle.std.specs.Prelude.{◌≡◌, ◌-◌, ◌+◌};
+ghost use Rattle.std.specs.Prelude.{◌≡◌, ◌-◌, ◌+◌, ℕ};
 ghost use Rattle.journal.specs.Outcomes as spelling;
+ghost use Rattle.metrics.specs.Statuses.{status_of};
 
 use dimse::status;
+use metrics::CountedStatus;
 
 /// What a reply says of its store.
 #[derive(Clone, Copy, Debug, PartialEq, Eq)]
@@ -33,6 +35,20 @@ impl Outcome {
             Outcome::Refused
         } else {
             Outcome::Failed
+        }
+    }
+
+    /// Returns what a status says of its store, from as what it is counted: so what the log counts of stores is what the
+    /// counters of their statuses come to.
+    pub fn counted(status: CountedStatus) -> Outcome
+        ensures { (number : ℕ) → status_of number ≡ status → result ≡ spelling.outcome_of number }
+    {
+        match status {
+            CountedStatus::Success => Outcome::Stored,
+            CountedStatus::ClassNotSupported | CountedStatus::OutOfResources => Outcome::Refused,
+            CountedStatus::DataSetMismatch
+            | CountedStatus::CannotUnderstand
+            | CountedStatus::Other => Outcome::Failed,
         }
     }
 }

@@ -237,6 +237,46 @@ impl Entry for NotAccepted<'_> {
     }
 }
 
+/// The metrics could not be written: the system's error. Serving goes on.
+#[derive(Clone, Copy)]
+pub struct MetricsNotWritten<'a>(pub &'a io::Error);
+
+impl Entry for MetricsNotWritten<'_> {
+    fn level(&self) -> Level {
+        Level::Warn
+    }
+
+    fn event(&self) -> Event {
+        Event {
+            key: "metrics not written",
+            words: "the metrics could not be written",
+        }
+    }
+
+    fn fields<F: Fields>(&self, out: &mut F) {
+        give_error(self.0, out);
+    }
+}
+
+/// The metrics were written, after they could not be.
+#[derive(Clone, Copy)]
+pub struct MetricsWritten;
+
+impl Entry for MetricsWritten {
+    fn level(&self) -> Level {
+        Level::Info
+    }
+
+    fn event(&self) -> Event {
+        Event {
+            key: "metrics written",
+            words: "the metrics are written again",
+        }
+    }
+
+    fn fields<F: Fields>(&self, _out: &mut F) {}
+}
+
 /// Few numbers are left in the folder after that of this file, which is the first one of which it is so.
 #[derive(Clone, Copy)]
 pub(crate) struct NumbersLow(pub Place);

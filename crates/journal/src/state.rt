@@ -1,5 +1,5 @@
 //! What a log knows of an association.
-ghost use Rattle.std.specs.Prelude.{◌+◌, ◌≤◌, length};
+ghost use Rattle.std.specs.Prelude.{◌≡◌, ◌+◌, ◌≤◌, length};
 
 use crate::accepted::Results;
 use crate::cause::Cause;
@@ -10,6 +10,7 @@ use crate::outcome::Counts;
 use crate::text::Text;
 use arrayvec::ArrayVec;
 use element::AeTitle;
+use metrics::CountedEnd;
 use part10::Place;
 use pdu::read_request;
 use std::alloc::Global;
@@ -72,6 +73,8 @@ fn title_at(body: &[u8], place: usize) -> Title
 }
 
 impl State {
+    ghost use Rattle.journal.specs.Ends.{counted_where};
+
     /// Returns what is known before anything has come.
     pub(crate) fn new(alloc: Global) -> State {
         State {
@@ -170,6 +173,16 @@ impl State {
         }
         if !matches!(self.end, Some(End::Rejected(_))) {
             self.incoming.give_up_request();
+        }
+    }
+
+    /// Returns as what it is counted.
+    pub(crate) fn counted_end(&self) -> CountedEnd
+        ensures { result ≡ counted_where self.now.end }
+    {
+        match self.end {
+            Some(end) => end.counted(),
+            None => CountedEnd::Unknown,
         }
     }
 

@@ -4,6 +4,7 @@ use crate::form::Form;
 use crate::line::{Head, line_of};
 use jiff::Timestamp;
 use log::{Level, Log, log, log_enabled};
+use metrics::MetricsFile;
 use std::net::SocketAddr;
 use std::time::Clock;
 
@@ -16,6 +17,7 @@ pub struct Teller<'a, R> {
     rt: &'a R,
     form: Form,
     peer: Option<SocketAddr>,
+    metrics: Option<&'a MetricsFile>,
 }
 
 impl<'a, R: Log + Clock> Teller<'a, R> {
@@ -25,7 +27,18 @@ impl<'a, R: Log + Clock> Teller<'a, R> {
             rt,
             form,
             peer: None,
+            metrics: None,
         }
+    }
+
+    /// Returns what also counts in this file what the lines tell of, if there is one.
+    pub fn counting(self, metrics: Option<&'a MetricsFile>) -> Teller<'a, R> {
+        Teller { metrics, ..self }
+    }
+
+    /// Returns the file that counts, if there is one.
+    pub(crate) fn metrics(&self) -> Option<&'a MetricsFile> {
+        self.metrics
     }
 
     /// Returns what writes lines about the connection of this peer. An IPv4 address that came mapped to IPv6
@@ -42,15 +55,19 @@ impl<'a, R: Log + Clock> Teller<'a, R> {
         log_enabled!(self.rt; target: TARGET, level)
     }
 
+    /// Returns what stands before an entry: the time, if the clock can be read, and the peer.
+    pub(crate) fn head(&self) -> Head {
+        Head {
+            time: Timestamp::now(self.rt).ok(),
+            peer: self.peer,
+        }
+    }
+
     /// Writes a line, if lines of its level are written, with the time, if the clock can be read.
     pub fn tell<E: Entry>(&self, entry: &E) {
         let level = entry.level();
         if self.tells(level) {
-            let head = Head {
-                time: Timestamp::now(self.rt).ok(),
-                peer: self.peer,
-            };
-            let line = line_of(self.form, head, entry);
+            let line = line_of(self.form, self.head(), entry);
             log!(self.rt; target: TARGET, level, "{line}");
         }
     }

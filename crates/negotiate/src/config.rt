@@ -8,8 +8,14 @@ use arrayvec::ArrayVec;
 use dictionary::{Transfer, storage_class};
 use element::{AeTitle, Uid};
 
-/// How many further storage classes can be taken: 16 that are named, and the 177 of the standard.
-const MOST_FURTHER: usize = 193;
+/// How many calling titles can be named that are accepted.
+pub const MOST_CALLERS: usize = 64;
+
+/// How many further storage classes can be named that are taken.
+pub const MOST_NAMED: usize = 64;
+
+/// How many further storage classes can be taken: those that are named, and the 177 of the standard.
+const MOST_FURTHER: usize = MOST_NAMED + 177;
 
 /// How many further transfer syntaxes can be taken: those of the dictionary in which Pixel Data is encapsulated.
 const MOST_TRANSFERS: usize = 24;
@@ -20,7 +26,7 @@ pub struct Config {
     /// Its own title, which has to be the called title of a request.
     pub ae: AeTitle,
     /// The calling titles that are accepted; if empty, any is.
-    pub callers: ArrayVec<AeTitle, 16>,
+    pub callers: ArrayVec<AeTitle, MOST_CALLERS>,
     /// The maximum length of a P-DATA-TF PDU that it accepts, in bytes, as it announces it
     /// (PS3.8 annex D.1); at least 1024.
     pub max_pdu: u32,
@@ -30,13 +36,13 @@ pub struct Config {
     /// annex A) among them, and not the dictionary's own alone.
     pub all_storage: bool,
     /// Further storage classes that are taken, by the text of their unique identifiers.
-    pub named: ArrayVec<ArrayVec<u8, 64>, 16>,
+    pub named: ArrayVec<ArrayVec<u8, 64>, MOST_NAMED>,
     /// Further transfer syntaxes that are taken, beside Explicit and Implicit VR Little Endian.
     pub transfers: ArrayVec<Transfer, MOST_TRANSFERS>,
     pub ghost least_pdu: { 1024 ≤ max_pdu },
     pub ghost least_data: { 1024 ≤ max_data },
     pub ghost most_data: { max_data ≤ 2 ^ 48 },
-    pub ghost few_named: { array_vec_len named ≤ 16 },
+    pub ghost few_named: { array_vec_len named ≤ 64 },
     pub ghost few_transfers: { array_vec_len transfers ≤ 24 },
 }
 
@@ -52,10 +58,10 @@ fn text_of(bytes: &[u8]) -> ArrayVec<u8, 64>
 }
 
 /// The texts of identifiers.
-fn texts_of(uids: &[Uid]) -> ArrayVec<ArrayVec<u8, 64>, 16>
-    requires few { length uids.now ≤ 16 }
+fn texts_of(uids: &[Uid]) -> ArrayVec<ArrayVec<u8, 64>, MOST_NAMED>
+    requires few { length uids.now ≤ 64 }
     ensures texts { map (λ t. t.items) result.items ≡ uids.now }
-    ensures few { array_vec_len result ≤ 16 }
+    ensures few { array_vec_len result ≤ 64 }
 {
     let mut texts = ArrayVec::new();
     for uid in uids {
@@ -67,10 +73,10 @@ fn texts_of(uids: &[Uid]) -> ArrayVec<ArrayVec<u8, 64>, 16>
 }
 
 /// Copies of texts.
-fn copied_texts(texts: &[ArrayVec<u8, 64>]) -> ArrayVec<ArrayVec<u8, 64>, 16>
-    requires few { length texts.now ≤ 16 }
+fn copied_texts(texts: &[ArrayVec<u8, 64>]) -> ArrayVec<ArrayVec<u8, 64>, MOST_NAMED>
+    requires few { length texts.now ≤ 64 }
     ensures texts { map (λ t. t.items) result.items ≡ map (λ t. t.items) texts.now }
-    ensures few { array_vec_len result ≤ 16 }
+    ensures few { array_vec_len result ≤ 64 }
 {
     let mut copies = ArrayVec::new();
     for text in texts {
@@ -112,7 +118,12 @@ impl Config {
     pub const DEFAULT_MAX_DATA: u64 = 1_099_511_627_776;
 
     /// Creates the settings.
-    pub fn new(ae: AeTitle, callers: ArrayVec<AeTitle, 16>, max_pdu: u32, max_data: u64) -> Config
+    pub fn new(
+        ae: AeTitle,
+        callers: ArrayVec<AeTitle, MOST_CALLERS>,
+        max_pdu: u32,
+        max_data: u64,
+    ) -> Config
         requires least_pdu { 1024 ≤ max_pdu }
         requires least_data { 1024 ≤ max_data }
         requires most_data { max_data ≤ 2 ^ 48 }
@@ -136,7 +147,7 @@ impl Config {
     /// Returns the settings with these storage classes taken beside the dictionary's own: every one of the
     /// standard's table or none, and those that are named.
     pub fn with_storage(self, all_storage: bool, named: &[Uid]) -> Config
-        requires few { length named.now ≤ 16 }
+        requires few { length named.now ≤ 64 }
         ensures ae { result.ae ≡ self.ae }
         ensures callers { result.callers ≡ self.callers }
         ensures max_pdu { result.max_pdu ≡ self.max_pdu }

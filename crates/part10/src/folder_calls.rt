@@ -1,6 +1,7 @@
 //! The system calls of a filing over a folder, recorded for contracts.
 //!
-//! Only this module creates, names and removes the files of a folder. Each method makes its system
+//! Only this module creates, names and removes the files of a folder, except for drafts that are
+//! discarded. Each method makes its system
 //! calls and records their outcome, so that contracts can require, for example, that a name is checked
 //! before a rename, or that a failure has a failed call as its cause.
 ghost use Rattle.std.specs.Prelude.{◌≡◌, ◌+◌, List, [], ◌∷◌, ◌++◌, OnOk, OnErr, true};
@@ -42,7 +43,7 @@ pub(crate) fn remove_left<R: Files>(rt: &R, path: &str) -> io::Result<()> {
 }
 
 /// Creates the file of a draft. A file that an earlier draft left under this name is removed first.
-fn create_draft<R: Files>(rt: &R, path: &str) -> io::Result<R::File> {
+pub(crate) fn create_draft<R: Files>(rt: &R, path: &str) -> io::Result<R::File> {
     match File::create_new(rt, path) {
         Err(error) if error.kind() == ErrorKind::AlreadyExists => {
             remove_left(rt, path)?;

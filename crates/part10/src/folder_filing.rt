@@ -4,12 +4,15 @@ ghost use Rattle.part10.specs.Naming.{IsOneMore, IsOrderly, LeavesNames, WasRefu
 ghost use Rattle.part10.specs.Store.{LeavesStore, appended, committed, nothing_filed, or_nothing, stepped, store_of, without_draft};
 ghost use Rattle.part10.specs.declared.call.Call.TheVariants as seen;
 
+use crate::aside::SetAside;
+use crate::draft_size::DraftSize;
 use crate::filing::{Filing, FilingFailed};
 use crate::folder_writer::FolderWriter;
 use crate::given_names::GivenNames;
 use crate::locked_folder::LockedFolder;
 use crate::notes::DraftNotes;
 use crate::numbers::NumbersFile;
+use crate::quarantine::Quarantine;
 use crate::stored_file::StoredFile;
 use crate::writeback::Writeback;
 use element::count::Count;
@@ -59,7 +62,10 @@ where
     dropped: u32,
     failures: Count,
     names: GivenNames<R::A>,
-    notes: Rc<DraftNotes, R::A>,
+    notes: Rc<DraftNotes<R>, R::A>,
+    /// Where discarded drafts are moved to, if anywhere.
+    quarantine: Option<Rc<Quarantine<R>, R::A>>,
+    size: DraftSize,
 }
 
 impl<R: Files + Alloc + Clone + Drop> Model for FolderFiling<R>
@@ -103,11 +109,12 @@ where
     }
 
     /// Creates a filing over this folder. `number`, from 1, names its draft; `numbers` is the file of
-    /// numbers, if there is one.
+    /// numbers, and `quarantine` where discarded drafts are moved to, if there is one.
     pub(crate) fn over(
         folder: Rc<LockedFolder<R>, R::A>,
         number: u32,
         numbers: Option<NumbersFile<R::A>>,
+        quarantine: Option<Rc<Quarantine<R>, R::A>>,
     ) -> io::Result<FolderFiling<R>>
         ensures number { IfOk result (λ filing. filing.number ≡ number) }
         ensures empty { IfOk result (λ filing. filing.contents ≡ nothing_filed) }
@@ -127,6 +134,8 @@ where
             failures: Count::new(),
             names,
             notes,
+            quarantine,
+            size: DraftSize::EMPTY,
         })
     }
 
@@ -156,8 +165,32 @@ where
     /// the error of the last failed call. They are shared: later calls of the filing change them.
     ///
     /// Fails if the reference count of the notes would overflow.
-    pub fn notes(&self) -> Result<Rc<DraftNotes, R::A>, AllocError> {
+    pub fn notes(&self) -> Result<Rc<DraftNotes<R>, R::A>, AllocError> {
         self.notes.clone()
+    }
+
+    /// Moves the file of the draft to the quarantine, if there is one that has room, and notes that, or
+    /// why it could not be moved. A draft without bytes is left.
+    fn set_aside(&self) {
+        let (Some(quarantine), Some(_), Some(data)) = (
+            &self.quarantine,
+            &self.draft,
+            self.size.data(),
+        ) else {
+            return;
+        };
+        match self.folder.set_aside(self.draft_path.as_str(), quarantine) {
+            Ok(Some(number)) => match quarantine.clone() {
+                Ok(quarantine) => self
+                    .notes
+                    .set_aside(SetAside::new(quarantine, number, data)),
+                Err(_) => {
+                    let _ = quarantine.remove(number);
+                }
+            },
+            Ok(None) => {}
+            Err(error) => self.notes.not_set_aside(error),
+        }
     }
 
     fn drop_draft(&mut self)
@@ -185,6 +218,7 @@ where
         let file = self.folder.create_draft(path, &mut self.names.calls)?;
         self.writeback = Writeback::new(file.descriptor());
         self.draft = Some(Traced::new(file));
+        self.size = DraftSize::EMPTY;
         Ok(())
     }
 
@@ -294,6 +328,7 @@ where
         if self.folder.has_sync() {
             self.writeback.appended(bytes.len());
         }
+        self.size = self.size.with(bytes.len());
         Ok(())
     }
 
@@ -315,10 +350,13 @@ where
         Ok(())
     }
 
+    /// Drops the draft, if there is one. With a quarantine its file is moved there, in place of being
+    /// removed; nothing else depends on that.
     fn discard(&mut self)
         ensures leaves { store_of self.new.contents ≡ stepped without_draft false (store_of self.old.contents) }
         ensures same_names { self.new.names ≡ self.old.names }
     {
+        self.set_aside();
         self.drop_draft();
     }
 }

@@ -6,6 +6,7 @@ use crate::folder_filing::FolderFiling;
 use crate::locked_folder::LockedFolder;
 use crate::numbers::NumbersFile;
 use crate::place::Layout;
+use crate::quarantine::Quarantine;
 use crate::stored_file::StoredFile;
 use std::io;
 use std::io::{Error, ErrorKind};
@@ -29,7 +30,18 @@ where
     /// The file that has the greatest numbers given so far, if one is in use (see
     /// [`FolderWriter::with_numbers`]).
     numbers: Option<NumbersFile<R::A>>,
+    /// Where discarded drafts are moved to, if anywhere (see [`FolderWriter::with_quarantine`]).
+    quarantine: Option<Rc<Quarantine<R>, R::A>>,
     filings: u32,
+}
+
+/// What a quarantine had when it was opened.
+#[derive(Clone, Copy, Debug, PartialEq, Eq)]
+pub struct QuarantineFound {
+    /// How many drafts were removed that a killed program had left.
+    pub removed: u32,
+    /// Whether it has as many data sets as it may have.
+    pub is_full: bool,
 }
 
 impl<R: Files + Alloc + Clone + Drop> Model for FolderWriter<R>
@@ -76,6 +88,7 @@ where
         Ok(FolderWriter {
             folder,
             numbers: None,
+            quarantine: None,
             filings: 0,
         })
     }
@@ -110,6 +123,34 @@ where
         })
     }
 
+    /// Moves discarded drafts to the folder at this path, until it has `most` data sets, in place of
+    /// removing them: see [`DraftNotes::take_aside`](crate::DraftNotes::take_aside). Says what is there,
+    /// too.
+    ///
+    /// Fails if it is the folder of the files, or on another file system; with `WouldBlock` if another
+    /// program has locked it; and as the system does.
+    pub fn with_quarantine(
+        self,
+        dir: &str,
+        most: u32,
+    ) -> io::Result<(FolderWriter<R>, QuarantineFound)>
+        ensures same { IfOk result (λ r. r.0 ≡ self) }
+    {
+        let rt = self.folder.runtime().clone()?;
+        let alloc = rt.alloc();
+        let (quarantine, removed) = Quarantine::open(rt, dir, most, &self.folder)?;
+        let found = QuarantineFound {
+            removed,
+            is_full: quarantine.is_full(),
+        };
+        let quarantine = Rc::new(alloc, quarantine)?;
+        let writer = FolderWriter {
+            quarantine: Some(quarantine),
+            ..self
+        };
+        Ok((writer, found))
+    }
+
     /// Makes a new filing over the folder. The filings are numbered from 1, and the number names the
     /// draft.
     ///
@@ -127,7 +168,11 @@ where
             Some(file) => Some(file.duplicate(self.folder.runtime().alloc())?),
             None => None,
         };
-        let filing = FolderFiling::over(self.folder.clone()?, number, numbers)?;
+        let quarantine = match &self.quarantine {
+            Some(quarantine) => Some(quarantine.clone()?),
+            None => None,
+        };
+        let filing = FolderFiling::over(self.folder.clone()?, number, numbers, quarantine)?;
         self.filings = number;
         Ok(filing)
     }

@@ -2,7 +2,9 @@
 //! go to.
 #![tactic(auto)]
 
+mod aside;
 mod call;
+mod draft_size;
 mod drafts;
 mod filing;
 mod folder_calls;
@@ -20,15 +22,19 @@ mod names;
 mod naming;
 mod notes;
 mod numbers;
+mod occupancy;
 mod place;
+mod quarantine;
+mod quarantine_names;
 mod reading;
 mod stored_file;
 mod writeback;
 mod writing;
 
+pub use aside::{KeptDraft, SetAside};
 pub use filing::{Filing, FilingFailed};
 pub use folder_filing::FolderFiling;
-pub use folder_writer::FolderWriter;
+pub use folder_writer::{FolderWriter, QuarantineFound};
 pub use memory_filing::MemoryFiling;
 pub use meta::Meta;
 pub use meta_fault::MetaFault;

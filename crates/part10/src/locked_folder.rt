@@ -7,7 +7,7 @@ ghost use Rattle.part10.specs.declared.place.Layout.TheVariants as layout;
 ghost use Rattle.part10.specs.machine.Naming.{NameLeaves, PlaceLeaves, SameTerms};
 
 use crate::drafts::DraftName;
-use crate::folder_calls::{FolderCalls, remove_left};
+use crate::folder_calls::{FolderCalls, create_draft, remove_left};
 use crate::folder_identity::FolderIdentity;
 use crate::given_names::GivenNames;
 use crate::listing::{contents_of, file_path, folder_path};
@@ -15,6 +15,7 @@ use crate::names::{EntryKind, EntryName};
 use crate::naming::{Attempt, Named, Obstacle, Target, name_file};
 use crate::numbers::{Numbers, NumbersFile};
 use crate::place::{GREATEST, Layout, Place};
+use crate::quarantine::Quarantine;
 use crate::stored_file::StoredFile;
 use std::alloc::{AllocError, Allocator};
 use std::cell::Cell;
@@ -79,7 +80,7 @@ fn none_left(per: u32, folder: u32, file: u32) -> Error
 }
 
 /// Opens a folder and locks it. Fails with `WouldBlock` if another writer has locked it.
-fn lock<R: Files>(rt: &R, dir: &str) -> io::Result<R::File>
+pub(crate) fn lock<R: Files>(rt: &R, dir: &str) -> io::Result<R::File>
 where
     R::File: StoredFile,
 {
@@ -141,6 +142,22 @@ where
     /// Returns the runtime that gives access to the files of the folder.
     pub(crate) fn runtime(&self) -> &R {
         &self.rt
+    }
+
+    pub(crate) fn identity(&self) -> FolderIdentity {
+        self.identity
+    }
+
+    /// Creates a file in the folder, as a draft of no filing, renames it to this path and removes it. Fails
+    /// as the system does; then there is no such file.
+    pub(crate) fn try_rename(&self, path: &str) -> io::Result<()> {
+        let draft = self.draft_path(0)?;
+        drop(create_draft(&self.rt, draft.as_str())?);
+        if let Err(error) = fs::rename(&self.rt, draft.as_str(), path) {
+            let _ = remove_left(&self.rt, draft.as_str());
+            return Err(error);
+        }
+        remove_left(&self.rt, path)
     }
 
     /// Returns whether commits are synced to the disk.
@@ -219,6 +236,18 @@ where
             // A file that cannot be removed is removed when the next draft is created.
             let _ = remove_left(&self.rt, draft);
         }
+    }
+
+    /// Moves the file of a draft that is not committed to the quarantine. Returns its number there, or
+    /// `None` if there is no room. Fails if the path leads to another folder, or a system call fails:
+    /// then the file has its name as before.
+    pub(crate) fn set_aside(
+        &self,
+        draft: &str,
+        quarantine: &Quarantine<R>,
+    ) -> io::Result<Option<u32>> {
+        self.identity.check_at(&self.rt, self.dir.as_str())?;
+        quarantine.take_in(draft)
     }
 
     /// Removes the draft name of a file that was just committed, if it still has it after a hard link,

@@ -1,25 +1,39 @@
 //! What a filing tells its log about its drafts.
 
+use crate::aside::SetAside;
 use crate::place::Place;
+use crate::stored_file::StoredFile;
 use std::cell::Cell;
 use std::io::Error;
+use std::rt::Files;
 
 /// Notes of a [`FolderFiling`](crate::FolderFiling) for its log: the place of the last committed file,
-/// the error of the last failed call, and a warning that few numbers are left. Each is returned once.
+/// the error of the last failed call, a warning that few numbers are left, the last draft that was moved
+/// to a quarantine, and why one could not be. Each is returned once.
 #[derive(Drop)]
-pub struct DraftNotes {
+pub struct DraftNotes<R: Files + Alloc + Clone + Drop>
+where
+    R::File: StoredFile,
+{
     place: Cell<Option<Place>>,
     error: Cell<Option<Error>>,
     low: Cell<Option<Place>>,
+    aside: Cell<Option<SetAside<R>>>,
+    not_aside: Cell<Option<Error>>,
 }
 
-impl DraftNotes {
+impl<R: Files + Alloc + Clone + Drop> DraftNotes<R>
+where
+    R::File: StoredFile,
+{
     /// Creates empty notes.
-    pub(crate) fn new() -> DraftNotes {
+    pub(crate) fn new() -> DraftNotes<R> {
         DraftNotes {
             place: Cell::new(None),
             error: Cell::new(None),
             low: Cell::new(None),
+            aside: Cell::new(None),
+            not_aside: Cell::new(None),
         }
     }
 
@@ -36,6 +50,30 @@ impl DraftNotes {
     /// Records the warning that few numbers are left after this place.
     pub(crate) fn ran_low(&self, place: Place) {
         self.low.set(Some(place));
+    }
+
+    /// Records a draft that was moved to a quarantine. One that was not taken before is removed.
+    pub(crate) fn set_aside(&self, aside: SetAside<R>) {
+        if let Some(before) = self.aside.replace(Some(aside)) {
+            let _ = before.remove();
+        }
+    }
+
+    /// Records why a draft could not be moved to a quarantine.
+    pub(crate) fn not_set_aside(&self, error: Error) {
+        self.not_aside.set(Some(error));
+    }
+
+    /// Takes the last draft that was moved to a quarantine, or returns `None` if none was since the last
+    /// call.
+    pub fn take_aside(&self) -> Option<SetAside<R>> {
+        self.aside.take()
+    }
+
+    /// Takes the error for which a draft could not be moved to a quarantine, or returns `None` if there
+    /// was none since the last call.
+    pub fn take_aside_error(&self) -> Option<Error> {
+        self.not_aside.take()
     }
 
     /// Takes the warning that few numbers are left after a place, or returns `None` if there is none.

@@ -6,8 +6,8 @@ use cases::{Case, Parts, cases};
 use dictionary::{Transfer, storage_class};
 use element::{AeTitle, Uid};
 use negotiate::{
-    Config, Context, ContextRow, Service, answer_size, compact, context, context_of, judge,
-    write_answer,
+    Config, Context, ContextRow, MOST_CALLERS, MOST_NAMED, Service, answer_size, compact, context,
+    context_of, judge, write_answer,
 };
 use pdu::{Request, read_request};
 use std::alloc::{AllocError, Global};
@@ -155,14 +155,14 @@ accepted of anyone, in a later version | any 1024 | 00 03 00 00 \
 
 /// The settings with these storage classes beside the eleven.
 fn taking(config: Config, all_storage: bool, named: &[Uid]) -> Config {
-    if named.len() > 16 {
+    if named.len() > MOST_NAMED {
         return config;
     }
     config.with_storage(all_storage, named)
 }
 
 /// Returns the title that alone may call, if it is not `any`.
-fn callers_of(caller: &str) -> Result<ArrayVec<AeTitle, 16>, Fail> {
+fn callers_of(caller: &str) -> Result<ArrayVec<AeTitle, MOST_CALLERS>, Fail> {
     let mut callers = ArrayVec::new();
     if caller != "any" {
         callers.push(AeTitle::of_text(caller).ok_or("title")?);

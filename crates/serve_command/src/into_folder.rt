@@ -2,9 +2,11 @@
 use crate::serve::serve;
 use arguments::{Serve, VERSION};
 use failures::{ProgramError, WordsError};
-use folders::{numbered, open_writer, try_draft};
-use journal::{Limits, Output, Started, Teller};
-use log::Logged;
+use folders::{numbered, open_writer, quarantined, try_draft};
+use journal::{Limits, Output, QuarantineCleared, QuarantineFull, Started, Teller};
+use log::{Log, Logged};
+use part10::QuarantineFound;
+use std::time::Clock;
 use std::{env, fs};
 
 /// Fails as for invalid arguments if the file whose appearance ends the program can't appear, since its folder is
@@ -63,18 +65,30 @@ fn output_of(rt: &HostRuntime, settings: &Serve) -> Output<HostRuntime> {
     }
 }
 
+/// Writes what the quarantine had at the start: how many drafts were removed, and whether it is full.
+fn tell_quarantine<R: Log + Clock>(teller: &Teller<'_, R>, found: QuarantineFound) {
+    if found.removed > 0 {
+        teller.tell(&QuarantineCleared(u64::from(found.removed)));
+    }
+    if found.is_full {
+        teller.tell(&QuarantineFull);
+    }
+}
+
 /// Serves into the folder until the program is ended, or only one association. Logs first what it is, with
 /// the drafts that it removes from the folder.
 pub fn serve_into(rt: &HostRuntime, settings: &Serve) -> Result<(), ProgramError> {
     check_stop_file(rt, settings.at_once.stop_file)?;
     let drafts = drafts_in(rt, settings.out);
     let writer = open_writer(*rt, settings.out, settings.layout, settings.sync)?;
-    let mut writer = numbered(writer, settings.numbers)?;
+    let writer = numbered(writer, settings.numbers)?;
+    let (mut writer, found) = quarantined(writer, settings.quarantine)?;
     let mut filing = writer.filing().map_err(ProgramError::of_folder)?;
     try_draft(&mut filing)?;
     let logged = Logged::new(rt, settings.level, output_of(rt, settings));
     let config = &settings.config;
-    Teller::new(&logged, settings.form).tell(&Started {
+    let teller = Teller::new(&logged, settings.form);
+    teller.tell(&Started {
         version: VERSION,
         title: config.ae.trimmed(),
         folder: settings.out,
@@ -85,5 +99,8 @@ pub fn serve_into(rt: &HostRuntime, settings: &Serve) -> Result<(), ProgramError
         at_once: settings.at_once.associations as u64,
         drafts,
     });
+    if let Some(found) = found {
+        tell_quarantine(&teller, found);
+    }
     serve(&logged, settings, rt, (writer, filing))
 }

@@ -3,13 +3,14 @@ ghost use Rattle.std.specs.Prelude.{◌≡◌, IfOk, OnErr};
 ghost use Rattle.negotiate.specs.Settings.{settings_of};
 ghost use Rattle.server.specs.Alone.{CameOf};
 
-use arguments::Serve;
+use arguments::{Serve, VERSION};
 use core::mem::replace_with;
 use failures::{Failure, ProgramError};
 use log::Log;
+use metrics::MetricsFile;
 use part10::{Filing, FolderFiling, FolderWriter};
 use server::{ServedAlone, ServerTerms, serve_alone, serve_many};
-use std::alloc::Global;
+use std::alloc::{AllocError, Global};
 use std::fs::File;
 use std::io;
 use std::net::{Net, SocketAddr, TcpListener, TcpStream};
@@ -17,8 +18,8 @@ use std::rt::Files;
 use std::time::Clock;
 
 /// Returns what the server is held to. Where one association is served after the other, further peers
-/// wait as a matter of course, of which nothing is told.
-fn terms_of<'a>(settings: &'a Serve) -> ServerTerms<'a>
+/// wait as a matter of course, of which nothing is told. What happens is counted in this file, if there is one.
+fn terms_of<'a>(settings: &'a Serve, metrics: Option<&'a MetricsFile>) -> ServerTerms<'a>
     ensures config { result.config.now ≡ settings.now.config }
 {
     ServerTerms {
@@ -32,6 +33,7 @@ fn terms_of<'a>(settings: &'a Serve) -> ServerTerms<'a>
         tells_full: !settings.at_once.is_serial(),
         once: settings.once,
         form: settings.form,
+        metrics,
     }
 }
 
@@ -71,8 +73,19 @@ pub fn serve_one<
     ensures came { IfOk result (λ e. CameOf (settings_of settings.now.config) e (⟦<FolderFiling<S> as Filing>⟧.store filing.old) (⟦<FolderFiling<S> as Filing>⟧.store filing.new)) }
     ensures failed { OnErr result (⟦<FolderFiling<S> as Filing>⟧.store filing.new ≡ ⟦<FolderFiling<S> as Filing>⟧.store filing.old) }
 {
-    let accepted = (rt, listener.accept()?, terms_of(settings));
+    let accepted = (rt, listener.accept()?, terms_of(settings, None));
     Ok(replace_with(filing, accepted, serve_accepted))
+}
+
+/// Returns the file of metrics, if one is asked for. Fails if memory runs out.
+fn metrics_of<R: Clock + Alloc<A = Global>>(
+    rt: &R,
+    settings: &Serve,
+) -> Result<Option<MetricsFile>, AllocError> {
+    match settings.metrics {
+        Some(path) => Ok(Some(MetricsFile::new(rt, rt.alloc(), path, VERSION)?)),
+        None => Ok(None),
+    }
 }
 
 /// Listens on the port.
@@ -92,8 +105,8 @@ fn listen<R: Net<Listener = TcpListener, Stream = TcpStream>>(
 /// to end, or only one where that was asked for. Logs where it listens, and that it has stopped. The
 /// first place files by the filing that is handed in, each other one by one of the folder.
 ///
-/// Fails if the address or the port can't be listened on, or if the system fails to tell what is
-/// ready.
+/// Fails if the address or the port can't be listened on, if memory runs out at the start, or if the system fails to
+/// tell what is ready.
 pub fn serve<
     R: Log + Clock + Net<Listener = TcpListener, Stream = TcpStream> + Alloc<A = Global>,
     S: Files<File = File> + Alloc<A = Global> + Clone + Drop,
@@ -104,7 +117,9 @@ pub fn serve<
     folder: (FolderWriter<S>, FolderFiling<S>),
 ) -> Result<(), ProgramError> {
     let listener = listen(rt, settings)?;
-    let (_history, served) = serve_many(rt, listener, terms_of(settings), files, folder);
+    let metrics = metrics_of(rt, settings)?;
+    let terms = terms_of(settings, metrics.as_ref());
+    let (_history, served) = serve_many(rt, listener, terms, files, folder);
     match served {
         Ok(()) => Ok(()),
         Err(error) => Err(ProgramError::System(Failure::Serve, error)),

@@ -28,7 +28,7 @@ fn serve_watched<
     P: Policy,
 >(
     rt: &'a R,
-    watched: WatchedConnection,
+    watched: WatchedConnection<S>,
     teller: Teller<'a, R>,
     terms: ServerTerms<'a>,
     filing: FolderFiling<S>,
@@ -40,11 +40,12 @@ fn serve_watched<
         socket,
         watch,
         notes,
+        memory,
         now,
     } = watched;
     let mut watch = watch;
     let journal = Journal::new(rt.alloc(), teller, notes, terms.limits());
-    let mut seat = Seat::<R, S, P>::open(socket, filing, journal, terms, now);
+    let mut seat = Seat::<R, S, P>::open((socket, filing, journal), memory, terms, now);
     match seat.run(rt, &mut watch, now) {
         Ok(ended) => {
             let end = seat.end(ended);
@@ -77,8 +78,10 @@ pub fn serve_alone<
     ensures came { CameOf (settings_of terms.entry.config.now) result.1 (⟦<FolderFiling<S> as Filing>⟧.store filing) (⟦<FolderFiling<S> as Filing>⟧.store result.0) }
 {
     let (stream, peer) = accepted;
-    let teller = Teller::new(rt, terms.form).about(peer);
-    match WatchedConnection::new(rt, stream, &filing) {
+    let teller = Teller::new(rt, terms.form)
+        .about(peer)
+        .counting(terms.metrics);
+    match WatchedConnection::new(rt, stream, &filing, terms.config) {
         Ok(watched) => serve_watched::<R, S, Brand>(rt, watched, teller, terms, filing),
         Err(failure) => {
             teller.tell(&ConnectionFailed(failure.error()));

@@ -16,7 +16,7 @@ use engine::Standing;
 use journal::{Journal, Served};
 use log::Log;
 use part10::{Filing, FolderFiling};
-use serving::{Connection, ConnectionEnd, Turn, Wait};
+use serving::{Connection, ConnectionEnd, ConnectionMemory, ConnectionTerms, Turn, Wait};
 use std::alloc::Global;
 use std::fs::File;
 use std::marker::PhantomData;
@@ -30,6 +30,9 @@ const CLOSING_SECONDS: u64 = 2;
 /// How many bytes an association takes in a turn at most.
 const TURN: usize = 65_536;
 
+/// What a connection is opened over: its socket, its filing and its journal.
+pub(crate) type SeatParts<'a, R, S> = (Socket, FolderFiling<S>, Journal<'a, R, S>);
+
 /// One connection that is served: each that the program accepts becomes one, if the system lets it. It is
 /// given up by `end` alone, since it is not `Drop`.
 pub struct Seat<
@@ -42,7 +45,7 @@ where
     FolderFiling<S>: Filing,
 {
     connection: Connection<Socket, FolderFiling<S>>,
-    journal: Journal<'a, R, Global>,
+    journal: Journal<'a, R, S>,
     terms: ServerTerms<'a>,
     begun: Instant,
     /// How many files its filing had committed before.
@@ -68,22 +71,26 @@ impl<'a, R: Log + Clock, S: Files<File = File> + Alloc<A = Global> + Clone + Dro
     ghost use Rattle.serving.specs.Connections.{drafting_at, state_at};
     ghost use Rattle.serving.specs.Served.{Leaves};
 
-    /// Opens an association over a connection that was accepted at this instant, which the journal is
-    /// shown.
+    /// Opens an association, in this memory, over a connection that was accepted at this instant, which the
+    /// journal is shown.
     pub(crate) fn open(
-        socket: Socket,
-        filing: FolderFiling<S>,
-        journal: Journal<'a, R, Global>,
+        parts: SeatParts<'a, R, S>,
+        memory: ConnectionMemory,
         terms: ServerTerms<'a>,
         now: Instant,
     ) -> Seat<'a, R, S, P>
         requires { settings_of terms.config.now ≡ P.settings }
         ensures terms { result.terms ≡ terms.entry }
-        ensures opening { opening_of result.connection ≡ filing }
+        ensures opening { opening_of result.connection ≡ parts.entry.1 }
     {
+        let (socket, filing, journal) = parts;
         let committed = filing.committed();
+        let held = ConnectionTerms {
+            config: terms.config,
+            timeouts: terms.timeouts,
+        };
         Seat {
-            connection: Connection::open(terms.config, socket, filing, terms.timeouts, now),
+            connection: Connection::open(held, socket, filing, memory, now),
             journal,
             terms,
             begun: now,

@@ -3,6 +3,7 @@ ghost use Rattle.std.specs.Prelude.{◌≡◌, ◌+◌, length, vec_len};
 ghost use Rattle.negotiate.specs.Settings.{settings_of};
 ghost use Rattle.server.specs.Histories.{slots_in};
 
+mod measuring;
 mod opening;
 mod waiting;
 
@@ -96,7 +97,7 @@ impl<
     fn make_slot(&mut self, place: usize) -> Result<(), AllocError> {
         let alloc = *self.slots.allocator();
         match self.slots.get_mut(place) {
-            Some(slot) => slot.make(alloc, self.now),
+            Some(slot) => slot.make(alloc, self.terms.config, self.now),
             None => Ok(()),
         }
     }
@@ -142,9 +143,9 @@ impl<
         &self,
         peer: SocketAddr,
         filing: &FolderFiling<S>,
-    ) -> Result<Journal<'a, R, Global>, AllocError> {
+    ) -> Result<Journal<'a, R, S>, AllocError> {
         let notes = filing.notes()?;
-        let teller = self.teller().about(peer);
+        let teller = self.teller().about(peer).counting(self.terms.metrics);
         Ok(Journal::new(*self.slots.allocator(), teller, notes, self.terms.limits()))
     }
 
@@ -311,6 +312,9 @@ impl<
                 return Duration::ZERO;
             }
         }
+        if let Some(metrics) = self.terms.metrics {
+            most = most.min(metrics.left(now));
+        }
         for slot in &self.slots {
             most = slot.patience(now, most);
         }
@@ -354,6 +358,7 @@ impl<
             self.turn_each(now);
             // A place that was freed is given on before the poll, which may wait long.
             self.admit_all(now);
+            self.measure(files, now);
             if self.is_done() {
                 return Ok(());
             }

@@ -7,20 +7,17 @@ ghost use Rattle.server.specs.Histories.{AllEnded, LeftBy, ended_in, opened_in, 
 ghost use Rattle.server.specs.machine.Slots.{HaveEnded, seen_in, seen_of};
 
 use crate::policy::Policy;
-use crate::seat::{Seat, turned};
+use crate::seat::{Seat, SeatParts, turned};
 use crate::server::SlotHistory;
-use crate::socket::Socket;
 use crate::terms::ServerTerms;
-use journal::Journal;
 use log::Log;
+use negotiate::Config;
 use part10::{Filing, FolderFiling};
+use serving::ConnectionMemory;
 use std::alloc::{AllocError, AllocFailed, Global};
 use std::fs::File;
 use std::rt::Files;
 use std::time::{Clock, Duration, Instant};
-
-/// What a connection is opened over: its socket, its filing and its journal.
-pub(crate) type SeatParts<'a, R, S> = (Socket, FolderFiling<S>, Journal<'a, R, Global>);
 
 /// A slot for one connection after the other. Like a [`Seat`] it is not `Drop`: it is given up by `close`
 /// alone.
@@ -35,6 +32,8 @@ where
 {
     /// The memory, once it was taken, with the connection that it has.
     seat: Option<Box<Option<Seat<'a, R, S, P>>>>,
+    /// The memory of its next connection, once it was taken, while it has none.
+    memory: Option<ConnectionMemory>,
     history: SlotHistory<FolderFiling<S>>,
     ghost left: { ∥ All (LeftBy ⟦<FolderFiling<S> as Filing>⟧.store P.settings) (ended_in history) ∥₁ },
     /// Each connection that was opened has ended, except the one that it has.
@@ -51,6 +50,7 @@ impl<'a, R: Log + Clock, S: Files<File = File> + Alloc<A = Global> + Clone + Dro
     pub(crate) fn new() -> Slot<'a, R, S, P> {
         Slot {
             seat: None,
+            memory: None,
             history: SlotHistory::new(),
         }
     }
@@ -63,25 +63,47 @@ impl<'a, R: Log + Clock, S: Files<File = File> + Alloc<A = Global> + Clone + Dro
         }
     }
 
-    /// Takes its memory, unless it has it.
-    pub(crate) fn make(&mut self, alloc: Global, now: Instant) -> Result<(), AllocError> {
+    /// Takes its memory, unless it has it, for connections that are held to this configuration.
+    pub(crate) fn make(
+        &mut self,
+        alloc: Global,
+        config: &Config,
+        now: Instant,
+    ) -> Result<(), AllocError> {
         if self.seat.is_some() {
             return Ok(());
         }
-        make(alloc, &mut self.seat, &mut self.history, now)
+        let memory = ConnectionMemory::new(alloc, config)?;
+        make(alloc, &mut self.seat, &mut self.history, now)?;
+        self.memory = Some(memory);
+        Ok(())
     }
 
     /// Opens an association over a connection that was accepted at this instant, if it has its memory.
-    // Not inlined, as is what ends one: its frame has copies of a seat, of some 160 KB each, and is left before the
-    // first turn.
-    #[inline(never)]
     pub(crate) fn open(&mut self, parts: SeatParts<'a, R, S>, terms: ServerTerms<'a>, now: Instant)
+        requires { settings_of terms.config.now ≡ P.settings }
+    {
+        if let Some(memory) = self.memory.take() {
+            self.open_in(memory, parts, terms, now);
+        }
+    }
+
+    /// Opens an association, in this memory, over a connection that was accepted at this instant.
+    // Not inlined, as is what ends one: its frame has copies of a seat, and is left before the first turn.
+    #[inline(never)]
+    fn open_in(
+        &mut self,
+        memory: ConnectionMemory,
+        parts: SeatParts<'a, R, S>,
+        terms: ServerTerms<'a>,
+        now: Instant,
+    )
         requires { settings_of terms.config.now ≡ P.settings }
     {
         let (socket, filing, journal) = parts;
         if let Some(empty) = &mut self.seat {
             self.history.open(&filing);
-            let seat = Seat::open(socket, filing, journal, terms, now);
+            let seat = Seat::open((socket, filing, journal), memory, terms, now);
             end(empty.replace(seat), &mut self.history, now);
         }
     }
@@ -119,7 +141,7 @@ impl<'a, R: Log + Clock, S: Files<File = File> + Alloc<A = Global> + Clone + Dro
     #[inline(never)]
     pub(crate) fn leave(&mut self, now: Instant) -> Option<FolderFiling<S>> {
         match &mut self.seat {
-            Some(seat) => left_by(seat.take(), &mut self.history, now),
+            Some(seat) => left_by(seat.take(), &mut self.memory, &mut self.history, now),
             None => None,
         }
     }
@@ -128,16 +150,21 @@ impl<'a, R: Log + Clock, S: Files<File = File> + Alloc<A = Global> + Clone + Dro
     pub(crate) fn close(self, now: Instant) -> SlotHistory<FolderFiling<S>>
         ensures { AllEnded ⟦<FolderFiling<S> as Filing>⟧.store P.settings result }
     {
-        let Slot { seat, history } = self;
+        let Slot {
+            seat,
+            memory: _memory,
+            history,
+        } = self;
         let mut history = history;
         let_go(seat, &mut history, now);
         history
     }
 }
 
-/// Lets a connection go, if there is one. Returns its filing.
+/// Lets a connection go, if there is one, whose memory becomes that of the next one. Returns its filing.
 fn left_by<R: Log + Clock, S: Files<File = File> + Alloc<A = Global> + Clone + Drop, P: Policy>(
     seat: Option<Seat<'_, R, S, P>>,
+    memory: &mut Option<ConnectionMemory>,
     history: &mut SlotHistory<FolderFiling<S>>,
     now: Instant,
 ) -> Option<FolderFiling<S>>
@@ -147,7 +174,9 @@ fn left_by<R: Log + Clock, S: Files<File = File> + Alloc<A = Global> + Clone + D
         Some(seat) => {
             let left = seat.end(now);
             history.end(&left);
-            Some(left.filing)
+            let (filing, kept) = left.into_parts();
+            *memory = Some(kept);
+            Some(filing)
         }
         None => None,
     }

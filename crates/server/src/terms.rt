@@ -1,6 +1,7 @@
 //! What a server is held to.
 use connection::Timeouts;
 use journal::{Form, Limits};
+use metrics::MetricsFile;
 use negotiate::Config;
 use std::time::Duration;
 
@@ -30,6 +31,8 @@ pub struct ServerTerms<'a> {
     pub once: bool,
     /// The form of the log.
     pub form: Form,
+    /// The file that counts what the log tells, if there is one.
+    pub metrics: Option<&'a MetricsFile>,
 }
 
 impl ServerTerms<'_> {

@@ -10,7 +10,9 @@ use crate::socket::Socket;
 use log::Log;
 use mio::net::TcpStream;
 use mio::{Events, Interest, Poll, Token};
+use negotiate::Config;
 use part10::{DraftNotes, FolderFiling};
+use serving::ConnectionMemory;
 use std::alloc::Global;
 use std::fs::File;
 use std::io::ErrorKind;
@@ -43,10 +45,11 @@ pub(crate) struct Watch {
 
 /// A connection that is watched, and of which no association is opened yet.
 #[derive(Drop)]
-pub(crate) struct WatchedConnection {
+pub(crate) struct WatchedConnection<S: Files<File = File> + Alloc<A = Global> + Clone + Drop> {
     pub(crate) socket: Socket,
     pub(crate) watch: Watch,
-    pub(crate) notes: Rc<DraftNotes, Global>,
+    pub(crate) notes: Rc<DraftNotes<S>, Global>,
+    pub(crate) memory: ConnectionMemory,
     pub(crate) now: Instant,
 }
 
@@ -54,7 +57,12 @@ pub(crate) struct WatchedConnection {
 fn watch_socket<
     R: Clock + Net + Alloc<A = Global>,
     S: Files<File = File> + Alloc<A = Global> + Clone + Drop,
->(rt: &R, stream: net::TcpStream, filing: &FolderFiling<S>) -> io::Result<WatchedConnection> {
+>(
+    rt: &R,
+    stream: net::TcpStream,
+    filing: &FolderFiling<S>,
+    config: &Config,
+) -> io::Result<WatchedConnection<S>> {
     stream.set_nodelay(true)?;
     stream.set_nonblocking(true)?;
     let mut socket = Socket(TcpStream::from_std(stream));
@@ -70,23 +78,23 @@ fn watch_socket<
         socket,
         watch,
         notes: filing.notes()?,
+        memory: ConnectionMemory::new(alloc, config)?,
         now: Instant::now(rt)?,
     })
 }
 
-impl WatchedConnection {
-    /// Watches the socket of a connection whose files go to this filing.
+impl<S: Files<File = File> + Alloc<A = Global> + Clone + Drop> WatchedConnection<S> {
+    /// Watches the socket of a connection whose files go to this filing, and takes memory for it, which is to be held
+    /// to this configuration.
     ///
     /// Fails if the system does, or if memory runs out.
-    pub(crate) fn new<
-        R: Clock + Net + Alloc<A = Global>,
-        S: Files<File = File> + Alloc<A = Global> + Clone + Drop,
-    >(
+    pub(crate) fn new<R: Clock + Net + Alloc<A = Global>>(
         rt: &R,
         stream: net::TcpStream,
         filing: &FolderFiling<S>,
-    ) -> Result<WatchedConnection, SystemFailed> {
-        watch_socket(rt, stream, filing).map_err(SystemFailed)
+        config: &Config,
+    ) -> Result<WatchedConnection<S>, SystemFailed> {
+        watch_socket(rt, stream, filing, config).map_err(SystemFailed)
     }
 }
 

@@ -10,15 +10,15 @@ use Rattle.serving.specs.Wires.{IsClosed, pending_in, untaken_in}
 
 -- the settings of its association
 abbrev pub settings_at : {S F : Type 0} {G : Ghosts F} → Connection S F G → Settings
-settings_at c = settings_in (association_in c.running)
+settings_at c = settings_in (association_in c.running.value)
 
 -- the state of its association
 abbrev pub state_at : {S F : Type 0} {G : Ghosts F} → Connection S F G → State
-state_at c = state_of (association_in c.running)
+state_at c = state_of (association_in c.running.value)
 
 -- whether a store of its association has its draft in the filing
 abbrev pub drafting_at : {S F : Type 0} {G : Ghosts F} → Connection S F G → Bool
-drafting_at c = drafting_of (association_in c.running)
+drafting_at c = drafting_of (association_in c.running.value)
 
 -- its filing as it was when the connection was opened
 abbrev pub opening_of : {S F : Type 0} {G : Ghosts F} → Connection S F G → F

@@ -23,7 +23,7 @@ sent_over link = link.stream.traced.written.bytes ++ pending_in link.outbox
 
 -- the bytes that were read and wait until the association takes them
 abbrev pub untaken_in : Inbox → List ℕ
-untaken_in inbox = slice_range inbox.bytes inbox.taken inbox.read
+untaken_in inbox = slice_range inbox.bytes.value inbox.taken inbox.read
 
 -- what was read is these bytes, which were taken, followed by what waits
 abbrev pub IsTakenOf : {S : Type 0} → List ℕ → Link S → Type 0

@@ -23,7 +23,7 @@ pub(crate) enum Arrival {
 /// Keeps what was read until its association takes it. A socket is read straight into it.
 #[derive(Drop)]
 pub struct Inbox {
-    bytes: [u8; INBOX],
+    bytes: Box<[u8; INBOX]>,
     /// How many of them were taken.
     taken: usize,
     /// How many of them were read.
@@ -35,15 +35,20 @@ pub struct Inbox {
 impl Inbox {
     ghost use Rattle.serving.specs.Wires.{CountsEnd, ReadsMore, untaken_in};
 
-    /// Creates an inbox of no bytes.
-    pub(crate) fn new() -> Inbox
+    /// Creates an inbox of no bytes in this memory.
+    pub(crate) fn new(bytes: Box<[u8; INBOX]>) -> Inbox
         ensures nothing { untaken_in result ≡ [] }
     {
         Inbox {
-            bytes: [0; INBOX],
+            bytes,
             taken: 0,
             read: 0,
         }
+    }
+
+    /// Gives up its bytes. Returns its memory.
+    pub(crate) fn into_memory(self) -> Box<[u8; INBOX]> {
+        self.bytes
     }
 
     /// Returns the bytes that wait.

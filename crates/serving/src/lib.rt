@@ -6,6 +6,7 @@ mod counted_stream;
 mod exchange;
 mod inbox;
 mod link;
+mod memory;
 mod open_connection;
 mod outbox;
 #[cfg(test)]
@@ -15,7 +16,8 @@ mod waiting;
 
 pub use exchange::Exchange;
 pub use inbox::{INBOX, Inbox};
-pub use open_connection::{Connection, ConnectionEnd, Turn};
+pub use memory::ConnectionMemory;
+pub use open_connection::{Connection, ConnectionEnd, ConnectionTerms, Turn};
 pub use outbox::{OUTBOX, Outbox};
 pub use traces::SocketTrace;
 pub use waiting::{Wait, Waiting};

@@ -21,8 +21,9 @@ pub struct Link<S> {
 impl<S> Link<S> {
     ghost use Rattle.serving.specs.Wires.{pending_in, untaken_in};
 
-    /// Traces this socket from now on.
-    pub(crate) fn new(socket: S) -> Link<S>
+    /// Traces this socket from now on. What is read waits in this inbox, of no bytes yet.
+    pub(crate) fn new(socket: S, inbox: Inbox) -> Link<S>
+        requires empty { untaken_in inbox ≡ [] }
         ensures nothing_read { result.stream.traced.read.bytes ≡ [] }
         ensures nothing_sent { result.stream.traced.written.bytes ≡ [] }
         ensures nothing_untaken { untaken_in result.inbox ≡ [] }
@@ -31,7 +32,7 @@ impl<S> Link<S> {
     {
         Link {
             stream: CountedStream::new(socket),
-            inbox: Inbox::new(),
+            inbox,
             outbox: Outbox::new(),
         }
     }

@@ -4,6 +4,9 @@ ghost use Rattle.element.specs.Numbers.{IsBytes};
 ghost use Rattle.engine.specs.Drafts.{IsThere};
 ghost use Rattle.engine.specs.Fields.{association_in, drafting_of, fields_of, settings_in, state_of};
 ghost use Rattle.engine.specs.Inputs.{inputs_of, stream_of};
+ghost use Rattle.engine.specs.Turns.{Reports};
+ghost use Rattle.part10.specs.Store.{Store};
+ghost use Rattle.serving.specs.Rooms.{served_rooms};
 ghost use Rattle.serving.specs.Taken.{HasTaken};
 ghost use Rattle.serving.specs.Wires.{ClosesWith, IsTakenOf};
 
@@ -11,10 +14,11 @@ mod turns;
 
 use crate::exchange::Exchange;
 use crate::link::Link;
+use crate::memory::{ConnectionMemory, ServedAssociation};
 use crate::waiting::{Wait, Waiting};
 use acceptor::State;
-use connection::{COMMAND, DEPTH, REQUEST, Timeouts, VALUES};
-use engine::{Given, Running};
+use connection::Timeouts;
+use engine::{Given, Report};
 use negotiate::Config;
 use part10::Filing;
 use std::snapshot::Snapshot;
@@ -31,7 +35,7 @@ pub use turns::Turn;
 #[derive(Drop)]
 pub struct Connection<S, F: Filing> {
     link: Link<S>,
-    running: Running<REQUEST, COMMAND, VALUES, DEPTH>,
+    running: Box<ServedAssociation>,
     filing: F,
     waiting: Waiting,
     received: u64,
@@ -39,20 +43,29 @@ pub struct Connection<S, F: Filing> {
     opened: Snapshot<F>,
     /// What contracts see of the inputs that were taken.
     given: Given,
-    ghost there: { IsThere (drafting_of (association_in running)) (F.store filing) },
+    ghost there: { IsThere (drafting_of (association_in running.value)) (F.store filing) },
     /// No send has failed.
     ghost never: { link.outbox.failures.total ≡ 0 },
     ghost fits: { length link.outbox.bytes.items < 18631 },
     ghost bytes: { IsBytes (stream_of (inputs_of given.named)) },
     /// The ARTIM timer follows the state of the association.
-    ghost followed: { waiting.state ≡ state_of (association_in running) },
+    ghost followed: { waiting.state ≡ state_of (association_in running.value) },
     /// The pieces that were taken, followed by what waits to be taken, are what was read: no byte is dropped
     /// and none taken twice.
     ghost whole: { IsTakenOf (stream_of (inputs_of given.named)) link },
     /// What the socket took and what waits, and the files, are what came of the inputs.
-    ghost taken: { ∥ HasTaken (settings_in (association_in running)) given.named (fields_of (association_in running)) (link.stream.traced.written.bytes ++ link.outbox.bytes.items) (F.store opened.value) (F.store filing) ∥₁ },
+    ghost taken: { ∥ HasTaken (settings_in (association_in running.value)) given.named (fields_of (association_in running.value)) (link.stream.traced.written.bytes ++ link.outbox.bytes.items) (F.store opened.value) (F.store filing) ∥₁ },
     /// The transport's close was taken only where the socket has closed.
     ghost closed: { ∥ ClosesWith (inputs_of given.named) link ∥₁ },
+}
+
+/// What a connection is held to.
+#[derive(Clone, Copy)]
+pub struct ConnectionTerms<'a> {
+    /// Who may associate, and how much is accepted of them.
+    pub config: &'a Config,
+    /// How long a peer is waited for.
+    pub timeouts: Timeouts,
 }
 
 /// What a connection leaves whose socket is of type `S`.
@@ -64,6 +77,20 @@ pub struct ConnectionEnd<S, F> {
     pub opened: Snapshot<F>,
     /// Its filing, without a draft.
     pub filing: F,
+    /// The memory that its association had.
+    running: Box<ServedAssociation>,
+}
+
+impl<S: Drop, F> ConnectionEnd<S, F> {
+    /// Returns its filing, and its memory for the next connection.
+    pub fn into_parts(self) -> (F, ConnectionMemory)
+        ensures filing { result.0 ≡ self.filing }
+    {
+        (
+            self.filing,
+            ConnectionMemory::of(self.exchange.untaken, self.running),
+        )
+    }
 }
 
 impl<S, F: Filing> Connection<S, F> {
@@ -73,23 +100,25 @@ impl<S, F: Filing> Connection<S, F> {
     ghost use Rattle.serving.specs.Connections.{drafting_at, settings_at, opening_of, state_at, times_at};
     ghost use Rattle.serving.specs.Waits.{WaitsUntil};
 
-    /// Opens an association over a socket from which nothing was read, with the ARTIM timer started.
+    /// Opens an association over a socket from which nothing was read, in this memory, with the ARTIM
+    /// timer started.
     pub fn open(
-        config: &Config,
+        terms: ConnectionTerms<'_>,
         socket: S,
         filing: F,
-        timeouts: Timeouts,
+        memory: ConnectionMemory,
         now: Instant,
     ) -> Connection<S, F>
-        ensures settings { settings_at result ≡ settings_of config.now }
+        ensures settings { settings_at result ≡ settings_of terms.entry.config.now }
         ensures opening { opening_of result ≡ filing }
     {
         let opened = Snapshot::of(&filing);
+        let (inbox, running) = memory.open(terms.config);
         Connection {
-            link: Link::new(socket),
-            running: Running::open(config),
+            link: Link::new(socket, inbox),
+            running,
             filing,
-            waiting: Waiting::new(timeouts.artim, timeouts.idle, now),
+            waiting: Waiting::new(terms.timeouts.artim, terms.timeouts.idle, now),
             received: 0,
             opened,
             given: Given::new(),
@@ -131,6 +160,13 @@ impl<S, F: Filing> Connection<S, F> {
     }
 }
 
+/// Reports of an association, as `Running::report` does.
+fn report(running: &Box<ServedAssociation>) -> Report
+    ensures reports { (store : Store) → Reports served_rooms (settings_in (association_in running.now.value)) (fields_of (association_in running.now.value)) store result }
+{
+    running.report()
+}
+
 impl<S: Drop, F: Filing> Connection<S, F> {
     ghost use Rattle.engine.specs.Held.{is_ended};
     ghost use Rattle.engine.specs.declared.report.Standing.TheVariants as standing;
@@ -151,7 +187,7 @@ impl<S: Drop, F: Filing> Connection<S, F> {
     {
         let mut filing = self.filing;
         filing.discard();
-        let report = self.running.report();
+        let report = report(&self.running);
         let (traces, untaken, unsent) = self.link.end();
         let received = self.received.saturating_add(untaken.pending().len() as u64);
         ConnectionEnd {
@@ -165,6 +201,7 @@ impl<S: Drop, F: Filing> Connection<S, F> {
             },
             opened: self.opened,
             filing,
+            running: self.running,
         }
     }
 }

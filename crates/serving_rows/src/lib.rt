@@ -10,6 +10,8 @@ mod json_lines;
 #[cfg(test)]
 mod message_lines;
 #[cfg(test)]
+mod metrics_rows;
+#[cfg(test)]
 mod mixed_rows;
 mod peer;
 mod scripted;

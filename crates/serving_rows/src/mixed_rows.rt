@@ -2,16 +2,16 @@
 
 use crate::chance::Chance;
 use crate::peer::{Audience, FickleSocket};
+use crate::scripted::over;
 use crate::streams::{Traffic, stream_of};
-use connection::Timeouts;
 use engine::Standing;
-use fixtures::{Step, config, over_memory};
+use fixtures::{Step, over_memory};
 use part10::MemoryFiling;
 use serving::{Connection, Turn};
 use std::alloc::Global;
 use std::cell::RefCell;
 use std::test::Fail;
-use std::time::{Clock, Duration, Instant};
+use std::time::{Clock, Instant};
 
 /// One connection of a test.
 type Mixed<'a> = Connection<FickleSocket<'a>, MemoryFiling<Global>>;
@@ -22,13 +22,6 @@ struct Side {
     stream: Vec<u8>,
     taken: RefCell<Vec<u8>>,
     shown: Audience,
-}
-
-fn timeouts() -> Timeouts {
-    Timeouts {
-        artim: Duration::from_secs(30),
-        idle: Duration::from_secs(600),
-    }
 }
 
 fn sides(alloc: Global, count: usize, from: usize) -> Result<Vec<Side>, Fail> {
@@ -55,7 +48,7 @@ fn connections<'a>(
         let seed = chance.below(1_000_000) as u64;
         let peer = FickleSocket::new(side.stream.as_slice(), most, seed, &side.taken);
         let filing = MemoryFiling::new(alloc);
-        let one = Connection::open(&config(), peer, filing, timeouts(), now);
+        let one = over(alloc, peer, filing, now)?;
         all.push(Box::new(alloc, one)?)?;
     }
     Ok(all)

@@ -2,9 +2,9 @@
 
 use connection::Timeouts;
 use fixtures::config;
-use part10::MemoryFiling;
-use serving::Connection;
-use std::alloc::Global;
+use part10::{Filing, MemoryFiling};
+use serving::{Connection, ConnectionMemory, ConnectionTerms};
+use std::alloc::{AllocError, Global};
 use std::cell::{Cell, RefCell};
 use std::io;
 use std::io::{ErrorKind, Read, Write};
@@ -107,7 +107,7 @@ impl Write for ScriptedSocket<'_> {
 pub type Scripted<'a> = Connection<ScriptedSocket<'a>, MemoryFiling<Global>>;
 
 /// 30 seconds of the ARTIM timer and 600 of silence.
-pub fn timeouts() -> Timeouts {
+fn timeouts() -> Timeouts {
     Timeouts {
         artim: Duration::from_secs(30),
         idle: Duration::from_secs(600),
@@ -115,9 +115,24 @@ pub fn timeouts() -> Timeouts {
 }
 
 /// Opens one at this instant, with 30 seconds of the ARTIM timer and 600 of silence.
-pub fn scripted(alloc: Global, script: &Script, now: Instant) -> Scripted<'_> {
-    let filing = MemoryFiling::new(alloc);
-    Connection::open(&config(), ScriptedSocket(script), filing, timeouts(), now)
+pub fn scripted(alloc: Global, script: &Script, now: Instant) -> Result<Scripted<'_>, AllocError> {
+    over(alloc, ScriptedSocket(script), MemoryFiling::new(alloc), now)
+}
+
+/// Opens a connection over this socket and this filing, with memory of its own and those times.
+pub fn over<S: Drop, F: Filing + Drop>(
+    alloc: Global,
+    socket: S,
+    filing: F,
+    now: Instant,
+) -> Result<Connection<S, F>, AllocError> {
+    let config = config();
+    let memory = ConnectionMemory::new(alloc, &config)?;
+    let terms = ConnectionTerms {
+        config: &config,
+        timeouts: timeouts(),
+    };
+    Ok(Connection::open(terms, socket, filing, memory, now))
 }
 
 /// Returns the time so many seconds after another one.

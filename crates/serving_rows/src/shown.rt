@@ -1,13 +1,13 @@
 //! Runs a connection by a script, and gathers the lines of its journal.
-use crate::scripted::{Script, ScriptedSocket, after, timeouts};
+use crate::scripted::{Script, ScriptedSocket, after, over};
 use connection::ReadEnd;
 use fixtures::config;
 use fixtures::folders::fresh;
 use journal::{Form, Journal, Limits, Served, Teller};
 use log::sink::Memory;
 use log::{Level, Logged};
+use metrics::{CountedEnd, Counters, MetricsFile};
 use part10::FolderFiling;
-use serving::Connection;
 use std::alloc::Global;
 use std::fs;
 use std::net::{IpAddr, Ipv4Addr, SocketAddr};
@@ -53,25 +53,28 @@ pub fn limits() -> Limits {
     }
 }
 
-/// Runs a connection by these steps, of a box that files into a new folder of this name.
+/// Runs a connection by these steps, of a box that files into a new folder of this name. Returns what was counted.
 fn run(
     rt: &HostRuntime,
     dir: &str,
     sink: &Memory<Global>,
     log: Log,
     steps: &[Step],
-) -> Result<(), Fail> {
+) -> Result<Counters, Fail> {
     let Log(level, form) = log;
     fresh(rt, dir)?;
     let filing = FolderFiling::open(*rt, dir)?;
     let notes = filing.notes()?;
     let logged = Logged::new(*rt, level, sink);
     let peer = SocketAddr::new(IpAddr::V4(Ipv4Addr::new(192, 0, 2, 7)), 51234);
-    let teller = Teller::new(&logged, form).about(peer);
+    let metrics = MetricsFile::new(rt, rt.alloc(), "box.prom", "1.0.0")?;
+    let teller = Teller::new(&logged, form)
+        .about(peer)
+        .counting(Some(&metrics));
     let journal = Journal::new(rt.alloc(), teller, notes, limits());
     let script = Script::new(rt.alloc());
     let mut now = Instant::now(rt)?;
-    let mut one = Connection::open(&config(), ScriptedSocket(&script), filing, timeouts(), now);
+    let mut one = over(rt.alloc(), ScriptedSocket(&script), filing, now)?;
     for step in steps {
         match *step {
             Step::Peer(bytes) => script.send(bytes)?,
@@ -90,7 +93,67 @@ fn run(
     let _end = one.end();
     journal.end(served());
     let _ = fs::remove_dir_all(rt, dir);
-    Ok(())
+    Ok(metrics.figures().counters)
+}
+
+/// Returns the words of the log for associations that are counted so.
+fn words_of(end: CountedEnd) -> &'static str {
+    match end {
+        CountedEnd::Released => "released",
+        CountedEnd::Rejected => "rejected: ",
+        CountedEnd::AbortedByPeer => "aborted by the peer, ",
+        CountedEnd::AbortedByBox => "aborted by dcmbox, ",
+        CountedEnd::Closed => "closed by the peer",
+        CountedEnd::TimerExpired => "ARTIM timer expired",
+        CountedEnd::Idle => "aborted: the peer was idle",
+        CountedEnd::TooLong => "aborted: it lasted too long",
+        CountedEnd::Stopping => "aborted: the box stops",
+        CountedEnd::ConnectionFailed => "the wire failed",
+        CountedEnd::Unknown => "",
+    }
+}
+
+/// Returns the end of the one association that was counted, or `None` if it was not one.
+fn end_of(counters: &Counters) -> Option<CountedEnd> {
+    let mut found = None;
+    for end in CountedEnd::ALL {
+        match (counters.ends.count(end), found) {
+            (0, _) => {}
+            (1, None) => found = Some(end),
+            _ => return None,
+        }
+    }
+    found
+}
+
+/// Fails where the counters are not what the line of the association says, if it is the last one of a text.
+fn agree(rt: &HostRuntime, counters: &Counters, lines: &[String]) -> Result<(), Fail> {
+    let Some(end) = end_of(counters) else {
+        return Err(Fail::from("not one association is counted"));
+    };
+    let Some(last) = lines.last() else {
+        return Ok(());
+    };
+    let Some((_, line)) = last.as_str().split_once(" called \"") else {
+        return Ok(());
+    };
+    let stores = counters.stores;
+    let refused = stores
+        .class_not_supported
+        .saturating_add(stores.out_of_resources);
+    let failed = stores
+        .data_set_mismatch
+        .saturating_add(stores.cannot_understand)
+        .saturating_add(stores.other);
+    let stored = stores.success;
+    let counts = format!(in rt.alloc(); " stored {stored} refused {refused} failed {failed}")?;
+    let ended = format!(in rt.alloc(); "\" {}", words_of(end))?;
+    let is_told = line.contains(ended.as_str()) && line.ends_with(counts.as_str());
+    if !line.contains(" contexts ") || is_told && counters.received == served().received {
+        return Ok(());
+    }
+    let told = format!(in rt.alloc(); "counted as {ended}{counts}: {line}")?;
+    Err(Fail::from(told))
 }
 
 /// How much is logged, and how.
@@ -105,8 +168,9 @@ pub fn lines_of(
     steps: &[Step],
 ) -> Result<Vec<String>, Fail> {
     let sink = Memory::new(rt.alloc());
-    run(rt, dir, &sink, log, steps)?;
+    let counters = run(rt, dir, &sink, log, steps)?;
     let told = sink.into_lines();
+    agree(rt, &counters, told.as_slice())?;
     let mut lines = Vec::new(rt.alloc());
     for line in told.as_slice() {
         lines.push(untimed(rt, line.as_str())?)?;

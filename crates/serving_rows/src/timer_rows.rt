@@ -19,7 +19,7 @@ struct Moment<'a>(u64, Option<u64>, &'a [u8]);
 fn expires(rt: &HostRuntime, moments: &[Moment<'_>], answers: &[&[u8]]) -> Result<bool, Fail> {
     let (now, script) = (Instant::now(rt)?, Script::new(rt.alloc()));
     let shown = Audience::new(rt.alloc());
-    let mut one = scripted(rt.alloc(), &script, now);
+    let mut one = scripted(rt.alloc(), &script, now)?;
     for Moment(seconds, left, bytes) in moments {
         let then = after(now, *seconds);
         let wait = match *left {

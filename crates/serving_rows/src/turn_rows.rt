@@ -23,7 +23,7 @@ fn holds(kept: &RefCell<Vec<u8>>, bytes: &[u8]) -> bool {
 fn an_echo_is_answered_in_a_turn(rt: HostRuntime) -> Result<(), Fail> {
     let (now, script) = (Instant::now(&rt)?, Script::new(rt.alloc()));
     let shown = Audience::new(rt.alloc());
-    let mut one = scripted(rt.alloc(), &script, now);
+    let mut one = scripted(rt.alloc(), &script, now)?;
     assert!(rt; one.turn(now, 1024, &shown) == Turn::Socket);
     script.send(echo::REQUEST)?;
     script.send(echo::ECHO)?;
@@ -49,7 +49,7 @@ fn an_echo_is_answered_in_a_turn(rt: HostRuntime) -> Result<(), Fail> {
 fn a_turn_takes_no_more_than_it_may(rt: HostRuntime) -> Result<(), Fail> {
     let (now, script) = (Instant::now(&rt)?, Script::new(rt.alloc()));
     let shown = Audience::new(rt.alloc());
-    let mut one = scripted(rt.alloc(), &script, now);
+    let mut one = scripted(rt.alloc(), &script, now)?;
     script.send(echo::REQUEST)?;
     script.send(echo::ECHO)?;
     assert!(rt; one.turn(now, 0, &shown) == Turn::Next && one.received() == 0);
@@ -68,7 +68,7 @@ fn a_turn_takes_no_more_than_it_may(rt: HostRuntime) -> Result<(), Fail> {
 fn what_has_come_is_one_read(rt: HostRuntime) -> Result<(), Fail> {
     let (now, script) = (Instant::now(&rt)?, Script::new(rt.alloc()));
     let shown = Audience::new(rt.alloc());
-    let mut one = scripted(rt.alloc(), &script, now);
+    let mut one = scripted(rt.alloc(), &script, now)?;
     script.send(request(rt.alloc(), EXPLICIT)?.as_slice())?;
     assert!(rt; one.turn(now, 65536, &shown) == Turn::Socket);
     assert!(rt; script.reads.get() == 2);
@@ -104,7 +104,7 @@ fn what_has_come_is_one_read(rt: HostRuntime) -> Result<(), Fail> {
 fn nothing_is_read_while_an_answer_waits(rt: HostRuntime) -> Result<(), Fail> {
     let (now, script) = (Instant::now(&rt)?, Script::new(rt.alloc()));
     let shown = Audience::new(rt.alloc());
-    let mut one = scripted(rt.alloc(), &script, now);
+    let mut one = scripted(rt.alloc(), &script, now)?;
     script.takes.set(3);
     script.send(echo::REQUEST)?;
     for _ in 0..50 {
@@ -125,7 +125,7 @@ fn nothing_is_read_while_an_answer_waits(rt: HostRuntime) -> Result<(), Fail> {
 fn small_messages_are_read_together(rt: HostRuntime) -> Result<(), Fail> {
     let (now, script) = (Instant::now(&rt)?, Script::new(rt.alloc()));
     let shown = Audience::new(rt.alloc());
-    let mut one = scripted(rt.alloc(), &script, now);
+    let mut one = scripted(rt.alloc(), &script, now)?;
     script.send(echo::REQUEST)?;
     for _ in 0..20 {
         script.send(echo::ECHO)?;
@@ -140,7 +140,7 @@ fn small_messages_are_read_together(rt: HostRuntime) -> Result<(), Fail> {
 fn what_comes_after_the_end_is_not_taken(rt: HostRuntime) -> Result<(), Fail> {
     let (now, script) = (Instant::now(&rt)?, Script::new(rt.alloc()));
     let shown = Audience::new(rt.alloc());
-    let mut one = scripted(rt.alloc(), &script, now);
+    let mut one = scripted(rt.alloc(), &script, now)?;
     script.send(echo::REQUEST)?;
     script.send(echo::USER_ABORT)?;
     script.send(echo::ECHO)?;
@@ -154,7 +154,7 @@ fn what_comes_after_the_end_is_not_taken(rt: HostRuntime) -> Result<(), Fail> {
 fn half_a_request_expires(rt: HostRuntime) -> Result<(), Fail> {
     let (now, script) = (Instant::now(&rt)?, Script::new(rt.alloc()));
     let shown = Audience::new(rt.alloc());
-    let mut one = scripted(rt.alloc(), &script, now);
+    let mut one = scripted(rt.alloc(), &script, now)?;
     script.send(front(echo::REQUEST, 60))?;
     assert!(rt; one.turn(after(now, 20), 4096, &shown) == Turn::Socket);
     assert!(rt; one.wait(after(now, 29)) == Wait::Left(Duration::from_secs(1)));
@@ -171,7 +171,7 @@ fn half_a_request_expires(rt: HostRuntime) -> Result<(), Fail> {
 fn a_stalled_store_is_aborted(rt: HostRuntime) -> Result<(), Fail> {
     let (now, script) = (Instant::now(&rt)?, Script::new(rt.alloc()));
     let shown = Audience::new(rt.alloc());
-    let mut one = scripted(rt.alloc(), &script, now);
+    let mut one = scripted(rt.alloc(), &script, now)?;
     script.send(request(rt.alloc(), EXPLICIT)?.as_slice())?;
     let store = whole_store(rt.alloc(), INSTANCE, &CT_SET)?;
     script.send(front(store.as_slice(), 130))?;
@@ -195,7 +195,7 @@ fn a_stalled_store_is_aborted(rt: HostRuntime) -> Result<(), Fail> {
 fn a_peer_that_takes_nothing_is_closed(rt: HostRuntime) -> Result<(), Fail> {
     let (now, script) = (Instant::now(&rt)?, Script::new(rt.alloc()));
     let shown = Audience::new(rt.alloc());
-    let mut one = scripted(rt.alloc(), &script, now);
+    let mut one = scripted(rt.alloc(), &script, now)?;
     script.takes.set(100);
     script.send(echo::REQUEST)?;
     assert!(rt; one.turn(now, 4096, &shown) == Turn::Socket);
@@ -211,7 +211,7 @@ fn a_peer_that_takes_nothing_is_closed(rt: HostRuntime) -> Result<(), Fail> {
 fn a_peer_that_takes_at_last_is_not_closed(rt: HostRuntime) -> Result<(), Fail> {
     let (now, script) = (Instant::now(&rt)?, Script::new(rt.alloc()));
     let shown = Audience::new(rt.alloc());
-    let mut one = scripted(rt.alloc(), &script, now);
+    let mut one = scripted(rt.alloc(), &script, now)?;
     script.takes.set(100);
     script.send(echo::REQUEST)?;
     assert!(rt; one.turn(now, 4096, &shown) == Turn::Socket);
@@ -232,7 +232,7 @@ fn a_peer_that_takes_at_last_is_not_closed(rt: HostRuntime) -> Result<(), Fail> 
 fn a_write_that_fails_closes(rt: HostRuntime) -> Result<(), Fail> {
     let (now, script) = (Instant::now(&rt)?, Script::new(rt.alloc()));
     let shown = Audience::new(rt.alloc());
-    let mut one = scripted(rt.alloc(), &script, now);
+    let mut one = scripted(rt.alloc(), &script, now)?;
     script.fails.set(true);
     script.send(echo::REQUEST)?;
     assert!(rt; one.turn(now, 4096, &shown) == Turn::Over);
@@ -248,7 +248,7 @@ fn a_write_that_fails_closes(rt: HostRuntime) -> Result<(), Fail> {
 fn the_local_user_aborts_while_an_answer_waits(rt: HostRuntime) -> Result<(), Fail> {
     let (now, script) = (Instant::now(&rt)?, Script::new(rt.alloc()));
     let shown = Audience::new(rt.alloc());
-    let mut one = scripted(rt.alloc(), &script, now);
+    let mut one = scripted(rt.alloc(), &script, now)?;
     script.takes.set(0);
     script.send(echo::REQUEST)?;
     assert!(rt; one.turn(now, 4096, &shown) == Turn::Socket);

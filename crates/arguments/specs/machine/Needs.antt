@@ -27,13 +27,13 @@ arrange_needs = codes "DIR" ∷ codes "to" ∷ []
 abbrev pub serve_needs : List Text
 serve_needs = codes "port" ∷ codes "out" ∷ codes "bind" ∷ codes "ae" ∷ codes "timeout" ∷ codes "idle" ∷ codes "max-pdu" ∷ codes "max-data" ∷ codes "at-once" ∷ codes "grace" ∷ []
 
--- at most 16 titles may call
+-- at most 64 titles are named
 abbrev pub callers_fit : List Row → Bool
-callers_fit rows = nat_le (length (values_of rows (codes "caller"))) 16
+callers_fit rows = nat_le (length (values_of rows (codes "caller"))) 64
 
--- at most 16 storage classes are named
+-- at most 64 storage classes are named
 abbrev pub classes_fit : List Row → Bool
-classes_fit rows = nat_le (length (values_of rows (codes "storage-class"))) 16
+classes_fit rows = nat_le (length (values_of rows (codes "storage-class"))) 64
 
 -- at most 16 transfer syntaxes are named
 abbrev pub transfers_fit : List Row → Bool

@@ -6,6 +6,7 @@ ghost use Rattle.server.specs.Histories.{AllEnded, slots_in};
 
 mod history;
 
+use super::measuring::measure_end;
 use super::{LISTENER, Server};
 use crate::arrivals::Arrivals;
 use crate::policy::Policy;
@@ -20,6 +21,7 @@ use journal::{Listening, Stopped, Teller};
 use log::Log;
 use mio::net::TcpListener;
 use mio::{Events, Interest, Poll, Token};
+use negotiate::Config;
 use part10::{Filing, FolderFiling, FolderWriter};
 use std::alloc::{AllocError, AllocFailed, Global};
 use std::fs::File;
@@ -95,24 +97,31 @@ pub(super) fn close_all<
 /// Takes the memory of the first slot, if there is one.
 fn make_first<R: Log + Clock, S: Files<File = File> + Alloc<A = Global> + Clone + Drop, P: Policy>(
     slots: &mut Vec<Slot<'_, R, S, P>>,
+    config: &Config,
     now: Instant,
 ) -> Result<(), AllocError>
     ensures { vec_len slots.new ≡ vec_len slots.old }
 {
     let alloc = *slots.allocator();
     match slots.get_mut(0) {
-        Some(first) => first.make(alloc, now),
+        Some(first) => first.make(alloc, config, now),
         None => Ok(()),
     }
 }
 
-/// Returns so many slots, of which the first has its memory.
+/// Returns so many slots, of which the first has its memory, for connections that are held to this
+/// configuration.
 fn slots_of<
     'a,
     R: Log + Clock,
     S: Files<File = File> + Alloc<A = Global> + Clone + Drop,
     P: Policy,
->(alloc: Global, count: usize, now: Instant) -> Result<Vec<Slot<'a, R, S, P>>, AllocError>
+>(
+    alloc: Global,
+    count: usize,
+    config: &Config,
+    now: Instant,
+) -> Result<Vec<Slot<'a, R, S, P>>, AllocError>
     ensures { IfOk result (λ slots. vec_len slots ≡ count) }
 {
     let mut slots = Vec::new(alloc);
@@ -124,7 +133,7 @@ fn slots_of<
             return Err(AllocError);
         }
     }
-    if let Err(failure) = make_first(&mut slots, now) {
+    if let Err(failure) = make_first(&mut slots, config, now) {
         let _history = close_all(slots, ClosedSlots::new(), now).into_history();
         return Err(failure);
     }
@@ -154,7 +163,7 @@ fn server_of<
     let (folder, first) = filings;
     let filings = filings_of(alloc, terms.at_once, first)?;
     let Vacancies { places, queue } = vacancies;
-    let slots = slots_of(alloc, terms.at_once, now)?;
+    let slots = slots_of(alloc, terms.at_once, terms.config, now)?;
     Ok(Server {
         rt,
         poll,
@@ -219,6 +228,7 @@ fn served<
     };
     let served = server.serve(files, &mut events);
     let closed = server.close(ClosedSlots::new());
+    measure_end(rt, files, &terms);
     (closed.into_history(), served)
 }
 

@@ -1,14 +1,24 @@
 //! What a connection does when it has its turn, and when its time is up.
-ghost use Rattle.std.specs.Prelude.{◌≡◌, ◌≢◌, ◌<◌, ◌+◌, ◌↔◌, [], length, true, false};
+ghost use Rattle.std.specs.Prelude.{◌≡◌, ◌≢◌, ◌<◌, ◌+◌, ◌↔◌, Bool, List, [], length, true, false};
 ghost use Rattle.element.specs.Numbers.{IsBytes};
+ghost use Rattle.engine.specs.Devices.{devices};
+ghost use Rattle.engine.specs.Drafts.{IsThere};
+ghost use Rattle.engine.specs.Fields.{association_in, drafting_of, fields_of, settings_in};
+ghost use Rattle.engine.specs.Inputs.{Received, input_of};
+ghost use Rattle.engine.specs.Moves.{Moved};
+ghost use Rattle.engine.specs.Stands.{Stands};
+ghost use Rattle.engine.specs.Timeline.{Happened};
 ghost use Rattle.engine.specs.declared.source.Input.TheVariants as kind;
+ghost use Rattle.serving.specs.Rooms.{served_rooms};
 
 use super::Connection;
 use crate::inbox::Arrival;
+use crate::memory::ServedAssociation;
 use crate::waiting::Wait;
 use connection::{Observer, ReadEnd};
 use engine::Input;
 use part10::Filing;
+use pdu::Wire;
 use std::io::{Error, ErrorKind, Read, Write};
 use std::time::Instant;
 
@@ -44,6 +54,25 @@ pub enum Turn {
     Over,
 }
 
+/// Has an association take an input, as `Running::take` does.
+fn take<W: Wire, F: Filing>(
+    running: &mut Box<ServedAssociation>,
+    input: Input,
+    piece: &[u8],
+    wire: &mut W,
+    filing: &mut F,
+)
+    requires draft { IsThere (drafting_of (association_in running.old.value)) (F.store filing.old) }
+    ensures draft { IsThere (drafting_of (association_in running.new.value)) (F.store filing.new) }
+    ensures settings { settings_in (association_in running.new.value) ≡ settings_in (association_in running.old.value) }
+    ensures moved { (inputs : List Received) (story : List Happened) (failed : Bool)
+        → Stands served_rooms (settings_in (association_in running.old.value)) inputs story failed (fields_of (association_in running.old.value)) (F.store filing.old)
+        → Moved served_rooms (settings_in (association_in running.old.value)) inputs story failed (input_of input piece.now) (fields_of (association_in running.old.value)) (fields_of (association_in running.new.value))
+        (devices (W.line wire.old) (F.store filing.old)) (devices (W.line wire.new) (F.store filing.new)) }
+{
+    running.take(input, piece, wire, filing);
+}
+
 impl<S, F: Filing> Connection<S, F> {
     ghost use Rattle.engine.specs.Held.{is_ended};
     ghost use Rattle.serving.specs.Connections.{IsClosedAt, settings_at, opening_of, state_at, waiting_at};
@@ -58,8 +87,13 @@ impl<S, F: Filing> Connection<S, F> {
         ensures opening { opening_of self.new ≡ opening_of self.old }
     {
         self.given.push(&input, &[]);
-        self.running
-            .take(input, &[], &mut self.link.outbox, &mut self.filing);
+        take(
+            &mut self.running,
+            input,
+            &[],
+            &mut self.link.outbox,
+            &mut self.filing,
+        );
         self.waiting.follow(now, self.running.state());
     }
 }
@@ -196,7 +230,13 @@ impl<S: Read + Write, F: Filing> Connection<S, F> {
                 is_of_bytes(piece);
                 self.received = self.received.saturating_add(len as u64);
                 self.given.push(&Input::Piece, piece);
-                self.running.take(Input::Piece, piece, &mut self.link.outbox, &mut self.filing);
+                take(
+                    &mut self.running,
+                    Input::Piece,
+                    piece,
+                    &mut self.link.outbox,
+                    &mut self.filing,
+                );
                 self.link.show_taken(len, observer);
                 self.link.inbox.drop_front(len);
                 self.waiting.hear(now);

@@ -7,13 +7,13 @@ use Rattle.arguments.proofs.ValuesLemmas.{too_many}
 use Rattle.arguments.proofs.values.values.Goals as goal
 
 pub returns-then-is_full-clause-none : goal.returns-then-is_full-clause-none
-returns-then-is_full-clause-none c =
-    too_many c.unwrap_or-given.result.now c.loop-value.values.items _ c.loop-value.value-index c.loop-value.invariant c.loop-value-test.true c.if-is_full.ensures.value
+returns-then-is_full-clause-none g c =
+    too_many _ c.unwrap_or-given.result.now c.loop-value.values.items _ c.loop-value.value-index c.loop-value.invariant c.loop-value-test.true c.if-is_full.ensures.value
     (ap (λ b. map (λ w. w.now) b.now) c.unwrap_or-given.ensures
     ∙ values_by c.get_strs.result _ _ refl (c.get_strs.ensures ∙ raw_values-rows (found_of c.args.matches.now) c.args.id.now))
 
 pub returns-clause-some : goal.returns-clause-some
-returns-clause-some c =
+returns-clause-some g c =
     let past : length c.unwrap_or-given.result.now ≤ c.loop-value.value-index = search rules in
     let whole = c.loop-value.invariant ∙ take_all _ _ past in
     ap (map (λ w. w.now)) whole ∙ ap (λ b. map (λ w. w.now) b.now) c.unwrap_or-given.ensures

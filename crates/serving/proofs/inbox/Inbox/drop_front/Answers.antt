@@ -7,4 +7,4 @@ use Rattle.serving.proofs.inbox.Inbox.drop_front.Goals as goal
 pub returns : goal.returns
 returns c =
     let inbox = c.args.self.now in
-    taken_on inbox.bytes inbox.taken inbox.read c.args.count (omega (arith, length-take {A = ℕ}, length-drop {A = ℕ}))
+    taken_on inbox.bytes.value inbox.taken inbox.read c.args.count (omega (arith, length-take {A = ℕ}, length-drop {A = ℕ}))

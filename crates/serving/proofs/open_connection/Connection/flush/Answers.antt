@@ -13,7 +13,7 @@ invariant_of-self-clause-taken g c = rw c.flush.ensures.same_sent c.args.self.no
 pub invariant_of-self-clause-closed : goal.invariant_of-self-clause-closed
 invariant_of-self-clause-closed g c =
     let was = c.args.self.now in
-    open_unclosed (association_in was.running) _ _ _ _ _ _ _ _ _ was.taken (sym c.is_over.ensures.over ∙ c.if-is_over.false)
+    open_unclosed (association_in was.running.value) _ _ _ _ _ _ _ _ _ was.taken (sym c.is_over.ensures.over ∙ c.if-is_over.false)
 
 pub invariant_of-self-else-pending-before-clause-whole : goal.invariant_of-self-else-pending-before-clause-whole
 invariant_of-self-else-pending-before-clause-whole g c = rw (c.flush.ensures.same_inbox, c.flush.ensures.same_read) c.args.self.now.whole
@@ -24,4 +24,4 @@ invariant_of-self-else-pending-before-clause-taken g c = rw c.flush.ensures.same
 pub invariant_of-self-else-pending-before-clause-closed : goal.invariant_of-self-else-pending-before-clause-closed
 invariant_of-self-else-pending-before-clause-closed g c =
     let was = c.args.self.now in
-    open_unclosed (association_in was.running) _ _ _ _ _ _ _ _ _ was.taken (sym c.is_over.ensures.over ∙ c.if-is_over.false)
+    open_unclosed (association_in was.running.value) _ _ _ _ _ _ _ _ _ was.taken (sym c.is_over.ensures.over ∙ c.if-is_over.false)

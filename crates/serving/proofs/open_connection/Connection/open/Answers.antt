@@ -10,13 +10,13 @@ use Rattle.serving.proofs.open_connection.Connection.open.Goals as goal
 
 pub invariant_of-result : goal.invariant_of-result
 invariant_of-result g c =
-    let k = opens _ _ _ _ _ _ _ _ _ _ c.new-3.ensures refl c.new.ensures.nothing_sent c.new.ensures.nothing_waits c.new.ensures.never (ap g.F.Filing.store c.of-opened.ensures) c.open.ensures.settings c.open.ensures.stands in
+    let k = opens _ _ _ _ _ _ _ _ _ _ c.new-3.ensures refl c.new.ensures.nothing_sent c.new.ensures.nothing_waits c.new.ensures.never (ap g.F.Filing.store c.of-opened.ensures) c.open-inbox.ensures.settings c.open-inbox.ensures.stands in
     record {
-      there = λ e. absurd (let wrong : false ≡ true = sym c.open.ensures.no_draft ∙ e in cc);
+      there = λ e. absurd (let wrong : false ≡ true = sym c.open-inbox.ensures.no_draft ∙ e in cc);
       never = k.never;
       fits = k.fits;
       bytes = subst IsBytes (sym k.whole) (λ i. lit< tt);
-      followed = ap (λ (w : Waits). w.state) c.new-2.ensures ∙ begins_due _ _ _ (c.open.ensures.stands (g.F.Filing.store c.args.filing));
+      followed = ap (λ (w : Waits). w.state) c.new-2.ensures ∙ begins_due _ _ _ (c.open-inbox.ensures.stands (g.F.Filing.store c.args.filing));
       whole = nothing_read _ _ _ k.whole c.new.ensures.nothing_untaken c.new.ensures.nothing_read;
       taken = k.taken;
       closed = ∣ none_closes _ _ _ _ _ (ap inputs_of c.new-3.ensures) ∣₁;

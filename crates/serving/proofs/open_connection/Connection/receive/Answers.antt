@@ -16,13 +16,13 @@ invariant_of-self-in-Bytes g c =
     let kept = same_link _ _ _ _ _ _ _ _ _ _ lent.same_written lent.same_outbox (record { never = was.never; fits = was.fits; whole = refl; taken = was.taken }) in
     let none = ap (λ (o : Outbox). o.bytes.items) lent.same_outbox ∙ c.requires.flushed in
     let k = keeps_piece _ _ _ _ _ _ _ _ _ _ _ _ _ _ _ _ _ c.take.ensures.settings c.push.ensures c.requires.open c.take.new.wire.full c.take.ensures.moved kept c.input_limit.result _ refl none (within_portion _ _ _ _ _ c.min.ensures lent.arrives.1) refl are
-    (λ inputs story failed h. c.input_limit.ensures.few inputs story failed _ h) in
+    (λ inputs story failed h. rw (← c.deref.ensures) (c.input_limit.ensures.few inputs story failed (g.F.Filing.store was.filing) (rw c.deref.ensures h))) in
     record {
       there = c.take.ensures.draft;
       never = k.never;
       fits = k.fits;
       bytes = subst IsBytes (sym k.whole) are;
-      followed = c.follow.ensures.state ∙ c.state.ensures;
+      followed = rw (← c.deref-in-Bytes.ensures) (c.follow.ensures.state ∙ c.state.ensures);
       whole = rw k.whole (front_taken _ _ _ _ _ _ c.pending.ensures c.drop_front.ensures (lent.arrives.2 _ was.whole));
       taken = k.taken;
       closed = one_more_closes _ _ _ _ _ _ _ _ c.push.ensures (λ e. absurd cc);

@@ -1,6 +1,6 @@
 use Rattle.std.proofs.Common.{◌≡◌, Some, length, map, take}
 use Rattle.element.specs.Title.{title_of_text}
-use Rattle.arguments.proofs.settings.callers_of.Given as goal
+use Rattle.arguments.proofs.callers.named_titles.Given as goal
 
 abbrev pub invariant-loop-caller : goal.invariant-loop-caller
 invariant-loop-caller l = (length l.titles.items ≡ l.caller-index)

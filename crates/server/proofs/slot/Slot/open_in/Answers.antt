@@ -1,7 +1,7 @@
 -- The connection that is there now is the one that was opened last.
 use Rattle.std.proofs.Common.{◌∙◌}
 use Rattle.server.proofs.SlotsLoseNone.{opened_next, still_left}
-use Rattle.server.proofs.slot.Slot.open.Goals as goal
+use Rattle.server.proofs.slot.Slot.open_in.Goals as goal
 
 pub invariant_of-self : goal.invariant_of-self
 invariant_of-self g c =

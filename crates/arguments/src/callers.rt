@@ -1,0 +1,144 @@
+//! The titles that may call.
+ghost use Rattle.std.specs.Prelude.{◌≡◌, ◌<◌, IfOk, IfSome, Some, length, map, nat_eq, option_map};
+ghost use Rattle.std.specs.List.{list_all};
+ghost use Rattle.std.specs.Str.Lines.{lines};
+ghost use Rattle.element.specs.Title.{title_of_text};
+ghost use Rattle.arguments.specs.AskedCallers as asked;
+ghost use Rattle.arguments.specs.AskedCallers.{AreCallers};
+
+use crate::settings::title;
+use crate::values::{MOST_VALUES, ServeArguments};
+use arrayvec::ArrayVec;
+use element::AeTitle;
+use failures::WordsError;
+use negotiate::MOST_CALLERS;
+use std::alloc::{AllocError, Global};
+
+/// A file of titles: its path and its text.
+#[derive(Clone, Copy)]
+struct TitleFile<'a> {
+    path: &'a str,
+    text: &'a str,
+}
+
+/// Returns whether a line is blank: it has nothing but spaces and tabs.
+fn is_blank(line: &[u8]) -> bool
+    ensures { result ≡ asked.is_blank line.now }
+{
+    line.iter().all(|byte| *byte == b' ' || *byte == b'\t')
+}
+
+/// Returns whether a line of a file of titles is one: it is not blank, and no comment.
+fn is_title_line(line: &str) -> bool
+    ensures { result ≡ asked.is_title_line line.now }
+{
+    !is_blank(line.as_bytes()) && !line.starts_with("#")
+}
+
+/// Returns the lines of a text.
+fn lines_of<'a>(alloc: Global, text: &'a str) -> Result<Vec<&'a str>, AllocError>
+    ensures { IfOk result (λ found. map (λ l. l.now) found.items ≡ lines text.now) }
+{
+    text.lines().collect(alloc)
+}
+
+/// The error for more titles than may call.
+fn too_many_titles(alloc: Global) -> WordsError {
+    match format!(in alloc;
+        "error: --callers and --caller may name {MOST_CALLERS} titles at most\n"
+    ) {
+        Ok(text) => WordsError::Refused(text),
+        Err(error) => WordsError::Memory(error),
+    }
+}
+
+/// Reads the title of a line of this number, counted from 1.
+fn line_title(alloc: Global, path: &str, number: usize, line: &str) -> Result<AeTitle, WordsError>
+    ensures { IfOk result (λ t. title_of_text line.now ≡ Some t.0) }
+{
+    match AeTitle::of_text(line) {
+        Some(title) => Ok(title),
+        None => {
+            let refused = format!(in alloc;
+                "error: --callers names '{path}', whose line {number} is no AE title of 1 to 16 characters: {line:?}\n"
+            )?;
+            Err(WordsError::Refused(refused))
+        }
+    }
+}
+
+/// Reads the titles of a file, at least one.
+fn listed_titles(
+    alloc: Global,
+    file: TitleFile,
+) -> Result<ArrayVec<AeTitle, MOST_CALLERS>, WordsError>
+    ensures read { IfOk result (λ titles. map title_of_text (asked.listed_titles file.entry.text.now) ≡ map Some (map (λ t. t.0) titles.items)) }
+    ensures some { IfOk result (λ titles. 0 < length (asked.listed_titles file.entry.text.now)) }
+{
+    let found = lines_of(alloc, file.text)?;
+    let lines = found.as_slice();
+    let mut titles = ArrayVec::new();
+    for place in 0..lines.len() {
+        if is_title_line(lines[place]) {
+            let title = line_title(alloc, file.path, place + 1, lines[place])?;
+            if titles.is_full() {
+                return Err(too_many_titles(alloc));
+            }
+            titles.push(title);
+        }
+    }
+    if titles.is_empty() {
+        let path = file.path;
+        let refused = format!(in alloc; "error: --callers names '{path}', which has no title\n")?;
+        return Err(WordsError::Refused(refused));
+    }
+    Ok(titles)
+}
+
+/// Reads the titles of the file with this text, where one is named by its path.
+fn file_titles(
+    alloc: Global,
+    path: Option<&str>,
+    text: &str,
+) -> Result<ArrayVec<AeTitle, MOST_CALLERS>, WordsError>
+    ensures read { IfOk result (λ titles. map title_of_text (asked.titles_of_file (option_map (λ t. t.now) path.entry) text.now) ≡ map Some (map (λ t. t.0) titles.items)) }
+    ensures some { IfOk result (λ _. IfSome path.entry (λ _. 0 < length (asked.listed_titles text.now))) }
+{
+    match path {
+        Some(path) => listed_titles(alloc, TitleFile { path, text }),
+        None => Ok(ArrayVec::new()),
+    }
+}
+
+/// Reads the titles of the options.
+fn named_titles(
+    alloc: Global,
+    callers: &ArrayVec<&str, MOST_VALUES>,
+) -> Result<ArrayVec<AeTitle, MOST_CALLERS>, WordsError>
+    ensures read { IfOk result (λ titles. map (λ t. title_of_text t.now) callers.now.items ≡ map Some (map (λ t. t.0) titles.items)) }
+{
+    let mut titles = ArrayVec::new();
+    for caller in callers.as_slice() {
+        titles.push(title(alloc, "caller", *caller)?);
+    }
+    Ok(titles)
+}
+
+/// Reads the titles that may call: those of the file with this text, where the arguments name one, then those of
+/// the options.
+pub(crate) fn callers_of(
+    alloc: Global,
+    arguments: &ServeArguments,
+    text: &str,
+) -> Result<ArrayVec<AeTitle, MOST_CALLERS>, WordsError>
+    ensures { IfOk result (λ titles. AreCallers (map (λ t. t.0) titles.items) arguments.now text.now) }
+{
+    let mut titles = file_titles(alloc, arguments.callers_file, text)?;
+    let named = named_titles(alloc, &arguments.callers)?;
+    if titles.remaining_capacity() < named.len() {
+        return Err(too_many_titles(alloc));
+    }
+    // They fit, as was just seen.
+    let _ = titles.try_extend_from_slice(named.as_slice());
+    Ok(titles)
+}

@@ -1,0 +1,105 @@
+//! Keeps data sets of stores in a quarantine, by the statuses of their replies.
+ghost use Rattle.std.specs.Prelude.{◌≡◌};
+ghost use Rattle.journal.specs.Outcomes as spelling;
+
+use crate::journal::Journal;
+use crate::quarantine_entries::{NotQuarantined, QuarantineFull, QuarantineSheet, Quarantined};
+use crate::refusal::{Reason, resources_words};
+use crate::refused::shown_class;
+use crate::reply::Reply;
+use crate::state::State;
+use dimse::status;
+use log::Log;
+use part10::{SetAside, StoredFile};
+use std::io;
+use std::io::{Error, ErrorKind};
+use std::rt::Files;
+use std::time::Clock;
+
+/// Returns whether the data set of a store with this status is kept: where it cannot be understood
+/// (C000), does not match its command (A900), or has too many bytes or levels, which is answered with
+/// A700 (out of resources), as is a file that could not be written.
+fn is_quarantined(status: u16, has_filing_failed: bool) -> bool
+    ensures { result ≡ spelling.is_quarantined status has_filing_failed }
+{
+    match status {
+        status::CANNOT_UNDERSTAND | status::DATA_SET_MISMATCH => true,
+        status::OUT_OF_RESOURCES => !has_filing_failed,
+        _ => false,
+    }
+}
+
+impl<R: Log + Clock, S: Files + Alloc + Clone + Drop> Journal<'_, R, S>
+where
+    S::File: StoredFile,
+{
+    /// Writes why a draft could not be moved to the quarantine, if one could not.
+    pub(crate) fn tell_not_aside(&self) {
+        if let Some(error) = self.notes.take_aside_error() {
+            self.teller.tell(&NotQuarantined(&error));
+        }
+    }
+
+    /// Removes the draft that was moved to the quarantine, if there is one: its store was not answered.
+    pub(crate) fn remove_aside(&self) {
+        self.tell_not_aside();
+        if let Some(aside) = self.notes.take_aside() {
+            self.tell_failed(aside.remove());
+        }
+    }
+
+    fn tell_failed(&self, done: io::Result<()>) {
+        if let Err(error) = done {
+            self.teller.tell(&NotQuarantined(&error));
+        }
+    }
+
+    /// Keeps the draft that was moved to the quarantine, or removes it, by the reply to its store.
+    pub(crate) fn settle_aside(&self, state: &State, reply: &[u8]) {
+        self.tell_not_aside();
+        let Some(aside) = self.notes.take_aside() else {
+            return;
+        };
+        let has_filing_failed = state.folder_error.len() > 0;
+        match Reply::read(reply) {
+            Some(reply) if is_quarantined(reply.status, has_filing_failed) => {
+                let done = self.keep(state, &reply, aside);
+                self.tell_failed(done);
+            }
+            _ => self.tell_failed(aside.remove()),
+        }
+    }
+
+    /// Keeps a draft in the quarantine, and writes of it.
+    fn keep(&self, state: &State, reply: &Reply, aside: SetAside<S>) -> io::Result<()> {
+        let received = state.incoming.message.data;
+        let reason = if reply.status == status::OUT_OF_RESOURCES {
+            resources_words(&state.folder_error, received, self.limits)
+        } else {
+            Reason::new()
+        };
+        let kept = aside.data();
+        let text = self.sheet(&QuarantineSheet {
+            reply,
+            class: &shown_class(reply.class.as_str().as_bytes()),
+            reason: &reason,
+            called: &state.called,
+            calling: &state.calling,
+            received,
+            kept,
+        });
+        let Ok(text) = text else {
+            aside.remove()?;
+            return Err(Error::from(ErrorKind::OutOfMemory));
+        };
+        let done = aside.keep(text.as_str())?;
+        self.teller.tell(&Quarantined {
+            number: done.number,
+            kept,
+        });
+        if done.is_full {
+            self.teller.tell(&QuarantineFull);
+        }
+        Ok(())
+    }
+}

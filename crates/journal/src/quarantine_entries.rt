@@ -1,0 +1,155 @@
+//! What the log tells of data sets that are kept in a quarantine, and what the texts beside them tell.
+use crate::entries::{Words, give_calling, give_error, give_status};
+use crate::entry::{Entry, Event, Fields, Name};
+use crate::refusal::Reason;
+use crate::reply::{Reply, Value};
+use crate::state::Title;
+use log::Level;
+use std::fmt::Write;
+use std::io;
+
+const FILE: Name = Name {
+    key: "file",
+    before: " ",
+    after: "",
+};
+
+/// A data set that is kept: what the text beside it tells.
+#[derive(Clone, Copy)]
+pub(crate) struct QuarantineSheet<'a> {
+    pub reply: &'a Reply,
+    pub class: &'a Value,
+    /// What its status does not tell, if anything.
+    pub reason: &'a Reason,
+    pub called: &'a Title,
+    pub calling: &'a Title,
+    /// How many bytes of its data set came.
+    pub received: u64,
+    /// How many of them the file has.
+    pub kept: u64,
+}
+
+impl Entry for QuarantineSheet<'_> {
+    fn level(&self) -> Level {
+        Level::Info
+    }
+
+    fn event(&self) -> Event {
+        Event {
+            key: "quarantined",
+            words: "",
+        }
+    }
+
+    fn fields<F: Fields>(&self, out: &mut F) {
+        give_calling(self.calling, out);
+        out.text(Name::new("called", " "), self.called.as_str());
+        give_status(self.reply, out);
+        if self.reason.len() > 0 {
+            out.text(Name::new("reason", " "), self.reason.as_str());
+        }
+        out.text(Name::new("class", " "), self.class.as_str());
+        out.text(Name::new("instance", " "), self.reply.instance.as_str());
+        out.number(Name::new("received", " "), self.received);
+        out.number(Name::new("kept", " "), self.kept);
+        let is_whole = if self.kept == self.received {
+            "yes"
+        } else {
+            "no"
+        };
+        out.text(Name::new("whole", " "), is_whole);
+    }
+}
+
+/// A data set was put into the quarantine, under this number.
+#[derive(Clone, Copy)]
+pub(crate) struct Quarantined {
+    pub number: u32,
+    pub kept: u64,
+}
+
+impl Entry for Quarantined {
+    fn level(&self) -> Level {
+        Level::Info
+    }
+
+    fn event(&self) -> Event {
+        Event {
+            key: "quarantined",
+            words: "kept in the quarantine:",
+        }
+    }
+
+    fn fields<F: Fields>(&self, out: &mut F) {
+        let mut file = Words::new();
+        let _ = write!(file, "{:06}.dcm", self.number);
+        out.text(FILE, file.as_str());
+        out.number(Name::new("bytes", " bytes "), self.kept);
+    }
+}
+
+/// A data set could not be put into the quarantine: the system's error.
+#[derive(Clone, Copy)]
+pub(crate) struct NotQuarantined<'a>(pub &'a io::Error);
+
+impl Entry for NotQuarantined<'_> {
+    fn level(&self) -> Level {
+        Level::Warn
+    }
+
+    fn event(&self) -> Event {
+        Event {
+            key: "not quarantined",
+            words: "a data set could not be kept in the quarantine",
+        }
+    }
+
+    fn fields<F: Fields>(&self, out: &mut F) {
+        give_error(self.0, out);
+    }
+}
+
+/// The quarantine has as many data sets as it may have, so no more are kept.
+#[derive(Clone, Copy)]
+pub struct QuarantineFull;
+
+impl Entry for QuarantineFull {
+    fn level(&self) -> Level {
+        Level::Warn
+    }
+
+    fn event(&self) -> Event {
+        Event {
+            key: "quarantine full",
+            words: "the quarantine is full, and no further data set is kept there",
+        }
+    }
+
+    fn fields<F: Fields>(&self, _out: &mut F) {}
+}
+
+/// Drafts were removed from the quarantine that a killed program had left there: how many.
+#[derive(Clone, Copy)]
+pub struct QuarantineCleared(pub u64);
+
+impl Entry for QuarantineCleared {
+    fn level(&self) -> Level {
+        Level::Info
+    }
+
+    fn event(&self) -> Event {
+        Event {
+            key: "quarantine cleared",
+            words: "removed from the quarantine:",
+        }
+    }
+
+    fn fields<F: Fields>(&self, out: &mut F) {
+        let drafts = Name {
+            key: "drafts",
+            before: " ",
+            after: " drafts that were left",
+        };
+        out.number(drafts, self.0);
+    }
+}

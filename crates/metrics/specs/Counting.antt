@@ -1,0 +1,24 @@
+-- What a box has done, in numbers: what each event raises, and that it raises nothing else. This product's own profile.
+use Rattle.std.specs.Prelude.{ℕ}
+use Rattle.metrics.specs.Saturating.{raised}
+use Rattle.metrics.specs.Ends.{no_ends, with_end}
+use Rattle.metrics.specs.Statuses.{more_without_reply, no_statuses, with_status}
+use Rattle.metrics.specs.declared.ends.CountedEnd.{CountedEnd}
+use Rattle.metrics.specs.declared.statuses.CountedStatus.{CountedStatus}
+use Rattle.metrics.specs.declared.counters.Counters.{Counters}
+
+-- of a box that has done nothing
+abbrev pub no_counts : Counters
+no_counts = record { ends = no_ends; stores = no_statuses; received = 0 }
+
+-- an association ended so, after it had received so many bytes
+abbrev pub after_end : CountedEnd → ℕ → Counters → Counters
+after_end end bytes c = record c { ends = with_end end c.ends; received = raised bytes c.received }
+
+-- a store was answered with a status
+abbrev pub after_answer : CountedStatus → Counters → Counters
+after_answer status c = record c { stores = with_status status c.stores }
+
+-- so many stores got no reply
+abbrev pub after_unanswered : ℕ → Counters → Counters
+after_unanswered stores c = record c { stores = more_without_reply stores c.stores }

@@ -1,0 +1,5 @@
+pub mod Saturating
+pub mod Ends
+pub mod Statuses
+pub mod Counting
+pub mod Due

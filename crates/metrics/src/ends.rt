@@ -1,0 +1,124 @@
+//! How associations ended, as they are counted.
+ghost use Rattle.std.specs.Prelude.{◌≡◌};
+ghost use Rattle.metrics.specs.Ends.{count_at_end, with_end};
+
+/// How an association ended, as it is counted.
+#[derive(Clone, Copy, Debug, PartialEq, Eq)]
+pub enum CountedEnd {
+    /// The peer released it.
+    Released,
+    /// Its request was rejected.
+    Rejected,
+    /// The peer sent an A-ABORT.
+    AbortedByPeer,
+    /// It was aborted for what the peer had sent.
+    AbortedByBox,
+    /// The peer closed the connection.
+    Closed,
+    /// The ARTIM timer expired.
+    TimerExpired,
+    /// The peer was silent for too long.
+    Idle,
+    /// It lasted too long.
+    TooLong,
+    /// The box stops.
+    Stopping,
+    /// A read or a send failed.
+    ConnectionFailed,
+    /// None of these was seen.
+    Unknown,
+}
+
+impl CountedEnd {
+    /// Every one, in the order of the file.
+    pub const ALL: [CountedEnd; 11] = [
+        CountedEnd::Released,
+        CountedEnd::Rejected,
+        CountedEnd::AbortedByPeer,
+        CountedEnd::AbortedByBox,
+        CountedEnd::Closed,
+        CountedEnd::TimerExpired,
+        CountedEnd::Idle,
+        CountedEnd::TooLong,
+        CountedEnd::Stopping,
+        CountedEnd::ConnectionFailed,
+        CountedEnd::Unknown,
+    ];
+
+    /// Returns the value of its label.
+    pub fn label(self) -> &'static str {
+        match self {
+            CountedEnd::Released => "released",
+            CountedEnd::Rejected => "rejected",
+            CountedEnd::AbortedByPeer => "aborted_by_peer",
+            CountedEnd::AbortedByBox => "aborted_by_box",
+            CountedEnd::Closed => "closed_by_peer",
+            CountedEnd::TimerExpired => "artim_expired",
+            CountedEnd::Idle => "idle",
+            CountedEnd::TooLong => "too_long",
+            CountedEnd::Stopping => "stopping",
+            CountedEnd::ConnectionFailed => "connection_failed",
+            CountedEnd::Unknown => "unknown",
+        }
+    }
+}
+
+/// How many associations ended in which way. Each number stops at the greatest `u64`.
+#[derive(Clone, Copy)]
+pub struct EndCounts {
+    pub released: u64,
+    pub rejected: u64,
+    pub aborted_by_peer: u64,
+    pub aborted_by_box: u64,
+    pub closed: u64,
+    pub timer_expired: u64,
+    pub idle: u64,
+    pub too_long: u64,
+    pub stopping: u64,
+    pub connection_failed: u64,
+    pub unknown: u64,
+}
+
+impl EndCounts {
+    /// Counts an association that ended so.
+    pub fn add(&mut self, end: CountedEnd)
+        ensures { self.new ≡ with_end end self.old }
+    {
+        match end {
+            CountedEnd::Released => self.released = self.released.saturating_add(1),
+            CountedEnd::Rejected => self.rejected = self.rejected.saturating_add(1),
+            CountedEnd::AbortedByPeer => self.aborted_by_peer = self
+                .aborted_by_peer
+                .saturating_add(1),
+            CountedEnd::AbortedByBox => self.aborted_by_box = self.aborted_by_box.saturating_add(1),
+            CountedEnd::Closed => self.closed = self.closed.saturating_add(1),
+            CountedEnd::TimerExpired => self.timer_expired = self.timer_expired.saturating_add(1),
+            CountedEnd::Idle => self.idle = self.idle.saturating_add(1),
+            CountedEnd::TooLong => self.too_long = self.too_long.saturating_add(1),
+            CountedEnd::Stopping => self.stopping = self.stopping.saturating_add(1),
+            CountedEnd::ConnectionFailed => self.connection_failed = self
+                .connection_failed
+                .saturating_add(1),
+            CountedEnd::Unknown => self.unknown = self.unknown.saturating_add(1),
+        }
+    }
+
+    /// Returns how many associations ended so.
+    pub fn count(&self, end: CountedEnd) -> u64
+        ensures { result ≡ count_at_end end self.now }
+    {
+        match end {
+            CountedEnd::Released => self.released,
+            CountedEnd::Rejected => self.rejected,
+            CountedEnd::AbortedByPeer => self.aborted_by_peer,
+            CountedEnd::AbortedByBox => self.aborted_by_box,
+            CountedEnd::Closed => self.closed,
+            CountedEnd::TimerExpired => self.timer_expired,
+            CountedEnd::Idle => self.idle,
+            CountedEnd::TooLong => self.too_long,
+            CountedEnd::Stopping => self.stopping,
+            CountedEnd::ConnectionFailed => self.connection_failed,
+            CountedEnd::Unknown => self.unknown,
+        }
+    }
+}

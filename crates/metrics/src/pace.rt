@@ -1,0 +1,71 @@
+//! When the file of numbers is due.
+ghost use Rattle.std.specs.Prelude.{◌≡◌, ◌↔◌, IsTrue, None, Some, not, true};
+ghost use Rattle.std.specs.Duration.{as_nanos};
+ghost use Rattle.std.specs.Time.{instant_nanos};
+
+use std::time::{Duration, Instant};
+
+/// How long the file is left as it is where it is behind the numbers, in seconds.
+const BEHIND_SECONDS: u64 = 5;
+
+/// How long it is left as it is where it has them, in seconds.
+const CURRENT_SECONDS: u64 = 60;
+
+/// When the file of numbers is due: at once, then five seconds after the last time where it is behind the numbers, else a
+/// minute after it, so that its age tells whether the box still runs.
+#[derive(Clone, Copy)]
+pub struct Pace {
+    tried: Option<Instant>,
+    is_behind: bool,
+}
+
+impl Pace {
+    ghost use Rattle.metrics.specs.Due.{pacing_of, time_left};
+
+    /// Returns that of a file that was not written yet.
+    pub fn new() -> Pace
+        ensures { pacing_of result ≡ record { tried = None; behind = true } }
+    {
+        Pace {
+            tried: None,
+            is_behind: true,
+        }
+    }
+
+    /// A number has changed.
+    pub fn change(&mut self)
+        ensures { pacing_of self.new ≡ record (pacing_of self.old) { behind = true } }
+    {
+        self.is_behind = true;
+    }
+
+    /// The file was to be written at this instant, and was, or not.
+    pub fn tried(&mut self, now: Instant, is_written: bool)
+        ensures { pacing_of self.new ≡ record { tried = Some (instant_nanos now); behind = not is_written } }
+    {
+        self.tried = Some(now);
+        self.is_behind = !is_written;
+    }
+
+    /// Returns how long the file may be left as it is.
+    pub fn left(&self, now: Instant) -> Duration
+        ensures { as_nanos result ≡ time_left (pacing_of self.now) (instant_nanos now) }
+    {
+        let Some(tried) = self.tried else {
+            return Duration::ZERO;
+        };
+        let seconds = if self.is_behind {
+            BEHIND_SECONDS
+        } else {
+            CURRENT_SECONDS
+        };
+        Duration::from_secs(seconds).saturating_sub(now.duration_since(tried))
+    }
+
+    /// Returns whether the file is due.
+    pub fn is_due(&self, now: Instant) -> bool
+        ensures { IsTrue result ↔ (time_left (pacing_of self.now) (instant_nanos now) ≡ 0) }
+    {
+        self.left(now).is_zero()
+    }
+}

@@ -1,0 +1,58 @@
+//! The file that counts what the server does.
+use super::Server;
+use crate::policy::Policy;
+use crate::terms::ServerTerms;
+use journal::{MetricsNotWritten, MetricsWritten, Teller};
+use log::Log;
+use metrics::WriteReport;
+use std::alloc::Global;
+use std::fs::File;
+use std::rt::Files;
+use std::time::{Clock, Instant};
+
+/// Writes the log's line of a file that was to be written, if there is one.
+fn tell<R: Log + Clock>(teller: Teller<'_, R>, report: WriteReport) {
+    match report {
+        WriteReport::Nothing => {}
+        WriteReport::Fails(failure) => teller.tell(&MetricsNotWritten(&failure)),
+        WriteReport::Works => teller.tell(&MetricsWritten),
+    }
+}
+
+/// Writes the file of a server that has ended, and has no connection any more.
+pub(super) fn measure_end<R: Log + Clock, S: Files + Alloc>(
+    rt: &R,
+    files: &S,
+    terms: &ServerTerms<'_>,
+) {
+    if let Some(metrics) = terms.metrics {
+        metrics.set_open(0);
+        tell(Teller::new(rt, terms.form), metrics.write(files));
+    }
+}
+
+impl<R: Log + Clock, S: Files<File = File> + Alloc<A = Global> + Clone + Drop, P: Policy> Server<
+    '_,
+    R,
+    S,
+    P,
+> {
+    /// Returns how many places have a connection.
+    fn taken(&self) -> u64 {
+        let mut taken: u64 = 0;
+        for place in 0..self.slots.len() {
+            if self.is_taken(place) {
+                taken = taken.saturating_add(1);
+            }
+        }
+        taken
+    }
+
+    /// Writes the file, if there is one and it is due.
+    pub(super) fn measure(&self, files: &S, now: Instant) {
+        if let Some(metrics) = self.terms.metrics {
+            metrics.set_open(self.taken());
+            tell(self.teller(), metrics.write_due(files, now));
+        }
+    }
+}
