@@ -46,6 +46,8 @@ mod part10_folders;
 #[cfg(test)]
 mod part10_numbers;
 #[cfg(test)]
+mod part10_quarantine;
+#[cfg(test)]
 mod part10_rows;
 #[cfg(test)]
 mod repertoire_rows;
