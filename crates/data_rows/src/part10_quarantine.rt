@@ -77,12 +77,12 @@ fn is_removed(filing: &FolderFiling<HostRuntime>) -> io::Result<bool> {
 }
 
 /// A folder of files and its quarantine.
-type Folders<'a> = (&'a str, &'a str);
+type WithQuarantine<'a> = (&'a str, &'a str);
 
 /// Whether discarded drafts are moved, and then kept or removed, and one that is committed is not.
 fn keeps_or_removes(
     rt: &HostRuntime,
-    (dir, aside): Folders<'_>,
+    (dir, aside): WithQuarantine<'_>,
     filing: &mut FolderFiling<HostRuntime>,
 ) -> io::Result<bool> {
     let is_moved = discards(filing, b"head", b" and body")
@@ -108,7 +108,7 @@ fn keeps_or_removes(
 /// Whether no more than two data sets are kept, until one is moved away; then numbers go on.
 fn keeps_two(
     rt: &HostRuntime,
-    (dir, aside): Folders<'_>,
+    (dir, aside): WithQuarantine<'_>,
     filing: &mut FolderFiling<HostRuntime>,
     other: &mut FolderFiling<HostRuntime>,
 ) -> io::Result<bool> {
@@ -131,7 +131,7 @@ fn keeps_two(
 /// Whether a draft that is set aside takes the place of one of which nothing was decided.
 fn keeps_the_last(
     rt: &HostRuntime,
-    (_, aside): Folders<'_>,
+    (_, aside): WithQuarantine<'_>,
     filing: &mut FolderFiling<HostRuntime>,
 ) -> io::Result<bool> {
     let is_begun = discards(filing, b"a", b"1") && filing.begin().is_ok();
@@ -145,7 +145,7 @@ fn keeps_the_last(
 /// Whether a draft is dropped as without a quarantine where that was replaced, and that is told.
 fn drops_where_replaced(
     rt: &HostRuntime,
-    (dir, aside): Folders<'_>,
+    (dir, aside): WithQuarantine<'_>,
     filing: &mut FolderFiling<HostRuntime>,
 ) -> io::Result<bool> {
     fs::remove_dir_all(rt, aside)?;
@@ -171,34 +171,34 @@ fn gives(filing: &mut FolderFiling<HostRuntime>, number: u32) -> io::Result<bool
 }
 
 /// Opens the folder with a quarantine of one data set, and tries what becomes of an undecided draft.
-fn opened_last(rt: &HostRuntime, dirs: Folders<'_>) -> io::Result<bool> {
+fn opened_last(rt: &HostRuntime, dirs: WithQuarantine<'_>) -> io::Result<bool> {
     let (_writer, mut filing, _) = opened(rt, dirs, 1)?;
     keeps_the_last(rt, dirs, &mut filing)
 }
 
-fn opened_replaced(rt: &HostRuntime, dirs: Folders<'_>) -> io::Result<bool> {
+fn opened_replaced(rt: &HostRuntime, dirs: WithQuarantine<'_>) -> io::Result<bool> {
     let (_writer, mut filing, _) = opened(rt, dirs, 2)?;
     drops_where_replaced(rt, dirs, &mut filing)
 }
 
-fn opened_new(rt: &HostRuntime, dirs: Folders<'_>) -> io::Result<bool> {
+fn opened_new(rt: &HostRuntime, dirs: WithQuarantine<'_>) -> io::Result<bool> {
     let (_writer, mut filing, found) = opened(rt, dirs, 2)?;
     Ok(found.removed == 0 && !found.is_full && keeps_or_removes(rt, dirs, &mut filing)?)
 }
 
-fn opened_twice(rt: &HostRuntime, dirs: Folders<'_>) -> io::Result<bool> {
+fn opened_twice(rt: &HostRuntime, dirs: WithQuarantine<'_>) -> io::Result<bool> {
     let (mut writer, mut filing, _) = opened(rt, dirs, 2)?;
     let mut other = writer.filing()?;
     keeps_two(rt, dirs, &mut filing, &mut other)
 }
 
-fn opened_behind(rt: &HostRuntime, dirs: Folders<'_>) -> io::Result<bool> {
+fn opened_behind(rt: &HostRuntime, dirs: WithQuarantine<'_>) -> io::Result<bool> {
     let (_writer, mut filing, found) = opened(rt, dirs, 2)?;
     let is_found = found.removed == 1 && !found.is_full;
     Ok(is_found && count(rt, dirs.1)? == 5 && gives(&mut filing, 10)?)
 }
 
-fn is_found_full(rt: &HostRuntime, dirs: Folders<'_>) -> io::Result<bool> {
+fn is_found_full(rt: &HostRuntime, dirs: WithQuarantine<'_>) -> io::Result<bool> {
     let (_writer, _filing, found) = opened(rt, dirs, 2)?;
     Ok(found.removed == 0 && found.is_full)
 }
