@@ -58,9 +58,9 @@ def compressed(program, work):
     return taking(program, work, ["--all-syntaxes"], ["+xa"])
 
 
-def is_listening():
+def is_listening(port):
     """Whether a process listens at the port; without a connection, which would count as an association."""
-    wanted = f":{PORT:04X}"
+    wanted = f":{port:04X}"
     for table in ("/proc/net/tcp", "/proc/net/tcp6"):
         with open(table) as lines:
             for line in lines:
@@ -70,9 +70,9 @@ def is_listening():
     return False
 
 
-def start(words, log):
+def start(words, log, port=PORT):
     server = subprocess.Popen(words, stdout=log, stderr=log)
-    while not is_listening():
+    while not is_listening(port):
         if server.poll() is not None:
             sys.exit(f"{words[0]} does not start")
         time.sleep(0.002)
@@ -215,20 +215,36 @@ def growth(program, work, rounds, log):
     return lambda draw, folder: draw.growth(f"{folder}/growth.svg", sizes, counts)
 
 
-def together(work, corpus, count, at_once):
-    """Eight clients that send as many images each, at once or one after the other."""
+def sent_at_once(work, corpus, count, ports):
+    """The seconds that clients take which send as many images each at once, one to each of the ports."""
+    begun = time.monotonic()
+    clients = [subprocess.Popen([f"{work}/client", str(port), corpus, str(count)], stdout=subprocess.DEVNULL) for port in ports]
+    assert all(client.wait() == 0 for client in clients)
+    return time.monotonic() - begun
+
+
+def together(work, corpus, count, at_once, senders=8):
+    """Clients that send as many images each, at once or one after the other."""
     def sender(_folder):
-        words = [f"{work}/client", str(PORT), corpus, str(count)]
-        begun = time.monotonic()
         if at_once:
-            clients = [subprocess.Popen(words, stdout=subprocess.DEVNULL) for _ in range(8)]
-            assert all(client.wait() == 0 for client in clients)
-        else:
-            for _ in range(8):
-                subprocess.run(words, stdout=subprocess.DEVNULL, check=True)
-        return time.monotonic() - begun
+            return sent_at_once(work, corpus, count, [PORT] * senders)
+        return sum(sent_at_once(work, corpus, count, [PORT]) for _ in range(senders))
 
     return sender
+
+
+def apart(program, work, corpus, count, senders, log):
+    """The seconds that as many clients take at once, each with a box of its own."""
+    ports = [free_port() for _ in range(senders)]
+    folders = [tempfile.mkdtemp(dir=work) for _ in ports]
+    os.sync()
+    boxes = [start([program, "serve", "--port", str(port), "--out", folder], log, port) for port, folder in zip(ports, folders)]
+    try:
+        return sent_at_once(work, corpus, count, ports)
+    finally:
+        for box, folder in zip(boxes, folders):
+            stop(box)
+            empty(folder)
 
 
 def several(program, work, rounds, log):
@@ -262,6 +278,36 @@ def several(program, work, rounds, log):
                     got.append(measured(work, boxes[box], send(work, corpus), log))
             one, other = medians(runs[f"{name} --at-once 16"]), medians(runs[name])
             print(f"| `{name} --at-once 16` | {title} | {ratio(one[0], other[0])} | {ratio(one[1], other[1])} | {one[2] / 1024:.1f} MiB |")
+
+
+def groups(program, work, rounds, log, beside=None):
+    """Synced stores of one, eight and sixteen senders at once, beside the same one after the other, beside as many boxes, and beside
+    those at once to another program."""
+    kind = subprocess.run(["df", "--output=fstype", work], stdout=subprocess.PIPE, check=True, text=True).stdout.split()[-1]
+    flush = []
+    for _ in range(20):
+        with open(f"{work}/flushed", "wb") as file:
+            file.write(b"x")
+            begun = time.monotonic()
+            os.fsync(file.fileno())
+            flush.append(time.monotonic() - begun)
+    print(f"\n### Senders at once, synced, on {kind}, where an fsync of a byte takes {statistics.median(flush) * 1000:.1f} ms\n")
+    others = f" | Beside {beside}" if beside else ""
+    print(f"| Senders | Each sends | One after the other | Boxes of their own{others} |")
+    print(f"|---|---|---|---|{'---|' if beside else ''}")
+    box = lambda program: lambda folder: servers(program, work)["dcmbox"](folder) + ["--at-once", "16", "--per-peer", "16"]
+    for corpus, count, title in (("tiny", 50, "50 of 1 KiB"), ("ct", 10, "10 CT of 512 KiB")):
+        for senders in (1, 8, 16):
+            runs = {"at once": [], "after": [], "apart": [], "beside": []}
+            for _ in range(rounds):
+                runs["at once"].append(measured(work, box(program), together(work, corpus, count, True, senders), log)[0])
+                runs["after"].append(measured(work, box(program), together(work, corpus, count, False, senders), log)[0])
+                runs["apart"].append(apart(program, work, corpus, count, senders, log))
+                if beside:
+                    runs["beside"].append(measured(work, box(beside), together(work, corpus, count, True, senders), log)[0])
+            got = {name: statistics.median(seconds) for name, seconds in runs.items() if seconds}
+            ratios = [ratio(got["at once"], got[name]) for name in ("after", "apart", "beside") if name in got]
+            print(f"| {senders} | {title} | {' | '.join(ratios)} |", flush=True)
 
 
 def replies(program, work, rounds, log, beside=None):
@@ -409,6 +455,7 @@ PARTS = {
     "growth": growth,
     "replies": replies,
     "several": several,
+    "groups": groups,
     "filled": filled,
     "indexing": indexing,
     "starting": starting,
@@ -421,7 +468,7 @@ def main():
     words.add_argument("program")
     words.add_argument("--rounds", type=int, default=5)
     words.add_argument("--part", choices=list(PARTS))
-    words.add_argument("--beside", metavar="PROGRAM", help="another build, for the part replies")
+    words.add_argument("--beside", metavar="PROGRAM", help="another build, for the parts groups and replies")
     words.add_argument("--draw", metavar="FOLDER")
     given = words.parse_args()
     if given.draw:
@@ -432,7 +479,7 @@ def main():
         compiled(work)
         for name, part in PARTS.items():
             if given.part in (None, name):
-                others = [given.beside] if part is replies else []
+                others = [given.beside] if part in (groups, replies) else []
                 drawn = part(program, work, given.rounds, log, *others)
                 if given.draw and drawn:
                     drawn(draw, given.draw)

@@ -12,7 +12,7 @@ from box import LITTLE
 from peer import ABORT, ECHO, ECHO_COMMAND, ECHO_REQUEST, FIRST_REPLY, STORES, STORES_ANSWER
 from samples import SAMPLES
 
-INFO = r"\[INFO  cli::serve\] 20[0-9-]{8}T[0-9:]{8}\.[0-9]{3}Z "
+INFO = r"\[INFO  dcmbox::serve\] 20[0-9-]{8}T[0-9:]{8}\.[0-9]{3}Z "
 
 
 @pytest.fixture
@@ -130,7 +130,7 @@ def test_without_a_free_descriptor_no_connection_is_accepted(serve, form):
     resource.prlimit(box.pid, resource.RLIMIT_NOFILE, (free, before[1]))
     refused = "a connection could not be accepted: "
     with box.connect() as peer:
-        box.until_logged(rf"^\[ERROR cli::serve\] 20[^ ]*Z {refused}")
+        box.until_logged(rf"^\[ERROR dcmbox::serve\] 20[^ ]*Z {refused}")
         assert peer.is_silent(1)
         assert len(re.findall(refused, box.log)) <= 40
     resource.prlimit(box.pid, resource.RLIMIT_NOFILE, before)

@@ -45,7 +45,7 @@ def image(work):
 
 def lines_of(box):
     """The log after its first two lines, without times, ports, numbers of bytes and of seconds."""
-    stamp = r"^\[([A-Z]+) +cli::serve\] 20\d\d-\d\d-\d\dT\d\d:\d\d:\d\d\.\d{3}Z 127\.0\.0\.1:\d+ "
+    stamp = r"^\[([A-Z]+) +dcmbox::serve\] 20\d\d-\d\d-\d\dT\d\d:\d\d:\d\d\.\d{3}Z 127\.0\.0\.1:\d+ "
     lines = [re.sub(stamp, r"\1 ", line) for line in box.lines[2:]]
     return [re.sub(r" received \d+ in \d+ s ", " .. ", line) for line in lines]
 
@@ -292,7 +292,7 @@ class TestLines:
 
     def test_no_title_forges_one(self, serve):
         box = serve("--verbose")
-        for title in (b"\n\n[ERROR cli::serve] x", b"\33[2J\7", b'"},{"a":"b'):
+        for title in (b"\n\n[ERROR dcmbox::serve] x", b"\33[2J\7", b'"},{"a":"b'):
             forged = changed(STORES_REQUEST, 10, title.ljust(32)[:32])
             with box.connect() as peer:
                 peer.send(forged + RELEASE)
@@ -311,11 +311,11 @@ class TestLines:
         box.until_logged("listening")
         limits = "limits max-pdu 2000 max-data 1099511627776 at-once 3"
         told = rf'dcmbox \d+\.\d+\.\d+ title "BOX 1" folder received {limits} removed drafts 2'
-        assert re.search(rf"^\[INFO  cli::serve\] \S+Z {told}$", box.lines[0])
+        assert re.search(rf"^\[INFO  dcmbox::serve\] \S+Z {told}$", box.lines[0])
         assert box.files() == ["DRAFTS", "I0000007"]
 
     @pytest.mark.parametrize(
-        "form, begins", (("text", r"\[[A-Z]+ +cli::serve\] "), ("json", r"\{"))
+        "form, begins", (("text", r"\[[A-Z]+ +dcmbox::serve\] "), ("json", r"\{"))
     )
     def test_under_systemd_each_has_its_priority(self, serve, tool, to_box, form, begins):
         box = serve("--log", form, "-v", env={"JOURNAL_STREAM": "8:1"})

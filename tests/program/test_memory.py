@@ -12,7 +12,9 @@ NO_MEMORY = (
     "(; give the program more| for what is sent; replay a shorter recording)?"
     "|the command line can't be read: out of memory; .*)"
 )
-REFUSED_REPLY = bytes.fromhex("000000090200000000a7")
+# Status (0000,0900), with its length of two bytes, in any reply, and with A700, out of resources.
+STATUS = bytes.fromhex("0000000902000000")
+REFUSED_REPLY = STATUS + bytes.fromhex("00a7")
 
 
 def has_no_memory(done):
@@ -125,7 +127,7 @@ def test_a_store_while_each_allocation_is_refused(boxed, is_refused, store, form
 
 
 def test_a_file_that_gets_no_memory_for_its_name(boxed, is_refused, store, form):
-    """Its store fails with A700, out of resources."""
+    """Its store fails with A700, out of resources; with several at once its association ends without a reply."""
     box = boxed(*form)
     with box.connect() as peer:
         peer.send(store.opening)
@@ -134,8 +136,12 @@ def test_a_file_that_gets_no_memory_for_its_name(boxed, is_refused, store, form)
         answer = peer.exchange(store.middle + store.last, 293)
         box.process.send_signal(signal.SIGUSR2)
     box.ended()
-    assert REFUSED_REPLY in answer and is_refused()
-    assert box.files() == []
+    assert is_refused() and box.files() == []
+    if "--at-once" in form:
+        assert STATUS not in answer
+        box.until_logged("not stored: no reply, closed by dcmbox: a file was lost: the folder: ")
+    else:
+        assert REFUSED_REPLY in answer
 
 
 def test_an_echo_while_each_allocation_is_refused(boxed, is_refused):

@@ -25,6 +25,7 @@ ENDS = {
     "too_long": "aborted: it lasted too long",
     "stopping": "aborted: the box stops",
     "connection_failed": "the wire failed",
+    "file_lost": "closed by dcmbox: a file was lost",
     "unknown": " contexts ",
 }
 NOT_WRITTEN = "the metrics could not be written: "
@@ -128,7 +129,7 @@ def test_of_a_box_that_begins(serve, run, becomes, work):
     version = run("--version").stdout.split()[1]
     assert samples.pop(("dcmbox_info", version)) == 1
     assert before <= samples.pop(("dcmbox_start_time_seconds",)) <= time.time()
-    assert len(samples) == 20 and set(samples.values()) == {0}
+    assert len(samples) == 21 and set(samples.values()) == {0}
 
 
 def test_after_an_echo(serve, becomes):

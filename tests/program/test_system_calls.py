@@ -79,7 +79,7 @@ def test_a_connection_that_fails_is_logged(serve, trace):
     box = serve("--once", "--timeout", "30", before=failing)
     box.connect().close()
     said = r"the connection failed: No buffer space available"
-    box.until_logged(rf"^\[ERROR cli::serve\] 20[^ ]*Z 127\.0\.0\.1:[0-9]* {said}")
+    box.until_logged(rf"^\[ERROR dcmbox::serve\] 20[^ ]*Z 127\.0\.0\.1:[0-9]* {said}")
     box.ended()
 
 

@@ -26,8 +26,8 @@ ALLOCATING = re.compile(
 # What an association is made of, and which of its files are devices.
 ASSOCIATION = "element dictionary sequence pdu acceptor negotiate dimse part10 engine".split()
 DEVICES = (
-    "memory_wire memory_filing folder_calls folder_filing folder_writer given_names locked_folder "
-    "listing names numbers aside notes quarantine quarantine_names"
+    "memory_wire memory_filing folder_calls folder_filing folder_writer given_names group groups "
+    "listing locked_folder names numbers aside notes quarantine quarantine_names"
 ).split()
 
 

@@ -1,2 +1,2 @@
-pub mod SeatLemmas
+pub mod OccupantLemmas
 pub mod QueueLemmas

@@ -1,3 +1,3 @@
-pub mod Seats
+pub mod Occupants
 pub mod Queues
 pub mod Notices

@@ -1,18 +1,18 @@
 //! Limits the number of connections: how many are served at a time and how many of one peer
-//! ([`Places`]), who waits ([`Queue`]), how often a repeated message is logged ([`Notice`]), and what there was,
+//! ([`Slots`]), who waits ([`Queue`]), how often a repeated message is logged ([`Notice`]), and what there was,
 //! for contracts ([`History`]).
 #![tactic(auto)]
 
 mod history;
 mod notice;
 mod peer;
-mod places;
 mod queue;
 #[cfg(test)]
 mod rows;
+mod slots;
 
 pub use history::History;
 pub use notice::Notice;
 pub use peer::peer_number;
-pub use places::{Admission, Places};
 pub use queue::{Queue, Waiter};
+pub use slots::{Admission, Slots};

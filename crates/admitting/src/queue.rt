@@ -1,11 +1,11 @@
-//! The queue of connections that wait for a place.
+//! The queue of connections that wait for a slot.
 ghost use Rattle.std.specs.Prelude.{◌≡◌, ◌≤◌, ◌<◌, ◌==◌, ◌↔◌, [], ◌∷◌, ◌++◌, IfOk, IsTrue, length, true, false};
 ghost use Rattle.std.specs.Vec.{vec_capacity};
 
-use crate::places::{Admission, Places};
+use crate::slots::{Admission, Slots};
 use std::alloc::{AllocError, Allocator};
 
-/// A connection that waits for a place.
+/// A connection that waits for a slot.
 #[derive(Drop)]
 pub struct Waiter<T> {
     /// The number of its peer's address.
@@ -14,7 +14,7 @@ pub struct Waiter<T> {
     pub waiting: T,
 }
 
-/// The connections that wait for a place, in the order of their arrival, at most `most`.
+/// The connections that wait for a slot, in the order of their arrival, at most `most`.
 #[derive(Drop)]
 pub struct Queue<T, A: Allocator> {
     waiters: Vec<Waiter<T>, A>,
@@ -49,14 +49,14 @@ impl<T: Drop, A: Allocator> Queue<T, A> {
         self.waiters.len() < self.most && self.waiters.push(waiter).is_ok()
     }
 
-    /// Gives the first free place to the first connection whose peer may have it. Returns the index of
-    /// the connection and that of the place.
-    fn find(&self, places: &mut Places<A>) -> Option<(usize, usize)>
-        ensures finds { FindsFirst (waiting_in self.now) places.old places.new result }
+    /// Gives the first free slot to the first connection whose peer may have it. Returns the index of
+    /// the connection and that of the slot.
+    fn find(&self, slots: &mut Slots<A>) -> Option<(usize, usize)>
+        ensures finds { FindsFirst (waiting_in self.now) slots.old slots.new result }
     {
         for at in 0..self.waiters.len() {
-            match places.admit(self.waiters[at].peer) {
-                Admission::Place(place) => return Some((at, place)),
+            match slots.admit(self.waiters[at].peer) {
+                Admission::Slot(slot) => return Some((at, slot)),
                 Admission::Full => return None,
                 Admission::PeerFull => {}
             }
@@ -64,14 +64,14 @@ impl<T: Drop, A: Allocator> Queue<T, A> {
         None
     }
 
-    /// Gives the first free place to the first connection whose peer may have it. Removes and returns
-    /// the connection, with the index of the place, or returns `None` if none gets a place.
-    pub fn admit(&mut self, places: &mut Places<A>) -> Option<(Waiter<T>, usize)>
-        ensures admits { AdmitsFirst (waiting_in self.old) (waiting_in self.new) places.old places.new result }
+    /// Gives the first free slot to the first connection whose peer may have it. Removes and returns
+    /// the connection, with the index of the slot, or returns `None` if none gets a slot.
+    pub fn admit(&mut self, slots: &mut Slots<A>) -> Option<(Waiter<T>, usize)>
+        ensures admits { AdmitsFirst (waiting_in self.old) (waiting_in self.new) slots.old slots.new result }
         ensures same_most { most_in self.new ≡ most_in self.old }
     {
-        let (at, place) = self.find(places)?;
-        Some((self.waiters.remove(at), place))
+        let (at, slot) = self.find(slots)?;
+        Some((self.waiters.remove(at), slot))
     }
 
     /// Drops all connections that wait.

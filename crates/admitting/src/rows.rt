@@ -1,14 +1,14 @@
-//! Tests of places, queue, rate limit and peer numbers.
+//! Tests of slots, queue, rate limit and peer numbers.
 
-use crate::{Admission, Notice, Places, Queue, Waiter, peer_number};
+use crate::{Admission, Notice, Queue, Slots, Waiter, peer_number};
 use std::net::{IpAddr, Ipv4Addr, Ipv6Addr};
 use std::test::Fail;
 use std::time::{Duration, Instant};
 
 /// Returns whether these peers, one after the other, get these answers.
-fn get(places: &mut Places<std::alloc::Global>, rows: &[(u128, Admission)]) -> bool {
+fn get(slots: &mut Slots<std::alloc::Global>, rows: &[(u128, Admission)]) -> bool {
     for (peer, admission) in rows {
-        if places.admit(*peer) != *admission {
+        if slots.admit(*peer) != *admission {
             return false;
         }
     }
@@ -17,45 +17,45 @@ fn get(places: &mut Places<std::alloc::Global>, rows: &[(u128, Admission)]) -> b
 
 #[test]
 fn peers_come_and_go(rt: HostRuntime) -> Result<(), Fail> {
-    let mut places = Places::new(rt.alloc(), 4, 2)?;
-    assert!(rt; places.len() == 4);
+    let mut slots = Slots::new(rt.alloc(), 4, 2)?;
+    assert!(rt; slots.len() == 4);
     let rows = [
-        (7, Admission::Place(0)),
-        (7, Admission::Place(1)),
+        (7, Admission::Slot(0)),
+        (7, Admission::Slot(1)),
         (7, Admission::PeerFull),
-        (8, Admission::Place(2)),
-        (9, Admission::Place(3)),
+        (8, Admission::Slot(2)),
+        (9, Admission::Slot(3)),
         (8, Admission::Full),
         (7, Admission::PeerFull),
     ];
-    assert!(rt; get(&mut places, &rows));
-    if places.len() == 4 {
-        places.leave(1);
-        assert!(rt; places.peer(1).is_none() && places.peer(0) == Some(7));
+    assert!(rt; get(&mut slots, &rows));
+    if slots.len() == 4 {
+        slots.leave(1);
+        assert!(rt; slots.peer(1).is_none() && slots.peer(0) == Some(7));
     }
     let rows = [
-        (7, Admission::Place(1)),
+        (7, Admission::Slot(1)),
         (7, Admission::PeerFull),
         (9, Admission::Full),
     ];
-    assert!(rt; get(&mut places, &rows));
+    assert!(rt; get(&mut slots, &rows));
     Ok(())
 }
 
-/// Returns the next connection that leaves the queue, and the index of its place.
+/// Returns the next connection that leaves the queue, and the index of its slot.
 fn next(
     queue: &mut Queue<char, std::alloc::Global>,
-    places: &mut Places<std::alloc::Global>,
+    slots: &mut Slots<std::alloc::Global>,
 ) -> Option<(char, usize)> {
-    let (waiter, place) = queue.admit(places)?;
-    Some((waiter.waiting, place))
+    let (waiter, slot) = queue.admit(slots)?;
+    Some((waiter.waiting, slot))
 }
 
 #[test]
 fn peers_wait_in_their_order(rt: HostRuntime) -> Result<(), Fail> {
-    let mut places = Places::new(rt.alloc(), 3, 1)?;
+    let mut slots = Slots::new(rt.alloc(), 3, 1)?;
     let mut queue = Queue::new(rt.alloc(), 4)?;
-    assert!(rt; places.len() == 3 && places.admit(7) == Admission::Place(0));
+    assert!(rt; slots.len() == 3 && slots.admit(7) == Admission::Slot(0));
     let rows = [(7, 'a'), (8, 'b'), (7, 'c'), (9, 'd')];
     for (peer, waiting) in rows {
         assert!(rt; queue.push(Waiter { peer, waiting }));
@@ -66,14 +66,14 @@ fn peers_wait_in_their_order(rt: HostRuntime) -> Result<(), Fail> {
             waiting: 'e'
         })
     );
-    assert!(rt; next(&mut queue, &mut places) == Some(('b', 1)));
-    assert!(rt; next(&mut queue, &mut places) == Some(('d', 2)));
-    assert!(rt; next(&mut queue, &mut places) == None);
-    if places.len() == 3 {
-        places.leave(0);
+    assert!(rt; next(&mut queue, &mut slots) == Some(('b', 1)));
+    assert!(rt; next(&mut queue, &mut slots) == Some(('d', 2)));
+    assert!(rt; next(&mut queue, &mut slots) == None);
+    if slots.len() == 3 {
+        slots.leave(0);
     }
-    assert!(rt; next(&mut queue, &mut places) == Some(('a', 0)));
-    assert!(rt; next(&mut queue, &mut places) == None && !queue.is_empty());
+    assert!(rt; next(&mut queue, &mut slots) == Some(('a', 0)));
+    assert!(rt; next(&mut queue, &mut slots) == None && !queue.is_empty());
     queue.clear();
     assert!(rt; queue.is_empty());
     Ok(())

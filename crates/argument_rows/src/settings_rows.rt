@@ -1,11 +1,10 @@
 //! What the commands do for a command line: each setting is its argument or its default, and which
 //! arguments are refused, with which text.
 use arguments::{
-    Index, Job, Layout, Replay, Serve, WordsError, index_settings, read_words, replay_settings,
-    serve_settings,
+    Index, Job, Layout, LogForm, Replay, Serve, WordsError, index_settings, read_words,
+    replay_settings, serve_settings,
 };
 use element::AeTitle;
-use journal::Form;
 use log::Level;
 use negotiate::Config;
 use std::alloc::Global;
@@ -112,10 +111,10 @@ fn settings_of_serve_are_its_arguments(rt: HostRuntime) -> Result<(), Fail> {
     assert!(rt; is_config(&serve.config, b"BOX             ", 2000, 3000));
     let callers = [b"SCANNER1        ", b"SCANNER2        "];
     assert!(rt; are_titles(serve.config.callers.as_slice(), &callers));
-    assert!(rt; serve.timeouts.artim.as_secs() == 7 && serve.timeouts.idle.as_secs() == 11);
+    assert!(rt; serve.artim.as_secs() == 7 && serve.idle.as_secs() == 11);
     assert!(rt; per_of(serve.layout) == 5 && !serve.sync && serve.once);
     assert!(rt; serve.metrics == Some("box.prom") && serve.numbers.is_none());
-    assert!(rt; serve.level == Level::Debug && matches!(serve.form, Form::Json(_)));
+    assert!(rt; serve.level == Level::Debug && matches!(serve.form, LogForm::Json));
     Ok(())
 }
 
@@ -126,10 +125,10 @@ fn settings_of_serve_have_defaults(rt: HostRuntime) -> Result<(), Fail> {
     assert!(rt; serve.port == 104 && serve.out == "files" && serve.bind == "127.0.0.1");
     assert!(rt; is_config(&serve.config, b"DCMBOX          ", 16384, 1_099_511_627_776));
     assert!(rt; serve.config.callers.is_empty());
-    assert!(rt; serve.timeouts.artim.as_secs() == 30 && serve.timeouts.idle.as_secs() == 600);
+    assert!(rt; serve.artim.as_secs() == 30 && serve.idle.as_secs() == 600);
     assert!(rt; per_of(serve.layout) == 0 && serve.sync && !serve.once);
     assert!(rt; serve.metrics.is_none());
-    assert!(rt; serve.level == Level::Info && matches!(serve.form, Form::Text));
+    assert!(rt; serve.level == Level::Info && matches!(serve.form, LogForm::Text));
     Ok(())
 }
 
@@ -172,7 +171,7 @@ fn a_log_is_quiet_where_it_is_asked_to_be(rt: HostRuntime) -> Result<(), Fail> {
         "dcmbox", "serve", "--port", "1", "--out", "DIR", "-q", "--log", "text",
     ];
     let serve = serve_for(rt.alloc(), &words)?;
-    assert!(rt; serve.level == Level::Warn && matches!(serve.form, Form::Text));
+    assert!(rt; serve.level == Level::Warn && matches!(serve.form, LogForm::Text));
     Ok(())
 }
 
@@ -182,11 +181,8 @@ fn what_is_no_log_is_refused(rt: HostRuntime) -> Result<(), Fail> {
     let words = ["dcmbox", "serve", "--port", "1", "--out", "DIR", "-q", "-v"];
     let refusal = "error: --verbose and --quiet exclude each other\n";
     assert!(rt; refuses(&serve_for(alloc, &words), refusal));
-    let words = [
-        "dcmbox", "serve", "--port", "1", "--out", "DIR", "--log", "xml",
-    ];
     let refusal = "error: --log takes text or json, not 'xml'\n";
-    assert!(rt; refuses(&serve_for(alloc, &words), refusal));
+    assert!(rt; refuses_option(alloc, "--log", "xml", refusal));
     Ok(())
 }
 
@@ -265,8 +261,8 @@ const BOUNDS: &[Bounds<'static>] = &[
 fn number_of(serve: &Serve, option: &str) -> u64 {
     match option {
         "port" => u64::from(serve.port),
-        "timeout" => serve.timeouts.artim.as_secs(),
-        "idle" => serve.timeouts.idle.as_secs(),
+        "timeout" => serve.artim.as_secs(),
+        "idle" => serve.idle.as_secs(),
         "max-pdu" => u64::from(serve.config.max_pdu),
         "max-data" => serve.config.max_data,
         _ => u64::from(per_of(serve.layout)),
@@ -301,6 +297,22 @@ pub(crate) fn refuses<T>(settings: &Result<T, WordsError>, text: &str) -> bool {
         Err(WordsError::Refused(refusal)) => refusal.as_str() == text,
         _ => false,
     }
+}
+
+/// Returns whether `serve` refuses this value of an option with this text.
+pub(crate) fn refuses_option(alloc: Global, option: &str, value: &str, text: &str) -> bool {
+    let words = [
+        "dcmbox", "serve", "--port", "1", "--out", "DIR", option, value,
+    ];
+    refuses(&serve_for(alloc, &words), text)
+}
+
+/// Returns the command line of `serve` with these arguments beside those that it needs.
+pub(crate) fn serving<'a>(arguments: &[&'a str; 5]) -> [&'a str; 11] {
+    let [a, b, c, d, e] = *arguments;
+    [
+        "dcmbox", "serve", "--port", "1", "--out", "DIR", a, b, c, d, e,
+    ]
 }
 
 /// Returns whether an option takes this number as it is.
@@ -339,23 +351,10 @@ fn numbers_are_taken_within_their_bounds(rt: HostRuntime) -> Result<(), Fail> {
 #[test]
 fn titles_and_identifiers_are_refused(rt: HostRuntime) -> Result<(), Fail> {
     let alloc = rt.alloc();
-    let words = [
-        "dcmbox",
-        "serve",
-        "--port",
-        "1",
-        "--out",
-        "DIR",
-        "--ae",
-        "SEVENTEENLETTERSX",
-    ];
     let refusal = "error: --ae takes an AE title of 1 to 16 characters, not 'SEVENTEENLETTERSX'\n";
-    assert!(rt; refuses(&serve_for(alloc, &words), refusal));
-    let words = [
-        "dcmbox", "serve", "--port", "1", "--out", "DIR", "--caller", "A\\B",
-    ];
+    assert!(rt; refuses_option(alloc, "--ae", "SEVENTEENLETTERSX", refusal));
     let refusal = "error: --caller takes an AE title of 1 to 16 characters, not 'A\\B'\n";
-    assert!(rt; refuses(&serve_for(alloc, &words), refusal));
+    assert!(rt; refuses_option(alloc, "--caller", "A\\B", refusal));
     let words = ["dcmbox", "replay", "FILE", "--out", "DIR", "--ae", " "];
     let refusal = "error: --ae takes an AE title of 1 to 16 characters, not ' '\n";
     assert!(rt; refuses(&replay_for(alloc, &words), refusal));

@@ -13,10 +13,10 @@ use Rattle.negotiate.specs.Settings.{registered, settings_of, default_max_pdu, d
 use Rattle.arguments.specs.declared.values.IndexArguments.{IndexArguments}
 use Rattle.arguments.specs.declared.values.ReplayArguments.{ReplayArguments}
 use Rattle.arguments.specs.declared.values.ServeArguments.{ServeArguments}
-use Rattle.journal.specs.declared.form.Form.{Form}
-use Rattle.journal.specs.declared.form.Form.TheVariants.{Text, Json}
 use Rattle.arguments.specs.declared.options.Layout.{Layout}
 use Rattle.arguments.specs.declared.options.Layout.TheVariants.{Flat, Levels}
+use Rattle.arguments.specs.declared.options.LogForm.{LogForm}
+use Rattle.arguments.specs.declared.options.LogForm.TheVariants.{Text, Json}
 use Rattle.arguments.specs.declared.options.Index.{Index}
 use Rattle.arguments.specs.declared.options.Replay.{Replay}
 use Rattle.arguments.specs.declared.options.Serve.{Serve}
@@ -42,9 +42,9 @@ IsLevel verbose false level = level ≡ verbosity verbose
 IsLevel verbose true level = (verbose ≡ 0) × (level ≡ Warn)
 
 -- how lines are written, by the name of the form
-abbrev pub IsForm : Form → List ℕ → Type 0
+abbrev pub IsForm : LogForm → List ℕ → Type 0
 IsForm Text name = name ≡ codes "text"
-IsForm (Json _) name = name ≡ codes "json"
+IsForm Json name = name ≡ codes "json"
 
 -- how files are laid out: flat, or in folders of 1 to 9999 files where that is asked for
 abbrev pub IsLayout : Layout → Option (List ℕ) → Type 0
@@ -73,10 +73,10 @@ pub record IsServed (serve : Serve) (a : ServeArguments) : Type 0 where
   pub ae : title_of_text a.ae.now ≡ Some (settings_of serve.config).ae
   pub max_pdu : Spells 1024 131_072 a.max_pdu.now (settings_of serve.config).max_pdu
   pub max_data : Spells 1024 (2 ^ 48) a.max_data.now (settings_of serve.config).max_data
-  pub classes : map Some (settings_of serve.config).further.classes ≡ map (λ t. uid_of t.now) a.storage_classes.items ++ map Some (registered a.all_storage)
-  pub transfers : AsksFor a.all_syntaxes (map (λ t. t.now) a.transfer_syntaxes.items) (settings_of serve.config).further.transfers
-  pub artim : SpellsTime a.timeout.now serve.timeouts.artim
-  pub idle : SpellsTime a.idle.now serve.timeouts.idle
+  pub classes : map Some (settings_of serve.config).additional.classes ≡ map (λ t. uid_of t.now) a.storage_classes.items ++ map Some (registered a.all_storage)
+  pub transfers : AsksFor a.all_syntaxes (map (λ t. t.now) a.transfer_syntaxes.items) (settings_of serve.config).additional.transfers
+  pub artim : SpellsTime a.timeout.now serve.artim
+  pub idle : SpellsTime a.idle.now serve.idle
   pub level : IsLevel a.verbose a.quiet serve.level
   pub form : IsForm serve.form (unwrap_or (option_map (λ t. t.now) a.log) (codes "text"))
   pub layout : IsLayout serve.layout (option_map (λ t. t.now) a.per)
@@ -93,8 +93,8 @@ pub record IsReplayed (replay : Replay) (a : ReplayArguments) : Type 0 where
   pub callers : (settings_of replay.config).callers ≡ []
   pub max_pdu : (settings_of replay.config).max_pdu ≡ default_max_pdu
   pub max_data : (settings_of replay.config).max_data ≡ default_max_data
-  pub classes : map Some (settings_of replay.config).further.classes ≡ map (λ t. uid_of t.now) a.storage_classes.items ++ map Some (registered a.all_storage)
-  pub transfers : AsksFor a.all_syntaxes (map (λ t. t.now) a.transfer_syntaxes.items) (settings_of replay.config).further.transfers
+  pub classes : map Some (settings_of replay.config).additional.classes ≡ map (λ t. uid_of t.now) a.storage_classes.items ++ map Some (registered a.all_storage)
+  pub transfers : AsksFor a.all_syntaxes (map (λ t. t.now) a.transfer_syntaxes.items) (settings_of replay.config).additional.transfers
   pub cut : Spells 1 65536 a.cut.now replay.cut
   pub layout : IsLayout replay.layout (option_map (λ t. t.now) a.per)
 

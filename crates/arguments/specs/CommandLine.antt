@@ -56,11 +56,14 @@ abbrev pub with_rules : App → List Rule → App
 with_rules app [] = app
 with_rules app (rule ∷ rules) = with_rules (with_rule app rule) rules
 
+-- `serve` and `replay`: which storage classes and transfer syntaxes are taken beside those of the dictionary
+abbrev pub taking_rules : List Rule
+taking_rules = flag_rule (codes "all-storage") ∷ repeated (codes "storage-class") ∷ flag_rule (codes "all-syntaxes") ∷ repeated (codes "transfer-syntax") ∷ []
+
 abbrev pub replay_app : App
-replay_app = with_rules (new_app (codes "replay"))
-    (positional (codes "FILE") ∷ needed (codes "out") ∷ optional (codes "ae") (codes "DCMBOX") ∷ optional (codes "cut") (codes "4096") ∷ free (codes "per")
-    ∷ flag_rule (codes "all-storage") ∷ repeated (codes "storage-class")
-    ∷ flag_rule (codes "all-syntaxes") ∷ repeated (codes "transfer-syntax") ∷ [])
+replay_app = with_rules (with_rules (new_app (codes "replay"))
+    (positional (codes "FILE") ∷ needed (codes "out") ∷ optional (codes "ae") (codes "DCMBOX") ∷ optional (codes "cut") (codes "4096") ∷ free (codes "per") ∷ []))
+    taking_rules
 
 -- `serve`: who is served where, the timeouts and limits, how much is logged and how, how files are kept, and of which classes
 abbrev pub listening_app : App
@@ -82,9 +85,8 @@ filing_app = with_rules logging_app (free (codes "per") ∷ free (codes "numbers
 
 -- and how many are served at once, how long, and how that is ended
 abbrev pub serve_app : App
-serve_app = with_rules filing_app (optional (codes "at-once") (codes "1") ∷ free (codes "per-peer") ∷ free (codes "longest")
-    ∷ free (codes "stop-file") ∷ optional (codes "grace") (codes "10") ∷ free (codes "metrics") ∷ flag_rule (codes "all-storage") ∷ repeated (codes "storage-class")
-    ∷ flag_rule (codes "all-syntaxes") ∷ repeated (codes "transfer-syntax") ∷ [])
+serve_app = with_rules (with_rules filing_app (optional (codes "at-once") (codes "1") ∷ free (codes "per-peer") ∷ free (codes "longest")
+    ∷ free (codes "stop-file") ∷ optional (codes "grace") (codes "10") ∷ free (codes "metrics") ∷ [])) taking_rules
 
 -- a command that takes one file
 abbrev pub file_app : Text → App

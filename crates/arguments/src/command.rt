@@ -5,6 +5,10 @@ ghost use Rattle.arguments.specs.CommandLine.{the_command, with_subcommands};
 ghost use Rattle.arguments.specs.machine.Tables.{app_for};
 
 use crate::argument::{Argument, add_arguments};
+use crate::shared::{
+    AE, ALL_STORAGE, ALL_SYNTAXES, FILES, FOLDER, JSON_OF_EACH, OUT, PER, RECURSIVE, STORAGE_CLASS,
+    TRANSFER_SYNTAX,
+};
 use clap::Command;
 use std::alloc::{AllocError, Global};
 
@@ -26,14 +30,9 @@ const SERVE: Subcommand<'static> = Subcommand {
     example: "Example: dcmbox serve --port 11112 --out received --bind 0.0.0.0 --ae DCMBOX --caller SCANNER1",
     arguments: &[
         Argument::Needed("port", "PORT", "The TCP port to listen on, from 1 to 65535"),
-        Argument::Needed("out", "DIR", "The folder that received files go to"),
+        OUT,
         Argument::Default("bind", "ADDRESS", "127.0.0.1", "The address to listen on"),
-        Argument::Default(
-            "ae",
-            "TITLE",
-            "DCMBOX",
-            "The AE title that a peer has to call",
-        ),
+        AE,
         Argument::Repeated(
             "caller",
             "TITLE",
@@ -79,11 +78,7 @@ const SERVE: Subcommand<'static> = Subcommand {
             "FORM",
             "How lines are logged: text, the default, or json",
         ),
-        Argument::Free(
-            "per",
-            "FILES",
-            "Files into folders of so many, from 1 to 9999",
-        ),
+        PER,
         Argument::Free(
             "numbers",
             "FILE",
@@ -136,18 +131,10 @@ const SERVE: Subcommand<'static> = Subcommand {
             "FILE",
             "A file that has counters in the text form of Prometheus",
         ),
-        Argument::Flag("all-storage", "Takes every storage class of the standard"),
-        Argument::Repeated(
-            "storage-class",
-            "UID",
-            "A further storage class that is taken, up to 64 times",
-        ),
-        Argument::Flag("all-syntaxes", "Takes compressed transfer syntaxes, too"),
-        Argument::Repeated(
-            "transfer-syntax",
-            "UID",
-            "A compressed transfer syntax that is taken, up to 16 times",
-        ),
+        ALL_STORAGE,
+        STORAGE_CLASS,
+        ALL_SYNTAXES,
+        TRANSFER_SYNTAX,
     ],
 };
 
@@ -157,36 +144,19 @@ const REPLAY: Subcommand<'static> = Subcommand {
     example: "Example: dcmbox replay echo.bin --out received",
     arguments: &[
         Argument::Positional("FILE", "The recorded bytes of one association"),
-        Argument::Needed("out", "DIR", "The folder that received files go to"),
-        Argument::Default(
-            "ae",
-            "TITLE",
-            "DCMBOX",
-            "The AE title that a peer has to call",
-        ),
+        OUT,
+        AE,
         Argument::Default(
             "cut",
             "BYTES",
             "4096",
             "How many bytes are taken at a time, from 1 to 65536",
         ),
-        Argument::Free(
-            "per",
-            "FILES",
-            "Files into folders of so many, from 1 to 9999",
-        ),
-        Argument::Flag("all-storage", "Takes every storage class of the standard"),
-        Argument::Repeated(
-            "storage-class",
-            "UID",
-            "A further storage class that is taken, up to 64 times",
-        ),
-        Argument::Flag("all-syntaxes", "Takes compressed transfer syntaxes, too"),
-        Argument::Repeated(
-            "transfer-syntax",
-            "UID",
-            "A compressed transfer syntax that is taken, up to 16 times",
-        ),
+        PER,
+        ALL_STORAGE,
+        STORAGE_CLASS,
+        ALL_SYNTAXES,
+        TRANSFER_SYNTAX,
     ],
 };
 
@@ -195,16 +165,16 @@ const SHOW: Subcommand<'static> = Subcommand {
     about: "Lists the elements of DICOM files",
     example: "Example: dcmbox show received/I0000001",
     arguments: &[
-        Argument::Several("FILE", "A DICOM file; - stands for standard input"),
-        Argument::Letter("recursive", 'r', "Takes the files in folders, too"),
+        FILES,
+        RECURSIVE,
         Argument::Flag("values", "Shows the value of each element after its line"),
         Argument::Repeated(
             "tag",
             "TAG",
             "An element that is shown, as 0010,0020 or PatientID, and no other is but those of further --tag",
         ),
-        Argument::Flag("json", "Writes a JSON object for each file"),
-        Argument::Flag("all-syntaxes", "Takes compressed transfer syntaxes, too"),
+        JSON_OF_EACH,
+        ALL_SYNTAXES,
     ],
 };
 
@@ -213,8 +183,8 @@ const CHECK: Subcommand<'static> = Subcommand {
     about: "Checks DICOM files: their first fault, and the values that break the rules of their VR",
     example: "Example: dcmbox check received/I0000001",
     arguments: &[
-        Argument::Several("FILE", "A DICOM file; - stands for standard input"),
-        Argument::Letter("recursive", 'r', "Takes the files in folders, too"),
+        FILES,
+        RECURSIVE,
         Argument::Flag(
             "strict",
             "Holds values to the whole table of VRs, and ends with status 1 after a note",
@@ -223,8 +193,8 @@ const CHECK: Subcommand<'static> = Subcommand {
             "values",
             "Writes the keyword and the value after each note, and the keyword after a fault",
         ),
-        Argument::Flag("json", "Writes a JSON object for each file"),
-        Argument::Flag("all-syntaxes", "Takes compressed transfer syntaxes, too"),
+        JSON_OF_EACH,
+        ALL_SYNTAXES,
     ],
 };
 
@@ -240,7 +210,7 @@ const INDEX: Subcommand<'static> = Subcommand {
             "descriptions",
             "Puts Series Description into the records of series",
         ),
-        Argument::Flag("all-syntaxes", "Takes compressed transfer syntaxes, too"),
+        ALL_SYNTAXES,
         Argument::Flag(
             "keep",
             "Takes the files that the folder's DICOMDIR names, not those that are there",
@@ -264,7 +234,7 @@ const LIST: Subcommand<'static> = Subcommand {
     about: "Lists the studies of the DICOM files in a folder",
     example: "Example: dcmbox list received --series",
     arguments: &[
-        Argument::Positional("DIR", "The folder; the files in its folders are taken, too"),
+        FOLDER,
         Argument::Flag("series", "Lists the series of each study, too"),
         Argument::Flag(
             "instances",
@@ -279,7 +249,7 @@ const ARRANGE: Subcommand<'static> = Subcommand {
     about: "Links the DICOM files in a folder into a tree of patients, studies and series",
     example: "Example: dcmbox arrange received --to tree",
     arguments: &[
-        Argument::Positional("DIR", "The folder; the files in its folders are taken, too"),
+        FOLDER,
         Argument::Needed("to", "TREE", "The folder that the tree stands in"),
         Argument::Flag("copy", "Copies the files in place of linking them"),
         Argument::Flag("dry-run", "Prints what is to be done, and writes no file"),

@@ -8,13 +8,14 @@ mod command;
 mod options;
 mod quarantine;
 mod settings;
+mod shared;
 mod transfers;
 mod values;
 mod words;
 
 pub use command::VERSION;
 pub use failures::WordsError;
-pub use options::{AtOnce, Index, Layout, Per, QuarantineOption, Replay, Serve};
+pub use options::{AtOnce, Index, Layout, LogForm, Per, QuarantineOption, Replay, Serve};
 pub use settings::{index_settings, replay_settings, serve_settings};
 pub use values::{
     ArrangeArguments, CheckArguments, FileArguments, IndexArguments, ListArguments, MOST_SYNTAXES,

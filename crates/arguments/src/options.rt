@@ -1,12 +1,19 @@
 //! What the commands are to do.
 ghost use Rattle.std.specs.Prelude.{◌<◌, ◌≤◌};
 
-use connection::Timeouts;
 use element::Uid;
-use journal::Form;
 use log::Level;
 use negotiate::Config;
 use std::time::Duration;
+
+/// How lines of the log are written.
+#[derive(Clone, Copy)]
+pub enum LogForm {
+    /// As text, for people.
+    Text,
+    /// Each as a JSON object, for machines.
+    Json,
+}
 
 /// How files are laid out in a folder.
 #[derive(Clone, Copy)]
@@ -43,10 +50,13 @@ pub struct Serve<'a> {
     pub port: u16,
     pub out: &'a str,
     pub config: Config,
-    pub timeouts: Timeouts,
+    /// The duration of the ARTIM timer (PS3.8 section 9.1.5).
+    pub artim: Duration,
+    /// How long the peer of an established association may be silent.
+    pub idle: Duration,
     /// The least important lines that are logged.
     pub level: Level,
-    pub form: Form,
+    pub form: LogForm,
     pub layout: Layout,
     /// The path of the file that keeps the greatest numbers, if one does.
     pub numbers: Option<&'a str>,

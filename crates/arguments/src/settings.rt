@@ -10,15 +10,13 @@ ghost use Rattle.arguments.specs.AskedQuarantine.{IsQuarantine};
 
 use crate::at_once::at_once_of;
 use crate::callers::callers_of;
-use crate::options::{Index, Layout, Per, Replay, Serve};
+use crate::options::{Index, Layout, LogForm, Per, Replay, Serve};
 use crate::quarantine::quarantine_of;
 use crate::transfers::taking_transfers;
 use crate::values::{IndexArguments, MOST_SYNTAXES, MOST_VALUES, ReplayArguments, ServeArguments};
 use arrayvec::ArrayVec;
-use connection::Timeouts;
 use element::{AeTitle, Uid};
 use failures::WordsError;
-use journal::Form;
 use log::Level;
 use negotiate::Config;
 use std::alloc::Global;
@@ -115,8 +113,8 @@ fn with_storage(
     ensures callers { IfOk result (λ c. c.callers ≡ config.callers) }
     ensures max_pdu { IfOk result (λ c. c.max_pdu ≡ config.max_pdu) }
     ensures max_data { IfOk result (λ c. c.max_data ≡ config.max_data) }
-    ensures classes { IfOk result (λ c. map Some (settings_of c).further.classes ≡ map (λ t. uid_of t.now) classes.now.items ++ map Some (registered all_storage)) }
-    ensures transfers { IfOk result (λ c. AsksFor all_syntaxes (map (λ t. t.now) syntaxes.now.items) (settings_of c).further.transfers) }
+    ensures classes { IfOk result (λ c. map Some (settings_of c).additional.classes ≡ map (λ t. uid_of t.now) classes.now.items ++ map Some (registered all_storage)) }
+    ensures transfers { IfOk result (λ c. AsksFor all_syntaxes (map (λ t. t.now) syntaxes.now.items) (settings_of c).additional.transfers) }
 {
     let uids = classes_of(alloc, classes)?;
     let taking = config.with_storage(all_storage, uids.as_slice());
@@ -182,7 +180,8 @@ pub fn serve_settings<'a>(
             arguments.all_syntaxes,
             &arguments.transfer_syntaxes,
         )?,
-        timeouts: limits.timeouts,
+        artim: limits.artim,
+        idle: limits.idle,
         level: level_of(alloc, arguments)?,
         form: form_of(alloc, arguments.log)?,
         layout: limits.layout,
@@ -198,7 +197,8 @@ pub fn serve_settings<'a>(
 /// The limits of `serve`, and how it lays out files.
 #[derive(Clone, Copy)]
 struct Limits {
-    timeouts: Timeouts,
+    artim: Duration,
+    idle: Duration,
     max_pdu: u32,
     max_data: u64,
     layout: Layout,
@@ -209,20 +209,19 @@ struct Limits {
 
 /// Reads the limits of `serve`, and how it lays out files.
 fn limits_of(alloc: Global, arguments: &ServeArguments) -> Result<Limits, WordsError>
-    ensures artim { IfOk result (λ l. SpellsTime arguments.now.timeout.now l.timeouts.artim) }
-    ensures idle { IfOk result (λ l. SpellsTime arguments.now.idle.now l.timeouts.idle) }
+    ensures artim { IfOk result (λ l. SpellsTime arguments.now.timeout.now l.artim) }
+    ensures idle { IfOk result (λ l. SpellsTime arguments.now.idle.now l.idle) }
     ensures max_pdu { IfOk result (λ l. Spells 1024 131_072 arguments.now.max_pdu.now l.max_pdu) }
     ensures max_data { IfOk result (λ l. Spells 1024 (2 ^ 48) arguments.now.max_data.now l.max_data) }
     ensures layout { IfOk result (λ l. IsLayout l.layout (option_map (λ t. t.now) arguments.now.per)) }
 {
-    let timeouts = Timeouts {
-        artim: seconds(alloc, "timeout", arguments.timeout)?,
-        idle: seconds(alloc, "idle", arguments.idle)?,
-    };
+    let artim = seconds(alloc, "timeout", arguments.timeout)?;
+    let idle = seconds(alloc, "idle", arguments.idle)?;
     let max_pdu = number(alloc, "max-pdu", arguments.max_pdu, 1024, 131_072)?;
     let max_data = number(alloc, "max-data", arguments.max_data, 1024, MOST_DATA)?;
     Ok(Limits {
-        timeouts,
+        artim,
+        idle,
         max_pdu: max_pdu as u32,
         max_data,
         layout: layout_of(alloc, arguments.per)?,
@@ -246,12 +245,12 @@ fn level_of(alloc: Global, arguments: &ServeArguments) -> Result<Level, WordsErr
 }
 
 /// Reads the form of the log.
-fn form_of(alloc: Global, form: Option<&str>) -> Result<Form, WordsError>
+fn form_of(alloc: Global, form: Option<&str>) -> Result<LogForm, WordsError>
     ensures { IfOk result (λ f. IsForm f (unwrap_or (option_map (λ t. t.now) form.entry) (codes "text"))) }
 {
     match form {
-        None | Some("text") => Ok(Form::Text),
-        Some("json") => Ok(Form::Json(alloc)),
+        None | Some("text") => Ok(LogForm::Text),
+        Some("json") => Ok(LogForm::Json),
         Some(form) => {
             let refused = format!(in alloc; "error: --log takes text or json, not '{form}'\n")?;
             Err(WordsError::Refused(refused))

@@ -71,8 +71,8 @@ pub(crate) fn taking_transfers(
     ensures callers { IfOk result (λ c. c.callers ≡ config.callers) }
     ensures max_pdu { IfOk result (λ c. c.max_pdu ≡ config.max_pdu) }
     ensures max_data { IfOk result (λ c. c.max_data ≡ config.max_data) }
-    ensures classes { IfOk result (λ c. (settings_of c).further.classes ≡ (settings_of config).further.classes) }
-    ensures transfers { IfOk result (λ c. AsksFor all (map (λ t. t.now) syntaxes.now.items) (settings_of c).further.transfers) }
+    ensures classes { IfOk result (λ c. (settings_of c).additional.classes ≡ (settings_of config).additional.classes) }
+    ensures transfers { IfOk result (λ c. AsksFor all (map (λ t. t.now) syntaxes.now.items) (settings_of c).additional.transfers) }
 {
     let named = transfers_of(alloc, syntaxes)?;
     if all {

@@ -1,9 +1,9 @@
 //! The values of a command's arguments, as they were given or by default.
-ghost use Rattle.std.specs.Prelude.{◌≡◌, ◌<◌, ◌≤◌, ◌&&◌, IfSome, IfNone, IfOk, Some, false, length, map, take};
+ghost use Rattle.std.specs.Prelude.{◌≡◌, ◌<◌, ◌≤◌, IfSome, IfNone, IfOk, Some, false, length, map, take};
 ghost use Rattle.clap.specs.Matches.{found_of};
 ghost use Rattle.clap.specs.Walk.{rows_of, first_of};
 ghost use Rattle.arguments.specs.CommandLine.{IsFile, IsShow, IsCheck, IsReplay, IsIndex, IsList, IsArrange, IsServe, values_of};
-ghost use Rattle.arguments.specs.machine.Needs.{have_values, file_needs, replay_needs, index_needs, list_needs, arrange_needs, serve_needs, callers_fit, classes_fit, transfers_fit};
+ghost use Rattle.arguments.specs.machine.Needs.{have_values, file_needs, index_needs, list_needs, arrange_needs, fits_replay, fits_serve};
 
 use arrayvec::ArrayVec;
 use clap::ArgMatches;
@@ -217,7 +217,7 @@ pub fn check_arguments<'a>(
 /// syntaxes are named.
 pub fn replay_arguments<'a>(matches: &ArgMatches<'a>) -> Option<ReplayArguments<'a>>
     ensures some { IfSome result (λ a. IsReplay a (rows_of (found_of matches.now))) }
-    ensures none { IfNone result ((have_values (rows_of (found_of matches.now)) replay_needs && (classes_fit (rows_of (found_of matches.now)) && transfers_fit (rows_of (found_of matches.now)))) ≡ false) }
+    ensures none { IfNone result (fits_replay (rows_of (found_of matches.now)) ≡ false) }
 {
     let Texts([file, out, ae, cut, ..]) = texts_of(matches, &["FILE", "out", "ae", "cut"])?;
     let per = matches.get_str("per");
@@ -312,7 +312,7 @@ pub(crate) fn values<'a, const MOST: usize>(
 /// 16 transfer syntaxes are named.
 pub fn serve_arguments<'a>(matches: &ArgMatches<'a>) -> Option<ServeArguments<'a>>
     ensures some { IfSome result (λ a. IsServe a (rows_of (found_of matches.now))) }
-    ensures none { IfNone result ((have_values (rows_of (found_of matches.now)) serve_needs && (callers_fit (rows_of (found_of matches.now)) && (classes_fit (rows_of (found_of matches.now)) && transfers_fit (rows_of (found_of matches.now))))) ≡ false) }
+    ensures none { IfNone result (fits_serve (rows_of (found_of matches.now)) ≡ false) }
 {
     let Texts(
         [

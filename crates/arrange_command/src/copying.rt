@@ -1,5 +1,5 @@
 //! Copies files: to a draft, which gets its name once it is complete.
-use element::again::read_again;
+use element::interrupted::read_retrying;
 use failures::{Failure, ProgramError};
 use part10::StoredFile;
 use std::fs::{self, File, OpenFile};
@@ -29,7 +29,7 @@ where
 fn copy<R: Read, W: Write>(from: &mut R, to: &mut W) -> Result<(), ProgramError> {
     let mut room = [0; PIECE];
     for _ in 0..u64::MAX {
-        let count = match read_again(from, &mut room) {
+        let count = match read_retrying(from, &mut room) {
             Ok(count) => count,
             Err(error) => return Err(ProgramError::of(Failure::Read, error)),
         };

@@ -1,12 +1,10 @@
 //! Associations over TCP in one process: the log, and what a peer can't do to the box.
 use crate::files::config;
-use arguments::{AtOnce, Layout, Serve};
-use connection::Timeouts;
+use arguments::{AtOnce, Layout, LogForm, Serve};
 use fixtures::bytes::joined;
 use fixtures::echo;
 use fixtures::folders::fresh;
 use folders::open_folder;
-use journal::Form;
 use log::sink::Memory;
 use log::{Level, Logged};
 use serve_command::serve_one;
@@ -24,12 +22,10 @@ fn settings() -> Serve<'static> {
         port: 104,
         out: ".",
         config: config(),
-        timeouts: Timeouts {
-            artim: Duration::from_secs(1),
-            idle: Duration::from_secs(60),
-        },
+        artim: Duration::from_secs(1),
+        idle: Duration::from_secs(60),
         level: Level::Info,
-        form: Form::Text,
+        form: LogForm::Text,
         layout: Layout::Flat,
         numbers: None,
         quarantine: None,
@@ -110,7 +106,7 @@ fn the_recorded_echo_is_served(rt: HostRuntime) -> Result<(), Fail> {
     let end = format!(in alloc;
         "Z {address} Ended held 0 files 0 dropped 0 received 260 in 0 s {RELEASED}"
     )?;
-    assert!(rt; line.starts_with("[INFO  cli::serve] 20") && line.ends_with(end.as_str()));
+    assert!(rt; line.starts_with("[INFO  dcmbox::serve] 20") && line.ends_with(end.as_str()));
     Ok(())
 }
 

@@ -21,8 +21,13 @@ pub enum ReadEnd {
 /// An observer of a connection. It is told what is sent and received, and cannot change it.
 pub trait Observer {
     /// Called with bytes that the association took. The bytes of `ahead` were read after them and wait to be
-    /// taken. Those of `answer` are what it sends for them: they wait until the peer takes them.
-    fn took(&self, bytes: &[u8], ahead: &[u8], answer: &[u8]);
+    /// taken. Those of `answer` are what it sends for them: they wait until the peer takes them, and if
+    /// `is_held`, until [`settled`](Observer::settled) is called.
+    fn took(&self, bytes: &[u8], ahead: &[u8], answer: &[u8], is_held: bool);
+
+    /// Called once the file of a store whose answer is held was settled, with whether it is kept. If it is
+    /// lost, nothing more is sent.
+    fn settled(&self, is_kept: bool);
 
     /// Called with bytes that were sent.
     fn sent(&self, bytes: &[u8]);

@@ -217,9 +217,9 @@ fn other_transfer_syntaxes(rt: HostRuntime) -> Result<(), Fail> {
 
 /// What a compressed file gives where these further transfer syntaxes are taken: whether it is the image's row, or why
 /// there is none.
-fn row_in(rt: HostRuntime, file: &[u8], further: &[Transfer]) -> Result<bool, Skip> {
+fn row_in(rt: HostRuntime, file: &[u8], additional: &[Transfer]) -> Result<bool, Skip> {
     let mut rest = file;
-    let row = rows_of(rt.alloc(), &mut rest, &id()?, further)?;
+    let row = rows_of(rt.alloc(), &mut rest, &id()?, additional)?;
     Ok(is_image(&row, Transfer::JpegLossless) && rest.is_empty())
 }
 
@@ -229,13 +229,13 @@ fn compressed_files(rt: HostRuntime) -> Result<(), Fail> {
     let file = compressed(rt.alloc(), Transfer::JpegLossless)?;
     let whole = file.as_slice();
     let one = [Transfer::RleLossless, Transfer::JpegLossless];
-    for further in [one.as_slice(), Transfer::encapsulated()] {
-        assert!(rt; row_in(rt, whole, further) == Ok(true));
+    for additional in [one.as_slice(), Transfer::encapsulated()] {
+        assert!(rt; row_in(rt, whole, additional) == Ok(true));
         let cut = &whole[..whole.len().saturating_sub(9)];
-        assert!(rt; row_in(rt, cut, further) == Err(Skip::Fault(20)));
+        assert!(rt; row_in(rt, cut, additional) == Err(Skip::Fault(20)));
     }
-    for further in [[].as_slice(), &one[..1]] {
-        assert!(rt; row_in(rt, whole, further) == Err(Skip::Fault(53)));
+    for additional in [[].as_slice(), &one[..1]] {
+        assert!(rt; row_in(rt, whole, additional) == Err(Skip::Fault(53)));
     }
     Ok(())
 }

@@ -32,6 +32,8 @@ mod extended_rows;
 #[cfg(test)]
 mod files;
 #[cfg(test)]
+mod folder_steps;
+#[cfg(test)]
 mod fragment_rows;
 #[cfg(test)]
 mod images;

@@ -245,9 +245,9 @@ row_is_full row other e = by (fits_rooms row) (first_empty row) e
 row_is_taken : (row : Row) → fits_rooms row ≡ true → first_empty row ≡ None → checked_row row ≡ Ok row
 row_is_taken row fits none = ap (λ (b : Bool). cond b (row_unless row (first_empty row)) (Err (skip.Fault 21))) fits ∙ ap (row_unless row) none
 
-module _ {further : List Transfer} {file : List ℕ} (file_id : List ℕ) (row : Row) (result : Result Row Skip) (is : IsInstance further file) (es : Elements) (text : DataSet (coding_in is.syntax) 0 es is.back) (within : Within (coding_in is.syntax) plain es is.back)
+module _ {additional : List Transfer} {file : List ℕ} (file_id : List ℕ) (row : Row) (result : Result Row Skip) (is : IsInstance additional file) (es : Elements) (text : DataSet (coding_in is.syntax) 0 es is.back) (within : Within (coding_in is.syntax) plain es is.back)
     (e : Ok row ≡ checked_row (row_from (keys_read Needed) file_id is.class is.instance is.syntax (kept_of (row_wants (keys_read Needed)) es))) where
-  with_description : RowOf further (keys_read Described) file file_id result → IfErr result (λ reason. is_long_reason reason ≡ false) → IsOk result
+  with_description : RowOf additional (keys_read Described) file file_id result → IfErr result (λ reason. is_long_reason reason ≡ false) → IsOk result
   with_description (in_header f m err) fits = absurd (no_header_fault is f m)
   with_description (in_data_set b f m err) fits =
       let same = same_instance b is in
@@ -263,12 +263,12 @@ module _ {further : List Transfer} {file : List ℕ} (file_id : List ℕ) (row :
       ∙ subst (λ z. option_map (λ rule. rule.tag) (find (is_missing (values_with (keys_read Needed) z)) key_table) ≡ None) tree full in
       subst (λ z. IsOk z) (sym (is_row ∙ row_is_taken taken (keys_fit Described file_id b.class b.instance b.syntax fs within2.rooms) none)) refl
 
-  taken_anyway : DescribedRow further file file_id result → IsOk result
+  taken_anyway : DescribedRow additional file file_id result → IsOk result
   taken_anyway (described a fits) = with_description a fits
   taken_anyway (undescribed reason a long c) =
-      subst (λ z. IsOk z) (sym (one_row further (keys_read Needed) file file_id result (Ok row) c (of_values is es text within e))) refl
+      subst (λ z. IsOk z) (sym (one_row additional (keys_read Needed) file file_id result (Ok row) c (of_values is es text within e))) refl
 
 pub no_row_is_lost : DescriptionsCostNoRow
-no_row_is_lost further file file_id row result (in_header f m e) d = absurd cc
-no_row_is_lost further file file_id row result (in_data_set is f m e) d = absurd cc
-no_row_is_lost further file file_id row result (of_values is es text within e) d = taken_anyway file_id row result is es text within e d
+no_row_is_lost additional file file_id row result (in_header f m e) d = absurd cc
+no_row_is_lost additional file file_id row result (in_data_set is f m e) d = absurd cc
+no_row_is_lost additional file file_id row result (of_values is es text within e) d = taken_anyway file_id row result is es text within e d

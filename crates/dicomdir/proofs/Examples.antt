@@ -4,7 +4,7 @@
 use Rattle.std.proofs.Common.{◌≡◌, ℕ, false, List, [], ◌∷◌, ◌++◌, length, Option, Some, None, refl, subst, arith, codes, sym}
 use Rattle.element.specs.Vr.{is_short}
 use Rattle.part10.specs.File.{identity_elements, implementation_elements, title_element}
-use Rattle.part10.specs.MetaText.{SpellsMeta, said_of, HasMeta}
+use Rattle.part10.specs.MetaText.{SpellsMeta, meta_values_of, HasMeta}
 use Rattle.part10.proofs.Public.{no_headers, other_syntax_is_a_fault, least_read}
 use Rattle.sequence.specs.Tree.{Elements}
 use Rattle.dicomdir.specs.TreeOf.{Forest, no_nodes, node, TreeOf}
@@ -41,9 +41,9 @@ one_image_faults = (refl, refl, refl, refl, refl, refl, refl)
 -- behind that header stands the data set
 explicit_file : (file back : List ℕ) → file ≡ one_image_header ++ back → IsExplicitFile file one_image_header back
 explicit_file file back whole = record {
-  said = said_of (directory_meta (codes "2.25.1"));
+  said = meta_values_of (directory_meta (codes "2.25.1"));
   whole = whole;
-  header = subst (λ b. SpellsMeta (said_of (directory_meta (codes "2.25.1"))) b) header_is (header_read (codes "2.25.1") refl);
+  header = subst (λ b. SpellsMeta (meta_values_of (directory_meta (codes "2.25.1"))) b) header_is (header_read (codes "2.25.1") refl);
   syntax = refl;
 }
 

@@ -14,7 +14,7 @@ use Rattle.dicomdir.proofs.Distinct.{not_true, not_place, same_place, same_one, 
 use Rattle.std.proofs.lemmas.Grind.{common_steps}
 use Rattle.sequence.specs.declared.coding.Coding.TheVariants as codings
 use Rattle.element.specs.declared.syntax.Syntax.TheVariants.{Explicit, Implicit}
-use Rattle.part10.specs.MetaText.{HasMeta, Said, MetaFaultOf}
+use Rattle.part10.specs.MetaText.{HasMeta, MetaValues, MetaFaultOf}
 use Rattle.part10.proofs.Public.{one_header, one_verdict}
 use Rattle.sequence.proofs.Public.{one_tree, one_fault, one_path, whole_breaks_no_rule}
 use Rattle.std.specs.List.{list_all}
@@ -207,10 +207,10 @@ linked_has_no_fault start elements tree linked all =
 header_is_taken : {file front back : List ℕ} → IsExplicitFile file front back → (fault : MetaFault) → MetaFaultOf file fault → ⊥
 header_is_taken {file = file} x fault is = one_verdict.0 file fault (x.said, meta_of x, (Explicit, x.syntax)) is
 
-implicit_is_taken : {file : List ℕ} {said : Said} → HasMeta said file → said.syntax ≡ syntax_uid Implicit → (fault : MetaFault) → MetaFaultOf file fault → ⊥
+implicit_is_taken : {file : List ℕ} {said : MetaValues} → HasMeta said file → said.syntax ≡ syntax_uid Implicit → (fault : MetaFault) → MetaFaultOf file fault → ⊥
 implicit_is_taken {file = file} {said = said} has is fault wrong = one_verdict.0 file fault (said, has, (Implicit, is)) wrong
 
-not_implicit : {file front back : List ℕ} {said : Said} → IsExplicitFile file front back → HasMeta said file → said.syntax ≡ syntax_uid Implicit → ⊥
+not_implicit : {file front back : List ℕ} {said : MetaValues} → IsExplicitFile file front back → HasMeta said file → said.syntax ≡ syntax_uid Implicit → ⊥
 not_implicit {file = file} {said = said} x has is = grind (arith, common_steps, one_header file said x.said has (meta_of x))
 
 -- ---- the data set

@@ -24,7 +24,7 @@ use Rattle.dictionary.specs.Transfers.{transfer_uid}
 use Rattle.part10.specs.File.{length_element, File, head}
 use Rattle.part10.specs.declared.meta_fault.MetaFault.{MetaFault}
 use Rattle.part10.specs.declared.meta_fault.MetaFault.TheVariants.{NotPart10, BadMeta, OtherSyntax, ReadFailed}
-use Rattle.part10.specs.MetaText.{Said, HasMeta, HasLetters, fault_number}
+use Rattle.part10.specs.MetaText.{MetaValues, HasMeta, HasLetters, fault_number}
 use Rattle.part10.proofs.Public.{one_header, head_is_read}
 use Rattle.sequence.specs.declared.fault.Fault.{Fault}
 use Rattle.sequence.specs.declared.wanted.Want.{Want}
@@ -120,10 +120,10 @@ values_skip keys rules kept out whole i d lt is h = grind (arith, common_steps)
 
 -- ---- a file has one row
 
-has_meta : {further : List Transfer} {file : List ℕ} (is : IsInstance further file) → HasMeta (record { class = is.class; instance = is.instance; syntax = transfer_uid is.syntax }) file
+has_meta : {additional : List Transfer} {file : List ℕ} (is : IsInstance additional file) → HasMeta (record { class = is.class; instance = is.instance; syntax = transfer_uid is.syntax }) file
 has_meta is = record { front = is.front; back = is.back; whole = is.whole; spelled = is.header }
 
-has_letters : {said : Said} {file : List ℕ} → HasMeta said file → HasLetters file
+has_letters : {said : MetaValues} {file : List ℕ} → HasMeta said file → HasLetters file
 has_letters {file = file} has =
     let s = has.spelled in
     let behind : List ℕ = (length_element (length s.group) ++ s.group) ++ has.back in
@@ -131,7 +131,7 @@ has_letters {file = file} has =
     ap (λ z. take 4 (drop 128 z)) parts ∙ ap (λ z. take 4 z) (drop_at s.preamble (codes "DICM" ++ behind) 128 s.preamble_size)
 
 -- a file whose header names a transfer syntax that is taken has no fault there
-pub no_header_fault : {further : List Transfer} {file : List ℕ} (is : IsInstance further file) (fault : MetaFault) → HeaderFaultOf further file fault → ⊥
+pub no_header_fault : {additional : List Transfer} {file : List ℕ} (is : IsInstance additional file) (fault : MetaFault) → HeaderFaultOf additional file fault → ⊥
 unfolding has_meta
 no_header_fault is NotPart10 f = f (has_letters (has_meta is))
 no_header_fault is BadMeta f = f.1 (record { class = is.class; instance = is.instance; syntax = transfer_uid is.syntax }) (has_meta is)
@@ -140,28 +140,28 @@ no_header_fault {file = file} is OtherSyntax f =
     f.2 is.syntax is.taken (ap (λ z. z.syntax) same.0)
 no_header_fault is ReadFailed f = f
 
-one_header_fault : (further : List Transfer) (file : List ℕ) (f g : MetaFault) → HeaderFaultOf further file f → HeaderFaultOf further file g → f ≡ g
-one_header_fault further file NotPart10 NotPart10 m n = refl
-one_header_fault further file NotPart10 BadMeta m n = absurd (m n.0)
-one_header_fault further file NotPart10 OtherSyntax m n = absurd (m (has_letters n.1))
-one_header_fault further file NotPart10 ReadFailed m n = absurd n
-one_header_fault further file BadMeta NotPart10 m n = absurd (n m.0)
-one_header_fault further file BadMeta BadMeta m n = refl
-one_header_fault further file BadMeta OtherSyntax m n = absurd (m.1 n.0 n.1)
-one_header_fault further file BadMeta ReadFailed m n = absurd n
-one_header_fault further file OtherSyntax NotPart10 m n = absurd (n (has_letters m.1))
-one_header_fault further file OtherSyntax BadMeta m n = absurd (n.1 m.0 m.1)
-one_header_fault further file OtherSyntax OtherSyntax m n = refl
-one_header_fault further file OtherSyntax ReadFailed m n = absurd n
-one_header_fault further file ReadFailed g m n = absurd m
+one_header_fault : (additional : List Transfer) (file : List ℕ) (f g : MetaFault) → HeaderFaultOf additional file f → HeaderFaultOf additional file g → f ≡ g
+one_header_fault additional file NotPart10 NotPart10 m n = refl
+one_header_fault additional file NotPart10 BadMeta m n = absurd (m n.0)
+one_header_fault additional file NotPart10 OtherSyntax m n = absurd (m (has_letters n.1))
+one_header_fault additional file NotPart10 ReadFailed m n = absurd n
+one_header_fault additional file BadMeta NotPart10 m n = absurd (n m.0)
+one_header_fault additional file BadMeta BadMeta m n = refl
+one_header_fault additional file BadMeta OtherSyntax m n = absurd (m.1 n.0 n.1)
+one_header_fault additional file BadMeta ReadFailed m n = absurd n
+one_header_fault additional file OtherSyntax NotPart10 m n = absurd (n (has_letters m.1))
+one_header_fault additional file OtherSyntax BadMeta m n = absurd (n.1 m.0 m.1)
+one_header_fault additional file OtherSyntax OtherSyntax m n = refl
+one_header_fault additional file OtherSyntax ReadFailed m n = absurd n
+one_header_fault additional file ReadFailed g m n = absurd m
 
-pub record SameInstance {further : List Transfer} {file : List ℕ} (a b : IsInstance further file) : Type 0 where
+pub record SameInstance {additional : List Transfer} {file : List ℕ} (a b : IsInstance additional file) : Type 0 where
   pub class : a.class ≡ b.class
   pub instance : a.instance ≡ b.instance
   pub syntax : a.syntax ≡ b.syntax
   pub back : a.back ≡ b.back
 
-pub same_instance : {further : List Transfer} {file : List ℕ} (a b : IsInstance further file) → SameInstance a b
+pub same_instance : {additional : List Transfer} {file : List ℕ} (a b : IsInstance additional file) → SameInstance a b
 unfolding has_meta
 same_instance {file = file} a b =
     grind (
@@ -193,44 +193,44 @@ fails_too rules {s = s} {t = t} {b = b} {c = c} {f = f} e d x = subst (λ z. Fai
 pub spells_too : {s t : Transfer} {b c : List ℕ} {es : Elements} → s ≡ t → b ≡ c → DataSet (coding_in s) 0 es b → DataSet (coding_in t) 0 es c
 spells_too {s = s} {t = t} {b = b} {c = c} {es = es} e d x = subst (λ z. DataSet (coding_in t) 0 es z) d (subst (λ z. DataSet (coding_in z) 0 es b) e x)
 
-one_result : {further : List Transfer} {file : List ℕ} (rules : List RecordRule) (file_id : List ℕ) (a b : IsInstance further file) (es fs : Elements) → SameInstance a b → es ≡ fs
+one_result : {additional : List Transfer} {file : List ℕ} (rules : List RecordRule) (file_id : List ℕ) (a b : IsInstance additional file) (es fs : Elements) → SameInstance a b → es ≡ fs
     → checked_row (row_from rules file_id a.class a.instance a.syntax (kept_of (row_wants rules) es)) ≡ checked_row (row_from rules file_id b.class b.instance b.syntax (kept_of (row_wants rules) fs))
 one_result rules file_id a b es fs same e = grind (arith, common_steps)
 
 pub one_row : OneRow
-one_row further rules file file_id r q (in_header f m e) (in_header g n d) = e ∙ ap (λ z. Err (skip.Fault (fault_number z))) (one_header_fault further file f g m n) ∙ sym d
-one_row further rules file file_id r q (in_header f m e) (in_data_set b g n d) = absurd (no_header_fault b f m)
-one_row further rules file file_id r q (in_header f m e) (of_values b fs text within d) = absurd (no_header_fault b f m)
-one_row further rules file file_id r q (in_data_set a f m e) (in_header g n d) = absurd (no_header_fault a g n)
-one_row further rules file file_id r q (in_data_set a f m e) (in_data_set b g n d) =
+one_row additional rules file file_id r q (in_header f m e) (in_header g n d) = e ∙ ap (λ z. Err (skip.Fault (fault_number z))) (one_header_fault additional file f g m n) ∙ sym d
+one_row additional rules file file_id r q (in_header f m e) (in_data_set b g n d) = absurd (no_header_fault b f m)
+one_row additional rules file file_id r q (in_header f m e) (of_values b fs text within d) = absurd (no_header_fault b f m)
+one_row additional rules file file_id r q (in_data_set a f m e) (in_header g n d) = absurd (no_header_fault a g n)
+one_row additional rules file file_id r q (in_data_set a f m e) (in_data_set b g n d) =
     let same = same_instance a b in
     e ∙ ap (λ z. Err (skip.Fault z)) (one_number (fails_too rules same.syntax same.back m) n) ∙ sym d
-one_row further rules file file_id r q (in_data_set a f m e) (of_values b fs text within d) =
+one_row additional rules file file_id r q (in_data_set a f m e) (of_values b fs text within d) =
     let same = same_instance a b in
     absurd (not_both (record { elements = fs; text = text; within = within }) (fails_too rules same.syntax same.back m))
-one_row further rules file file_id r q (of_values a es text within e) (in_header g n d) = absurd (no_header_fault a g n)
-one_row further rules file file_id r q (of_values a es text within e) (in_data_set b g n d) =
+one_row additional rules file file_id r q (of_values a es text within e) (in_header g n d) = absurd (no_header_fault a g n)
+one_row additional rules file file_id r q (of_values a es text within e) (in_data_set b g n d) =
     let same = same_instance b a in
     absurd (not_both (record { elements = es; text = text; within = within }) (fails_too rules same.syntax same.back n))
-one_row further rules file file_id r q (of_values a es text within e) (of_values b fs text2 within2 d) =
+one_row additional rules file file_id r q (of_values a es text within e) (of_values b fs text2 within2 d) =
     let same = same_instance a b in
     e ∙ one_result rules file_id a b es fs same (one_tree (coding_in b.syntax) 0 es fs b.back (spells_too same.syntax same.back text) text2) ∙ sym d
 
 -- ---- and one where Series Description is asked for
 
-not_both_rows : (further : List Transfer) (file file_id : List ℕ) (result : Result Row Skip) (reason : Skip) → RowOf further (keys_read Described) file file_id result → IfErr result (λ reason. is_too_long reason ≡ false)
-    → RowOf further (keys_read Described) file file_id (Err reason) → is_too_long reason ≡ true → ⊥
-not_both_rows further file file_id result reason a fits b too_long =
-    let same = one_row further (keys_read Described) file file_id result (Err reason) a b in
+not_both_rows : (additional : List Transfer) (file file_id : List ℕ) (result : Result Row Skip) (reason : Skip) → RowOf additional (keys_read Described) file file_id result → IfErr result (λ reason. is_too_long reason ≡ false)
+    → RowOf additional (keys_read Described) file file_id (Err reason) → is_too_long reason ≡ true → ⊥
+not_both_rows additional file file_id result reason a fits b too_long =
+    let same = one_row additional (keys_read Described) file file_id result (Err reason) a b in
     let short : is_too_long reason ≡ false = subst (λ z. IfErr z (λ reason. is_too_long reason ≡ false)) same fits in
     let never : false ≡ true = sym short ∙ too_long in
     absurd cc
 
 pub one_described_row : OneDescribedRow
-one_described_row further file file_id r q (described a fits) (described b others) = one_row further (keys_read Described) file file_id r q a b
-one_described_row further file file_id r q (described a fits) (undescribed reason b long d) = absurd (not_both_rows further file file_id r reason a fits b long)
-one_described_row further file file_id r q (undescribed reason a long c) (described b fits) = absurd (not_both_rows further file file_id q reason b fits a long)
-one_described_row further file file_id r q (undescribed reason a long c) (undescribed other b more d) = one_row further (keys_read Needed) file file_id r q c d
+one_described_row additional file file_id r q (described a fits) (described b others) = one_row additional (keys_read Described) file file_id r q a b
+one_described_row additional file file_id r q (described a fits) (undescribed reason b long d) = absurd (not_both_rows additional file file_id r reason a fits b long)
+one_described_row additional file file_id r q (undescribed reason a long c) (described b fits) = absurd (not_both_rows additional file file_id q reason b fits a long)
+one_described_row additional file file_id r q (undescribed reason a long c) (undescribed other b more d) = one_row additional (keys_read Needed) file file_id r q c d
 
 -- ---- its keys fit
 
@@ -314,8 +314,8 @@ keys_fit keys file_id class instance s es fit = rooms_fit (row_wants (keys_read 
 -- ---- the row of a file that was filed
 
 pub filed_has_row : FiledHasRow
-filed_has_row further rules meta file_id rest elements taken class instance title few set within =
-    let is : IsInstance further (File meta rest) = record {
+filed_has_row additional rules meta file_id rest elements taken class instance title few set within =
+    let is : IsInstance additional (File meta rest) = record {
       class = meta.class;
       instance = meta.instance;
       syntax = meta.syntax;

@@ -27,7 +27,7 @@ use Rattle.part10.specs.declared.meta.Meta.{Meta}
 use Rattle.part10.specs.declared.meta_fault.MetaFault.{MetaFault}
 use Rattle.part10.specs.declared.meta_fault.MetaFault.TheVariants.{NotPart10, BadMeta, OtherSyntax, ReadFailed}
 use Rattle.dictionary.specs.declared.transfer.Transfer.{Transfer}
-use Rattle.part10.specs.MetaText.{said_of, TakesMeta, fault_number}
+use Rattle.part10.specs.MetaText.{meta_values_of, TakesMeta, fault_number}
 use Rattle.sequence.specs.Tree.{Elements, DataSet}
 use Rattle.sequence.specs.Open.{header_tail, in_header, last_of, Nested, at_elements, Open}
 use Rattle.sequence.specs.Walk.{Told, Tells, going, refused}
@@ -166,22 +166,22 @@ bytes_behind (x ∷ a) b bytes = bytes_behind a b (λ i. bytes (suc i))
 
 -- the result for what the reader has, where that is known
 abbrev pub Read : List Transfer → List RecordRule → Option (List ℕ) → List ℕ → Result Row Skip → Type 0
-Read further rules old file_id result = IfSome old (λ file. IsBytes file → RowIsRead (RowOf further rules file file_id) result)
+Read additional rules old file_id result = IfSome old (λ file. IsBytes file → RowIsRead (RowOf additional rules file file_id) result)
 
-pub refused_header : (further : List Transfer) (rules : List RecordRule) (fault : MetaFault) (old : Option (List ℕ)) (file_id : List ℕ) → FailsToTake further fault old → Read further rules old file_id (Err (skip.Fault (fault_number fault)))
-refused_header further rules fault None file_id r = tt
-refused_header further rules NotPart10 (Some file) file_id r = λ _. has_row (header_fault NotPart10 r refl)
-refused_header further rules BadMeta (Some file) file_id r = λ _. has_row (header_fault BadMeta r refl)
-refused_header further rules OtherSyntax (Some file) file_id r = λ _. has_row (header_fault OtherSyntax r refl)
-refused_header further rules ReadFailed (Some file) file_id r = λ _. read_failed refl
+pub refused_header : (additional : List Transfer) (rules : List RecordRule) (fault : MetaFault) (old : Option (List ℕ)) (file_id : List ℕ) → FailsToTake additional fault old → Read additional rules old file_id (Err (skip.Fault (fault_number fault)))
+refused_header additional rules fault None file_id r = tt
+refused_header additional rules NotPart10 (Some file) file_id r = λ _. has_row (header_fault NotPart10 r refl)
+refused_header additional rules BadMeta (Some file) file_id r = λ _. has_row (header_fault BadMeta r refl)
+refused_header additional rules OtherSyntax (Some file) file_id r = λ _. has_row (header_fault OtherSyntax r refl)
+refused_header additional rules ReadFailed (Some file) file_id r = λ _. read_failed refl
 
 -- what was read of a header that names a transfer syntax that is taken
-pub record Takes (further : List Transfer) (meta : Meta) (old new : Option (List ℕ)) : Type 0 where
-  pub header : TakesMeta (said_of meta) old new
-  pub taken : is_taken further meta.syntax ≡ true
+pub record Takes (additional : List Transfer) (meta : Meta) (old new : Option (List ℕ)) : Type 0 where
+  pub header : TakesMeta (meta_values_of meta) old new
+  pub taken : is_taken additional meta.syntax ≡ true
 
-abbrev instance_of : (further : List Transfer) (meta : Meta) (file back : List ℕ) → Takes further meta (Some file) (Some back) → IsInstance further file
-instance_of further meta file back takes = record {
+abbrev instance_of : (additional : List Transfer) (meta : Meta) (file back : List ℕ) → Takes additional meta (Some file) (Some back) → IsInstance additional file
+instance_of additional meta file back takes = record {
   class = meta.class;
   instance = meta.instance;
   syntax = meta.syntax;
@@ -192,52 +192,52 @@ instance_of further meta file back takes = record {
   header = takes.header.1;
 }
 
-pub refused_data_set : {V D : ℕ} (w : Walker V D) (further : List Transfer) (rules : List RecordRule) (meta : Meta) (old mid : Option (List ℕ)) (file_id : List ℕ) (reason : Skip) → Takes further meta old mid
-    → walker_syntax w ≡ coding_in meta.syntax → limits_of w ≡ row_limits rules → WalkFails w mid reason → Read further rules old file_id (Err reason)
-refused_data_set w further rules meta None mid file_id reason takes syntax limits fails = tt
-refused_data_set w further rules meta (Some file) None file_id reason takes syntax limits fails = absurd takes.header.2
-refused_data_set w further rules meta (Some file) (Some back) file_id reason takes syntax limits (walking.read_failed e) = λ _. read_failed (ap (λ z. Err z) e)
-refused_data_set w further rules meta (Some file) (Some back) file_id reason takes syntax limits (walking.text_fails f) = λ bytes.
+pub refused_data_set : {V D : ℕ} (w : Walker V D) (additional : List Transfer) (rules : List RecordRule) (meta : Meta) (old mid : Option (List ℕ)) (file_id : List ℕ) (reason : Skip) → Takes additional meta old mid
+    → walker_syntax w ≡ coding_in meta.syntax → limits_of w ≡ row_limits rules → WalkFails w mid reason → Read additional rules old file_id (Err reason)
+refused_data_set w additional rules meta None mid file_id reason takes syntax limits fails = tt
+refused_data_set w additional rules meta (Some file) None file_id reason takes syntax limits fails = absurd takes.header.2
+refused_data_set w additional rules meta (Some file) (Some back) file_id reason takes syntax limits (walking.read_failed e) = λ _. read_failed (ap (λ z. Err z) e)
+refused_data_set w additional rules meta (Some file) (Some back) file_id reason takes syntax limits (walking.text_fails f) = λ bytes.
     let told = f (bytes_behind takes.header.0 back (subst (λ z. IsBytes z) takes.header.2 bytes)) in
     let fails : Fails (coding_in meta.syntax) (row_limits rules) back told.0 = subst (λ z. Fails z (row_limits rules) back told.0) syntax (subst (λ z. Fails (walker_syntax w) z back told.0) limits told.1) in
-    has_row (in_data_set (instance_of further meta file back takes) told.0 fails (ap (λ z. Err z) told.2))
+    has_row (in_data_set (instance_of additional meta file back takes) told.0 fails (ap (λ z. Err z) told.2))
 
-pub out_of_memory : (further : List Transfer) (rules : List RecordRule) (old : Option (List ℕ)) (file_id : List ℕ) (reason : Skip) → reason ≡ skip.OutOfMemory → Read further rules old file_id (Err reason)
-out_of_memory further rules v1 file_id reason e = grind (arith, nat_tests)
+pub out_of_memory : (additional : List Transfer) (rules : List RecordRule) (old : Option (List ℕ)) (file_id : List ℕ) (reason : Skip) → reason ≡ skip.OutOfMemory → Read additional rules old file_id (Err reason)
+out_of_memory additional rules v1 file_id reason e = grind (arith, nat_tests)
 
-pub whole_file : {V D : ℕ} (w : Walker V D) (further : List Transfer) (rules : List RecordRule) (meta : Meta) (old mid : Option (List ℕ)) (file_id : List ℕ) (result : Result Row Skip) → Takes further meta old mid
+pub whole_file : {V D : ℕ} (w : Walker V D) (additional : List Transfer) (rules : List RecordRule) (meta : Meta) (old mid : Option (List ℕ)) (file_id : List ℕ) (result : Result Row Skip) → Takes additional meta old mid
     → walker_syntax w ≡ coding_in meta.syntax → limits_of w ≡ row_limits rules → TookWhole w mid
-    → result ≡ checked_row (row_from rules file_id meta.class meta.instance meta.syntax (told_by w).kept) → Read further rules old file_id result
-whole_file w further rules meta None mid file_id result takes syntax limits took is = tt
-whole_file w further rules meta (Some file) None file_id result takes syntax limits took is = absurd takes.header.2
-whole_file w further rules meta (Some file) (Some back) file_id result takes syntax limits took is = λ _.
+    → result ≡ checked_row (row_from rules file_id meta.class meta.instance meta.syntax (told_by w).kept) → Read additional rules old file_id result
+whole_file w additional rules meta None mid file_id result takes syntax limits took is = tt
+whole_file w additional rules meta (Some file) None file_id result takes syntax limits took is = absurd takes.header.2
+whole_file w additional rules meta (Some file) (Some back) file_id result takes syntax limits took is = λ _.
     let whole : IsWholeDataSet (coding_in meta.syntax) (row_limits rules) back = subst (λ z. IsWholeDataSet z (row_limits rules) back) syntax (subst (λ z. IsWholeDataSet (walker_syntax w) z back) limits took.1) in
     let tells : Tells (coding_in meta.syntax) (row_limits rules) back (told_by w) = subst (λ z. Tells z (row_limits rules) back (told_by w)) syntax (subst (λ z. Tells (walker_syntax w) z back (told_by w)) limits took.0.tells) in
     let kept : (told_by w).kept ≡ kept_of (row_wants rules) whole.elements = kept_at_end whole tells in
-    has_row (of_values (instance_of further meta file back takes) whole.elements whole.text whole.within
+    has_row (of_values (instance_of additional meta file back takes) whole.elements whole.text whole.within
     (is ∙ ap (λ z. checked_row (row_from rules file_id meta.class meta.instance meta.syntax z)) kept))
 
 -- ---- the result where Series Description is asked for
 
 abbrev pub ReadDescribed : List Transfer → Option (List ℕ) → Option (List ℕ) → List ℕ → Result Row Skip → Type 0
-ReadDescribed further old again file_id result = IfSome old (λ file. again ≡ Some file → IsBytes file → RowIsRead (DescribedRow further file file_id) result)
+ReadDescribed additional old again file_id result = IfSome old (λ file. again ≡ Some file → IsBytes file → RowIsRead (DescribedRow additional file file_id) result)
 
 -- that with all keys, where none is too long
-pub described_result : (further : List Transfer) (old again : Option (List ℕ)) (file_id : List ℕ) (result : Result Row Skip) → Read further (keys_read Described) old file_id result
-    → IfErr result (λ reason. is_too_long reason ≡ false) → ReadDescribed further old again file_id result
-described_result further None again file_id result read fits = tt
-described_result further (Some file) again file_id result read fits = λ same bytes. by (read bytes)
+pub described_result : (additional : List Transfer) (old again : Option (List ℕ)) (file_id : List ℕ) (result : Result Row Skip) → Read additional (keys_read Described) old file_id result
+    → IfErr result (λ reason. is_too_long reason ≡ false) → ReadDescribed additional old again file_id result
+described_result additional None again file_id result read fits = tt
+described_result additional (Some file) again file_id result read fits = λ same bytes. by (read bytes)
   where
-    by : RowIsRead (RowOf further (keys_read Described) file file_id) result → RowIsRead (DescribedRow further file file_id) result
+    by : RowIsRead (RowOf additional (keys_read Described) file file_id) result → RowIsRead (DescribedRow additional file file_id) result
     by (no_memory e) = no_memory e
     by (read_failed e) = read_failed e
     by (has_row row) = has_row (described row fits)
 
 -- else that with those alone that are needed
-pub undescribed_result : (further : List Transfer) (old again : Option (List ℕ)) (file_id : List ℕ) (reason : Skip) (result : Result Row Skip) → Read further (keys_read Described) old file_id (Err reason)
-    → is_too_long reason ≡ true → Read further (keys_read Needed) again file_id result → ReadDescribed further old again file_id result
-undescribed_result further None again file_id reason result read long other = tt
-undescribed_result further (Some file) again file_id reason result read long other = λ same bytes. by (read bytes) (subst (λ z. Read further (keys_read Needed) z file_id result) same other bytes)
+pub undescribed_result : (additional : List Transfer) (old again : Option (List ℕ)) (file_id : List ℕ) (reason : Skip) (result : Result Row Skip) → Read additional (keys_read Described) old file_id (Err reason)
+    → is_too_long reason ≡ true → Read additional (keys_read Needed) again file_id result → ReadDescribed additional old again file_id result
+undescribed_result additional None again file_id reason result read long other = tt
+undescribed_result additional (Some file) again file_id reason result read long other = λ same bytes. by (read bytes) (subst (λ z. Read additional (keys_read Needed) z file_id result) same other bytes)
   where
     never : (other : Skip) → ◌≡◌ {A = Result Row Skip} (Err reason) (Err other) → is_too_long other ≡ false → ⊥
     never other e short =
@@ -245,7 +245,7 @@ undescribed_result further (Some file) again file_id reason result read long oth
         let wrong : false ≡ true = sym short ∙ subst (λ z. is_too_long z ≡ true) is long in
         absurd cc
 
-    by : RowIsRead (RowOf further (keys_read Described) file file_id) (Err reason) → RowIsRead (RowOf further (keys_read Needed) file file_id) result → RowIsRead (DescribedRow further file file_id) result
+    by : RowIsRead (RowOf additional (keys_read Described) file file_id) (Err reason) → RowIsRead (RowOf additional (keys_read Needed) file file_id) result → RowIsRead (DescribedRow additional file file_id) result
     by (no_memory e) second = absurd (never skip.OutOfMemory e refl)
     by (read_failed e) second = absurd (never (skip.Fault 54) e refl)
     by (has_row row) (no_memory e) = no_memory e

@@ -12,7 +12,7 @@ use Rattle.dictionary.proofs.Public.{native_uid, transfer_back}
 use Rattle.part10.specs.declared.meta.Meta.{Meta}
 use Rattle.part10.specs.declared.meta_fault.MetaFault.{MetaFault}
 use Rattle.part10.specs.declared.meta_fault.MetaFault.TheVariants.{NotPart10, BadMeta, OtherSyntax, ReadFailed}
-use Rattle.part10.specs.MetaText.{said_of, MetaFaultOf, TakesMeta, FailsToReadAny}
+use Rattle.part10.specs.MetaText.{meta_values_of, MetaFaultOf, TakesMeta, FailsToReadAny}
 use Rattle.dicomdir.specs.Laws.{NativeAloneAreTaken}
 use Rattle.dicomdir.specs.RowOf.{is_taken, HeaderFaultOf}
 use Rattle.dicomdir.specs.machine.RowReading.{FailsToTake}
@@ -22,25 +22,25 @@ one_transfer s t e =
     let again : ◌≡◌ {A = Option Transfer} (Some s) (Some t) = sym (transfer_back s) ∙ ap transfer_of e ∙ transfer_back t in
     cc
 
-other_than_taken : (further : List Transfer) (s : Transfer) → is_taken further s ≡ false → (t : Transfer) → is_taken further t ≡ true → transfer_uid s ≢ transfer_uid t
-other_than_taken further s other t taken e =
-    let wrong : false ≡ true = sym other ∙ ap (λ z. is_taken further z) (one_transfer s t e) ∙ taken in
+other_than_taken : (additional : List Transfer) (s : Transfer) → is_taken additional s ≡ false → (t : Transfer) → is_taken additional t ≡ true → transfer_uid s ≢ transfer_uid t
+other_than_taken additional s other t taken e =
+    let wrong : false ≡ true = sym other ∙ ap (λ z. is_taken additional z) (one_transfer s t e) ∙ taken in
     absurd cc
 
 -- a header that names a transfer syntax that is not taken
-pub other_fails : (further : List Transfer) (meta : Meta) (old new : Option (List ℕ)) → TakesMeta (said_of meta) old new → is_taken further meta.syntax ≡ false → FailsToTake further OtherSyntax old
-other_fails further meta None new takes other = tt
-other_fails further meta (Some file) None takes other = absurd takes.2
-other_fails further meta (Some file) (Some back) takes other =
-    (said_of meta, record { front = takes.0; back = back; whole = takes.2; spelled = takes.1 }, other_than_taken further meta.syntax other)
+pub other_fails : (additional : List Transfer) (meta : Meta) (old new : Option (List ℕ)) → TakesMeta (meta_values_of meta) old new → is_taken additional meta.syntax ≡ false → FailsToTake additional OtherSyntax old
+other_fails additional meta None new takes other = tt
+other_fails additional meta (Some file) None takes other = absurd takes.2
+other_fails additional meta (Some file) (Some back) takes other =
+    (meta_values_of meta, record { front = takes.0; back = back; whole = takes.2; spelled = takes.1 }, other_than_taken additional meta.syntax other)
 
 -- and one that fails for every transfer syntax
-pub still_fails : (further : List Transfer) (fault : MetaFault) (old : Option (List ℕ)) → FailsToReadAny fault old → FailsToTake further fault old
-still_fails further ReadFailed old h = tt
-still_fails further NotPart10 old h = h
-still_fails further BadMeta old h = h
-still_fails further OtherSyntax None h = tt
-still_fails further OtherSyntax (Some file) (said, has, none) = (said, has, λ t taken. none t)
+pub still_fails : (additional : List Transfer) (fault : MetaFault) (old : Option (List ℕ)) → FailsToReadAny fault old → FailsToTake additional fault old
+still_fails additional ReadFailed old h = tt
+still_fails additional NotPart10 old h = h
+still_fails additional BadMeta old h = h
+still_fails additional OtherSyntax None h = tt
+still_fails additional OtherSyntax (Some file) (said, has, none) = (said, has, λ t taken. none t)
 
 -- ---- where none is taken but the native ones
 

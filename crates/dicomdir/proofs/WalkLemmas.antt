@@ -24,7 +24,7 @@ use Rattle.dictionary.proofs.Public.{native_uid}
 use Rattle.part10.specs.declared.meta.Meta.{Meta}
 use Rattle.part10.specs.declared.meta_fault.MetaFault.{MetaFault}
 use Rattle.part10.specs.declared.meta_fault.MetaFault.TheVariants.{NotPart10, BadMeta, OtherSyntax, ReadFailed}
-use Rattle.part10.specs.MetaText.{said_of, TakesMeta, FailsToRead}
+use Rattle.part10.specs.MetaText.{meta_values_of, TakesMeta, FailsToRead}
 use Rattle.dicomdir.specs.declared.fault.DirFault.{DirFault}
 use Rattle.dicomdir.specs.DirFault.{CheckFault, check_limits, HasHeader, IsAtNone, in_header, in_syntax, in_data_set, at_the_end}
 use Rattle.dicomdir.specs.machine.RowReading.{header_fault_of, refusal_of, IsGoing, FailsIn}
@@ -100,12 +100,12 @@ header_at_none v1 f is e = grind (arith, nat_tests)
 said_native : (meta : Meta) (s : Syntax) → meta.syntax ≡ native (syntax_in meta.syntax) → syntax_in meta.syntax ≡ s → transfer_uid meta.syntax ≡ syntax_uid s
 said_native meta s native_is is = ap transfer_uid native_is ∙ native_uid (syntax_in meta.syntax) ∙ ap syntax_uid is
 
-pub implicit_check : (file rest : List ℕ) (meta : Meta) → TakesMeta (said_of meta) (Some file) (Some rest) → meta.syntax ≡ native (syntax_in meta.syntax) → syntax_in meta.syntax ≡ syntaxes.Implicit
+pub implicit_check : (file rest : List ℕ) (meta : Meta) → TakesMeta (meta_values_of meta) (Some file) (Some rest) → meta.syntax ≡ native (syntax_in meta.syntax) → syntax_in meta.syntax ≡ syntaxes.Implicit
     → CheckFault file 53 132 no_tag
 implicit_check file rest meta takes native_is is =
     in_syntax (record { front = takes.0; back = rest; whole = takes.2; spelled = takes.1 }) (said_native meta syntaxes.Implicit native_is is)
 
-pub explicit_check : (file rest : List ℕ) (meta : Meta) → TakesMeta (said_of meta) (Some file) (Some rest) → meta.syntax ≡ native (syntax_in meta.syntax) → syntax_in meta.syntax ≡ syntaxes.Explicit
+pub explicit_check : (file rest : List ℕ) (meta : Meta) → TakesMeta (meta_values_of meta) (Some file) (Some rest) → meta.syntax ≡ native (syntax_in meta.syntax) → syntax_in meta.syntax ≡ syntaxes.Explicit
     → HasHeader file rest
 explicit_check file rest meta takes native_is is = grind (arith, common_steps, said_native meta syntaxes.Explicit native_is is)
 

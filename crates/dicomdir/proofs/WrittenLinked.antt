@@ -8,7 +8,7 @@ use Rattle.std.specs.List.{AllByRecursion}
 use Rattle.element.specs.Uid.{is_uid}
 use Rattle.element.specs.Vr.{is_short}
 use Rattle.part10.specs.File.{meta_group, identity_elements, implementation_elements, title_element}
-use Rattle.part10.specs.MetaText.{SpellsMeta, said_of}
+use Rattle.part10.specs.MetaText.{SpellsMeta, meta_values_of}
 use Rattle.part10.proofs.Public.{head_is_read}
 use Rattle.sequence.specs.Shape.{undefined_length, is_undefined}
 use Rattle.sequence.specs.Tree.{Elements, Items, no_items}
@@ -99,7 +99,7 @@ group_short : (uid : List ℕ) → is_uid uid ≡ true → length (meta_group (d
 unfolding identity_elements implementation_elements title_element is_short
 group_short uid e = grind (arith, common_steps, padded_short 0 uid)
 
-pub header_read : (uid : List ℕ) → is_uid uid ≡ true → SpellsMeta (said_of (directory_meta uid)) (directory_header uid)
+pub header_read : (uid : List ℕ) → is_uid uid ≡ true → SpellsMeta (meta_values_of (directory_meta uid)) (directory_header uid)
 unfolding directory_header
 header_read uid e = head_is_read (directory_meta uid) refl e refl (group_short uid e)
 
@@ -161,7 +161,7 @@ module _ (uid : List ℕ) (rows : List Row) (is_one : is_uid uid ≡ true) (all 
     is_file = record {
       front = directory_header uid;
       back = spelled elements;
-      explicit = record { said = said_of (directory_meta uid); whole = directory_text (directory_header uid) rows; header = header_read uid is_one; syntax = refl };
+      explicit = record { said = meta_values_of (directory_meta uid); whole = directory_text (directory_header uid) rows; header = header_read uid is_one; syntax = refl };
       data_set = laid_elements 0 elements laid;
       begins = refl;
     };

@@ -11,7 +11,7 @@ use Rattle.element.specs.declared.syntax.Syntax.TheVariants.{Implicit}
 use Rattle.element.specs.declared.tag.Tag.{Tag}
 use Rattle.dictionary.specs.Syntaxes.{syntax_uid}
 use Rattle.part10.specs.declared.meta_fault.MetaFault.{MetaFault}
-use Rattle.part10.specs.MetaText.{Said, HasMeta, MetaFaultOf, fault_number}
+use Rattle.part10.specs.MetaText.{MetaValues, HasMeta, MetaFaultOf, fault_number}
 use Rattle.sequence.specs.Rules.{Limits, no_tag}
 use Rattle.sequence.specs.FirstFault.{IsUnbroken, FirstFault, EndFault}
 use Rattle.sequence.specs.Ending.{IsWholeDataSet}
@@ -151,7 +151,7 @@ place_of_meta_fault number = if nat_eq number 50 then 128 else 132
 -- directory.
 pub data CheckFault (file : List ℕ) : ℕ → ℕ → Tag → Type 0 where
   in_header : (fault : MetaFault) → MetaFaultOf file fault → CheckFault file (fault_number fault) (place_of_meta_fault (fault_number fault)) no_tag
-  in_syntax : {said : Said} → HasMeta said file → said.syntax ≡ syntax_uid Implicit → CheckFault file 53 132 no_tag
+  in_syntax : {said : MetaValues} → HasMeta said file → said.syntax ≡ syntax_uid Implicit → CheckFault file 53 132 no_tag
   in_data_set : {front back p u : List ℕ} {rule : ℕ} {tag : Tag} → IsExplicitFile file front back
       → FirstFault codings.Explicit check_limits back p u rule tag → CheckFault file rule (length front + length p) tag
   at_the_end : {front back : List ℕ} {tag : Tag} → IsExplicitFile file front back

@@ -8,7 +8,7 @@ use Rattle.sequence.specs.declared.coding.Coding.TheVariants as codings
 use Rattle.element.specs.declared.header.Header.{Header}
 use Rattle.element.specs.Header.{number, header_bytes}
 use Rattle.dictionary.specs.Syntaxes.{syntax_uid}
-use Rattle.part10.specs.MetaText.{Said, SpellsMeta}
+use Rattle.part10.specs.MetaText.{MetaValues, SpellsMeta}
 use Rattle.sequence.specs.Shape.{is_undefined}
 use Rattle.sequence.specs.Tree.{Elements, no_elements, value, sequence, Items, no_items, item, fragment, DataSet}
 use Rattle.dicomdir.specs.FileId.{file_id_of}
@@ -18,7 +18,7 @@ use Rattle.dicomdir.specs.Record.{kind_of}
 
 -- the file is a file header in Explicit VR Little Endian (`front`), followed by the bytes `back`
 pub record IsExplicitFile (file front back : List ℕ) : Type 0 where
-  pub said : Said
+  pub said : MetaValues
   pub whole : file ≡ front ++ back
   pub header : SpellsMeta said front
   pub syntax : said.syntax ≡ syntax_uid Explicit

@@ -35,18 +35,18 @@ use Rattle.dicomdir.specs.Examples.{one_image_row, one_image_elements}
 -- a file determines its row with these keys, or why it has none, for each choice of the accepted transfer syntaxes
 abbrev pub OneRow : Type 0
 OneRow =
-    (further : List Transfer) (rules : List RecordRule) (file file_id : List ℕ) (result other : Result Row Skip)
-    → RowOf further rules file file_id result → RowOf further rules file file_id other → result ≡ other
+    (additional : List Transfer) (rules : List RecordRule) (file file_id : List ℕ) (result other : Result Row Skip)
+    → RowOf additional rules file file_id result → RowOf additional rules file file_id other → result ≡ other
 
 -- a file determines its row with Series Description, too, or why it has none
 abbrev pub OneDescribedRow : Type 0
-OneDescribedRow = (further : List Transfer) (file file_id : List ℕ) (result other : Result Row Skip) → DescribedRow further file file_id result → DescribedRow further file file_id other → result ≡ other
+OneDescribedRow = (additional : List Transfer) (file file_id : List ℕ) (result other : Result Row Skip) → DescribedRow additional file file_id result → DescribedRow additional file file_id other → result ≡ other
 
 -- a file that has a row without Series Description has one with it, too
 abbrev pub DescriptionsCostNoRow : Type 0
 DescriptionsCostNoRow =
-    (further : List Transfer) (file file_id : List ℕ) (row : Row) (result : Result Row Skip)
-    → RowOf further (keys_read Needed) file file_id (Ok row) → DescribedRow further file file_id result → IsOk result
+    (additional : List Transfer) (file file_id : List ℕ) (row : Row) (result : Result Row Skip)
+    → RowOf additional (keys_read Needed) file file_id (Ok row) → DescribedRow additional file file_id result → IsOk result
 
 -- if no transfer syntax is accepted beside the two native ones, a file header has the faults that it has for those
 abbrev pub NativeAloneAreTaken : Type 0
@@ -65,10 +65,10 @@ KeysFit =
 -- row of that SOP class, SOP instance, transfer syntax and keys, or the first key of type 1 that is missing
 abbrev pub FiledHasRow : Type 0
 FiledHasRow =
-    (further : List Transfer) (rules : List RecordRule) (meta : Meta) (file_id back : List ℕ) (elements : Elements)
-    → is_taken further meta.syntax ≡ true → is_uid meta.class ≡ true → is_uid meta.instance ≡ true → length meta.calling.0 ≡ 16 → length (meta_group meta) ≤ 360
+    (additional : List Transfer) (rules : List RecordRule) (meta : Meta) (file_id back : List ℕ) (elements : Elements)
+    → is_taken additional meta.syntax ≡ true → is_uid meta.class ≡ true → is_uid meta.instance ≡ true → length meta.calling.0 ≡ 16 → length (meta_group meta) ≤ 360
     → DataSet (coding_in meta.syntax) 0 elements back → Within (coding_in meta.syntax) (row_limits rules) elements back
-    → RowOf further rules (File meta back) file_id (checked_row (row_from rules file_id meta.class meta.instance meta.syntax (kept_of (row_wants rules) elements)))
+    → RowOf additional rules (File meta back) file_id (checked_row (row_from rules file_id meta.class meta.instance meta.syntax (kept_of (row_wants rules) elements)))
 
 -- ---- what a check finds is determined by the file
 

@@ -7,7 +7,7 @@ use Rattle.dictionary.specs.declared.transfer.Transfer.{Transfer}
 use Rattle.dictionary.specs.Transfers.{is_encapsulated, is_text_of, transfer_uid}
 use Rattle.part10.specs.declared.meta_fault.MetaFault.{MetaFault}
 use Rattle.part10.specs.declared.meta_fault.MetaFault.TheVariants.{NotPart10, BadMeta, OtherSyntax, ReadFailed}
-use Rattle.part10.specs.MetaText.{Said, SpellsMeta, HasMeta, MetaFaultOf, fault_number}
+use Rattle.part10.specs.MetaText.{MetaValues, SpellsMeta, HasMeta, MetaFaultOf, fault_number}
 use Rattle.sequence.specs.declared.fault.Fault.{Fault}
 use Rattle.sequence.specs.declared.wanted.Want.{Want}
 use Rattle.sequence.specs.Transfer.{coding_in}
@@ -51,24 +51,24 @@ row_from rules file_id class instance syntax values = record {
   values = values_for rules values;
 }
 
--- whether files in this transfer syntax are accepted: in a native one, or in one of `further`
+-- whether files in this transfer syntax are accepted: in a native one, or in one of `additional`
 abbrev pub is_taken : List Transfer → Transfer → Bool
-is_taken further transfer = not (is_encapsulated transfer) || list_any (is_text_of (transfer_uid transfer)) further
+is_taken additional transfer = not (is_encapsulated transfer) || list_any (is_text_of (transfer_uid transfer)) additional
 
 -- the fault of a file header, if the native transfer syntaxes and these further ones are accepted; `OtherSyntax` is
 -- that of any other
 abbrev pub HeaderFaultOf : List Transfer → List ℕ → MetaFault → Type 0
-HeaderFaultOf further file NotPart10 = MetaFaultOf file NotPart10
-HeaderFaultOf further file BadMeta = MetaFaultOf file BadMeta
-HeaderFaultOf further file OtherSyntax = (said : Said) × HasMeta said file × ((t : Transfer) → is_taken further t ≡ true → said.syntax ≢ transfer_uid t)
-HeaderFaultOf further file ReadFailed = ⊥
+HeaderFaultOf additional file NotPart10 = MetaFaultOf file NotPart10
+HeaderFaultOf additional file BadMeta = MetaFaultOf file BadMeta
+HeaderFaultOf additional file OtherSyntax = (said : MetaValues) × HasMeta said file × ((t : Transfer) → is_taken additional t ≡ true → said.syntax ≢ transfer_uid t)
+HeaderFaultOf additional file ReadFailed = ⊥
 
 -- the file is a file header with an accepted transfer syntax, followed by the bytes `back`
-pub record IsInstance (further : List Transfer) (file : List ℕ) : Type 0 where
+pub record IsInstance (additional : List Transfer) (file : List ℕ) : Type 0 where
   pub class : List ℕ
   pub instance : List ℕ
   pub syntax : Transfer
-  pub taken : is_taken further syntax ≡ true
+  pub taken : is_taken additional syntax ≡ true
   pub front : List ℕ
   pub back : List ℕ
   pub whole : file ≡ front ++ back
@@ -76,16 +76,16 @@ pub record IsInstance (further : List Transfer) (file : List ℕ) : Type 0 where
 
 -- the result of a file with this file ID: its row with these keys, its first fault, or the first key of type 1 that
 -- is missing
-pub data RowOf (further : List Transfer) (rules : List RecordRule) (file file_id : List ℕ) (result : Result Row Skip) : Type 0 where
+pub data RowOf (additional : List Transfer) (rules : List RecordRule) (file file_id : List ℕ) (result : Result Row Skip) : Type 0 where
   -- the fault of the file header
-  in_header : (fault : MetaFault) → HeaderFaultOf further file fault → result ≡ Err (skip.Fault (fault_number fault)) → RowOf further rules file file_id result
+  in_header : (fault : MetaFault) → HeaderFaultOf additional file fault → result ≡ Err (skip.Fault (fault_number fault)) → RowOf additional rules file file_id result
   -- else the first fault of the whole data set
-  in_data_set : (is : IsInstance further file) (fault : Fault) → Fails (coding_in is.syntax) (row_limits rules) is.back fault → result ≡ Err (skip.Fault fault.number)
-      → RowOf further rules file file_id result
+  in_data_set : (is : IsInstance additional file) (fault : Fault) → Fails (coding_in is.syntax) (row_limits rules) is.back fault → result ≡ Err (skip.Fault fault.number)
+      → RowOf additional rules file file_id result
   -- else the row of the file header's SOP class, SOP instance and transfer syntax and the keys of the data set, or
   -- the first key of type 1 that is missing
-  of_values : (is : IsInstance further file) (elements : Elements) → DataSet (coding_in is.syntax) 0 elements is.back → Within (coding_in is.syntax) (row_limits rules) elements is.back
-      → result ≡ checked_row (row_from rules file_id is.class is.instance is.syntax (kept_of (row_wants rules) elements)) → RowOf further rules file file_id result
+  of_values : (is : IsInstance additional file) (elements : Elements) → DataSet (coding_in is.syntax) 0 elements is.back → Within (coding_in is.syntax) (row_limits rules) elements is.back
+      → result ≡ checked_row (row_from rules file_id is.class is.instance is.syntax (kept_of (row_wants rules) elements)) → RowOf additional rules file file_id result
 
 -- the result of reading a file: memory ran out, a read failed, or that of the file
 pub data RowIsRead (Gives : Result Row Skip → Type 0) (result : Result Row Skip) : Type 0 where
@@ -101,7 +101,7 @@ is_too_long (skip.Fault number) = nat_eq number 21
 is_too_long reason = false
 
 -- the result of a file with all keys; or, if a key is too long then, with those alone that are not of type 3
-pub data DescribedRow (further : List Transfer) (file file_id : List ℕ) (result : Result Row Skip) : Type 0 where
-  described : RowOf further (keys_read Described) file file_id result → IfErr result (λ reason. is_too_long reason ≡ false) → DescribedRow further file file_id result
-  undescribed : (reason : Skip) → RowOf further (keys_read Described) file file_id (Err reason) → is_too_long reason ≡ true → RowOf further (keys_read Needed) file file_id result
-      → DescribedRow further file file_id result
+pub data DescribedRow (additional : List Transfer) (file file_id : List ℕ) (result : Result Row Skip) : Type 0 where
+  described : RowOf additional (keys_read Described) file file_id result → IfErr result (λ reason. is_too_long reason ≡ false) → DescribedRow additional file file_id result
+  undescribed : (reason : Skip) → RowOf additional (keys_read Described) file file_id (Err reason) → is_too_long reason ≡ true → RowOf additional (keys_read Needed) file file_id result
+      → DescribedRow additional file file_id result

@@ -24,7 +24,7 @@ use crate::taken::read_taken;
 use arrayvec::ArrayVec;
 use dictionary::Transfer;
 use element::Tag;
-use element::again::read_again;
+use element::interrupted::read_retrying;
 use part10::MetaFault;
 use sequence::{Walker, Want, Wanted};
 use std::alloc::Allocator;
@@ -75,7 +75,7 @@ fn walk<R: Read>(walker: &mut RowWalker, reader: &mut R) -> Result<(), Skip>
     let mut room = [0; PIECE];
     // The walker stops at its limit of bytes, so there are never so many pieces.
     for _ in 0..u64::MAX {
-        let Ok(count) = read_again(reader, &mut room) else {
+        let Ok(count) = read_retrying(reader, &mut room) else {
             return Err(Skip::Fault(MetaFault::ReadFailed.number()));
         };
         let is_end = count == 0;
@@ -140,12 +140,12 @@ fn row_with<A: Allocator + Copy, R: Read>(
     alloc: A,
     reader: &mut R,
     file_id: &FileId,
-    further: &[Transfer],
+    additional: &[Transfer],
     keys: RecordKeys,
 ) -> Result<Row<A>, Skip>
-    ensures row { IfSome (R.remaining reader.old) (λ file. IsBytes file → RowIsRead (RowOf further.now (keys_read keys) file file_id.now) result) }
+    ensures row { IfSome (R.remaining reader.old) (λ file. IsBytes file → RowIsRead (RowOf additional.now (keys_read keys) file file_id.now) result) }
 {
-    let meta = match read_taken(reader, further) {
+    let meta = match read_taken(reader, additional) {
         Ok(meta) => meta,
         Err(fault) => return Err(Skip::Fault(fault.number())),
     };
@@ -159,7 +159,7 @@ fn row_with<A: Allocator + Copy, R: Read>(
 /// Information (PS3.10 section 7.1), and the values of the data set that directory records have (PS3.3
 /// section F.5), except those of type 3.
 ///
-/// Files in the two native transfer syntaxes are accepted, and in those of `further`.
+/// Files in the two native transfer syntaxes are accepted, and in those of `additional`.
 ///
 /// Fails with the first of these: `Fault` with the number of a fault of the File Meta Information (50,
 /// 51; 53 for another transfer syntax); `Fault` with that of a fault of the data set (10 to 21), which
@@ -173,11 +173,11 @@ pub fn rows_of<A: Allocator + Copy, R: Read>(
     alloc: A,
     reader: &mut R,
     file_id: &FileId,
-    further: &[Transfer],
+    additional: &[Transfer],
 ) -> Result<Row<A>, Skip>
-    ensures row { IfSome (R.remaining reader.old) (λ file. IsBytes file → RowIsRead (RowOf further.now (keys_read Needed) file file_id.now) result) }
+    ensures row { IfSome (R.remaining reader.old) (λ file. IsBytes file → RowIsRead (RowOf additional.now (keys_read Needed) file file_id.now) result) }
 {
-    row_with(alloc, reader, file_id, further, RecordKeys::Needed)
+    row_with(alloc, reader, file_id, additional, RecordKeys::Needed)
 }
 
 /// Returns whether a file has no row because a key is too long.
@@ -195,16 +195,16 @@ pub fn described_row_of<A: Allocator + Copy, R: Read>(
     reader: &mut R,
     again: &mut R,
     file_id: &FileId,
-    further: &[Transfer],
+    additional: &[Transfer],
 ) -> Result<Row<A>, Skip>
-    ensures row { IfSome (R.remaining reader.old) (λ file. R.remaining again.old ≡ Some file → IsBytes file → RowIsRead (DescribedRow further.now file file_id.now) result) }
+    ensures row { IfSome (R.remaining reader.old) (λ file. R.remaining again.old ≡ Some file → IsBytes file → RowIsRead (DescribedRow additional.now file file_id.now) result) }
 {
-    let reason = match row_with(alloc, reader, file_id, further, RecordKeys::Described) {
+    let reason = match row_with(alloc, reader, file_id, additional, RecordKeys::Described) {
         Ok(row) => return Ok(row),
         Err(reason) => reason,
     };
     if is_too_long(reason) {
-        return rows_of(alloc, again, file_id, further);
+        return rows_of(alloc, again, file_id, additional);
     }
     Err(reason)
 }

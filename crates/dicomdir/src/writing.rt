@@ -3,7 +3,7 @@ ghost use Rattle.std.specs.Prelude.{◌≤◌, IfOk, OnOk, OnErr, length, take};
 ghost use Rattle.std.specs.Io.KnownBytes.{Appends, Keeps};
 ghost use Rattle.dicomdir.specs.Built.{AppendsFront};
 
-use element::again::write_again;
+use element::interrupted::write_retrying;
 use std::io;
 use std::io::{ErrorKind, Write};
 
@@ -15,7 +15,7 @@ pub(crate) fn write_all<W: Write>(writer: &mut W, bytes: &[u8]) -> io::Result<()
 {
     let mut at = 0;
     while at < bytes.len() {
-        let n = write_again(writer, &bytes[at..])?;
+        let n = write_retrying(writer, &bytes[at..])?;
         if n == 0 {
             return Err(io::Error::from(ErrorKind::WriteZero));
         }

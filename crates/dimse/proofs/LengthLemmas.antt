@@ -33,7 +33,7 @@ padded_short padding value n short = elim (cases_Bool (nat_eq (length value % 2)
   | inr e ↦ rw e (grind (arith, nat_tests, e, length-append value (padding ∷ []), short))
 ]
 
-uid_length : (uid : List ℕ) → is_uid uid ≡ true → length uid ≤ 64
+pub uid_length : (uid : List ℕ) → is_uid uid ≡ true → length uid ≤ 64
 uid_length uid e = grind (arith, nat_tests, e)
 
 uid_short : (number : ℕ) (uid : List ℕ) → is_uid uid ≡ true → length (command_element_bytes (element number (even_uid uid))) ≤ 72
@@ -48,7 +48,7 @@ tag_short tag = tag_by (nat_eq tag.0 0 && nat_eq tag.1 0) (element 0x0901 (le ta
 
 -- ---- the error comment
 
-abbrev Short : ℕ → Option (List ℕ) → Type 0
+abbrev pub Short : ℕ → Option (List ℕ) → Type 0
 Short n text = IfSome text (λ bytes. length bytes ≤ n)
 
 either : (t : Bool) (a b : Option (List ℕ)) → Short 16 a → Short 16 b → Short 16 (if t then a else b)
@@ -80,6 +80,10 @@ comment_short : (number : ℕ) (name : Option (List ℕ)) → Short 16 name → 
 comment_short number None short = tt
 comment_short number (Some name) short = padded_short 32 (codes "fault " ++ (two_digits number ++ (32 ∷ name))) 13 (omega (arith, short))
 
+-- the comment of a cause that has a name
+pub comment_is_short : (number : ℕ) → Short 26 (comment_of number)
+comment_is_short number = comment_short number (cause_name number) (name_short number)
+
 detail_by : (tag : Tag) (text : Option (List ℕ)) → Short 26 text → length (command_elements_bytes (elim text [ None ↦ [] | Some bytes ↦ tag_elements tag ++ element 0x0902 bytes ∷ [] ])) ≤ 46
 detail_by tag None short = omega arith
 detail_by tag (Some bytes) short =
@@ -96,7 +100,7 @@ detail_by tag (Some bytes) short =
 
 detail_short : (detail : Option Detail) → length (command_elements_bytes (detail_elements detail)) ≤ 46
 detail_short None = omega arith
-detail_short (Some detail) = detail_by detail.tag (comment_of detail.number) (comment_short detail.number (cause_name detail.number) (name_short detail.number))
+detail_short (Some detail) = detail_by detail.tag (comment_of detail.number) (comment_is_short detail.number)
 
 instance_short : (instance : Option (List ℕ)) → is_uid_or_none instance ≡ true → length (command_elements_bytes (instance_elements instance)) ≤ 72
 instance_short None e = omega arith
@@ -123,7 +127,7 @@ last_short command detail e =
       instance_short command.instance e,
     )
 
-elements_short : (command : CommandRecord) (status : ℕ) (detail : Option Detail) → is_uid command.class ≡ true → is_uid_or_none command.instance ≡ true → length (command_elements_bytes (reply_elements command status detail)) ≤ 230
+pub elements_short : (command : CommandRecord) (status : ℕ) (detail : Option Detail) → is_uid command.class ≡ true → is_uid_or_none command.instance ≡ true → length (command_elements_bytes (reply_elements command status detail)) ≤ 230
 elements_short command status detail class instance =
     let first = element 0x0002 (even_uid command.class) in
     let last = detail_elements (detail_carried command.field status detail) ++ instance_elements command.instance in

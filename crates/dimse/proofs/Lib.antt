@@ -12,3 +12,5 @@ pub mod MessageLemmas
 pub mod PartLemmas
 pub mod ReadLemmas
 pub mod LengthLemmas
+pub mod ReadBack
+pub mod PduLemmas

@@ -9,12 +9,12 @@ use Rattle.dimse.specs.declared.fault.DimseFault.TheVariants.{BadCommand, Unknow
 use Rattle.dimse.specs.Command.{CommandElement, CommandRecord, c_echo, c_store, no_data_set, command_value, needed, ◌>>=◌, store_command, command_of, is_uid_or_none, two_bytes}
 use Rattle.dimse.specs.Reading.{set_of, command_in_set, command_in}
 
-record Went (A : Type 0) (r : Result A DimseFault) (f : A → Result CommandRecord DimseFault) (command : CommandRecord) : Type 0 where
-  value : A
-  first : r ≡ Ok value
-  next : f value ≡ Ok command
+pub record Went (A : Type 0) (r : Result A DimseFault) (f : A → Result CommandRecord DimseFault) (command : CommandRecord) : Type 0 where
+  pub value : A
+  pub first : r ≡ Ok value
+  pub next : f value ≡ Ok command
 
-went : {A : Type 0} (r : Result A DimseFault) (f : A → Result CommandRecord DimseFault) (command : CommandRecord) → (r >>= f) ≡ Ok command → Went A r f command
+pub went : {A : Type 0} (r : Result A DimseFault) (f : A → Result CommandRecord DimseFault) (command : CommandRecord) → (r >>= f) ≡ Ok command → Went A r f command
 went (Ok x) f command e = record { value = x; first = refl; next = e }
 went (Err x) f command e = absurd cc
 

@@ -12,7 +12,7 @@ ghost use Rattle.dimse.specs.declared.detail.Detail.{Detail};
 ghost use Rattle.dimse.specs.Detail.{class_mismatch, instance_mismatch};
 ghost use Rattle.dimse.specs.Status.{cannot_understand, class_not_supported, data_set_mismatch, out_of_resources, success};
 ghost use Rattle.dimse.specs.Reply.{IsFragmented, fragments, reply_bytes, reply_command};
-ghost use Rattle.dimse.specs.ReplyLaws.{EachReplyHasABound, RepliesAreShort};
+ghost use Rattle.dimse.specs.ReplyLaws.{EachReplyHasABound, LastResponses, LongerResponses, RepliesAreShort, ResponsesKeepTheField, ResponsesKeepTheStatus, ResponsesReadBack};
 
 use crate::command::Command;
 use crate::detail::{CLASS_MISMATCH, INSTANCE_MISMATCH};
@@ -39,6 +39,16 @@ pub fn replies_are_short()
     ensures command { (text : List ℕ) (command : CommandRecord) (status : ℕ) (detail : Option Detail) → command_in text ≡ Ok command → length (reply_command command status detail) ≤ 242 }
     ensures reply { RepliesAreShort }
     ensures any { EachReplyHasABound }
+{}
+
+/// A response is read back: its command set has the elements that it was made of, with its command field and
+/// its status; and its PDUs are those of the fragments of that, one after the other.
+pub fn responses_read_back()
+    ensures elements { ResponsesReadBack }
+    ensures field { ResponsesKeepTheField }
+    ensures status { ResponsesKeepTheStatus }
+    ensures longer { LongerResponses }
+    ensures last { LastResponses }
 {}
 
 /// If a list of presentation data values begins with the fragments of a message, that message is the

@@ -2,10 +2,10 @@
 //! (PS3.5 sections 6 and 7).
 #![tactic(auto)]
 
-pub mod again;
 pub mod count;
 mod header;
 pub mod header_laws;
+pub mod interrupted;
 mod kinds;
 pub mod laws;
 mod padding;

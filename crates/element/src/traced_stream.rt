@@ -5,7 +5,7 @@ ghost use Rattle.std.specs.Io.{ReadsAtMost, WritesAtMost};
 ghost use Rattle.std.specs.Io.KnownBytes.{ReadConsumes, WriteAppends};
 ghost use Rattle.std.specs.IoError.{error_kind};
 
-use crate::again::{read_again, write_again};
+use crate::interrupted::{read_retrying, write_retrying};
 use crate::trace::Trace;
 use std::io;
 use std::io::{ErrorKind, Read, Write};
@@ -55,7 +55,7 @@ impl<W: Write> TracedStream<W> {
         ensures same_read { self.new.read ≡ self.old.read }
         ensures retried { IfErr result (λ error. error_kind error ≢ ErrorKind.Interrupted) }
     {
-        let len = write_again(&mut self.device, bytes)?;
+        let len = write_retrying(&mut self.device, bytes)?;
         self.written.append(&bytes[..len]);
         Ok(len)
     }
@@ -73,7 +73,7 @@ impl<R: Read> TracedStream<R> {
         ensures same_written { self.new.written ≡ self.old.written }
         ensures retried { IfErr result (λ error. error_kind error ≢ ErrorKind.Interrupted) }
     {
-        let len = read_again(&mut self.device, room)?;
+        let len = read_retrying(&mut self.device, room)?;
         self.read.append(&room[..len]);
         Ok(len)
     }

@@ -13,13 +13,13 @@ use Rattle.engine.specs.Run.{Rooms, progress_of, sent_of}
 use Rattle.engine.specs.Held.{held_before_data}
 use Rattle.engine.specs.Reached.{reached}
 use Rattle.engine.specs.Recording.{request, other_request, echo, release, accept, reply, released}
-use Rattle.negotiate.specs.Taken.{nothing_further}
+use Rattle.negotiate.specs.Taken.{nothing_additional}
 
 abbrev pub rooms : Rooms
 rooms = record { request = 65536; command = 1024; values = 256; depth = 64 }
 
 abbrev pub settings : Settings
-settings = record { ae = codes "DCMBOX          "; callers = []; max_pdu = 16384; max_data = 2 ^ 40; further = nothing_further }
+settings = record { ae = codes "DCMBOX          "; callers = []; max_pdu = 16384; max_data = 2 ^ 40; additional = nothing_additional }
 
 -- these entries with outcomes in which no device fails
 abbrev pub calm : List Entry → List Happened

@@ -40,7 +40,7 @@ pub record Kept : Type 0 where
   pub peer_max : ℕ
   pub table : List ContextRow
   -- the storage classes that the configuration adds to those of the dictionary
-  pub further : Taken
+  pub additional : Taken
   -- the received bytes of the body of a request
   pub body : List ℕ
   pub join : Joining
@@ -50,7 +50,7 @@ pub record Kept : Type 0 where
 -- the values of the fields, with this configuration and in this phase
 abbrev pub kept_in : {A C V D : ℕ} → Config → Bool → Phase A C V D → Kept
 kept_in {A} {C} {V} {D} config refused phase =
-    record { room = C; depth = D; most = config.max_data; state = state_in phase; refused = refused; caller = caller_in phase; peer_max = maximum_in phase; table = rows_in phase; further = (settings_of config).further; body = request_in phase; join = joining_in phase; storing = stored_in phase }
+    record { room = C; depth = D; most = config.max_data; state = state_in phase; refused = refused; caller = caller_in phase; peer_max = maximum_in phase; table = rows_in phase; additional = (settings_of config).additional; body = request_in phase; join = joining_in phase; storing = stored_in phase }
 
 abbrev pub kept_of : {A C V D : ℕ} → Provider A C V D → Kept
 kept_of p = kept_in p.config p.refused p.phase
@@ -60,11 +60,11 @@ settings_in p = settings_of p.config
 
 -- the values that are kept of an accepted request, with these added storage classes: calling AE title, maximum length
 -- and presentation contexts
-pub record Agreed (calling : List ℕ) (most : ℕ) (table : List ContextRow) (further : Taken) (r : RequestRecord) : Type 0 where
+pub record Agreed (calling : List ℕ) (most : ℕ) (table : List ContextRow) (additional : Taken) (r : RequestRecord) : Type 0 where
   pub caller : calling ≡ r.calling
   pub maximum : most ≡ r.maximum
-  pub rows : table ≡ context_rows further r
-  pub contexts : (id : ℕ) → context_in further table id ≡ context_of r id
+  pub rows : table ≡ context_rows additional r
+  pub contexts : (id : ℕ) → context_in additional table id ≡ context_of r id
   pub count : length table ≡ accepted_count r
 
 -- the values without an accepted request: no title, no maximum length and no presentation context
@@ -93,7 +93,7 @@ pub record Pends (kept : Kept) (store : Store) (p : Progress) (body begun : List
   pub refused_is : is_ended p.state ≡ false → kept.refused ≡ p.refused
   pub body_is : kept.body ≡ counted_body p body
   pub join_is : ShowsMessage kept.room kept.join p.message (counted_pdv p begun)
-  pub agreed : p.state ≡ Sta6 → Agreed kept.caller kept.peer_max kept.table kept.further (request_record p.request)
+  pub agreed : p.state ≡ Sta6 → Agreed kept.caller kept.peer_max kept.table kept.additional (request_record p.request)
   pub unagreed : is_established p.state ≡ false → IsUnagreed kept.caller kept.peer_max kept.table
   pub none_left : is_established p.state ≡ false → p.message ≡ NoMessage
   pub walks : Walks kept.depth kept.most p.request (with_pdv (counted_pdv p begun) p.message) kept.storing

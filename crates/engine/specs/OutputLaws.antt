@@ -31,22 +31,26 @@ answer_length s p finding (At (Pdv context control fragment)) = elim (brought p.
 ]
 answer_length s p finding e = 0
 
--- an entry sends at most 30 bytes and its answer
+-- the most bytes that an entry sends beside its answer, and an abort of the local user
+abbrev pub most_beside_answers : ℕ
+most_beside_answers = 30
+
+-- an entry sends at most so many bytes and its answer
 abbrev pub FewBytesButAnswers : Type 0
-FewBytesButAnswers = (rooms : Rooms) (s : Settings) (p : Progress) (finding : Finding) (e : Entry) → length (at_entry rooms s p finding e).sent ≤ 30 + answer_length s p finding e
+FewBytesButAnswers = (rooms : Rooms) (s : Settings) (p : Progress) (finding : Finding) (e : Entry) → length (at_entry rooms s p finding e).sent ≤ most_beside_answers + answer_length s p finding e
 
 -- each answer along the trace has at most `most` bytes
 abbrev pub AnswersHave : Rooms → Settings → ℕ → Progress → List Happened → Type 0
 AnswersHave rooms s most p [] = Unit {0}
 AnswersHave rooms s most p (h ∷ story) = (answer_length s (absorb h.1.filing p) h.1.finding h.0 ≤ most) × AnswersHave rooms s most (gives rooms s p h).next story
 
--- for each byte of a piece at most four times 30 bytes and an answer are sent, where no answer has more than `most`
+-- for each byte of a piece at most four times so many bytes and an answer are sent, where no answer has more than `most`
 -- bytes
 abbrev pub BoundedOutput : Type 0
 BoundedOutput =
     (rooms : Rooms) (s : Settings) (p : Progress) (story : List Happened) (before piece : List ℕ) (most : ℕ)
     → entries_of story ≡ entries before (Bytes piece ∷ []) → AnswersHave rooms s most p story
-    → length (sent_of rooms s p story) ≤ 4 * length piece * (30 + most)
+    → length (sent_of rooms s p story) ≤ 4 * length piece * (most_beside_answers + most)
 
 -- the body of a PDU that ends with this entry is a list of bytes
 abbrev pub IsOfBytes : Entry → Type 0
@@ -63,7 +67,7 @@ StoriesAnswerShortly = (rooms : Rooms) (s : Settings) (p : Progress) (story : Li
 
 -- the most bytes that four marks have an association send: 18,600
 abbrev pub most_sent : ℕ
-most_sent = 4 * (30 + longest_accept)
+most_sent = 4 * (most_beside_answers + longest_accept)
 
 -- for each byte of a piece at most that many bytes are sent
 abbrev pub OutputOfAPiece : Type 0
@@ -96,6 +100,6 @@ SilentSendsNothing =
     (rooms : Rooms) (s : Settings) (p : Progress) (before : List ℕ) (input : Received) (more : List Happened) → IsSilent input → entries_of more ≡ entries before (input ∷ [])
     → sent_of rooms s p more ≡ []
 
--- an abort of the local user sends at most 30 bytes
+-- an abort of the local user sends at most so many bytes
 abbrev pub AbortsShortly : Type 0
-AbortsShortly = (rooms : Rooms) (s : Settings) (p : Progress) (before : List ℕ) (more : List Happened) → entries_of more ≡ entries before (UserAbort ∷ []) → length (sent_of rooms s p more) ≤ 30
+AbortsShortly = (rooms : Rooms) (s : Settings) (p : Progress) (before : List ℕ) (more : List Happened) → entries_of more ≡ entries before (UserAbort ∷ []) → length (sent_of rooms s p more) ≤ most_beside_answers

@@ -9,7 +9,7 @@ use Rattle.pdu.specs.Record.{RequestRecord}
 use Rattle.engine.specs.Requested.{request_record}
 use Rattle.negotiate.specs.declared.proposals.Context.{Context}
 use Rattle.negotiate.specs.declared.proposals.Service.{Service}
-use Rattle.negotiate.specs.declared.proposals.Service.TheVariants.{Known, Further}
+use Rattle.negotiate.specs.declared.proposals.Service.TheVariants.{Known, Additional}
 use Rattle.negotiate.specs.Contexts.{context_of}
 use Rattle.dimse.specs.declared.fault.DimseFault.{DimseFault}
 use Rattle.dimse.specs.Command.{CommandRecord, c_store, c_echo}
@@ -49,7 +49,7 @@ is_verification other = false
 
 abbrev pub known_class : Service → Option Class
 known_class (Known class) = Some class
-known_class (Further uid) = None
+known_class (Additional uid) = None
 
 abbrev pub class_by : Option Context → Option Class
 class_by None = None

@@ -4,16 +4,16 @@ use Rattle.std.specs.Prelude.{ℕ, List, []}
 use Rattle.pdu.specs.Record.{RequestRecord}
 use Rattle.pdu.specs.Items as items
 use Rattle.negotiate.specs.Contexts.{offered}
-use Rattle.negotiate.specs.Taken.{Taken, nothing_further}
+use Rattle.negotiate.specs.Taken.{Taken, nothing_additional}
 
 -- the UIDs of the added storage classes, and the body of the A-ASSOCIATE-RQ
 pub record Requested : Type 0 where
-  pub further : Taken
+  pub additional : Taken
   pub body : List ℕ
 
 abbrev pub no_request : Requested
-no_request = record { further = nothing_further; body = [] }
+no_request = record { additional = nothing_additional; body = [] }
 
 -- the request as this receiver reads it: an abstract syntax that it does not accept counts as none
 abbrev pub request_record : Requested → RequestRecord
-request_record q = offered q.further (items.request_record q.body)
+request_record q = offered q.additional (items.request_record q.body)

@@ -17,7 +17,7 @@ use Rattle.engine.specs.Heads.{invalid_parameter}
 
 -- the state with this request
 abbrev pub keeping : Settings → List ℕ → Progress → Progress
-keeping s body p = record p { request = record { further = s.further; body = body } }
+keeping s body p = record p { request = record { additional = s.additional; body = body } }
 
 -- the effect of a request that is acceptable to the service provider and accepted by the local user, with these bytes
 -- as its answer

@@ -13,7 +13,7 @@ use Rattle.engine.specs.Reached.{Reached, message_so_far}
 use Rattle.engine.specs.Held.{held_before_data}
 use Rattle.engine.specs.Run.{progress_of, sent_of, files_of, wire_failures, filing_failures}
 use Rattle.engine.specs.Examples.{rooms, settings}
-use Rattle.negotiate.specs.Taken.{nothing_further}
+use Rattle.negotiate.specs.Taken.{nothing_additional}
 
 -- the body of a request of SCANNER1 for CT images in Explicit VR Little Endian
 abbrev pub request_body : List ℕ
@@ -41,7 +41,7 @@ data_set = one_store
 
 -- the established association of this request
 abbrev pub accepted : Progress
-accepted = record { state = Sta6; request = record { further = nothing_further; body = request_body }; refused = false; message = NoMessage; filing_failed = false }
+accepted = record { state = Sta6; request = record { additional = nothing_additional; body = request_body }; refused = false; message = NoMessage; filing_failed = false }
 
 -- an entry with its outcome: whether a call of the filing failed before it, the finding on the C-STORE that ends with
 -- it, and after how many bytes a send failed

@@ -8,7 +8,7 @@ use Rattle.element.specs.Header.{number}
 use Rattle.element.specs.Uid.{uid_of}
 use Rattle.dictionary.specs.Classes.{is_storage}
 use Rattle.negotiate.specs.declared.proposals.Service.{Service}
-use Rattle.negotiate.specs.declared.proposals.Service.TheVariants.{Known, Further}
+use Rattle.negotiate.specs.declared.proposals.Service.TheVariants.{Known, Additional}
 use Rattle.negotiate.specs.Contexts.{service_of}
 use Rattle.negotiate.specs.declared.proposals.Context.{Context}
 use Rattle.dimse.specs.Command.{CommandRecord}
@@ -56,7 +56,7 @@ pub record Submitted : Type 0 where
 
 abbrev pub is_storage_service : Service → Bool
 is_storage_service (Known class) = is_storage class
-is_storage_service (Further uid) = true
+is_storage_service (Additional uid) = true
 
 -- the SOP class of the command is a storage class, and that of the presentation context
 pub record IsOfContext (context : Context) (command : CommandRecord) : Type 0 where

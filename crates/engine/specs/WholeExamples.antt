@@ -28,7 +28,7 @@ use Rattle.dimse.specs.Detail.{class_mismatch}
 use Rattle.engine.specs.Stores.{Verdict, cause, class_tag}
 use Rattle.engine.specs.Recording.{request, accept, reply, released}
 use Rattle.engine.specs.Examples.{rooms, settings, calm, recording}
-use Rattle.negotiate.specs.Taken.{nothing_further}
+use Rattle.negotiate.specs.Taken.{nothing_additional}
 
 abbrev pub calmly : List Received → List Happened
 calmly inputs = calm (entries [] inputs)
@@ -56,14 +56,14 @@ TheRequestIsHeld =
 abbrev pub established : List ContextRow → Fields
 established table = record {
   position = position.Head (record { items = [] });
-  kept = record { room = 4096; depth = 64; most = 2 ^ 40; state = Sta6; refused = false; caller = codes "SCANNER1        "; peer_max = 16384; table = table; further = nothing_further; body = []; join = shown NoMessage []; storing = Nothing };
+  kept = record { room = 4096; depth = 64; most = 2 ^ 40; state = Sta6; refused = false; caller = codes "SCANNER1        "; peer_max = 16384; table = table; additional = nothing_additional; body = []; join = shown NoMessage []; storing = Nothing };
 }
 
 -- after the A-ASSOCIATE-AC the association has these fields with the accepted presentation context, and not without
 -- it
 abbrev pub ItStandsEstablished : Type 0
 ItStandsEstablished =
-    ((store : Store) → Stands rooms settings request_inputs (calmly request_inputs) false (established (context_rows nothing_further (request_record (record { further = nothing_further; body = drop 6 request })))) store)
+    ((store : Store) → Stands rooms settings request_inputs (calmly request_inputs) false (established (context_rows nothing_additional (request_record (record { additional = nothing_additional; body = drop 6 request })))) store)
     × ((store : Store) → Stands rooms settings request_inputs (calmly request_inputs) false (established []) store → ⊥)
 
 abbrev pub ct_context : Context

@@ -70,7 +70,7 @@ impl Peer {
 
     /// Returns the accepted presentation context with this ID, if there is one.
     pub(crate) fn context(&self, config: &Config, id: u8) -> Option<Context>
-        ensures { result ≡ context_in (settings_of config.now).further self.now.contexts.items id }
+        ensures { result ≡ context_in (settings_of config.now).additional self.now.contexts.items id }
     {
         context_of(config, self.contexts.as_slice(), id)
     }

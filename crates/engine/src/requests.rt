@@ -49,7 +49,7 @@ fn reject<W: Wire>(
 /// Returns the data of an accepted request that are needed afterwards.
 fn peer_of(config: &Config, request: &Request) -> Peer
     requires answerable { request.now.maximum < 8 → request.now.maximum ≡ 0 }
-    ensures { IsPeerOf result (settings_of config.now).further (offered (settings_of config.now).further request.now) }
+    ensures { IsPeerOf result (settings_of config.now).additional (offered (settings_of config.now).additional request.now) }
 {
     let calling = request.calling();
     let caller = calling.0;
@@ -73,7 +73,7 @@ fn answer_request<W: Wire>(
     ensures state { result.1 ≡ (at_request (settings_of config.now) at_start body.now).next.state }
     ensures sends { Sends (at_request (settings_of config.now) at_start body.now).sent result.2 (W.line wire.old) (W.line wire.new) }
     ensures due { OnErr result.2 (0 < length (at_request (settings_of config.now) at_start body.now).sent) }
-    ensures accepted { IfSome result.0 (λ peer. (result.1 ≡ Sta6) × IsPeerOf peer (settings_of config.now).further (offered (settings_of config.now).further (request_record body.now))) }
+    ensures accepted { IfSome result.0 (λ peer. (result.1 ≡ Sta6) × IsPeerOf peer (settings_of config.now).additional (offered (settings_of config.now).additional (request_record body.now))) }
     ensures room { IfSome result.0 (λ peer. 20 + 4 * array_vec_len peer.contexts ≤ length body.now) }
     ensures rejected { IfNone result.0 (is_left result.1 ≡ true) }
 {

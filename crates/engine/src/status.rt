@@ -20,7 +20,7 @@ fn class_by(context: Option<Context>) -> Option<Class>
     match context {
         Some(context) => match context.class {
             Service::Known(class) => Some(class),
-            Service::Further(_) => None,
+            Service::Additional(_) => None,
         },
         None => None,
     }

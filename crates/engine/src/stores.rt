@@ -78,18 +78,18 @@ fn is_known(service: &Service, class: Class) -> bool
 {
     match service {
         Service::Known(own) => *own == class,
-        Service::Further(_) => false,
+        Service::Additional(_) => false,
     }
 }
 
 /// Returns whether the service is a class that the configuration adds to the dictionary, with this UID.
-fn is_further(service: &Service, uid: &Uid) -> bool
-    ensures yes { result ≡ true → service.now ≡ services.Further uid.now }
-    ensures no { result ≡ false → service.now ≡ services.Further uid.now → ⊥ }
+fn is_additional(service: &Service, uid: &Uid) -> bool
+    ensures yes { result ≡ true → service.now ≡ services.Additional uid.now }
+    ensures no { result ≡ false → service.now ≡ services.Additional uid.now → ⊥ }
 {
     match service {
         Service::Known(_) => false,
-        Service::Further(own) => own == uid,
+        Service::Additional(own) => own == uid,
     }
 }
 
@@ -103,7 +103,7 @@ pub(crate) fn is_of_context(context: &Context, command: &Command) -> bool
     match class_of(bytes) {
         Some(class) => is_known(&context.class, class) && class.is_storage(),
         None => match Uid::read(bytes) {
-            Some(uid) => is_further(&context.class, &uid),
+            Some(uid) => is_additional(&context.class, &uid),
             None => false,
         },
     }

@@ -2,15 +2,12 @@
 
 use crate::links::Refusing;
 use crate::runtimes::Diverted;
-use fixtures::folders::{count, fresh, holds, is_filed, put};
-use part10::{Filing, FolderFiling};
+use fixtures::folders::{fresh, put};
+use fixtures::play;
+use part10::FolderFiling;
 use std::cell::Cell;
-use std::rt::Files;
 use std::test::Fail;
 use std::{fs, io};
-
-/// The folder of the test that runs.
-type Folder<'a> = FolderFiling<Refusing<'a, HostRuntime>>;
 
 /// Each error of a hard link, and whether it says that the file system has none: EPERM, ENOSYS and EOPNOTSUPP do;
 /// EIO, EACCES, EXDEV, ENOSPC, EROFS and EMLINK do not.
@@ -30,7 +27,7 @@ const LINK_ERRORS: [(i32, bool); 9] = [
 const EIO: i32 = 5;
 
 /// A runtime whose hard links fail so.
-fn without_links<'a, R: Files + Drop>(rt: R, error: i32) -> Refusing<'a, R> {
+fn without_links<'a>(rt: HostRuntime, error: i32) -> Refusing<'a, HostRuntime> {
     Refusing {
         rt,
         links: Some(error),
@@ -40,107 +37,132 @@ fn without_links<'a, R: Files + Drop>(rt: R, error: i32) -> Refusing<'a, R> {
     }
 }
 
-/// Files a text in each folder of one file; returns whether that was done as often as it is due.
-fn files_two(filing: &mut Folder, is_due: bool) -> bool {
-    let are_filed = (is_filed(filing, b"first"), is_filed(filing, b"second"));
-    let due = if is_due { (2, 0) } else { (0, 2) };
-    are_filed == (is_due, is_due) && (filing.committed(), filing.dropped()) == due
-}
+/// Two texts are filed flat, synced, and then in folders of one file each.
+static FILED: &str = "fresh
+open 0
+file 1 first
+file 1 second
+counted 1 2 0
+holds I0000001 first
+holds I0000002 second
+count . 2
+fresh
+open 1
+file 1 first
+file 1 second
+counted 1 2 0
+holds S0000001/I0000001 first
+holds S0000002/I0000001 second
+count . 2";
 
-/// Whether two texts are filed flat, synced, where hard links fail so, just if the error says that there are none.
-fn is_filed_flat(rt: &HostRuntime, dir: &str, (error, is_due): (i32, bool)) -> io::Result<bool> {
-    fresh(rt, dir)?;
-    let mut filing = FolderFiling::open(without_links(*rt, error), dir)?;
-    Ok(
-        files_two(&mut filing, is_due)
-            && holds(rt, dir, "I0000001", b"first")? == is_due
-            && holds(rt, dir, "I0000002", b"second")? == is_due
-            && count(rt, dir)? == if is_due { 2 } else { 0 },
-    )
-}
-
-/// The same in folders of one file each.
-fn is_filed_in_levels(rt: &HostRuntime, dir: &str, row: (i32, bool)) -> io::Result<bool> {
-    let (error, is_due) = row;
-    fresh(rt, dir)?;
-    let mut filing = FolderFiling::open_levels(without_links(*rt, error), dir, 1)?;
-    Ok(
-        files_two(&mut filing, is_due)
-            && holds(rt, dir, "S0000001/I0000001", b"first")? == is_due
-            && holds(rt, dir, "S0000002/I0000001", b"second")? == is_due
-            && count(rt, dir)? == if is_due { 2 } else { 1 },
-    )
-}
+/// Nothing is filed, but a folder made for it.
+static NOT_FILED: &str = "fresh
+open 0
+not file 1 first
+not file 1 second
+counted 1 0 2
+not holds I0000001 first
+not holds I0000002 second
+count . 0
+fresh
+open 1
+not file 1 first
+not file 1 second
+counted 1 0 2
+not holds S0000001/I0000001 first
+not holds S0000002/I0000001 second
+count . 1";
 
 #[test]
 fn links_that_are_refused(rt: HostRuntime) -> Result<(), Fail> {
-    let dir = "links_that_are_refused";
-    for row in LINK_ERRORS {
-        assert!(rt; is_filed_flat(&rt, dir, row)? && is_filed_in_levels(&rt, dir, row)?);
+    for (error, is_due) in LINK_ERRORS {
+        let script = if is_due { FILED } else { NOT_FILED };
+        play(
+            &rt,
+            &without_links(rt, error),
+            "links_that_are_refused",
+            script,
+        )?;
     }
-    fs::remove_dir_all(&rt, dir)?;
     Ok(())
 }
 
 /// A file, and a link that leads nowhere, stay where a draft would get their name without a hard link: it gets the next
 /// one.
+static NOT_RENAMED_OVER: &str = "fresh
+open 0
+put I0000001 of another
+file 1 mine
+holds I0000001 of another
+link I0000003
+file 1 mine
+holds I0000002 mine
+linked I0000003
+holds I0000004 mine
+count . 4";
+
 #[test]
 fn no_file_is_renamed_over(rt: HostRuntime) -> Result<(), Fail> {
-    let dir = "no_file_is_renamed_over";
-    fresh(&rt, dir)?;
-    let mut filing = FolderFiling::open(without_links(rt, 1), dir)?;
-    put(&rt, dir, "I0000001", b"of another")?;
-    assert!(rt; is_filed(&mut filing, b"mine") && holds(&rt, dir, "I0000001", b"of another")?);
-    rt.symlink("nowhere", "no_file_is_renamed_over/I0000003")?;
-    assert!(rt; is_filed(&mut filing, b"mine") && holds(&rt, dir, "I0000002", b"mine")?);
-    assert!(rt; fs::symlink_metadata(&rt, "no_file_is_renamed_over/I0000003")?.is_symlink());
-    assert!(rt; holds(&rt, dir, "I0000004", b"mine")? && count(&rt, dir)? == 4);
-    drop(filing);
-    fs::remove_dir_all(&rt, dir)?;
-    Ok(())
+    play(
+        &rt,
+        &without_links(rt, 1),
+        "no_file_is_renamed_over",
+        NOT_RENAMED_OVER,
+    )
 }
 
-/// Whether a text is filed in the first folder of files, where hard links fail so or are made, and files of this name
-/// can't be written to the disk.
-fn is_filed_unsynced(
-    rt: &HostRuntime,
-    dir: &str,
+/// A text is filed in the first folder of files, or not.
+static NAMED: &str = "fresh
+make S0000001
+open 1
+file 1 file
+counted 1 1 0
+holds S0000001/I0000001 file
+count . 1";
+
+static NOT_NAMED: &str = "fresh
+make S0000001
+open 1
+not file 1 file
+counted 1 0 1
+not holds S0000001/I0000001 file
+count . 1";
+
+/// Where hard links fail so or are made, and files of this name can't be written to the disk.
+fn unsynced<'a>(
+    rt: &'a HostRuntime,
     links: Option<i32>,
-    name: &str,
-) -> io::Result<bool> {
-    fresh(rt, dir)?;
-    fs::create_dir(rt, "names_that_can_not_be_synced/S0000001")?;
-    let times = Cell::new(u32::MAX);
+    name: &'a str,
+    times: &'a Cell<u32>,
+) -> Refusing<'a, Diverted<'a>> {
     let unsynced = Diverted {
         rt,
         name,
         device: "/dev/null",
-        times: &times,
+        times,
     };
-    let refusing = Refusing {
+    Refusing {
+        rt: unsynced,
         links,
-        ..without_links(unsynced, 1)
-    };
-    let mut filing = FolderFiling::open_levels(refusing, dir, 1)?;
-    let is_filed = is_filed(&mut filing, b"file");
-    Ok(is_filed && filing.committed() == 1)
+        listed: "",
+        opening: None,
+        end: None,
+    }
 }
 
 /// After a rename both folders are written to the disk, or nothing is filed; after a link only the file's is.
 #[test]
 fn names_that_can_not_be_synced(rt: HostRuntime) -> Result<(), Fail> {
     let dir = "names_that_can_not_be_synced";
-    for (links, name, is_due) in [
-        (Some(1), "S0000001", false),
-        (Some(1), dir, false),
-        (None, dir, true),
-    ] {
-        assert!(rt; is_filed_unsynced(&rt, dir, links, name)? == is_due);
-        assert!(rt; holds(&rt, dir, "S0000001/I0000001", b"file")? == is_due);
-        assert!(rt; count(&rt, dir)? == 1);
-    }
-    fs::remove_dir_all(&rt, dir)?;
-    Ok(())
+    let times = Cell::new(u32::MAX);
+    play(
+        &rt,
+        &unsynced(&rt, Some(1), "S0000001", &times),
+        dir,
+        NOT_NAMED,
+    )?;
+    play(&rt, &unsynced(&rt, Some(1), dir, &times), dir, NOT_NAMED)?;
+    play(&rt, &unsynced(&rt, None, dir, &times), dir, NAMED)
 }
 
 /// A runtime that can't open the listing of folders of this name, or fails at its end.
@@ -154,6 +176,14 @@ fn unlisted<'a>(rt: HostRuntime, listed: &'a str, is_opened: bool) -> Refusing<'
     }
 }
 
+/// Returns the system's error of a folder that is not opened.
+fn error_of(filing: io::Result<FolderFiling<Refusing<HostRuntime>>>) -> Option<i32> {
+    match filing {
+        Ok(_) => None,
+        Err(error) => error.raw_os_error(),
+    }
+}
+
 /// A folder, or its last folder of files, that can't be listed to its end is not opened.
 #[test]
 fn a_folder_that_can_not_be_listed(rt: HostRuntime) -> Result<(), Fail> {
@@ -163,10 +193,10 @@ fn a_folder_that_can_not_be_listed(rt: HostRuntime) -> Result<(), Fail> {
     put(&rt, dir, "I0000001", b"file")?;
     for is_opened in [false, true] {
         let flat = FolderFiling::open(unlisted(rt, "listed/", is_opened), dir);
-        assert!(rt; flat.is_err_and(|error| error.raw_os_error() == Some(EIO)));
+        assert!(rt; error_of(flat) == Some(EIO));
         for listed in ["listed/", "S0000001/"] {
             let levels = FolderFiling::open_levels(unlisted(rt, listed, is_opened), dir, 1);
-            assert!(rt; levels.is_err_and(|error| error.raw_os_error() == Some(EIO)));
+            assert!(rt; error_of(levels) == Some(EIO));
         }
     }
     assert!(rt; FolderFiling::open(unlisted(rt, "S0000001/", false), dir).is_ok());

@@ -5,6 +5,7 @@ mod failed_calls;
 mod filed;
 mod folder;
 mod given_names;
+mod groups;
 mod handles;
 mod lives;
 mod lost_power;

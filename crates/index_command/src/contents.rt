@@ -53,7 +53,7 @@ fn read_row<R: Files + Alloc>(
     path: &str,
     id: &FileId,
     descriptions: bool,
-    further: &[Transfer],
+    additional: &[Transfer],
 ) -> Result<Row<R::A>, Skip>
 where
     R::A: Copy,
@@ -63,10 +63,10 @@ where
         return Err(unread);
     };
     if !descriptions {
-        return rows_of(rt.alloc(), &mut file, id, further);
+        return rows_of(rt.alloc(), &mut file, id, additional);
     }
     match fs::open(rt, path) {
-        Ok(mut again) => described_row_of(rt.alloc(), &mut file, &mut again, id, further),
+        Ok(mut again) => described_row_of(rt.alloc(), &mut file, &mut again, id, additional),
         Err(_) => Err(unread),
     }
 }
@@ -76,7 +76,7 @@ fn row_of<R: Files + Alloc>(
     rt: &R,
     settings: &Index,
     id: &FileId,
-    further: &[Transfer],
+    additional: &[Transfer],
 ) -> Result<Row<R::A>, Reason>
 where
     R::A: Copy,
@@ -84,7 +84,7 @@ where
     let Ok(path) = path_of(rt.alloc(), settings.dir, id) else {
         return Err(Reason::Unread(Skip::OutOfMemory));
     };
-    let reason = match read_row(rt, path.as_str(), id, settings.descriptions, further) {
+    let reason = match read_row(rt, path.as_str(), id, settings.descriptions, additional) {
         Ok(row) if is_image_class(row.class()) => return Ok(row),
         Ok(_) => Skip::Fault(MetaFault::ReadFailed.number()),
         Err(Skip::Missing(tag)) => Skip::Missing(tag),
@@ -132,7 +132,7 @@ pub(crate) fn read_rows<R: Files + Alloc>(
     rt: &R,
     settings: &Index,
     files: IndexedFiles<R::A>,
-    further: &[Transfer],
+    additional: &[Transfer],
 ) -> Result<Contents<R::A>, ProgramError>
 where
     R::A: Copy,
@@ -143,7 +143,7 @@ where
         left_out: files.left_out,
     };
     for id in &files.ids {
-        contents.push(id, row_of(rt, settings, id, further))?;
+        contents.push(id, row_of(rt, settings, id, additional))?;
     }
     Ok(contents)
 }

@@ -205,7 +205,7 @@ where
 }
 
 /// Returns the transfer syntaxes in which files are listed beside the two native ones.
-fn further_syntaxes(all: bool) -> &'static [Transfer] {
+fn additional_syntaxes(all: bool) -> &'static [Transfer] {
     if all { Transfer::encapsulated() } else { &[] }
 }
 
@@ -240,8 +240,8 @@ where
     }
     match files_of(rt, settings, err)? {
         Ok(files) => {
-            let further = further_syntaxes(settings.all_syntaxes);
-            let contents = read_rows(rt, settings, files, further)?;
+            let additional = additional_syntaxes(settings.all_syntaxes);
+            let contents = read_rows(rt, settings, files, additional)?;
             index_files(rt, settings, &contents, most, (out, err))
         }
         Err(fault) => refuse(fault, out),

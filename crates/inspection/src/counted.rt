@@ -2,7 +2,7 @@
 ghost use Rattle.std.specs.Prelude.{◌≡◌, ◌≤◌, length, IfOk};
 
 use crate::error::InspectionError;
-use element::again::read_again;
+use element::interrupted::read_retrying;
 use std::io;
 use std::io::{Error, ErrorKind, Read};
 
@@ -42,7 +42,7 @@ impl<'a, R: Read> Counted<'a, R> {
         ensures size { length room.new ≡ length room.old }
         ensures within { IfOk result (λ n. n ≤ length room.new) }
     {
-        match read_again(self.input, room) {
+        match read_retrying(self.input, room) {
             Ok(len) => {
                 self.count = self.count.saturating_add(len as u64);
                 Ok(len)

@@ -156,7 +156,7 @@ impl FrameTables {
         };
         match table.meet_offset(at) {
             Met::Named => self.meet_length(length),
-            Met::Further => None,
+            Met::Additional => None,
             Met::Wrong => {
                 self.lengths.let_go();
                 Some(self.note(TableFault::WrongOffset))

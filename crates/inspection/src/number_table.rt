@@ -41,7 +41,7 @@ pub(crate) enum Met {
     /// The one at the next offset.
     Named,
     /// A further one of the same frame.
-    Further,
+    Additional,
     /// The next offset is not that of it, nor of a later one.
     Wrong,
 }
@@ -127,12 +127,12 @@ impl NumberTable {
     /// Follows a fragment, so many bytes after the first one: the next offset is its own, or that of a later one.
     pub(crate) fn meet_offset(&mut self, at: u64) -> Met {
         match self.next() {
-            None => Met::Further,
+            None => Met::Additional,
             Some(offset) if offset == at => {
                 self.advance();
                 Met::Named
             }
-            Some(offset) if at > 0 && at < offset => Met::Further,
+            Some(offset) if at > 0 && at < offset => Met::Additional,
             Some(_) => {
                 self.let_go();
                 Met::Wrong

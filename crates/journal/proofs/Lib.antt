@@ -1,1 +1,3 @@
 mod TextLemmas
+mod AnswerLemmas
+mod ReplyLemmas

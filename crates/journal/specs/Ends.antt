@@ -18,6 +18,7 @@ counted_as (ends.Read read.Longest) = counted.TooLong
 counted_as (ends.Read read.Stopped) = counted.Stopping
 counted_as (ends.Read read.Failed) = counted.ConnectionFailed
 counted_as ends.SendFailed = counted.ConnectionFailed
+counted_as ends.FileLost = counted.FileLost
 
 -- one whose end was not seen is counted apart
 abbrev pub counted_where : Option End → CountedEnd

@@ -85,6 +85,8 @@ pub(crate) enum End {
     Read(ReadEnd),
     /// A send failed.
     SendFailed,
+    /// The file of a store could not be kept once it was committed.
+    FileLost,
 }
 
 impl End {
@@ -105,6 +107,7 @@ impl End {
             End::Read(ReadEnd::Longest) => CountedEnd::TooLong,
             End::Read(ReadEnd::Stopped) => CountedEnd::Stopping,
             End::Read(ReadEnd::Failed) | End::SendFailed => CountedEnd::ConnectionFailed,
+            End::FileLost => CountedEnd::FileLost,
         }
     }
 }
@@ -130,6 +133,7 @@ impl fmt::Display for End {
             End::Read(ReadEnd::Stopped) => f.write_str("aborted: the box stops"),
             End::Read(ReadEnd::Failed) => f.write_str("the wire failed"),
             End::SendFailed => f.write_str("the wire failed"),
+            End::FileLost => f.write_str("closed by dcmbox: a file was lost"),
         }
     }
 }

@@ -9,7 +9,7 @@ use crate::state::{State, Title};
 use crate::text::Text;
 use crate::words::context_words;
 use log::Level;
-use part10::Place;
+use part10::Location;
 use std::fmt::Write;
 use std::io;
 
@@ -268,7 +268,7 @@ pub(crate) fn give_status<F: Fields>(reply: &Reply, out: &mut F) {
 }
 
 /// Gives where a file stands, if there is one.
-fn give_place<F: Fields>(place: Option<Place>, out: &mut F) {
+fn give_place<F: Fields>(place: Option<Location>, out: &mut F) {
     if let Some(place) = place {
         let mut file = Text::<32>::new();
         let _ = write!(file, "{place}");
@@ -283,7 +283,7 @@ pub(crate) struct Answered<'a> {
     pub class: &'a Value,
     /// How many bytes its data set has.
     pub bytes: u64,
-    pub place: Option<Place>,
+    pub place: Option<Location>,
 }
 
 impl Entry for Answered<'_> {
@@ -344,6 +344,8 @@ impl Entry for NotStored<'_> {
 #[derive(Clone, Copy)]
 pub(crate) struct Unanswered<'a> {
     pub end: Option<End>,
+    /// Why its file was lost, if it was.
+    pub lost: Option<&'a Reason>,
     pub count: u64,
     pub class: &'a Value,
     pub instance: &'a Value,
@@ -364,6 +366,9 @@ impl Entry for Unanswered<'_> {
 
     fn fields<F: Fields>(&self, out: &mut F) {
         out.text(END, end_words(self.end).as_str());
+        if let Some(reason) = self.lost {
+            out.text(REASON, reason.as_str());
+        }
         out.text(CLASS, self.class.as_str());
         out.text(INSTANCE, self.instance.as_str());
         out.number(Name::new("stores", " stores "), self.count);
@@ -375,7 +380,7 @@ impl Entry for Unanswered<'_> {
 #[derive(Clone, Copy)]
 pub(crate) struct NotConfirmed<'a> {
     pub end: Option<End>,
-    pub place: Option<Place>,
+    pub place: Option<Location>,
     pub class: &'a Value,
     pub instance: &'a Value,
     pub calling: &'a Title,

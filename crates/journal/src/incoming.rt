@@ -18,7 +18,7 @@ const VALUE_HEAD: u32 = 6;
 
 /// The last thing that was taken which the association may answer.
 #[derive(Clone, Copy, Debug, PartialEq, Eq)]
-pub(crate) enum Heard {
+pub(crate) enum Taken {
     /// Nothing that it answers.
     Nothing,
     /// The head of a PDU.
@@ -116,24 +116,24 @@ impl Incoming {
     }
 
     /// Takes bytes, and returns the last thing in them which the association may answer.
-    pub(crate) fn take(&mut self, bytes: &[u8]) -> Heard {
-        let mut heard = Heard::Nothing;
+    pub(crate) fn take(&mut self, bytes: &[u8]) -> Taken {
+        let mut taken = Taken::Nothing;
         let mut rest = bytes;
         for _ in 0..u64::MAX {
             let (count, event) = self.next(rest);
             rest = &rest[count..];
             match event {
-                Some(Heard::Nothing) => {}
-                Some(event) => heard = event,
-                None => return heard,
+                Some(Taken::Nothing) => {}
+                Some(event) => taken = event,
+                None => return taken,
             }
         }
-        heard
+        taken
     }
 
     /// Takes the first of the bytes, and returns how many, and what they are. `None` is returned once all
     /// are taken.
-    fn next(&mut self, bytes: &[u8]) -> (usize, Option<Heard>)
+    fn next(&mut self, bytes: &[u8]) -> (usize, Option<Taken>)
         ensures within { result.0 ≤ length bytes.now }
     {
         match self.deframer.next(bytes) {
@@ -143,31 +143,31 @@ impl Incoming {
     }
 
     /// Takes note of an event.
-    fn hear(&mut self, event: Event<'_>) -> Heard {
+    fn hear(&mut self, event: Event<'_>) -> Taken {
         match event {
             Event::PduHead(head) => {
                 self.head = head;
-                Heard::Head
+                Taken::Head
             }
             Event::Body(bytes) => {
                 self.keep_body(bytes);
-                Heard::Nothing
+                Taken::Nothing
             }
             Event::PdvHead(head) => self.hear_value(head),
             Event::Fragment(bytes) => {
                 self.message.keep(bytes);
-                Heard::Nothing
+                Taken::Nothing
             }
             Event::PdvEnd => match (self.value.last, self.value.command) {
-                (true, true) => Heard::Command,
-                (true, false) => Heard::Data,
-                (false, _) => Heard::Nothing,
+                (true, true) => Taken::Command,
+                (true, false) => Taken::Data,
+                (false, _) => Taken::Nothing,
             },
-            Event::BadPdv => Heard::BadValue,
-            Event::Leftover => Heard::Leftover,
-            Event::PduEnd(A_ASSOCIATE_RQ) => Heard::Request,
-            Event::PduEnd(A_ABORT) => Heard::Abort,
-            Event::PduEnd(_) => Heard::Nothing,
+            Event::BadPdv => Taken::BadValue,
+            Event::Leftover => Taken::Leftover,
+            Event::PduEnd(A_ASSOCIATE_RQ) => Taken::Request,
+            Event::PduEnd(A_ABORT) => Taken::Abort,
+            Event::PduEnd(_) => Taken::Nothing,
         }
     }
 
@@ -183,35 +183,35 @@ impl Incoming {
     }
 
     /// Takes note of the head of a presentation data value.
-    fn hear_value(&mut self, head: PdvHead) -> Heard {
+    fn hear_value(&mut self, head: PdvHead) -> Taken {
         let misplaced = self.message.misplaced(&head);
         if misplaced.is_none() {
             self.message.begin(&head);
         }
         self.value = head;
-        Heard::Value(misplaced)
+        Taken::Value(misplaced)
     }
 
     /// Returns why what was heard last has the association aborted, as far as it can be told, of an
     /// association that is established or not.
     pub(crate) fn cause(
         &self,
-        heard: Heard,
+        taken: Taken,
         is_established: bool,
         limits: Limits,
     ) -> Option<Cause> {
-        match heard {
-            Heard::Nothing | Heard::Data | Heard::Abort => None,
-            Heard::Head => Some(head_cause(self.head, is_established, limits)),
-            Heard::Request => match read_request(self.request()?) {
+        match taken {
+            Taken::Nothing | Taken::Data | Taken::Abort => None,
+            Taken::Head => Some(head_cause(self.head, is_established, limits)),
+            Taken::Request => match read_request(self.request()?) {
                 Ok(_) => None,
                 Err(fault) => Some(Cause::Request(fault)),
             },
-            Heard::Value(None) => Some(Cause::Context(self.value.context)),
-            Heard::Value(Some(misplaced)) => Some(Cause::Fragment(misplaced)),
-            Heard::Command => self.command_cause(),
-            Heard::BadValue => Some(Cause::Value),
-            Heard::Leftover => Some(Cause::Leftover),
+            Taken::Value(None) => Some(Cause::Context(self.value.context)),
+            Taken::Value(Some(misplaced)) => Some(Cause::Fragment(misplaced)),
+            Taken::Command => self.command_cause(),
+            Taken::BadValue => Some(Cause::Value),
+            Taken::Leftover => Some(Cause::Leftover),
         }
     }
 

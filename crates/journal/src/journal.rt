@@ -7,23 +7,23 @@ use crate::entries::{
     NotStored, Rejected, Served, Unanswered,
 };
 use crate::entry::Entry;
-use crate::incoming::Heard;
+use crate::incoming::Taken;
 use crate::limits::Limits;
+use crate::logger::Logger;
 use crate::outcome::Outcome;
-use crate::refusal::{Reason, resources_words};
+use crate::refusal::{Reason, loss_words, resources_words};
 use crate::refused::{RefusedClasses, shown_class};
 use crate::reply::{Reply, Value, status_of};
 use crate::server_entries::NumbersLow;
 use crate::sheet::sheet_of;
 use crate::state::{Phase, State};
-use crate::teller::Teller;
 use crate::text::Text;
 use connection::{Observer, ReadEnd};
 use dimse::{read_command, status};
 use keywords::syntax_keyword;
 use log::{Level, Log};
 use metrics::CountedStatus;
-use part10::{DraftNotes, Place, StoredFile};
+use part10::{DraftNotes, Location, StoredFile};
 use pdu::{Proposal, Request, read_request};
 use std::alloc::{AllocError, Global};
 use std::cell::RefCell;
@@ -40,7 +40,7 @@ pub struct Journal<'a, R: Log + Clock, S: Files + Alloc + Clone + Drop>
 where
     S::File: StoredFile,
 {
-    pub(crate) teller: Teller<'a, R>,
+    pub(crate) logger: Logger<'a, R>,
     /// What became of the drafts of its filing.
     pub(crate) notes: Rc<DraftNotes<S>, S::A>,
     pub(crate) limits: Limits,
@@ -94,12 +94,12 @@ where
     /// it knows neither titles nor contexts.
     pub fn new(
         alloc: Global,
-        teller: Teller<'a, R>,
+        logger: Logger<'a, R>,
         notes: Rc<DraftNotes<S>, S::A>,
         limits: Limits,
     ) -> Journal<'a, R, S> {
         Journal {
-            teller,
+            logger,
             notes,
             limits,
             state: RefCell::new(State::new(alloc)),
@@ -109,7 +109,7 @@ where
 
     /// Returns the text of an entry about this connection. Fails if memory runs out.
     pub(crate) fn sheet<E: Entry>(&self, entry: &E) -> Result<String, AllocError> {
-        sheet_of(self.alloc, self.teller.head(), entry)
+        sheet_of(self.alloc, self.logger.head(), entry)
     }
 
     /// Writes the lines of an association that has ended.
@@ -121,7 +121,7 @@ where
         self.remove_aside();
         self.tell_unanswered(&state);
         self.count_end(&state, served.received);
-        self.teller.tell(&Ended {
+        self.logger.tell(&Ended {
             served,
             state: &state,
         });
@@ -129,7 +129,7 @@ where
 
     /// Counts the association, and the stores without a reply.
     fn count_end(&self, state: &State, received: u64) {
-        if let Some(metrics) = self.teller.metrics() {
+        if let Some(metrics) = self.logger.metrics() {
             metrics.count_unanswered(state.counts.unanswered());
             metrics.count_end(state.counted_end(), received);
         }
@@ -146,7 +146,7 @@ where
         };
         let calling = &state.calling;
         if let Some(place) = state.unconfirmed {
-            self.teller.tell(&NotConfirmed {
+            self.logger.tell(&NotConfirmed {
                 end: state.end,
                 place,
                 class: &asked.class,
@@ -154,8 +154,13 @@ where
                 calling,
             });
         } else {
-            self.teller.tell(&Unanswered {
+            let lost = match state.end {
+                Some(End::FileLost) => Some(loss_words(&state.folder_error)),
+                _ => None,
+            };
+            self.logger.tell(&Unanswered {
                 end: state.end,
+                lost: lost.as_ref(),
                 count,
                 class: &asked.class,
                 instance: &asked.instance,
@@ -167,14 +172,14 @@ where
     /// Writes the system's error of a failed filing, once.
     fn tell_filing(&self, state: &mut State) {
         if let Some(error) = self.notes.take_error() {
-            self.teller.tell(&FilingFailed(&error));
+            self.logger.tell(&FilingFailed(&error));
             state.folder_error = Text::new();
             let _ = write!(state.folder_error, "{error}");
         }
     }
 
     /// Takes note of what the association sends for what was heard last, and writes its lines.
-    fn tell(&self, state: &mut State, heard: Heard, answer: Answer, ahead: &[u8]) {
+    fn tell(&self, state: &mut State, taken: Taken, answer: Answer, ahead: &[u8]) {
         match answer {
             Answer::Nothing => {}
             Answer::Accepted(body) => {
@@ -184,9 +189,9 @@ where
                 state.incoming.give_up_request();
             }
             Answer::Rejected(source, reason) => {
-                let rejection = state.reject(source, reason, heard);
+                let rejection = state.reject(source, reason, taken);
                 state.take_titles(ahead);
-                self.teller.tell(&Rejected {
+                self.logger.tell(&Rejected {
                     rejection,
                     called: &state.called,
                     calling: &state.calling,
@@ -194,13 +199,13 @@ where
             }
             Answer::Replied(reply) => {
                 state.incoming.message.end();
-                if heard == Heard::Data {
+                if taken == Taken::Data {
                     self.tell_reply(state, reply.as_slice());
                 }
             }
             Answer::Released => state.end(End::Released),
             Answer::Aborted(source, reason) => {
-                let cause = state.cause(heard, self.limits);
+                let cause = state.cause(taken, self.limits);
                 state.end(End::Aborted(Abort { source, reason }, cause));
                 self.tell_abort(state);
             }
@@ -208,7 +213,7 @@ where
     }
 
     fn tell_abort(&self, state: &State) {
-        self.teller.tell(&Aborted {
+        self.logger.tell(&Aborted {
             end: state.end,
             calling: &state.calling,
         });
@@ -236,7 +241,7 @@ where
 
     /// Writes of the contexts that were not accepted.
     fn tell_refused(&self, state: &State, request: &Request) {
-        if self.teller.tells(Level::Trace) {
+        if self.logger.tells(Level::Trace) {
             for proposal in request.contexts() {
                 match state.results.result(proposal.id()) {
                     None | Some(0) => {}
@@ -246,7 +251,7 @@ where
         }
         let refused = RefusedClasses::of(request, &state.results);
         if !refused.is_empty() {
-            self.teller.tell(&ClassesRefused {
+            self.logger.tell(&ClassesRefused {
                 refused: &refused,
                 calling: &state.calling,
             });
@@ -254,7 +259,7 @@ where
     }
 
     fn tell_context(&self, proposal: &Proposal, answer: u8) {
-        self.teller.tell(&ContextRefused {
+        self.logger.tell(&ContextRefused {
             id: proposal.id(),
             answer,
             class: &shown_class(proposal.abstract_syntax()),
@@ -270,7 +275,7 @@ where
         let counted = CountedStatus::of(status);
         let outcome = Outcome::counted(counted);
         state.counts.answer(outcome);
-        if let Some(metrics) = self.teller.metrics() {
+        if let Some(metrics) = self.logger.metrics() {
             metrics.count_answer(counted);
         }
         self.settle_aside(state, reply);
@@ -278,16 +283,16 @@ where
         if outcome == Outcome::Stored {
             state.unconfirmed = Some(place);
         }
-        if outcome != Outcome::Stored || self.teller.tells(Level::Debug) {
+        if outcome != Outcome::Stored || self.logger.tells(Level::Debug) {
             self.tell_store(state, reply, place);
         }
         if let Some(place) = self.notes.take_low() {
-            self.teller.tell(&NumbersLow(place));
+            self.logger.tell(&NumbersLow(place));
         }
     }
 
     /// Writes the lines of a store that is answered.
-    fn tell_store(&self, state: &State, reply: &[u8], place: Option<Place>) {
+    fn tell_store(&self, state: &State, reply: &[u8], place: Option<Location>) {
         let Some(reply) = Reply::read(reply) else {
             return;
         };
@@ -299,14 +304,14 @@ where
             } else {
                 Reason::new()
             };
-            self.teller.tell(&NotStored {
+            self.logger.tell(&NotStored {
                 reply: &reply,
                 class: &class,
                 reason: &reason,
                 calling: &state.calling,
             });
         }
-        self.teller.tell(&Answered {
+        self.logger.tell(&Answered {
             reply: &reply,
             class: &class,
             bytes,
@@ -319,13 +324,13 @@ impl<R: Log + Clock, S: Files + Alloc + Clone + Drop> Observer for Journal<'_, R
 where
     S::File: StoredFile,
 {
-    fn took(&self, bytes: &[u8], ahead: &[u8], answer: &[u8]) {
+    fn took(&self, bytes: &[u8], ahead: &[u8], answer: &[u8], is_held: bool) {
         let Ok(mut state) = self.state.try_borrow_mut() else {
             return;
         };
         let was_over = state.phase == Phase::Over;
-        let heard = state.take(bytes);
-        if heard == Heard::Command && answer.is_empty() {
+        let taken = state.take(bytes);
+        if taken == Taken::Command && answer.is_empty() {
             state.ask();
         }
         self.tell_filing(&mut state);
@@ -333,10 +338,26 @@ where
         if was_over {
             return;
         }
-        if heard == Heard::Abort {
+        if taken == Taken::Abort {
             state.end_by_peer();
         }
-        self.tell(&mut state, heard, Answer::read(answer), ahead);
+        match Answer::read(answer) {
+            Answer::Replied(reply) if is_held => state.hold(reply),
+            answer => self.tell(&mut state, taken, answer, ahead),
+        }
+    }
+
+    fn settled(&self, is_kept: bool) {
+        let Ok(mut state) = self.state.try_borrow_mut() else {
+            return;
+        };
+        self.tell_filing(&mut state);
+        let held = state.held.take();
+        if !is_kept {
+            state.end(End::FileLost);
+        } else if let Some(reply) = held {
+            self.tell_reply(&mut state, reply.as_slice());
+        }
     }
 
     fn sent(&self, bytes: &[u8]) {

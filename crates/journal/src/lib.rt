@@ -14,6 +14,7 @@ mod incoming;
 mod journal;
 mod limits;
 mod line;
+mod logger;
 mod message;
 mod outcome;
 mod output;
@@ -25,7 +26,6 @@ mod reply;
 mod server_entries;
 mod sheet;
 mod state;
-mod teller;
 mod text;
 mod words;
 
@@ -34,12 +34,12 @@ pub use form::Form;
 pub use journal::Journal;
 pub use limits::Limits;
 pub use line::{LINE, Line};
+pub use logger::{Logger, TARGET};
 pub use outcome::{Counts, Outcome};
 pub use output::Output;
 pub use quarantine_entries::{QuarantineCleared, QuarantineFull};
 pub use server_entries::{
-    ConnectionFailed, Listening, MetricsNotWritten, MetricsWritten, NotAccepted, PeerFull,
-    PlacesFull, Started, Stopped, Stopping, TurnedAway, Waited,
+    ConnectionFailed, Listening, MetricsNotWritten, MetricsWritten, NamesNotSynced, NotAccepted,
+    PeerFull, SlotsFull, Started, Stopped, Stopping, TurnedAway, Waited,
 };
-pub use teller::{TARGET, Teller};
 pub use text::Text;

@@ -36,7 +36,7 @@ where
     /// Writes why a draft could not be moved to the quarantine, if one could not.
     pub(crate) fn tell_not_aside(&self) {
         if let Some(error) = self.notes.take_aside_error() {
-            self.teller.tell(&NotQuarantined(&error));
+            self.logger.tell(&NotQuarantined(&error));
         }
     }
 
@@ -50,7 +50,7 @@ where
 
     fn tell_failed(&self, done: io::Result<()>) {
         if let Err(error) = done {
-            self.teller.tell(&NotQuarantined(&error));
+            self.logger.tell(&NotQuarantined(&error));
         }
     }
 
@@ -93,12 +93,12 @@ where
             return Err(Error::from(ErrorKind::OutOfMemory));
         };
         let done = aside.keep(text.as_str())?;
-        self.teller.tell(&Quarantined {
+        self.logger.tell(&Quarantined {
             number: done.number,
             kept,
         });
         if done.is_full {
-            self.teller.tell(&QuarantineFull);
+            self.logger.tell(&QuarantineFull);
         }
         Ok(())
     }

@@ -15,6 +15,13 @@ const MOST_ANNOUNCED: u64 = 0xffff_ffff + 12;
 /// Why a store was refused, in words.
 pub(crate) type Reason = Text<140>;
 
+/// Returns why a file was lost: the system's error.
+pub(crate) fn loss_words(error: &FolderError) -> Reason {
+    let mut words = Reason::new();
+    let _ = write!(words, "the folder: {}", error.as_str());
+    words
+}
+
 /// Returns why a store was answered with A700 (PS3.4 annex B.2.3): a call of the system failed, or its data
 /// set, of which so many bytes came, has too many bytes or levels.
 ///

@@ -1,4 +1,8 @@
 //! What the reply to a command says.
+ghost use Rattle.std.specs.Prelude.{◌≡◌, ℕ, option_map};
+ghost use Rattle.dimse.specs.Command.{CommandRecord};
+ghost use Rattle.journal.specs.Answers.{IsResponse, status_among, store_status};
+
 use crate::text::Text;
 use dimse::CommandSet;
 use dimse::element_numbers::{CLASS, COMMENT, FIELD, INSTANCE, OFFENDING, STATUS};
@@ -40,26 +44,41 @@ fn tag_of(set: &CommandSet) -> Option<Tag> {
     Some(read_tag(bytes))
 }
 
-/// Returns the status of the reply to a C-STORE, or `None` if the command set is of no such reply.
-pub(crate) fn status_of(bytes: &[u8]) -> Option<u16> {
-    let set = CommandSet::read(bytes)?;
-    if set.number(FIELD).ok()? != C_STORE_RSP {
-        return None;
+/// Returns the status in the command set of the reply to a C-STORE.
+fn status_in(set: &CommandSet) -> Option<u16>
+    ensures { result ≡ status_among set.now }
+{
+    match (set.number(FIELD), set.number(STATUS)) {
+        (Ok(C_STORE_RSP), Ok(status)) => Some(status),
+        _ => None,
     }
-    set.number(STATUS).ok()
+}
+
+/// Returns the status of the reply to a C-STORE, or `None` if the command set is of no such reply.
+pub(crate) fn status_of(bytes: &[u8]) -> Option<u16>
+    ensures { (command : CommandRecord) (status : ℕ) → IsResponse bytes.now command status → result ≡ store_status command status }
+{
+    match CommandSet::read(bytes) {
+        Some(set) => status_in(&set),
+        None => None,
+    }
 }
 
 impl Reply {
     /// Reads the command set of a reply. Returns `None` if it is not that of a reply to a C-STORE.
-    pub(crate) fn read(bytes: &[u8]) -> Option<Reply> {
-        let set = CommandSet::read(bytes)?;
-        if set.number(FIELD).ok()? != C_STORE_RSP {
+    pub(crate) fn read(bytes: &[u8]) -> Option<Reply>
+        ensures { (command : CommandRecord) (status : ℕ) → IsResponse bytes.now command status → option_map (λ r. r.status) result ≡ store_status command status }
+    {
+        let Some(set) = CommandSet::read(bytes) else {
             return None;
-        }
+        };
+        let Some(status) = status_in(&set) else {
+            return None;
+        };
         Some(Reply {
             class: value_of(&set, CLASS),
             instance: value_of(&set, INSTANCE),
-            status: set.number(STATUS).ok()?,
+            status,
             comment: value_of(&set, COMMENT),
             tag: tag_of(&set),
         })

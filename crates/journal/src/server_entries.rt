@@ -3,7 +3,7 @@ use crate::entries::{Words, give_error};
 use crate::entry::{Entry, Event, Fields, Name};
 use crate::limits::Limits;
 use log::Level;
-use part10::Place;
+use part10::Location;
 use std::fmt::Write;
 use std::io;
 use std::net::SocketAddr;
@@ -109,6 +109,28 @@ impl Entry for Stopped {
     fn fields<F: Fields>(&self, _out: &mut F) {}
 }
 
+/// The names that files were given could not be written to the disk: the system's error. The files are
+/// lost whose replies waited for that.
+#[derive(Clone, Copy)]
+pub struct NamesNotSynced<'a>(pub &'a io::Error);
+
+impl Entry for NamesNotSynced<'_> {
+    fn level(&self) -> Level {
+        Level::Error
+    }
+
+    fn event(&self) -> Event {
+        Event {
+            key: "folder not synced",
+            words: "the folder could not be synced",
+        }
+    }
+
+    fn fields<F: Fields>(&self, out: &mut F) {
+        give_error(self.0, out);
+    }
+}
+
 /// The box was asked to end.
 #[derive(Clone, Copy)]
 pub struct Stopping;
@@ -130,9 +152,9 @@ impl Entry for Stopping {
 
 /// Every place of the box has an association, so connections wait: how many places there are.
 #[derive(Clone, Copy)]
-pub struct PlacesFull(pub u64);
+pub struct SlotsFull(pub u64);
 
-impl Entry for PlacesFull {
+impl Entry for SlotsFull {
     fn level(&self) -> Level {
         Level::Warn
     }
@@ -279,7 +301,7 @@ impl Entry for MetricsWritten {
 
 /// Few numbers are left in the folder after that of this file, which is the first one of which it is so.
 #[derive(Clone, Copy)]
-pub(crate) struct NumbersLow(pub Place);
+pub(crate) struct NumbersLow(pub Location);
 
 impl Entry for NumbersLow {
     fn level(&self) -> Level {

@@ -2,16 +2,17 @@
 ghost use Rattle.std.specs.Prelude.{◌≡◌, ◌+◌, ◌≤◌, length};
 
 use crate::accepted::Results;
+use crate::answer::ReplyBytes;
 use crate::cause::Cause;
 use crate::end::{Abort, About, End, Rejection};
-use crate::incoming::{Heard, Incoming};
+use crate::incoming::{Incoming, Taken};
 use crate::limits::Limits;
 use crate::outcome::Counts;
 use crate::text::Text;
 use arrayvec::ArrayVec;
 use element::AeTitle;
 use metrics::CountedEnd;
-use part10::Place;
+use part10::Location;
 use pdu::read_request;
 use std::alloc::Global;
 
@@ -49,8 +50,10 @@ pub(crate) struct State {
     pub end: Option<End>,
     /// Why a file could not be written, since a store was asked for last; empty where none failed.
     pub folder_error: FolderError,
+    /// The reply to a store whose file waits to be settled.
+    pub held: Option<ReplyBytes>,
     /// Where the file stands of a store whose reply was not all sent.
-    pub unconfirmed: Option<Option<Place>>,
+    pub unconfirmed: Option<Option<Location>>,
     /// How many bytes it was to send.
     answered: u64,
     /// How many of them were sent.
@@ -88,6 +91,7 @@ impl State {
             proposed: 0,
             end: None,
             folder_error: Text::new(),
+            held: None,
             unconfirmed: None,
             answered: 0,
             sent: 0,
@@ -96,19 +100,19 @@ impl State {
 
     /// Takes note of bytes that the association took, and returns the last thing in them which it may
     /// answer. Once it is over, nothing counts but the titles of its request.
-    pub(crate) fn take(&mut self, bytes: &[u8]) -> Heard {
+    pub(crate) fn take(&mut self, bytes: &[u8]) -> Taken {
         if self.phase == Phase::Over {
             if self.incoming.request().is_some() {
                 self.incoming.take(bytes);
                 self.take_titles(&[]);
             }
-            return Heard::Nothing;
+            return Taken::Nothing;
         }
-        let heard = self.incoming.take(bytes);
-        if heard == Heard::Request {
+        let taken = self.incoming.take(bytes);
+        if taken == Taken::Request {
             self.take_request();
         }
-        heard
+        taken
     }
 
     /// Takes the titles of the request, and counts its contexts.
@@ -164,6 +168,12 @@ impl State {
         self.incoming.message.expect_data();
     }
 
+    /// Keeps the reply to a store, which is held until its file is settled.
+    pub(crate) fn hold(&mut self, reply: ReplyBytes) {
+        self.incoming.message.end();
+        self.held = Some(reply);
+    }
+
     /// The association ended so, unless it had before. Only the titles of a request that was rejected may
     /// come yet.
     pub(crate) fn end(&mut self, end: End) {
@@ -187,9 +197,9 @@ impl State {
     }
 
     /// The request was rejected with this source and reason.
-    pub(crate) fn reject(&mut self, source: u8, reason: u8, heard: Heard) -> Rejection {
-        let about = match (heard, source, reason) {
-            (Heard::Head, _, _) => About::Length(self.incoming.length()),
+    pub(crate) fn reject(&mut self, source: u8, reason: u8, taken: Taken) -> Rejection {
+        let about = match (taken, source, reason) {
+            (Taken::Head, _, _) => About::Length(self.incoming.length()),
             (_, 1, 1) => self.maximum(),
             _ => About::Nothing,
         };
@@ -214,14 +224,14 @@ impl State {
     }
 
     /// Returns why what was heard last has the association aborted.
-    pub(crate) fn cause(&self, heard: Heard, limits: Limits) -> Option<Cause> {
+    pub(crate) fn cause(&self, taken: Taken, limits: Limits) -> Option<Cause> {
         let is_established = self.phase == Phase::Established;
-        match heard {
+        match taken {
             // The context is judged before the message.
-            Heard::Value(_) if !self.results.is_accepted(self.incoming.context()) => {
+            Taken::Value(_) if !self.results.is_accepted(self.incoming.context()) => {
                 Some(Cause::Context(self.incoming.context()))
             }
-            _ => self.incoming.cause(heard, is_established, limits),
+            _ => self.incoming.cause(taken, is_established, limits),
         }
     }
 

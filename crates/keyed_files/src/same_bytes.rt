@@ -1,5 +1,5 @@
 //! Whether two files have the same bytes.
-use element::again::read_again;
+use element::interrupted::read_retrying;
 use std::fs;
 use std::io::{self, Read};
 use std::rt::Files;
@@ -14,7 +14,7 @@ fn fill<R: Read>(reader: &mut R, room: &mut [u8]) -> io::Result<usize> {
         let Some(rest) = room.get_mut(count..) else {
             break;
         };
-        let more = read_again(reader, rest)?;
+        let more = read_retrying(reader, rest)?;
         if more == 0 {
             break;
         }

@@ -2,7 +2,7 @@
 use Rattle.std.specs.Prelude.{ℕ}
 use Rattle.metrics.specs.Saturating.{raised}
 use Rattle.metrics.specs.declared.ends.CountedEnd.{CountedEnd}
-use Rattle.metrics.specs.declared.ends.CountedEnd.TheVariants.{Released, Rejected, AbortedByPeer, AbortedByBox, Closed, TimerExpired, Idle, TooLong, Stopping, ConnectionFailed, Unknown}
+use Rattle.metrics.specs.declared.ends.CountedEnd.TheVariants.{Released, Rejected, AbortedByPeer, AbortedByBox, Closed, TimerExpired, Idle, TooLong, Stopping, ConnectionFailed, FileLost, Unknown}
 use Rattle.metrics.specs.declared.ends.EndCounts.{EndCounts}
 
 -- with one association more that ended so
@@ -17,6 +17,7 @@ with_end Idle c = record c { idle = raised 1 c.idle }
 with_end TooLong c = record c { too_long = raised 1 c.too_long }
 with_end Stopping c = record c { stopping = raised 1 c.stopping }
 with_end ConnectionFailed c = record c { connection_failed = raised 1 c.connection_failed }
+with_end FileLost c = record c { file_lost = raised 1 c.file_lost }
 with_end Unknown c = record c { unknown = raised 1 c.unknown }
 
 -- how many associations ended so
@@ -31,8 +32,9 @@ count_at_end Idle c = c.idle
 count_at_end TooLong c = c.too_long
 count_at_end Stopping c = c.stopping
 count_at_end ConnectionFailed c = c.connection_failed
+count_at_end FileLost c = c.file_lost
 count_at_end Unknown c = c.unknown
 
 -- no association
 abbrev pub no_ends : EndCounts
-no_ends = record { released = 0; rejected = 0; aborted_by_peer = 0; aborted_by_box = 0; closed = 0; timer_expired = 0; idle = 0; too_long = 0; stopping = 0; connection_failed = 0; unknown = 0 }
+no_ends = record { released = 0; rejected = 0; aborted_by_peer = 0; aborted_by_box = 0; closed = 0; timer_expired = 0; idle = 0; too_long = 0; stopping = 0; connection_failed = 0; file_lost = 0; unknown = 0 }

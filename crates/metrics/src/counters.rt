@@ -33,6 +33,7 @@ impl Counters {
                 too_long: 0,
                 stopping: 0,
                 connection_failed: 0,
+                file_lost: 0,
                 unknown: 0,
             },
             stores: StatusCounts {

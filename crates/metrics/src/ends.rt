@@ -25,13 +25,15 @@ pub enum CountedEnd {
     Stopping,
     /// A read or a send failed.
     ConnectionFailed,
+    /// The file of a store was lost after it was committed and before it was settled.
+    FileLost,
     /// None of these was seen.
     Unknown,
 }
 
 impl CountedEnd {
     /// Every one, in the order of the file.
-    pub const ALL: [CountedEnd; 11] = [
+    pub const ALL: [CountedEnd; 12] = [
         CountedEnd::Released,
         CountedEnd::Rejected,
         CountedEnd::AbortedByPeer,
@@ -42,6 +44,7 @@ impl CountedEnd {
         CountedEnd::TooLong,
         CountedEnd::Stopping,
         CountedEnd::ConnectionFailed,
+        CountedEnd::FileLost,
         CountedEnd::Unknown,
     ];
 
@@ -58,6 +61,7 @@ impl CountedEnd {
             CountedEnd::TooLong => "too_long",
             CountedEnd::Stopping => "stopping",
             CountedEnd::ConnectionFailed => "connection_failed",
+            CountedEnd::FileLost => "file_lost",
             CountedEnd::Unknown => "unknown",
         }
     }
@@ -76,6 +80,7 @@ pub struct EndCounts {
     pub too_long: u64,
     pub stopping: u64,
     pub connection_failed: u64,
+    pub file_lost: u64,
     pub unknown: u64,
 }
 
@@ -99,6 +104,7 @@ impl EndCounts {
             CountedEnd::ConnectionFailed => self.connection_failed = self
                 .connection_failed
                 .saturating_add(1),
+            CountedEnd::FileLost => self.file_lost = self.file_lost.saturating_add(1),
             CountedEnd::Unknown => self.unknown = self.unknown.saturating_add(1),
         }
     }
@@ -118,6 +124,7 @@ impl EndCounts {
             CountedEnd::TooLong => self.too_long,
             CountedEnd::Stopping => self.stopping,
             CountedEnd::ConnectionFailed => self.connection_failed,
+            CountedEnd::FileLost => self.file_lost,
             CountedEnd::Unknown => self.unknown,
         }
     }

@@ -30,8 +30,8 @@ three_lengths a b c = omega (arith, length-append (a ++ b) c, length-append a b)
 
 accept_short : (s : Settings) (r : RequestRecord) → length r.called ≤ 16 → length r.calling ≤ 16 → length r.reserved ≤ 32 → length (accept_text s r) ≤ 140 + 35 * length r.contexts
 accept_short s r called calling reserved =
-    let offers = (offered s.further r).contexts in
-    omega (arith, three_lengths (before_contexts r) (flat_map context_text offers) (user_text s.max_pdu), front_short r called calling reserved, contexts_short offers, length-map r.contexts (seen s.further))
+    let offers = (offered s.additional r).contexts in
+    omega (arith, three_lengths (before_contexts r) (flat_map context_text offers) (user_text s.max_pdu), front_short r called calling reserved, contexts_short offers, length-map r.contexts (seen s.additional))
 
 few_contexts : (body : List ℕ) → IsBytes body → request_fault body ≡ None → length (request_record body).contexts ≤ 128
 few_contexts body bytes none =

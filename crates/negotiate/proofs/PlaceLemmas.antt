@@ -32,9 +32,9 @@ few_registered : (all : Bool) → length (registered all) ≤ 177
 few_registered true = subst (λ n. n ≤ 177) (sym (length-mapped (λ row. row.uid) storage_classes ∙ length-storage_classes)) (omega arith)
 few_registered false = omega arith
 
-pub none_left : (t : List ℕ → Bool) (c : Config) (n : ℕ) → length c.named.items ≤ 64 → 241 ≤ n → position_from t n (drop n (settings_of c).further.classes) ≡ None
+pub none_left : (t : List ℕ → Bool) (c : Config) (n : ℕ) → length c.named.items ≤ 64 → 241 ≤ n → position_from t n (drop n (settings_of c).additional.classes) ≡ None
 none_left t c n named h =
     let both = length-append (map (λ u. u.items) c.named.items) (registered c.all_storage) in
     let first = length-mapped (λ u. u.items) c.named.items in
     let last = few_registered c.all_storage in
-    none_here t (settings_of c).further.classes n (past_end (settings_of c).further.classes n (omega (arith, both, first, last, named, h)))
+    none_here t (settings_of c).additional.classes n (past_end (settings_of c).additional.classes n (omega (arith, both, first, last, named, h)))

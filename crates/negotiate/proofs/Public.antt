@@ -10,7 +10,7 @@ use Rattle.pdu.specs.Refusal.{request_fault}
 use Rattle.negotiate.specs.Accept.{accept_text, longest_accept}
 use Rattle.negotiate.specs.ContextRows.{context_in, context_rows}
 use Rattle.negotiate.specs.Settings.{Settings}
-use Rattle.negotiate.specs.Taken.{Taken, nothing_further}
+use Rattle.negotiate.specs.Taken.{Taken, nothing_additional}
 use Rattle.negotiate.proofs.LengthLemmas as length_of
 use Rattle.negotiate.specs.Contexts.{accepted, accepted_by, agreed, carried, carried_by, chosen, context_of, offered, result_by, result_of, seen, service_of, taken_syntax}
 use Rattle.dictionary.specs.Classes.{class_of}
@@ -20,32 +20,32 @@ use Rattle.negotiate.proofs.ServiceLemmas as services
 use Rattle.negotiate.proofs.TableLemmas as table
 use Rattle.negotiate.proofs.TransferLemmas as transfers
 
-pub context_in-context_rows : (further : Taken) (r : RequestRecord) → IsDistinct eqb (ids r.contexts) → (id : ℕ) →
-    context_in further (context_rows further (offered further r)) id ≡ context_of (offered further r) id
+pub context_in-context_rows : (additional : Taken) (r : RequestRecord) → IsDistinct eqb (ids r.contexts) → (id : ℕ) →
+    context_in additional (context_rows additional (offered additional r)) id ≡ context_of (offered additional r) id
 context_in-context_rows = table.context_in-context_rows
 
 pub accepts_short : (s : Settings) (body : List ℕ) → IsBytes body → request_fault body ≡ None → length (accept_text s (request_record body)) ≤ longest_accept
 accepts_short = length_of.accepts_short
 
-pub default_result : (p : Proposal) → result_of (seen nothing_further p) ≡ result_by (class_of p.abstract_syntax) (chosen p.transfer_syntaxes)
+pub default_result : (p : Proposal) → result_of (seen nothing_additional p) ≡ result_by (class_of p.abstract_syntax) (chosen p.transfer_syntaxes)
 default_result = services.default_result
 
 pub default_context : (r : RequestRecord) (id : ℕ) →
-    context_of (offered nothing_further r) id
+    context_of (offered nothing_additional r) id
     ≡ option_and_then (λ p. accepted_by (option_map Known (class_of p.abstract_syntax)) (option_map native (chosen p.transfer_syntaxes))) (find (λ p. nat_eq p.id id) r.contexts)
 default_context = services.default_context
 
-pub native_result : (further : Taken) (p : Proposal) → further.transfers ≡ [] →
-    result_of (seen further p) ≡ result_by (service_of (taken_syntax further.classes p.abstract_syntax)) (chosen p.transfer_syntaxes)
+pub native_result : (additional : Taken) (p : Proposal) → additional.transfers ≡ [] →
+    result_of (seen additional p) ≡ result_by (service_of (taken_syntax additional.classes p.abstract_syntax)) (chosen p.transfer_syntaxes)
 native_result = transfers.native_result
 
-pub native_context : (further : Taken) (p : Proposal) → further.transfers ≡ [] →
-    accepted (seen further p) ≡ accepted_by (service_of (taken_syntax further.classes p.abstract_syntax)) (option_map native (chosen p.transfer_syntaxes))
+pub native_context : (additional : Taken) (p : Proposal) → additional.transfers ≡ [] →
+    accepted (seen additional p) ≡ accepted_by (service_of (taken_syntax additional.classes p.abstract_syntax)) (option_map native (chosen p.transfer_syntaxes))
 native_context = transfers.native_context
 
-pub native_carried : (further : Taken) (p : Proposal) → further.transfers ≡ [] →
-    carried (seen further p) ≡ carried_by (service_of (taken_syntax further.classes p.abstract_syntax)) (option_map native (chosen p.transfer_syntaxes))
+pub native_carried : (additional : Taken) (p : Proposal) → additional.transfers ≡ [] →
+    carried (seen additional p) ≡ carried_by (service_of (taken_syntax additional.classes p.abstract_syntax)) (option_map native (chosen p.transfer_syntaxes))
 native_carried = transfers.native_carried
 
-pub native_first : (further : Taken) (p : Proposal) (s : Syntax) → chosen p.transfer_syntaxes ≡ Some s → agreed (seen further p).transfer_syntaxes ≡ Some (native s)
+pub native_first : (additional : Taken) (p : Proposal) (s : Syntax) → chosen p.transfer_syntaxes ≡ Some s → agreed (seen additional p).transfer_syntaxes ≡ Some (native s)
 native_first = transfers.native_first

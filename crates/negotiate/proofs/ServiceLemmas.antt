@@ -15,9 +15,9 @@ use Rattle.dictionary.specs.Classes.{class_named, class_of}
 use Rattle.pdu.specs.Record.{Proposal, RequestRecord}
 use Rattle.negotiate.specs.declared.proposals.Context.{Context}
 use Rattle.negotiate.specs.declared.proposals.Service.{Service}
-use Rattle.negotiate.specs.declared.proposals.Service.TheVariants.{Known, Further}
-use Rattle.negotiate.specs.Contexts.{accepted, accepted_by, agreed, chosen, context_of, further_by, is_among_further, is_text, offered, result_by, result_of, seen, service_by, service_of, taken_by, taken_syntax}
-use Rattle.negotiate.specs.Taken.{Taken, nothing_further}
+use Rattle.negotiate.specs.declared.proposals.Service.TheVariants.{Known, Additional}
+use Rattle.negotiate.specs.Contexts.{accepted, accepted_by, agreed, chosen, context_of, additional_by, is_among_additional, is_text, offered, result_by, result_of, seen, service_by, service_of, taken_by, taken_syntax}
+use Rattle.negotiate.specs.Taken.{Taken, nothing_additional}
 use Rattle.negotiate.proofs.TransferLemmas.{default_transfer}
 use Rattle.negotiate.specs.ContextRows.{class_in_row, context_by, or_first, place_of, row_with, service_at, service_in}
 
@@ -112,32 +112,32 @@ unfolding class_named
 no_service = refl
 
 -- the service of an abstract syntax that the dictionary does not have
-other_service : (further : List (List ℕ)) (bytes : List ℕ) (uid : Option (List ℕ)) (t : Bool) → class_of bytes ≡ None → uid_of bytes ≡ uid → is_among_further further uid ≡ t →
-    service_of (taken_syntax further bytes) ≡ (if t then further_by uid else None)
-other_service further bytes uid t none read among =
-    ap (λ c. service_of (taken_by c further bytes)) none ∙ by t (ap (is_among_further further) read ∙ among) where
-      by : (b : Bool) → is_among_further further (uid_of bytes) ≡ b → service_of (if is_among_further further (uid_of bytes) then bytes else []) ≡ (if b then further_by uid else None)
-      by true e = rw e (ap (λ c. service_by c bytes) none ∙ ap further_by read)
+other_service : (additional : List (List ℕ)) (bytes : List ℕ) (uid : Option (List ℕ)) (t : Bool) → class_of bytes ≡ None → uid_of bytes ≡ uid → is_among_additional additional uid ≡ t →
+    service_of (taken_syntax additional bytes) ≡ (if t then additional_by uid else None)
+other_service additional bytes uid t none read among =
+    ap (λ c. service_of (taken_by c additional bytes)) none ∙ by t (ap (is_among_additional additional) read ∙ among) where
+      by : (b : Bool) → is_among_additional additional (uid_of bytes) ≡ b → service_of (if is_among_additional additional (uid_of bytes) then bytes else []) ≡ (if b then additional_by uid else None)
+      by true e = rw e (ap (λ c. service_by c bytes) none ∙ ap additional_by read)
       by false e = rw e no_service
 
-pub known_service : (further : List (List ℕ)) (bytes : List ℕ) (class : Class) → class_of bytes ≡ Some class → service_of (taken_syntax further bytes) ≡ Some (Known class)
-known_service further bytes class e = ap (λ c. service_of (taken_by c further bytes)) e ∙ ap (λ c. service_by c bytes) e
+pub known_service : (additional : List (List ℕ)) (bytes : List ℕ) (class : Class) → class_of bytes ≡ Some class → service_of (taken_syntax additional bytes) ≡ Some (Known class)
+known_service additional bytes class e = ap (λ c. service_of (taken_by c additional bytes)) e ∙ ap (λ c. service_by c bytes) e
 
-pub unread_service : (further : List (List ℕ)) (bytes : List ℕ) → class_of bytes ≡ None → uid_of bytes ≡ None → service_of (taken_syntax further bytes) ≡ None
-unread_service further bytes none unread = other_service further bytes None false none unread refl
+pub unread_service : (additional : List (List ℕ)) (bytes : List ℕ) → class_of bytes ≡ None → uid_of bytes ≡ None → service_of (taken_syntax additional bytes) ≡ None
+unread_service additional bytes none unread = other_service additional bytes None false none unread refl
 
-pub placed_service : (further : List (List ℕ)) (bytes uid : List ℕ) (place : ℕ) → class_of bytes ≡ None → uid_of bytes ≡ Some uid → place_of further uid ≡ Some place →
-    service_of (taken_syntax further bytes) ≡ Some (Further uid)
-placed_service further bytes uid place none read found = other_service further bytes (Some uid) true none read (any_found (is_text uid) further 0 place found)
+pub placed_service : (additional : List (List ℕ)) (bytes uid : List ℕ) (place : ℕ) → class_of bytes ≡ None → uid_of bytes ≡ Some uid → place_of additional uid ≡ Some place →
+    service_of (taken_syntax additional bytes) ≡ Some (Additional uid)
+placed_service additional bytes uid place none read found = other_service additional bytes (Some uid) true none read (any_found (is_text uid) additional 0 place found)
 
-pub unplaced_service : (further : List (List ℕ)) (bytes uid : List ℕ) → class_of bytes ≡ None → uid_of bytes ≡ Some uid → place_of further uid ≡ None →
-    service_of (taken_syntax further bytes) ≡ None
-unplaced_service further bytes uid none read found = other_service further bytes (Some uid) false none read (none_found (is_text uid) further 0 found)
+pub unplaced_service : (additional : List (List ℕ)) (bytes uid : List ℕ) → class_of bytes ≡ None → uid_of bytes ≡ Some uid → place_of additional uid ≡ None →
+    service_of (taken_syntax additional bytes) ≡ None
+unplaced_service additional bytes uid none read found = other_service additional bytes (Some uid) false none read (none_found (is_text uid) additional 0 found)
 
 -- by default the dictionary's classes are taken, and nothing else
 default_service : (bytes : List ℕ) → service_of (taken_syntax [] bytes) ≡ option_map Known (class_of bytes)
 default_service bytes = by (class_of bytes) refl where
-  among : (o : Option (List ℕ)) → is_among_further [] o ≡ false
+  among : (o : Option (List ℕ)) → is_among_additional [] o ≡ false
   among None = refl
   among (Some uid) = refl
 
@@ -145,10 +145,10 @@ default_service bytes = by (class_of bytes) refl where
   by (Some class) e = known_service [] bytes class e
   by None e = other_service [] bytes (uid_of bytes) false e refl (among (uid_of bytes))
 
-pub default_result : (p : Proposal) → result_of (seen nothing_further p) ≡ result_by (class_of p.abstract_syntax) (chosen p.transfer_syntaxes)
+pub default_result : (p : Proposal) → result_of (seen nothing_additional p) ≡ result_by (class_of p.abstract_syntax) (chosen p.transfer_syntaxes)
 default_result p =
-    ap (λ s. result_by s (agreed (seen nothing_further p).transfer_syntaxes)) (default_service p.abstract_syntax)
-    ∙ ap (λ t. result_by (option_map Known (class_of p.abstract_syntax)) t) (default_transfer nothing_further p refl)
+    ap (λ s. result_by s (agreed (seen nothing_additional p).transfer_syntaxes)) (default_service p.abstract_syntax)
+    ∙ ap (λ t. result_by (option_map Known (class_of p.abstract_syntax)) t) (default_transfer nothing_additional p refl)
     ∙ of_class (class_of p.abstract_syntax) (chosen p.transfer_syntaxes) where
       of_class : (class : Option Class) (syntax : Option Syntax) → result_by (option_map Known class) (option_map native syntax) ≡ result_by class syntax
       of_class None syntax = refl
@@ -158,52 +158,52 @@ default_result p =
 abbrev by_class : Proposal → Option Context
 by_class p = accepted_by (option_map Known (class_of p.abstract_syntax)) (option_map native (chosen p.transfer_syntaxes))
 
-pub default_context : (r : RequestRecord) (id : ℕ) → context_of (offered nothing_further r) id ≡ option_and_then by_class (find (λ p. nat_eq p.id id) r.contexts)
+pub default_context : (r : RequestRecord) (id : ℕ) → context_of (offered nothing_additional r) id ≡ option_and_then by_class (find (λ p. nat_eq p.id id) r.contexts)
 default_context r id = go r.contexts where
-  go : (ps : List Proposal) → option_and_then accepted (find (λ p. nat_eq p.id id) (map (seen nothing_further) ps)) ≡ option_and_then by_class (find (λ p. nat_eq p.id id) ps)
+  go : (ps : List Proposal) → option_and_then accepted (find (λ p. nat_eq p.id id) (map (seen nothing_additional) ps)) ≡ option_and_then by_class (find (λ p. nat_eq p.id id) ps)
   go [] = refl
   go (p ∷ ps) = by (nat_eq p.id id) refl (go ps) where
     by : (t : Bool) → nat_eq p.id id ≡ t →
-        option_and_then accepted (find (λ q. nat_eq q.id id) (map (seen nothing_further) ps)) ≡ option_and_then by_class (find (λ q. nat_eq q.id id) ps) →
-        option_and_then accepted (find (λ q. nat_eq q.id id) (map (seen nothing_further) (p ∷ ps))) ≡ option_and_then by_class (find (λ q. nat_eq q.id id) (p ∷ ps))
-    by true e later = rw e (ap (λ s. accepted_by s (agreed (seen nothing_further p).transfer_syntaxes)) (default_service p.abstract_syntax)
-        ∙ ap (λ t. accepted_by (option_map Known (class_of p.abstract_syntax)) t) (default_transfer nothing_further p refl))
+        option_and_then accepted (find (λ q. nat_eq q.id id) (map (seen nothing_additional) ps)) ≡ option_and_then by_class (find (λ q. nat_eq q.id id) ps) →
+        option_and_then accepted (find (λ q. nat_eq q.id id) (map (seen nothing_additional) (p ∷ ps))) ≡ option_and_then by_class (find (λ q. nat_eq q.id id) (p ∷ ps))
+    by true e later = rw e (ap (λ s. accepted_by s (agreed (seen nothing_additional p).transfer_syntaxes)) (default_service p.abstract_syntax)
+        ∙ ap (λ t. accepted_by (option_map Known (class_of p.abstract_syntax)) t) (default_transfer nothing_additional p refl))
     by false e later = rw e later
 
 -- ---- what stands in a row
 
-further_kept : (further : Taken) (uid : List ℕ) → uid_of uid ≡ Some uid → list_any (is_text uid) further.classes ≡ true → service_in further (class_in_row further (Further uid)) ≡ Some (Further uid)
-further_kept further uid read any =
-    let at = is_at (is_text uid) further.classes 0 any in
+further_kept : (additional : Taken) (uid : List ℕ) → uid_of uid ≡ Some uid → list_any (is_text uid) additional.classes ≡ true → service_in additional (class_in_row additional (Additional uid)) ≡ Some (Additional uid)
+further_kept additional uid read any =
+    let at = is_at (is_text uid) additional.classes 0 any in
     let same : at.item ≡ uid = same_text at.item uid at.passes in
     let plain : 0 + at.place ≡ at.place = omega arith in
-    ap (λ o. service_at (slice_get further.classes (or_first o))) at.found ∙ ap (λ n. service_at (slice_get further.classes n)) plain ∙ ap service_at (at.there ∙ ap (λ u. Some u) same) ∙ ap further_by read
+    ap (λ o. service_at (slice_get additional.classes (or_first o))) at.found ∙ ap (λ n. service_at (slice_get additional.classes n)) plain ∙ ap service_at (at.there ∙ ap (λ u. Some u) same) ∙ ap additional_by read
 
-service_kept : (further : Taken) (bytes : List ℕ) (service : Service) → service_of (taken_syntax further.classes bytes) ≡ Some service → service_in further (class_in_row further service) ≡ Some service
-service_kept further bytes service is = by (class_of bytes) refl (uid_of bytes) refl where
-  by : (o : Option Class) → class_of bytes ≡ o → (u : Option (List ℕ)) → uid_of bytes ≡ u → service_in further (class_in_row further service) ≡ Some service
+service_kept : (additional : Taken) (bytes : List ℕ) (service : Service) → service_of (taken_syntax additional.classes bytes) ≡ Some service → service_in additional (class_in_row additional service) ≡ Some service
+service_kept additional bytes service is = by (class_of bytes) refl (uid_of bytes) refl where
+  by : (o : Option Class) → class_of bytes ≡ o → (u : Option (List ℕ)) → uid_of bytes ≡ u → service_in additional (class_in_row additional service) ≡ Some service
   by (Some class) e u read =
-      let both : ◌≡◌ {A = Option Service} (Some service) (Some (Known class)) = sym is ∙ known_service further.classes bytes class e in
+      let both : ◌≡◌ {A = Option Service} (Some service) (Some (Known class)) = sym is ∙ known_service additional.classes bytes class e in
       let same : service ≡ Known class = cc in
-      subst (λ s. service_in further (class_in_row further s) ≡ Some s) (sym same) refl
-  by None e None read = let both : ◌≡◌ {A = Option Service} (Some service) None = sym is ∙ unread_service further.classes bytes e read in absurd cc
-  by None e (Some uid) read = taken (list_any (is_text uid) further.classes) refl where
-    taken : (t : Bool) → list_any (is_text uid) further.classes ≡ t → service_in further (class_in_row further service) ≡ Some service
+      subst (λ s. service_in additional (class_in_row additional s) ≡ Some s) (sym same) refl
+  by None e None read = let both : ◌≡◌ {A = Option Service} (Some service) None = sym is ∙ unread_service additional.classes bytes e read in absurd cc
+  by None e (Some uid) read = taken (list_any (is_text uid) additional.classes) refl where
+    taken : (t : Bool) → list_any (is_text uid) additional.classes ≡ t → service_in additional (class_in_row additional service) ≡ Some service
     taken true any =
-        let both : ◌≡◌ {A = Option Service} (Some service) (Some (Further uid)) = sym is ∙ other_service further.classes bytes (Some uid) true e read any in
-        let same : service ≡ Further uid = cc in
-        subst (λ s. service_in further (class_in_row further s) ≡ Some s) (sym same) (further_kept further uid (uid_again bytes uid read) any)
-    taken false any = let both : ◌≡◌ {A = Option Service} (Some service) None = sym is ∙ other_service further.classes bytes (Some uid) false e read any in absurd cc
+        let both : ◌≡◌ {A = Option Service} (Some service) (Some (Additional uid)) = sym is ∙ other_service additional.classes bytes (Some uid) true e read any in
+        let same : service ≡ Additional uid = cc in
+        subst (λ s. service_in additional (class_in_row additional s) ≡ Some s) (sym same) (further_kept additional uid (uid_again bytes uid read) any)
+    taken false any = let both : ◌≡◌ {A = Option Service} (Some service) None = sym is ∙ other_service additional.classes bytes (Some uid) false e read any in absurd cc
 
-kept_by : (further : Taken) (id : ℕ) (service : Option Service) (syntax : Option Transfer) (c : Context) → ((s : Service) → service ≡ Some s → service_in further (class_in_row further s) ≡ Some s) →
-    accepted_by service syntax ≡ Some c → context_by further (row_with further id c) ≡ Some c
-kept_by further id None syntax c kept e = absurd cc
-kept_by further id (Some s) None c kept e = absurd cc
-kept_by further id (Some s) (Some syntax) c kept e =
+kept_by : (additional : Taken) (id : ℕ) (service : Option Service) (syntax : Option Transfer) (c : Context) → ((s : Service) → service ≡ Some s → service_in additional (class_in_row additional s) ≡ Some s) →
+    accepted_by service syntax ≡ Some c → context_by additional (row_with additional id c) ≡ Some c
+kept_by additional id None syntax c kept e = absurd cc
+kept_by additional id (Some s) None c kept e = absurd cc
+kept_by additional id (Some s) (Some syntax) c kept e =
     let same : ◌≡◌ {A = Context} (record { class = s; syntax = syntax }) c = cc in
-    subst (λ (x : Context). context_by further (row_with further id x) ≡ Some x) same (rw (kept s refl) refl)
+    subst (λ (x : Context). context_by additional (row_with additional id x) ≡ Some x) same (rw (kept s refl) refl)
 
 -- an accepted context is what its row says
-pub context_kept : (further : Taken) (p : Proposal) (id : ℕ) (c : Context) → accepted (seen further p) ≡ Some c → context_by further (row_with further id c) ≡ Some c
-context_kept further p id c e =
-    kept_by further id (service_of (taken_syntax further.classes p.abstract_syntax)) (agreed (seen further p).transfer_syntaxes) c (service_kept further p.abstract_syntax) e
+pub context_kept : (additional : Taken) (p : Proposal) (id : ℕ) (c : Context) → accepted (seen additional p) ≡ Some c → context_by additional (row_with additional id c) ≡ Some c
+context_kept additional p id c e =
+    kept_by additional id (service_of (taken_syntax additional.classes p.abstract_syntax)) (agreed (seen additional p).transfer_syntaxes) c (service_kept additional p.abstract_syntax) e

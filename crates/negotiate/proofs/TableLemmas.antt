@@ -18,16 +18,16 @@ use Rattle.negotiate.proofs.ServiceLemmas.{context_kept}
 
 -- ---- a row for each accepted context
 
-one_more : (further : Taken) (id : ℕ) (class : Option Service) (syntax : Option Transfer) (rows : List ContextRow) →
-    length (cons_option (option_map (row_with further id) (accepted_by class syntax)) rows) ≡ cond (nat_eq (result_by class syntax) 0) (1 + length rows) (length rows)
-one_more further id None syntax rows = refl
-one_more further id (Some class) None rows = refl
-one_more further id (Some class) (Some syntax) rows = omega arith
+one_more : (additional : Taken) (id : ℕ) (class : Option Service) (syntax : Option Transfer) (rows : List ContextRow) →
+    length (cons_option (option_map (row_with additional id) (accepted_by class syntax)) rows) ≡ cond (nat_eq (result_by class syntax) 0) (1 + length rows) (length rows)
+one_more additional id None syntax rows = refl
+one_more additional id (Some class) None rows = refl
+one_more additional id (Some class) (Some syntax) rows = omega arith
 
-pub length-context_rows : (further : Taken) (r : RequestRecord) → length (context_rows further r) ≡ accepted_count r
-length-context_rows further r =
-    is_count_by (λ ps. length (filter_map (row_of further) ps)) (λ p. nat_eq (result_of p) 0) refl
-    (λ p ps. one_more further p.id (service_of p.abstract_syntax) (agreed p.transfer_syntaxes) (filter_map (row_of further) ps)) r.contexts
+pub length-context_rows : (additional : Taken) (r : RequestRecord) → length (context_rows additional r) ≡ accepted_count r
+length-context_rows additional r =
+    is_count_by (λ ps. length (filter_map (row_of additional) ps)) (λ p. nat_eq (result_of p) 0) refl
+    (λ p ps. one_more additional p.id (service_of p.abstract_syntax) (agreed p.transfer_syntaxes) (filter_map (row_of additional) ps)) r.contexts
 
 -- ---- a context of a table is that of its request
 
@@ -37,56 +37,56 @@ differs a b h = by (nat_eq a b) refl where
   by true e = let same : b ≡ a = grind (arith, nat_tests) in absurd (eqb-false b a h same)
   by false e = e
 
-passed : (further : Taken) (id other : ℕ) (o : Option Context) (rows : List ContextRow) → nat_eq other id ≡ false →
-    context_in further (cons_option (option_map (row_with further other) o) rows) id ≡ context_in further rows id
-passed further id other None rows e = refl
-passed further id other (Some c) rows e = rw e refl
+passed : (additional : Taken) (id other : ℕ) (o : Option Context) (rows : List ContextRow) → nat_eq other id ≡ false →
+    context_in additional (cons_option (option_map (row_with additional other) o) rows) id ≡ context_in additional rows id
+passed additional id other None rows e = refl
+passed additional id other (Some c) rows e = rw e refl
 
 -- the IDs are others than this one
 abbrev IsNew : ℕ → List ℕ → Type 0
 IsNew id ns = AllByRecursion (λ n. eqb id n ≡ false) ns
 
-none_of : (further : Taken) (id : ℕ) (ps : List Proposal) → IsNew id (ids ps) → context_in further (filter_map (row_of further) (map (seen further) ps)) id ≡ None
-none_of further id [] new = refl
-none_of further id (p ∷ ps) (head, tail) =
-    passed further id p.id (accepted (seen further p)) (filter_map (row_of further) (map (seen further) ps)) (differs p.id id head) ∙ none_of further id ps tail
+none_of : (additional : Taken) (id : ℕ) (ps : List Proposal) → IsNew id (ids ps) → context_in additional (filter_map (row_of additional) (map (seen additional) ps)) id ≡ None
+none_of additional id [] new = refl
+none_of additional id (p ∷ ps) (head, tail) =
+    passed additional id p.id (accepted (seen additional p)) (filter_map (row_of additional) (map (seen additional) ps)) (differs p.id id head) ∙ none_of additional id ps tail
 
-found : (further : Taken) (id other : ℕ) (o : Option Context) (rows : List ContextRow) → ((c : Context) → o ≡ Some c → context_by further (row_with further other c) ≡ Some c) →
-    nat_eq other id ≡ true → context_in further rows id ≡ None → context_in further (cons_option (option_map (row_with further other) o) rows) id ≡ o
-found further id other None rows kept e none = none
-found further id other (Some c) rows kept e none = rw e (kept c refl)
+found : (additional : Taken) (id other : ℕ) (o : Option Context) (rows : List ContextRow) → ((c : Context) → o ≡ Some c → context_by additional (row_with additional other c) ≡ Some c) →
+    nat_eq other id ≡ true → context_in additional rows id ≡ None → context_in additional (cons_option (option_map (row_with additional other) o) rows) id ≡ o
+found additional id other None rows kept e none = none
+found additional id other (Some c) rows kept e none = rw e (kept c refl)
 
-first : (further : Taken) (t : Bool) (id : ℕ) (p : Proposal) (ps : List Proposal) → nat_eq p.id id ≡ t → IsNew p.id (ids ps) →
-    context_in further (filter_map (row_of further) (map (seen further) ps)) id ≡ option_and_then accepted (find (λ q. nat_eq q.id id) (map (seen further) ps)) →
-    context_in further (filter_map (row_of further) (map (seen further) (p ∷ ps))) id ≡ option_and_then accepted (find (λ q. nat_eq q.id id) (map (seen further) (p ∷ ps)))
-first further true id p ps e new later =
+first : (additional : Taken) (t : Bool) (id : ℕ) (p : Proposal) (ps : List Proposal) → nat_eq p.id id ≡ t → IsNew p.id (ids ps) →
+    context_in additional (filter_map (row_of additional) (map (seen additional) ps)) id ≡ option_and_then accepted (find (λ q. nat_eq q.id id) (map (seen additional) ps)) →
+    context_in additional (filter_map (row_of additional) (map (seen additional) (p ∷ ps))) id ≡ option_and_then accepted (find (λ q. nat_eq q.id id) (map (seen additional) (p ∷ ps)))
+first additional true id p ps e new later =
     let same : p.id ≡ id = grind (arith, nat_tests) in
-    let none : context_in further (filter_map (row_of further) (map (seen further) ps)) id ≡ None = rw (← same) (none_of further p.id ps new) in
-    rw e (found further id p.id (accepted (seen further p)) (filter_map (row_of further) (map (seen further) ps)) (context_kept further p p.id) e none)
-first further false id p ps e new later =
-    rw e (passed further id p.id (accepted (seen further p)) (filter_map (row_of further) (map (seen further) ps)) e ∙ later)
+    let none : context_in additional (filter_map (row_of additional) (map (seen additional) ps)) id ≡ None = rw (← same) (none_of additional p.id ps new) in
+    rw e (found additional id p.id (accepted (seen additional p)) (filter_map (row_of additional) (map (seen additional) ps)) (context_kept additional p p.id) e none)
+first additional false id p ps e new later =
+    rw e (passed additional id p.id (accepted (seen additional p)) (filter_map (row_of additional) (map (seen additional) ps)) e ∙ later)
 
-in_order : (further : Taken) (id : ℕ) (ps : List Proposal) → IsDistinct eqb (ids ps) →
-    context_in further (filter_map (row_of further) (map (seen further) ps)) id ≡ option_and_then accepted (find (λ p. nat_eq p.id id) (map (seen further) ps))
+in_order : (additional : Taken) (id : ℕ) (ps : List Proposal) → IsDistinct eqb (ids ps) →
+    context_in additional (filter_map (row_of additional) (map (seen additional) ps)) id ≡ option_and_then accepted (find (λ p. nat_eq p.id id) (map (seen additional) ps))
 unfolding IsDistinct
-in_order further id [] d = refl
-in_order further id (p ∷ ps) (new, d) = first further (nat_eq p.id id) id p ps refl new (in_order further id ps d)
+in_order additional id [] d = refl
+in_order additional id (p ∷ ps) (new, d) = first additional (nat_eq p.id id) id p ps refl new (in_order additional id ps d)
 
-pub context_in-context_rows : (further : Taken) (r : RequestRecord) → IsDistinct eqb (ids r.contexts) → (id : ℕ) →
-    context_in further (context_rows further (offered further r)) id ≡ context_of (offered further r) id
-context_in-context_rows further r d id = in_order further id r.contexts d
+pub context_in-context_rows : (additional : Taken) (r : RequestRecord) → IsDistinct eqb (ids r.contexts) → (id : ℕ) →
+    context_in additional (context_rows additional (offered additional r)) id ≡ context_of (offered additional r) id
+context_in-context_rows additional r d id = in_order additional id r.contexts d
 
 -- ---- a table that is filled row by row, when no context is left
 
-whole : (further : Taken) (r : RequestRecord) (table : List ContextRow) (left : List Proposal) → table ++ filter_map (row_of further) (map (seen further) left) ≡ context_rows further (offered further r) →
-    left ≡ [] → table ≡ context_rows further (offered further r)
-whole further r table left e none = sym (append-nil table) ∙ ap (λ ps. table ++ filter_map (row_of further) (map (seen further) ps)) (sym none) ∙ e
+whole : (additional : Taken) (r : RequestRecord) (table : List ContextRow) (left : List Proposal) → table ++ filter_map (row_of additional) (map (seen additional) left) ≡ context_rows additional (offered additional r) →
+    left ≡ [] → table ≡ context_rows additional (offered additional r)
+whole additional r table left e none = sym (append-nil table) ∙ ap (λ ps. table ++ filter_map (row_of additional) (map (seen additional) ps)) (sym none) ∙ e
 
-pub length-table : (further : Taken) (r : RequestRecord) (table : List ContextRow) (left : List Proposal) → table ++ filter_map (row_of further) (map (seen further) left) ≡ context_rows further (offered further r) →
-    left ≡ [] → length table ≡ accepted_count (offered further r)
-length-table further r table left e none = ap length (whole further r table left e none) ∙ length-context_rows further (offered further r)
+pub length-table : (additional : Taken) (r : RequestRecord) (table : List ContextRow) (left : List Proposal) → table ++ filter_map (row_of additional) (map (seen additional) left) ≡ context_rows additional (offered additional r) →
+    left ≡ [] → length table ≡ accepted_count (offered additional r)
+length-table additional r table left e none = ap length (whole additional r table left e none) ∙ length-context_rows additional (offered additional r)
 
-pub context_in-table : (further : Taken) (r : RequestRecord) (table : List ContextRow) (left : List Proposal) → table ++ filter_map (row_of further) (map (seen further) left) ≡ context_rows further (offered further r) →
-    left ≡ [] → IsDistinct eqb (ids r.contexts) → (id : ℕ) → context_in further table id ≡ context_of (offered further r) id
-context_in-table further r table left e none d id =
-    ap (λ rows. context_in further rows id) (whole further r table left e none) ∙ context_in-context_rows further r d id
+pub context_in-table : (additional : Taken) (r : RequestRecord) (table : List ContextRow) (left : List Proposal) → table ++ filter_map (row_of additional) (map (seen additional) left) ≡ context_rows additional (offered additional r) →
+    left ≡ [] → IsDistinct eqb (ids r.contexts) → (id : ℕ) → context_in additional table id ≡ context_of (offered additional r) id
+context_in-table additional r table left e none d id =
+    ap (λ rows. context_in additional rows id) (whole additional r table left e none) ∙ context_in-context_rows additional r d id

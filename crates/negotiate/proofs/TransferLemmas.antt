@@ -1,5 +1,5 @@
 -- A native transfer syntax is chosen where one is proposed (`agreed_native`), else the first proposed that is taken
--- (`agreed_further`); with none taken the native two decide (`native_result`, `native_context`). Stands on the laws of
+-- (`agreed_additional`); with none taken the native two decide (`native_result`, `native_context`). Stands on the laws of
 -- `dictionary`.
 use Rattle.std.proofs.Common.{◌≡◌, ℕ, Bool, true, false, ◌||◌, cond, List, [], ◌∷◌, Option, Some, None, option_map, option_and_then, if◌then◌else◌, refl, ap, sym, ◌∙◌}
 use Rattle.std.specs.List.{filter, list_any}
@@ -57,8 +57,8 @@ chosen_kept taken uids =
 pub agreed_native : (taken : List Transfer) (uids : List (List ℕ)) (s : Syntax) → chosen uids ≡ Some s → agreed (taken_transfers taken uids) ≡ Some (native s)
 agreed_native taken uids s e = ap (λ o. agreed_by o (taken_transfers taken uids)) (chosen_kept taken uids ∙ e)
 
-pub agreed_further : (taken : List Transfer) (uids : List (List ℕ)) → chosen uids ≡ None → agreed (taken_transfers taken uids) ≡ first_known (taken_transfers taken uids)
-agreed_further taken uids e = ap (λ o. agreed_by o (taken_transfers taken uids)) (chosen_kept taken uids ∙ e)
+pub agreed_additional : (taken : List Transfer) (uids : List (List ℕ)) → chosen uids ≡ None → agreed (taken_transfers taken uids) ≡ first_known (taken_transfers taken uids)
+agreed_additional taken uids e = ap (λ o. agreed_by o (taken_transfers taken uids)) (chosen_kept taken uids ∙ e)
 
 -- ---- the first that is taken
 
@@ -78,9 +78,9 @@ neither (Some Implicit) s e a b = let wrong : true ≡ false = ap is_implicit e 
 neither (Some Explicit) s e a b = let wrong : true ≡ false = ap is_explicit e ∙ a in absurd cc
 neither (Some _) s e a b = refl
 
-none_further : (uids : List (List ℕ)) → proposes_explicit uids ≡ false → proposes_implicit uids ≡ false → taken_transfers [] uids ≡ []
-none_further [] a b = refl
-none_further (uid ∷ uids) a b = by (is_explicit (syntax_of uid)) refl (is_implicit (syntax_of uid)) refl (none_further uids) a b where
+none_additional : (uids : List (List ℕ)) → proposes_explicit uids ≡ false → proposes_implicit uids ≡ false → taken_transfers [] uids ≡ []
+none_additional [] a b = refl
+none_additional (uid ∷ uids) a b = by (is_explicit (syntax_of uid)) refl (is_implicit (syntax_of uid)) refl (none_additional uids) a b where
   by : (t : Bool) → is_explicit (syntax_of uid) ≡ t → (u : Bool) → is_implicit (syntax_of uid) ≡ u →
       (proposes_explicit uids ≡ false → proposes_implicit uids ≡ false → taken_transfers [] uids ≡ []) →
       (t || proposes_explicit uids) ≡ false → (u || proposes_implicit uids) ≡ false → taken_transfers [] (uid ∷ uids) ≡ []
@@ -95,28 +95,28 @@ default_agreed uids = by (proposes_explicit uids) refl (proposes_implicit uids) 
   by false e true f = let is : chosen uids ≡ Some layout.Implicit = rw (e, f) refl in agreed_native [] uids layout.Implicit is ∙ sym (ap (option_map native) is)
   by false e false f =
       let is : chosen uids ≡ None = rw (e, f) refl in
-      agreed_further [] uids is ∙ ap first_known (none_further uids e f) ∙ sym (ap (option_map native) is)
+      agreed_additional [] uids is ∙ ap first_known (none_additional uids e f) ∙ sym (ap (option_map native) is)
 
-pub default_transfer : (further : Taken) (p : Proposal) → further.transfers ≡ [] → agreed (seen further p).transfer_syntaxes ≡ option_map native (chosen p.transfer_syntaxes)
-default_transfer further p e = ap (λ ts. agreed (taken_transfers ts p.transfer_syntaxes)) e ∙ default_agreed p.transfer_syntaxes
+pub default_transfer : (additional : Taken) (p : Proposal) → additional.transfers ≡ [] → agreed (seen additional p).transfer_syntaxes ≡ option_map native (chosen p.transfer_syntaxes)
+default_transfer additional p e = ap (λ ts. agreed (taken_transfers ts p.transfer_syntaxes)) e ∙ default_agreed p.transfer_syntaxes
 
-pub native_result : (further : Taken) (p : Proposal) → further.transfers ≡ [] →
-    result_of (seen further p) ≡ result_by (service_of (taken_syntax further.classes p.abstract_syntax)) (chosen p.transfer_syntaxes)
-native_result further p e =
-    ap (λ t. result_by (service_of (taken_syntax further.classes p.abstract_syntax)) t) (default_transfer further p e)
-    ∙ by (service_of (taken_syntax further.classes p.abstract_syntax)) (chosen p.transfer_syntaxes) where
+pub native_result : (additional : Taken) (p : Proposal) → additional.transfers ≡ [] →
+    result_of (seen additional p) ≡ result_by (service_of (taken_syntax additional.classes p.abstract_syntax)) (chosen p.transfer_syntaxes)
+native_result additional p e =
+    ap (λ t. result_by (service_of (taken_syntax additional.classes p.abstract_syntax)) t) (default_transfer additional p e)
+    ∙ by (service_of (taken_syntax additional.classes p.abstract_syntax)) (chosen p.transfer_syntaxes) where
       by : {A : Type 0} (service : Option A) (s : Option Syntax) → result_by service (option_map native s) ≡ result_by service s
       by None s = refl
       by (Some class) None = refl
       by (Some class) (Some s) = refl
 
-pub native_context : (further : Taken) (p : Proposal) → further.transfers ≡ [] →
-    accepted (seen further p) ≡ accepted_by (service_of (taken_syntax further.classes p.abstract_syntax)) (option_map native (chosen p.transfer_syntaxes))
-native_context further p e = ap (λ t. accepted_by (service_of (taken_syntax further.classes p.abstract_syntax)) t) (default_transfer further p e)
+pub native_context : (additional : Taken) (p : Proposal) → additional.transfers ≡ [] →
+    accepted (seen additional p) ≡ accepted_by (service_of (taken_syntax additional.classes p.abstract_syntax)) (option_map native (chosen p.transfer_syntaxes))
+native_context additional p e = ap (λ t. accepted_by (service_of (taken_syntax additional.classes p.abstract_syntax)) t) (default_transfer additional p e)
 
-pub native_carried : (further : Taken) (p : Proposal) → further.transfers ≡ [] →
-    carried (seen further p) ≡ carried_by (service_of (taken_syntax further.classes p.abstract_syntax)) (option_map native (chosen p.transfer_syntaxes))
-native_carried further p e = ap (λ t. carried_by (service_of (taken_syntax further.classes p.abstract_syntax)) t) (default_transfer further p e)
+pub native_carried : (additional : Taken) (p : Proposal) → additional.transfers ≡ [] →
+    carried (seen additional p) ≡ carried_by (service_of (taken_syntax additional.classes p.abstract_syntax)) (option_map native (chosen p.transfer_syntaxes))
+native_carried additional p e = ap (λ t. carried_by (service_of (taken_syntax additional.classes p.abstract_syntax)) t) (default_transfer additional p e)
 
-pub native_first : (further : Taken) (p : Proposal) (s : Syntax) → chosen p.transfer_syntaxes ≡ Some s → agreed (seen further p).transfer_syntaxes ≡ Some (native s)
-native_first further p s e = agreed_native further.transfers p.transfer_syntaxes s e
+pub native_first : (additional : Taken) (p : Proposal) (s : Syntax) → chosen p.transfer_syntaxes ≡ Some s → agreed (seen additional p).transfer_syntaxes ≡ Some (native s)
+native_first additional p s e = agreed_native additional.transfers p.transfer_syntaxes s e

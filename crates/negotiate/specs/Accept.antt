@@ -38,7 +38,7 @@ before_contexts r = 0 ∷ 1 ∷ 0 ∷ 0 ∷ (r.called ++ r.calling ++ r.reserved
 
 -- then a 21H for each proposed context in its order, and 50H
 abbrev pub accept_body : Settings → RequestRecord → List ℕ
-accept_body s r = before_contexts r ++ flat_map context_text (offered s.further r).contexts ++ user_text s.max_pdu
+accept_body s r = before_contexts r ++ flat_map context_text (offered s.additional r).contexts ++ user_text s.max_pdu
 
 abbrev pub accept_text : Settings → RequestRecord → List ℕ
 accept_text s r = pdu_text associate_ac (accept_body s r)

@@ -11,7 +11,7 @@ use Rattle.negotiate.specs.declared.proposals.Service.TheVariants as service
 use Rattle.negotiate.specs.declared.table.ContextRow.{ContextRow}
 use Rattle.negotiate.specs.declared.table.RowClass.{RowClass}
 use Rattle.negotiate.specs.declared.table.RowClass.TheVariants as row
-use Rattle.negotiate.specs.Contexts.{acceptance, accepted, further_by, is_text, result_of}
+use Rattle.negotiate.specs.Contexts.{acceptance, accepted, additional_by, is_text, result_of}
 use Rattle.negotiate.specs.Taken.{Taken}
 
 abbrev pub or_first : Option ℕ → ℕ
@@ -20,22 +20,22 @@ or_first (Some place) = place
 
 -- a further storage class stands in a row as its place among those that are taken
 abbrev pub place_of : List (List ℕ) → List ℕ → Option ℕ
-place_of further uid = position_from (is_text uid) 0 further
+place_of additional uid = position_from (is_text uid) 0 additional
 
 abbrev pub class_in_row : Taken → Service → RowClass
-class_in_row further (service.Known class) = row.Known class
-class_in_row further (service.Further uid) = row.Further (or_first (place_of further.classes uid))
+class_in_row additional (service.Known class) = row.Known class
+class_in_row additional (service.Additional uid) = row.Additional (or_first (place_of additional.classes uid))
 
 abbrev pub row_with : Taken → ℕ → Context → ContextRow
-row_with further id context = record { id = id; class = class_in_row further context.class; syntax = context.syntax }
+row_with additional id context = record { id = id; class = class_in_row additional context.class; syntax = context.syntax }
 
 -- the row of a proposed context, where it is accepted
 abbrev pub row_of : Taken → Proposal → Option ContextRow
-row_of further p = option_map (row_with further p.id) (accepted p)
+row_of additional p = option_map (row_with additional p.id) (accepted p)
 
 -- the table: a row for each accepted context, in the request's order
 abbrev pub context_rows : Taken → RequestRecord → List ContextRow
-context_rows further r = filter_map (row_of further) r.contexts
+context_rows additional r = filter_map (row_of additional) r.contexts
 
 -- how many of the proposed contexts are accepted
 abbrev pub accepted_count : RequestRecord → ℕ
@@ -43,22 +43,22 @@ accepted_count r = count_by (λ p. nat_eq (result_of p) acceptance) r.contexts
 
 abbrev pub service_at : Option (List ℕ) → Option Service
 service_at None = None
-service_at (Some text) = further_by (uid_of text)
+service_at (Some text) = additional_by (uid_of text)
 
 abbrev pub service_in : Taken → RowClass → Option Service
-service_in further (row.Known class) = Some (service.Known class)
-service_in further (row.Further place) = service_at (slice_get further.classes place)
+service_in additional (row.Known class) = Some (service.Known class)
+service_in additional (row.Additional place) = service_at (slice_get additional.classes place)
 
 abbrev pub context_with : ContextRow → Option Service → Option Context
 context_with row None = None
 context_with row (Some class) = Some (record { class = class; syntax = row.syntax })
 
 abbrev pub context_by : Taken → ContextRow → Option Context
-context_by further row = context_with row (service_in further row.class)
+context_by additional row = context_with row (service_in additional row.class)
 
 -- the context of this id in a table
 abbrev pub context_in : Taken → List ContextRow → ℕ → Option Context
-context_in further rows id = option_and_then (context_by further) (find (λ row. nat_eq row.id id) rows)
+context_in additional rows id = option_and_then (context_by additional) (find (λ row. nat_eq row.id id) rows)
 
 -- what the room of a table has where no row is
 abbrev pub no_row : ContextRow

@@ -13,7 +13,7 @@ use Rattle.dictionary.specs.Transfers.{is_encapsulated, is_text_of, native, tran
 use Rattle.pdu.specs.Record.{RequestRecord, Proposal}
 use Rattle.negotiate.specs.declared.proposals.Context.{Context}
 use Rattle.negotiate.specs.declared.proposals.Service.{Service}
-use Rattle.negotiate.specs.declared.proposals.Service.TheVariants.{Known, Further}
+use Rattle.negotiate.specs.declared.proposals.Service.TheVariants.{Known, Additional}
 use Rattle.negotiate.specs.Taken.{Taken}
 
 abbrev pub is_explicit : Option Syntax → Bool
@@ -63,13 +63,13 @@ agreed uids = agreed_by (chosen uids) uids
 
 -- ---- services
 
-abbrev pub further_by : Option (List ℕ) → Option Service
-further_by None = None
-further_by (Some uid) = Some (Further uid)
+abbrev pub additional_by : Option (List ℕ) → Option Service
+additional_by None = None
+additional_by (Some uid) = Some (Additional uid)
 
 abbrev pub service_by : Option Class → List ℕ → Option Service
 service_by (Some class) bytes = Some (Known class)
-service_by None bytes = further_by (uid_of bytes)
+service_by None bytes = additional_by (uid_of bytes)
 
 -- the service that an abstract syntax or an affected SOP class names: a class of the dictionary, or a further one by its
 -- identifier
@@ -79,35 +79,35 @@ service_of bytes = service_by (class_of bytes) bytes
 abbrev pub is_text : List ℕ → List ℕ → Bool
 is_text uid text = pointwise nat_eq text uid
 
-abbrev pub is_among_further : List (List ℕ) → Option (List ℕ) → Bool
-is_among_further further None = false
-is_among_further further (Some uid) = list_any (is_text uid) further
+abbrev pub is_among_additional : List (List ℕ) → Option (List ℕ) → Bool
+is_among_additional additional None = false
+is_among_additional additional (Some uid) = list_any (is_text uid) additional
 
 abbrev pub taken_by : Option Class → List (List ℕ) → List ℕ → List ℕ
-taken_by (Some class) further bytes = bytes
-taken_by None further bytes = if is_among_further further (uid_of bytes) then bytes else []
+taken_by (Some class) additional bytes = bytes
+taken_by None additional bytes = if is_among_additional additional (uid_of bytes) then bytes else []
 
 -- an abstract syntax that is not taken counts as none: it is taken where the dictionary has its class, or where it is one
 -- of the further storage classes
 abbrev pub taken_syntax : List (List ℕ) → List ℕ → List ℕ
-taken_syntax further bytes = taken_by (class_of bytes) further bytes
+taken_syntax additional bytes = taken_by (class_of bytes) additional bytes
 
 abbrev pub seen : Taken → Proposal → Proposal
-seen further p = record {
+seen additional p = record {
   id = p.id;
-  abstract_syntax = taken_syntax further.classes p.abstract_syntax;
-  transfer_syntaxes = taken_transfers further.transfers p.transfer_syntaxes;
+  abstract_syntax = taken_syntax additional.classes p.abstract_syntax;
+  transfer_syntaxes = taken_transfers additional.transfers p.transfer_syntaxes;
 }
 
 -- what a request offers to a receiver that takes these further storage classes and transfer syntaxes
 abbrev pub offered : Taken → RequestRecord → RequestRecord
-offered further r = record {
+offered additional r = record {
   version = r.version;
   called = r.called;
   calling = r.calling;
   reserved = r.reserved;
   application_context = r.application_context;
-  contexts = map (seen further) r.contexts;
+  contexts = map (seen additional) r.contexts;
   maximum = r.maximum;
 }
 

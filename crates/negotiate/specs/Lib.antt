@@ -5,3 +5,4 @@ pub mod Answer
 pub mod Contexts
 pub mod ContextRows
 pub mod Accept
+pub mod ContextLaws

@@ -11,7 +11,7 @@ pub record Settings : Type 0 where
   pub callers : List (List ℕ)
   pub max_pdu : ℕ
   pub max_data : ℕ
-  pub further : Taken
+  pub additional : Taken
 
 -- all storage classes of the standard, or none of them
 abbrev pub registered : Bool → List (List ℕ)
@@ -19,7 +19,7 @@ registered true = map (λ row. row.uid) storage_classes
 registered false = []
 
 abbrev pub settings_of : Config → Settings
-settings_of c = record { ae = c.ae.0; callers = map (λ t. t.0) c.callers.items; max_pdu = c.max_pdu; max_data = c.max_data; further = record { classes = map (λ t. t.items) c.named.items ++ registered c.all_storage; transfers = c.transfers.items } }
+settings_of c = record { ae = c.ae.0; callers = map (λ t. t.0) c.callers.items; max_pdu = c.max_pdu; max_data = c.max_data; additional = record { classes = map (λ t. t.items) c.named.items ++ registered c.all_storage; transfers = c.transfers.items } }
 
 -- the defaults
 abbrev pub default_max_pdu : ℕ

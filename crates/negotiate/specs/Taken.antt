@@ -7,5 +7,5 @@ pub record Taken : Type 0 where
   pub classes : List (List ℕ)
   pub transfers : List Transfer
 
-abbrev pub nothing_further : Taken
-nothing_further = record { classes = []; transfers = [] }
+abbrev pub nothing_additional : Taken
+nothing_additional = record { classes = []; transfers = [] }

@@ -75,7 +75,7 @@ fn with_contexts(
     request: &Request,
 ) -> ArrayVec<u8, LONGEST>
     requires { array_vec_len pdu + 35 * length request.now.contexts ≤ 4579 }
-    ensures items { result.items ≡ pdu.items ++ flat_map context_text (offered (settings_of config.now).further request.now).contexts }
+    ensures items { result.items ≡ pdu.items ++ flat_map context_text (offered (settings_of config.now).additional request.now).contexts }
     ensures room { array_vec_len result ≤ 4579 }
 {
     for proposal in request.contexts() {

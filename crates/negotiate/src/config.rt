@@ -107,7 +107,7 @@ fn is_among(transfers: &[Transfer], transfer: Transfer) -> bool
 impl Config {
     ghost use Rattle.std.specs.Prelude.{◌++◌, Some};
     ghost use Rattle.negotiate.specs.Contexts.{is_taken};
-    ghost use Rattle.negotiate.specs.Taken.{nothing_further};
+    ghost use Rattle.negotiate.specs.Taken.{nothing_additional};
     ghost use Rattle.negotiate.specs.ContextRows.{place_of};
     ghost use Rattle.negotiate.specs.Settings.{registered, settings_of};
 
@@ -131,7 +131,7 @@ impl Config {
         ensures callers { result.callers ≡ callers }
         ensures max_pdu { result.max_pdu ≡ max_pdu }
         ensures max_data { result.max_data ≡ max_data }
-        ensures further { (settings_of result).further ≡ nothing_further }
+        ensures additional { (settings_of result).additional ≡ nothing_additional }
     {
         Config {
             ae,
@@ -152,7 +152,7 @@ impl Config {
         ensures callers { result.callers ≡ self.callers }
         ensures max_pdu { result.max_pdu ≡ self.max_pdu }
         ensures max_data { result.max_data ≡ self.max_data }
-        ensures further { (settings_of result).further.classes ≡ named.now ++ registered all_storage }
+        ensures additional { (settings_of result).additional.classes ≡ named.now ++ registered all_storage }
         ensures transfers { result.transfers ≡ self.transfers }
     {
         Config {
@@ -173,8 +173,8 @@ impl Config {
         ensures callers { result.callers ≡ self.callers }
         ensures max_pdu { result.max_pdu ≡ self.max_pdu }
         ensures max_data { result.max_data ≡ self.max_data }
-        ensures classes { (settings_of result).further.classes ≡ (settings_of self).further.classes }
-        ensures transfers { (settings_of result).further.transfers ≡ transfers.now }
+        ensures classes { (settings_of result).additional.classes ≡ (settings_of self).additional.classes }
+        ensures transfers { (settings_of result).additional.transfers ≡ transfers.now }
     {
         Config {
             ae: self.ae,
@@ -189,14 +189,14 @@ impl Config {
 
     /// Returns whether a transfer syntax is taken.
     pub(crate) fn takes(&self, transfer: Transfer) -> bool
-        ensures { result ≡ is_taken (settings_of self.now).further.transfers (Some transfer) }
+        ensures { result ≡ is_taken (settings_of self.now).additional.transfers (Some transfer) }
     {
         !transfer.is_encapsulated() || is_among(self.transfers.as_slice(), transfer)
     }
 
     /// Returns the text of the further storage class of this place, first those that are named.
-    pub(crate) fn further(&self, place: usize) -> Option<&[u8]>
-        ensures { option_map (λ u. u.now) result ≡ slice_get (settings_of self.now).further.classes place }
+    pub(crate) fn additional(&self, place: usize) -> Option<&[u8]>
+        ensures { option_map (λ u. u.now) result ≡ slice_get (settings_of self.now).additional.classes place }
     {
         let named = self.named.as_slice();
         if place < named.len() {
@@ -213,10 +213,10 @@ impl Config {
 
     /// Returns the place of a further storage class that is taken.
     pub(crate) fn place(&self, uid: &Uid) -> Option<u8>
-        ensures { result ≡ place_of (settings_of self.now).further.classes uid.now }
+        ensures { result ≡ place_of (settings_of self.now).additional.classes uid.now }
     {
         for place in 0..MOST_FURTHER {
-            match self.further(place) {
+            match self.additional(place) {
                 Some(text) => {
                     if text == uid.as_bytes() {
                         return Some(place as u8);

@@ -10,7 +10,7 @@ use pdu::Request;
 /// Returns the accepted context with this ID of a request that `judge` accepts, or `None` if the
 /// request proposes no context with this ID or it is rejected.
 pub fn context(config: &Config, request: &Request, id: u8) -> Option<Context>
-    ensures { result ≡ spelling.context_of (spelling.offered (settings_of config.now).further request.now) id }
+    ensures { result ≡ spelling.context_of (spelling.offered (settings_of config.now).additional request.now) id }
 {
     for proposal in request.contexts() {
         if proposal.id() == id {

@@ -34,7 +34,7 @@ pub(crate) fn extend_by_item<const N: usize>(room: &mut ArrayVec<u8, N>, kind: u
 
 /// The answer to a proposed presentation context (PS3.8 section 9.3.3.2).
 pub(crate) fn context_item(config: &Config, proposal: &Proposal) -> ArrayVec<u8, 64>
-    ensures items { result.items ≡ context_text (seen (settings_of config.now).further proposal.now) }
+    ensures items { result.items ≡ context_text (seen (settings_of config.now).additional proposal.now) }
     ensures short { array_vec_len result ≤ 35 }
 {
     let mut content = ArrayVec::<u8, 64>::new();

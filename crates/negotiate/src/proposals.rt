@@ -14,7 +14,7 @@ pub enum Service {
     /// A class of the dictionary: Verification, or one of eleven storage classes.
     Known(Class),
     /// A further storage class, which the settings take.
-    Further(Uid),
+    Additional(Uid),
 }
 
 /// An accepted presentation context.
@@ -57,7 +57,7 @@ fn chosen_syntax(proposal: &Proposal) -> Option<Syntax>
 
 /// Returns the first transfer syntax that a context proposes and that is taken.
 fn first_taken(config: &Config, proposal: &Proposal) -> Option<Transfer>
-    ensures { result ≡ spelling.first_known (spelling.taken_transfers (settings_of config.now).further.transfers proposal.now.transfer_syntaxes) }
+    ensures { result ≡ spelling.first_known (spelling.taken_transfers (settings_of config.now).additional.transfers proposal.now.transfer_syntaxes) }
 {
     for uid in proposal.transfer_syntaxes() {
         if let Some(transfer) = Transfer::of(uid) {
@@ -72,7 +72,7 @@ fn first_taken(config: &Config, proposal: &Proposal) -> Option<Transfer>
 /// Returns the transfer syntax that is chosen from those that a context proposes: a native one before any
 /// other, and then the first of its list that is taken.
 fn agreed_transfer(config: &Config, proposal: &Proposal) -> Option<Transfer>
-    ensures { result ≡ spelling.agreed (spelling.taken_transfers (settings_of config.now).further.transfers proposal.now.transfer_syntaxes) }
+    ensures { result ≡ spelling.agreed (spelling.taken_transfers (settings_of config.now).additional.transfers proposal.now.transfer_syntaxes) }
 {
     match chosen_syntax(proposal) {
         Some(syntax) => Some(Transfer::native(syntax)),
@@ -82,13 +82,13 @@ fn agreed_transfer(config: &Config, proposal: &Proposal) -> Option<Transfer>
 
 /// Returns the service that an abstract syntax names, if it is taken.
 fn taken_service(config: &Config, bytes: &[u8]) -> Option<Service>
-    ensures { result ≡ spelling.service_of (spelling.taken_syntax (settings_of config.now).further.classes bytes.now) }
+    ensures { result ≡ spelling.service_of (spelling.taken_syntax (settings_of config.now).additional.classes bytes.now) }
 {
     match class_of(bytes) {
         Some(class) => Some(Service::Known(class)),
         None => match Uid::read(bytes) {
             Some(uid) => match config.place(&uid) {
-                Some(_) => Some(Service::Further(uid)),
+                Some(_) => Some(Service::Additional(uid)),
                 None => None,
             },
             None => None,
@@ -98,7 +98,7 @@ fn taken_service(config: &Config, bytes: &[u8]) -> Option<Service>
 
 /// Returns the context if it is accepted.
 pub(crate) fn accepted(config: &Config, proposal: &Proposal) -> Option<Context>
-    ensures { result ≡ spelling.accepted (spelling.seen (settings_of config.now).further proposal.now) }
+    ensures { result ≡ spelling.accepted (spelling.seen (settings_of config.now).additional proposal.now) }
 {
     match (
         taken_service(config, proposal.abstract_syntax()),
@@ -111,7 +111,7 @@ pub(crate) fn accepted(config: &Config, proposal: &Proposal) -> Option<Context>
 
 /// Returns the result of a proposed context.
 pub(crate) fn result_of(config: &Config, proposal: &Proposal) -> u8
-    ensures { result ≡ spelling.result_of (spelling.seen (settings_of config.now).further proposal.now) }
+    ensures { result ≡ spelling.result_of (spelling.seen (settings_of config.now).additional proposal.now) }
 {
     match (
         taken_service(config, proposal.abstract_syntax()),
@@ -125,7 +125,7 @@ pub(crate) fn result_of(config: &Config, proposal: &Proposal) -> u8
 
 /// Returns the transfer syntax that the answer to a proposed context carries.
 pub(crate) fn carried(config: &Config, proposal: &Proposal) -> Transfer
-    ensures { result ≡ spelling.carried (spelling.seen (settings_of config.now).further proposal.now) }
+    ensures { result ≡ spelling.carried (spelling.seen (settings_of config.now).additional proposal.now) }
 {
     match accepted(config, proposal) {
         Some(context) => context.syntax,

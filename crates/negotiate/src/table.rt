@@ -19,7 +19,7 @@ pub enum RowClass {
     /// A class of the dictionary.
     Known(Class),
     /// A further storage class, by its place among those that the settings take.
-    Further(u8),
+    Additional(u8),
 }
 
 /// An accepted presentation context, as a row of the table that outlives the request. It counts as
@@ -61,11 +61,11 @@ fn first(place: Option<u8>) -> u8
 
 /// The service as it stands in a row.
 fn class_in_row(config: &Config, class: &Service) -> RowClass
-    ensures { result ≡ rows.class_in_row (settings_of config.now).further class.now }
+    ensures { result ≡ rows.class_in_row (settings_of config.now).additional class.now }
 {
     match class {
         Service::Known(class) => RowClass::Known(*class),
-        Service::Further(uid) => RowClass::Further(first(config.place(uid))),
+        Service::Additional(uid) => RowClass::Additional(first(config.place(uid))),
     }
 }
 
@@ -73,9 +73,9 @@ fn class_in_row(config: &Config, class: &Service) -> RowClass
 /// A request proposes at most 128 contexts, so there is always room.
 pub fn compact(config: &Config, request: &Request, table: &mut ArrayVec<ContextRow, 128>)
     requires { table.old.items ≡ [] }
-    ensures rows { table.new.items ≡ context_rows (settings_of config.now).further (spelling.offered (settings_of config.now).further request.now) }
-    ensures count { array_vec_len table.new ≡ accepted_count (spelling.offered (settings_of config.now).further request.now) }
-    ensures contexts { (id : ℕ) → context_in (settings_of config.now).further table.new.items id ≡ spelling.context_of (spelling.offered (settings_of config.now).further request.now) id }
+    ensures rows { table.new.items ≡ context_rows (settings_of config.now).additional (spelling.offered (settings_of config.now).additional request.now) }
+    ensures count { array_vec_len table.new ≡ accepted_count (spelling.offered (settings_of config.now).additional request.now) }
+    ensures contexts { (id : ℕ) → context_in (settings_of config.now).additional table.new.items id ≡ spelling.context_of (spelling.offered (settings_of config.now).additional request.now) id }
 {
     request.keeps();
     for proposal in request.contexts() {
@@ -91,13 +91,13 @@ pub fn compact(config: &Config, request: &Request, table: &mut ArrayVec<ContextR
 
 /// The service of a row.
 fn service_in(config: &Config, class: RowClass) -> Option<Service>
-    ensures { result ≡ rows.service_in (settings_of config.now).further class }
+    ensures { result ≡ rows.service_in (settings_of config.now).additional class }
 {
     match class {
         RowClass::Known(class) => Some(Service::Known(class)),
-        RowClass::Further(place) => match config.further(place as usize) {
+        RowClass::Additional(place) => match config.additional(place as usize) {
             Some(text) => match Uid::read(text) {
-                Some(uid) => Some(Service::Further(uid)),
+                Some(uid) => Some(Service::Additional(uid)),
                 None => None,
             },
             None => None,
@@ -108,7 +108,7 @@ fn service_in(config: &Config, class: RowClass) -> Option<Service>
 /// Returns the context with this ID in a table, or `None` if the table has none. For a table that
 /// `compact` filled with the same settings, this is what `context` returns for the request.
 pub fn context_of(config: &Config, table: &[ContextRow], id: u8) -> Option<Context>
-    ensures { result ≡ context_in (settings_of config.now).further table.now id }
+    ensures { result ≡ context_in (settings_of config.now).additional table.now id }
 {
     for row in table {
         if row.id == id {

@@ -9,7 +9,7 @@ use Rattle.dictionary.specs.Syntaxes.{syntax_uid}
 use Rattle.part10.specs.declared.meta_fault.MetaFault.TheVariants.{NotPart10}
 use Rattle.element.specs.Padding.{padded}
 use Rattle.part10.specs.File.{uid_element, length_element, identity_elements, implementation_elements, title_element}
-use Rattle.part10.specs.MetaText.{Said, SpellsMeta, HasMeta, MetaElement, MetaElements, no_more, MetaFaultOf}
+use Rattle.part10.specs.MetaText.{MetaValues, SpellsMeta, HasMeta, MetaElement, MetaElements, no_more, MetaFaultOf}
 use Rattle.part10.specs.Examples.{OneCtStore, NoHeaders, SyntaxIsSaid, least_group, least_header, least_said}
 use Rattle.part10.proofs.MetaLemmas.{uid_back, uid_then}
 
@@ -18,7 +18,7 @@ unfolding identity_elements implementation_elements title_element is_short
 one_ct_store = (refl, refl, refl)
 
 -- a file header has 144 bytes at least
-header_long : (said : Said) (file : List ℕ) → HasMeta said file → 144 ≤ length file
+header_long : (said : MetaValues) (file : List ℕ) → HasMeta said file → 144 ≤ length file
 unfolding is_short
 header_long said file has =
     let spelled = has.spelled in
@@ -26,7 +26,7 @@ header_long said file has =
     let all : length file ≡ length has.front + length has.back = rw (has.whole, length-append) refl in
     omega (arith, front, all)
 
-too_short : (said : Said) (file : List ℕ) → length file < 144 → ¬ HasMeta said file
+too_short : (said : MetaValues) (file : List ℕ) → length file < 144 → ¬ HasMeta said file
 too_short said file short has = absurd (omega (arith, short, header_long said file has))
 
 -- a byte that is no D

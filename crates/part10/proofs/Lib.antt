@@ -15,3 +15,4 @@ pub mod WholeLemmas
 pub mod NativeLemmas
 pub mod Verdicts
 pub mod NamingLemmas
+pub mod SettlingLemmas

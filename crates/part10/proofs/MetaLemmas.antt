@@ -18,7 +18,7 @@ use Rattle.dictionary.specs.Transfers.{transfer_uid}
 use Rattle.part10.specs.declared.meta.Meta.{Meta}
 use Rattle.element.specs.Padding.{padded}
 use Rattle.part10.specs.File.{meta_element, uid_element, identity_elements, implementation_elements, title_element, meta_group, head}
-use Rattle.part10.specs.MetaText.{MetaElement, MetaElements, no_more, element_then, SpellsMeta, said_of}
+use Rattle.part10.specs.MetaText.{MetaElement, MetaElements, no_more, element_then, SpellsMeta, meta_values_of}
 use Rattle.part10.proofs.Bounds.{title_text_short}
 
 -- values
@@ -167,7 +167,7 @@ instance_read meta es rest class instance more =
 
 -- what is written is read
 pub head_is_read : (meta : Meta) → is_uid meta.class ≡ true → is_uid meta.instance ≡ true → length meta.calling.0 ≡ 16 → length (meta_group meta) ≤ 360
-    → SpellsMeta (said_of meta) (head meta)
+    → SpellsMeta (meta_values_of meta) (head meta)
 unfolding uid_elements
 head_is_read meta class instance sixteen few =
     let title : length (title_text meta.calling.0) ≤ 16 = omega (arith, title_text_short meta.calling.0, sixteen) in

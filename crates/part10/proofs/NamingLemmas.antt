@@ -7,13 +7,13 @@ use Rattle.std.specs.List.{AllByRecursion}
 use Rattle.std.proofs.lemmas.Bool.{le-leb, le-ltb, leb-true}
 use Rattle.std.specs.declared.io.Error.{Error}
 use Rattle.part10.specs.declared.numbers.Numbers.{Numbers}
-use Rattle.part10.specs.declared.place.Layout.{Layout}
-use Rattle.part10.specs.declared.place.Layout.TheVariants.{Flat, Levels}
-use Rattle.part10.specs.declared.place.Place.{Place}
+use Rattle.part10.specs.declared.location.Layout.{Layout}
+use Rattle.part10.specs.declared.location.Layout.TheVariants.{Flat, Levels}
+use Rattle.part10.specs.declared.location.Location.{Location}
 use Rattle.part10.specs.Numbers.{Keeps, is_covered}
 use Rattle.part10.specs.Examples.{WorkedNames}
 use Rattle.part10.specs.Naming.{AreApart, IsKept, IsOrderly, KeepsAll, LeavesNames, LosesNone, WasRefused, Naming, Rises, standing, refusals}
-use Rattle.part10.specs.Places.{next_place, order}
+use Rattle.part10.specs.Locations.{next_location, order}
 use Rattle.part10.specs.declared.naming.Attempt.{Attempt}
 use Rattle.part10.specs.declared.naming.Attempt.TheVariants.{Named, Met}
 use Rattle.part10.specs.declared.naming.Named.{Named as How}
@@ -21,29 +21,29 @@ use Rattle.part10.specs.declared.naming.Obstacle.{Obstacle}
 use Rattle.part10.specs.machine.Naming.{PlaceLeaves, SameTerms}
 
 -- a later last place is behind the same places
-pub behind_more : (last later : Place) → order last ≤ order later → (places : List Place)
+pub behind_more : (last later : Location) → order last ≤ order later → (places : List Location)
     → AllByRecursion (λ place. order place ≤ order last) places → AllByRecursion (λ place. order place ≤ order later) places
 behind_more last later more [] behind = tt
 behind_more last later more (place ∷ places) behind = (omega (arith, more, behind.0), behind_more last later more places behind.1)
 
 -- a place after the last one is after each that this is behind
-pub after_all : (last place : Place) → order last < order place → (places : List Place)
+pub after_all : (last place : Location) → order last < order place → (places : List Location)
     → AllByRecursion (λ other. order other ≤ order last) places → AllByRecursion (λ other. order other < order place) places
 after_all last place more [] behind = tt
 after_all last place more (other ∷ places) behind = (omega (arith, more, behind.0), after_all last place more places behind.1)
 
-covers_more : (layout : Layout) (kept more : Numbers) → Keeps kept more → (place : Place) → is_covered layout kept place ≡ true → is_covered layout more place ≡ true
+covers_more : (layout : Layout) (kept more : Numbers) → Keeps kept more → (place : Location) → is_covered layout kept place ≡ true → is_covered layout more place ≡ true
 covers_more Flat kept more keeps place covered = le-leb place.file more.file (omega (arith, leb-true place.file kept.file covered, keeps.0))
 covers_more (Levels per) kept more keeps place covered = le-leb place.folder more.folder (omega (arith, leb-true place.folder kept.folder covered, keeps.1))
 
 -- what is kept stays kept
-pub kept_more : (layout : Layout) (kept more : Option Numbers) → KeepsAll kept more → (place : Place) → IsKept layout kept place → IsKept layout more place
+pub kept_more : (layout : Layout) (kept more : Option Numbers) → KeepsAll kept more → (place : Location) → IsKept layout kept place → IsKept layout more place
 kept_more layout None None keeps place is = tt
 kept_more layout None (Some more) keeps place is = absurd keeps
 kept_more layout (Some kept) None keeps place is = tt
 kept_more layout (Some kept) (Some more) keeps place is = covers_more layout kept more keeps place is
 
-pub all_kept_more : (layout : Layout) (kept more : Option Numbers) → KeepsAll kept more → (places : List Place)
+pub all_kept_more : (layout : Layout) (kept more : Option Numbers) → KeepsAll kept more → (places : List Location)
     → AllByRecursion (IsKept layout kept) places → AllByRecursion (IsKept layout more) places
 all_kept_more layout kept more keeps [] are = tt
 all_kept_more layout kept more keeps (place ∷ places) are = (kept_more layout kept more keeps place are.0, all_kept_more layout kept more keeps places are.1)
@@ -70,7 +70,7 @@ passed_on (Ok value) old new taken refused = (ap standing taken, λ h. rw taken 
 passed_on (Err error) old new taken refused = (rw refused refl, λ h. rw refused h)
 
 -- It names a file: at a place after the last one, whose number is kept, and which is the last one or before it.
-pub names_one : (old new : Naming) (place : Place) → new.layout ≡ old.layout → new.kept ≡ old.kept → order old.last < order place
+pub names_one : (old new : Naming) (place : Location) → new.layout ≡ old.layout → new.kept ≡ old.kept → order old.last < order place
     → order place ≤ order new.last → IsKept old.layout old.kept place
     → standing new.calls ≡ place ∷ standing old.calls → (LosesNone old.calls → LosesNone new.calls) → IsOrderly old → IsOrderly new
 names_one old new place layout kept after behind is more loses was =
@@ -85,7 +85,7 @@ names_one old new place layout kept after behind is more loses was =
     }
 
 -- A try at a place after the last one, whose number is kept, goes on, whatever came of it.
-pub tries_one : {E : Type 0} (result : Result Attempt E) (old new : Naming) (place : Place) → order old.last < order place → IsKept old.layout old.kept place
+pub tries_one : {E : Type 0} (result : Result Attempt E) (old new : Naming) (place : Location) → order old.last < order place → IsKept old.layout old.kept place
     → PlaceLeaves place result old new → SameTerms old new → (LosesNone old.calls → LosesNone new.calls) → IsOrderly old → IsOrderly new
 tries_one (Ok (Named how)) old new place after is left same loses was =
     names_one old new place same.0 same.1 after (rw left.2 (omega arith)) is left.0 loses was
@@ -113,7 +113,7 @@ search_begins old now layout kept calls last =
     }
 
 -- the next place, at which a name is tried: it is after the last one, and its number is kept
-pub record Reaches (now next : Naming) (place : Place) : Type 0 where
+pub record Reaches (now next : Naming) (place : Location) : Type 0 where
   pub calls : next.calls ≡ now.calls
   pub rises : order now.last ≤ order next.last
   pub behind : order next.last < order place
@@ -121,22 +121,22 @@ pub record Reaches (now next : Naming) (place : Place) : Type 0 where
   pub orderly : IsOrderly now → IsOrderly next
 
 -- what the try at this place leaves, whatever came of it
-pub record Tries {E : Type 0} (result : Result Attempt E) (place : Place) (next tried : Naming) : Type 0 where
+pub record Tries {E : Type 0} (result : Result Attempt E) (place : Location) (next tried : Naming) : Type 0 where
   pub left : PlaceLeaves place result next tried
   pub same : SameTerms next tried
   pub loses : LosesNone next.calls → LosesNone tried.calls
 
-orderly_then : {E : Type 0} (result : Result Attempt E) (old now next tried : Naming) (place : Place) (met : ℕ)
+orderly_then : {E : Type 0} (result : Result Attempt E) (old now next tried : Naming) (place : Location) (met : ℕ)
     → Searches old now met → Reaches now next place → Tries result place next tried → IsOrderly old → IsOrderly tried
 orderly_then result old now next tried place met was reaches tries h =
     tries_one result next tried place reaches.behind reaches.kept tries.left tries.same tries.loses (reaches.orderly (was.orderly h))
 
-same_calls : (old now next : Naming) (place : Place) (met : ℕ) → Searches old now met → Reaches now next place
+same_calls : (old now next : Naming) (place : Location) (met : ℕ) → Searches old now met → Reaches now next place
     → (standing next.calls ≡ standing old.calls) × (refusals next.calls ≡ refusals old.calls)
 same_calls old now next place met was reaches = (ap standing reaches.calls ∙ was.same, ap refusals reaches.calls ∙ was.refused)
 
 -- the place was given
-pub search_ends : (old now next tried : Naming) (place : Place) (met : ℕ) (attempt : Attempt) (how : How) → attempt ≡ Named how
+pub search_ends : (old now next tried : Naming) (place : Location) (met : ℕ) (attempt : Attempt) (how : How) → attempt ≡ Named how
     → Searches old now met → Reaches now next place → Tries {E = Error} (Ok attempt) place next tried
     → (standing tried.calls ≡ place ∷ standing old.calls) × (refusals tried.calls ≡ refusals old.calls) × (IsOrderly old → IsOrderly tried)
 search_ends old now next tried place met (Named how) _ is was reaches tries =
@@ -145,7 +145,7 @@ search_ends old now next tried place met (Named how) _ is was reaches tries =
 search_ends old now next tried place met (Met obstacle) how is was reaches tries = absurd cc
 
 -- an obstacle was met, and the search goes on behind the place
-pub search_goes_on : (old now next tried over : Naming) (place : Place) (met : ℕ) (attempt : Attempt) (obstacle : Obstacle) → attempt ≡ Met obstacle
+pub search_goes_on : (old now next tried over : Naming) (place : Location) (met : ℕ) (attempt : Attempt) (obstacle : Obstacle) → attempt ≡ Met obstacle
     → Searches old now met → Reaches now next place → Tries {E = Error} (Ok attempt) place next tried
     → over.calls ≡ tried.calls → SameTerms tried over → order place ≤ order over.last → Searches old over (met + 1)
 search_goes_on old now next tried over place met (Named how) _ is was reaches tries calls terms behind = absurd cc
@@ -161,7 +161,7 @@ search_goes_on old now next tried over place met (Met obstacle) _ is was reaches
     }
 
 -- the try failed
-pub search_fails : {E : Type 0} (old now next tried : Naming) (place : Place) (met : ℕ) (error : E)
+pub search_fails : {E : Type 0} (old now next tried : Naming) (place : Location) (met : ℕ) (error : E)
     → Searches old now met → Reaches now next place → Tries (Err error) place next tried
     → LeavesNames (standing old.calls) (standing tried.calls) × WasRefused old tried × (IsOrderly old → IsOrderly tried)
 search_fails old now next tried place met error was reaches tries =
@@ -188,20 +188,20 @@ lt_no a b more = le-ltb a b more
 
 -- A place so far behind that none comes after it.
 pub none_behind : (folder file : ℕ) → folder < 2 ^ 32 → file < 2 ^ 32 → 18446744073709551615 ≤ order (record { folder = folder; file = file })
-    → next_place Flat (record { folder = folder; file = file }) ≡ None
+    → next_location Flat (record { folder = folder; file = file }) ≡ None
 none_behind folder file least most far = rw (lt_no file 9999999 (omega (arith, least, most, far))) refl
 
 pub none_behind_levels : (per folder file : ℕ) → per < 2 ^ 32 → folder < 2 ^ 32 → file < 2 ^ 32 → 18446744073709551615 ≤ order (record { folder = folder; file = file })
-    → next_place (Levels per) (record { folder = folder; file = file }) ≡ None
+    → next_location (Levels per) (record { folder = folder; file = file }) ≡ None
 none_behind_levels per folder file fits least most far =
     rw (lt_no file per (omega (arith, fits, least, most, far))) (rw (lt_no folder 9999999 (omega (arith, least, most, far))) refl)
 
-apart : (place : Place) (before : List Place) → AllByRecursion (λ other. order other < order place) before → AllByRecursion (λ other. other ≢ place) before
+apart : (place : Location) (before : List Location) → AllByRecursion (λ other. order other < order place) before → AllByRecursion (λ other. other ≢ place) before
 apart place [] rises = tt
 apart place (other ∷ before) rises = ((λ same. absurd (let less : order place < order place = subst (λ z. order z < order place) same rises.0 in omega (arith, less))), apart place before rises.1)
 
 -- places that rise are apart
-pub are_apart : (places : List Place) → Rises places → AreApart places
+pub are_apart : (places : List Location) → Rises places → AreApart places
 are_apart [] rises = tt
 are_apart (place ∷ before) rises = (apart place before rises.0, are_apart before rises.1)
 

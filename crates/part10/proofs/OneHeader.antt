@@ -8,7 +8,7 @@ use Rattle.element.specs.Vr.{is_short}
 use Rattle.element.specs.Header.{SpellsHeader, long_number_at}
 use Rattle.element.proofs.Public.{one_spelling, spelled_long}
 use Rattle.part10.specs.File.{length_element}
-use Rattle.part10.specs.MetaText.{Said, HasMeta, MetaElement, meta_element_of, MetaElements, no_more, element_then, uid_at, OneHeader}
+use Rattle.part10.specs.MetaText.{MetaValues, HasMeta, MetaElement, meta_element_of, MetaElements, no_more, element_then, uid_at, OneHeader}
 
 pub same_front : (u v rest more : List ℕ) → length u ≡ length v → u ++ rest ≡ v ++ more → (u ≡ v) × (rest ≡ more)
 same_front u v rest more e same = (
@@ -46,7 +46,7 @@ length_back n lt = let same : long_number_at (le n 4 ++ []) 0 ≡ n = omega (ari
 pub same_length : (n m : ℕ) → n < 2 ^ 32 → m < 2 ^ 32 → length_element n ≡ length_element m → n ≡ m
 same_length n m lt lt2 same = sym (length_back n lt) ∙ (ap (λ z. long_number_at (drop 8 z) 0) same ∙ length_back m lt2)
 
-pub parted : (said : Said) (file : List ℕ) (has : HasMeta said file)
+pub parted : (said : MetaValues) (file : List ℕ) (has : HasMeta said file)
     → file ≡ has.spelled.preamble ++ (codes "DICM" ++ (length_element (length has.spelled.group) ++ (has.spelled.group ++ has.back)))
 parted said file has = rw (has.whole, has.spelled.whole, append_assoc, append_assoc, append_assoc) refl
 

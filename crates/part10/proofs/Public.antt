@@ -4,8 +4,8 @@ use Rattle.std.proofs.Common.{◌≡◌, ℕ, ◌^◌, ◌<◌, ◌≤◌, true,
 use Rattle.element.specs.Uid.{is_uid}
 use Rattle.part10.specs.declared.meta.Meta.{Meta}
 use Rattle.part10.specs.File.{head, meta_group}
-use Rattle.part10.specs.MetaText.{OneHeader, OneVerdict, SpellsMeta, said_of}
-use Rattle.part10.specs.declared.place.Place.{Place}
+use Rattle.part10.specs.MetaText.{OneHeader, OneVerdict, SpellsMeta, meta_values_of}
+use Rattle.part10.specs.declared.location.Location.{Location}
 use Rattle.part10.specs.Naming.{AreApart, Rises}
 use Rattle.part10.specs.Examples.{NoHeaders, SyntaxIsSaid, WorkedNames, least_group, least_header, least_said}
 use Rattle.part10.proofs.MetaLemmas as written
@@ -15,7 +15,7 @@ use Rattle.part10.proofs.OneHeader as headers
 use Rattle.part10.proofs.Verdicts as verdicts
 
 pub head_is_read : (meta : Meta) → is_uid meta.class ≡ true → is_uid meta.instance ≡ true → length meta.calling.0 ≡ 16 → length (meta_group meta) ≤ 360
-    → SpellsMeta (said_of meta) (head meta)
+    → SpellsMeta (meta_values_of meta) (head meta)
 head_is_read = written.head_is_read
 
 pub no_headers : NoHeaders
@@ -33,7 +33,7 @@ one_header = headers.one_header
 pub one_verdict : OneVerdict
 one_verdict = verdicts.one_verdict
 
-pub places_that_rise_differ : (places : List Place) → Rises places → AreApart places
+pub places_that_rise_differ : (places : List Location) → Rises places → AreApart places
 places_that_rise_differ = names.are_apart
 
 pub worked_names : WorkedNames

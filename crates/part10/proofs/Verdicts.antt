@@ -18,7 +18,7 @@ use Rattle.part10.specs.declared.meta_fault.MetaFault.{MetaFault}
 use Rattle.part10.specs.declared.meta_fault.MetaFault.TheVariants.{NotPart10, BadMeta, OtherSyntax, ReadFailed}
 use Rattle.part10.specs.declared.reading.Found.{Found}
 use Rattle.part10.specs.File.{length_element}
-use Rattle.part10.specs.MetaText.{Said, HasMeta, HasLetters, MetaFaultOf, IsTaken, MetaElement, meta_element_of, MetaElements, no_more, element_then, uid_at, TakenOrFaulty, OneVerdict}
+use Rattle.part10.specs.MetaText.{MetaValues, HasMeta, HasLetters, MetaFaultOf, IsTaken, MetaElement, meta_element_of, MetaElements, no_more, element_then, uid_at, TakenOrFaulty, OneVerdict}
 use Rattle.part10.specs.machine.Reading.{NoSize, NoHeader, NoElement, is_next}
 use Rattle.part10.proofs.HeaderLemmas.{whole_at, need_bounds}
 use Rattle.part10.proofs.PrefixLemmas.{short_file, other_size, short_size, number_back, size_is}
@@ -108,7 +108,7 @@ bad : (file : List ℕ) → MetaFaultOf file BadMeta → Verdict file
 unfolding Verdict
 bad file fault = inr (BadMeta, fault)
 
-taken_text : (file : List ℕ) (said : Said) → HasMeta said file → Verdict file
+taken_text : (file : List ℕ) (said : MetaValues) → HasMeta said file → Verdict file
 unfolding Verdict
 taken_text file said has = by (bytes_eq said.syntax (syntax_uid Implicit)) refl (bytes_eq said.syntax (syntax_uid Explicit)) refl
   where
@@ -124,7 +124,7 @@ taken_text file said has = by (bytes_eq said.syntax (syntax_uid Implicit)) refl 
 -- the group was spelled
 grouped : (n : ℕ) (found : Found) (back file : List ℕ) → Whole n found (Some file) (Some back) → (class instance syntax : Option (List ℕ)) → found.class ≡ class → found.instance ≡ instance → found.syntax ≡ syntax → Verdict file
 grouped n found back file whole (Some class) (Some instance) (Some syntax) c i s =
-    let said : Said = record { class = class; instance = instance; syntax = syntax } in
+    let said : MetaValues = record { class = class; instance = instance; syntax = syntax } in
     taken_text file said (record { front = _; back = back; whole = whole.taken; spelled = spells_whole n found (Some file) (Some back) whole said c i s })
 grouped n found back file whole None instance syntax c i s = bad file (meta_refused n found (Some file) (Some back) whole (Err BadMeta) (λ all. absurd (let both = sym c ∙ all.3 in cc)))
 grouped n found back file whole (Some class) None syntax c i s = bad file (meta_refused n found (Some file) (Some back) whole (Err BadMeta) (λ all. absurd (let both = sym i ∙ all.4 in cc)))
@@ -222,7 +222,7 @@ taken_or_faulty file bytes = by (bytes_eq (take 4 (drop 128 file)) (codes "DICM"
 
 -- one verdict
 
-letters_of : (said : Said) (file : List ℕ) → HasMeta said file → HasLetters file
+letters_of : (said : MetaValues) (file : List ℕ) → HasMeta said file → HasLetters file
 letters_of said file has =
     let after : drop 128 file ≡ codes "DICM" ++ (length_element (length has.spelled.group) ++ (has.spelled.group ++ has.back)) =
     ap (drop 128) (parted said file has) ∙ drop_at has.spelled.preamble _ 128 has.spelled.preamble_size in

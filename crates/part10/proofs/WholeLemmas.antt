@@ -13,7 +13,7 @@ use Rattle.part10.specs.declared.meta_fault.MetaFault.{MetaFault}
 use Rattle.part10.specs.declared.meta_fault.MetaFault.TheVariants.{NotPart10, BadMeta, OtherSyntax, ReadFailed}
 use Rattle.part10.specs.declared.reading.Found.{Found}
 use Rattle.part10.specs.File.{length_element}
-use Rattle.part10.specs.MetaText.{Said, said_of, SpellsMeta, HasMeta, HasLetters, MetaFaultOf, MetaElement, MetaElements, uid_at, TakesMeta, NamesNone, NamesUnknown, FailsToReadAny}
+use Rattle.part10.specs.MetaText.{MetaValues, meta_values_of, SpellsMeta, HasMeta, HasLetters, MetaFaultOf, MetaElement, MetaElements, uid_at, TakesMeta, NamesNone, NamesUnknown, FailsToReadAny}
 use Rattle.part10.specs.machine.Reading.{Breaks, NoLetters, NoSize, NoGroup, IsFound, IsMeta}
 use Rattle.part10.proofs.FaultLemmas.{bad_after}
 use Rattle.part10.proofs.MetaLemmas.{text_kept}
@@ -38,7 +38,7 @@ has_letters preamble rest size =
     ap (take 4) after
 
 -- what a file header has after the letters
-after_letters : (said : Said) (preamble rest : List ℕ) → length preamble ≡ 128 → (has : HasMeta said ((preamble ++ codes "DICM") ++ rest))
+after_letters : (said : MetaValues) (preamble rest : List ℕ) → length preamble ≡ 128 → (has : HasMeta said ((preamble ++ codes "DICM") ++ rest))
     → rest ≡ length_element (length has.spelled.group) ++ (has.spelled.group ++ has.back)
 after_letters said preamble rest size has =
     let all = sym (append_assoc preamble (codes "DICM") rest) ∙ parted said ((preamble ++ codes "DICM") ++ rest) has in
@@ -50,7 +50,7 @@ no_size preamble rest size none =
     (has_letters preamble rest size, λ said has. none (length has.spelled.group) (has.spelled.group ++ has.back) has.spelled.group_size (after_letters said preamble rest size has))
 
 -- and after the length
-after_size : (said : Said) (preamble rest : List ℕ) (n : ℕ) → length preamble ≡ 128 → n < 2 ^ 32 → (has : HasMeta said ((preamble ++ codes "DICM") ++ (length_element n ++ rest)))
+after_size : (said : MetaValues) (preamble rest : List ℕ) (n : ℕ) → length preamble ≡ 128 → n < 2 ^ 32 → (has : HasMeta said ((preamble ++ codes "DICM") ++ (length_element n ++ rest)))
     → (rest ≡ has.spelled.group ++ has.back) × (length has.spelled.group ≡ n)
 after_size said preamble rest n size small has =
     let all = after_letters said preamble (length_element n ++ rest) size has in
@@ -83,7 +83,7 @@ pub record Whole (n : ℕ) (found : Found) (old new : Option (List ℕ)) : Type 
 whole_text : (n : ℕ) (found : Found) (old new : Option (List ℕ)) → Whole n found old new → List ℕ
 whole_text n found old new whole = ((whole.preamble ++ codes "DICM") ++ length_element n) ++ whole.group
 
-same_elements : (n : ℕ) (found : Found) (old new : Option (List ℕ)) (whole : Whole n found old new) (said : Said) (rest : List ℕ)
+same_elements : (n : ℕ) (found : Found) (old new : Option (List ℕ)) (whole : Whole n found old new) (said : MetaValues) (rest : List ℕ)
     (has : HasMeta said ((((whole.preamble ++ codes "DICM") ++ length_element n) ++ whole.group) ++ rest)) → has.spelled.elements ≡ whole.elements
 same_elements n found old new whole said rest has =
     let regroup : (((whole.preamble ++ codes "DICM") ++ length_element n) ++ whole.group) ++ rest ≡ (whole.preamble ++ codes "DICM") ++ (length_element n ++ (whole.group ++ rest)) = simp append_assoc refl in
@@ -92,7 +92,7 @@ same_elements n found old new whole said rest has =
     let groups = same_front whole.group has.spelled.group rest has.back (whole.count ∙ sym parts.1) parts.0 in
     one_elements 0 0 has.spelled.elements whole.elements has.spelled.group whole.group has.spelled.spelled whole.spelled (sym groups.0)
 
-pub spells_whole : (n : ℕ) (found : Found) (old new : Option (List ℕ)) (whole : Whole n found old new) (said : Said) → found.class ≡ Some said.class → found.instance ≡ Some said.instance → found.syntax ≡ Some said.syntax
+pub spells_whole : (n : ℕ) (found : Found) (old new : Option (List ℕ)) (whole : Whole n found old new) (said : MetaValues) → found.class ≡ Some said.class → found.instance ≡ Some said.instance → found.syntax ≡ Some said.syntax
     → SpellsMeta said (((whole.preamble ++ codes "DICM") ++ length_element n) ++ whole.group)
 spells_whole n found old new whole said class instance syntax = record {
   preamble = whole.preamble;
@@ -129,13 +129,13 @@ kept_text text e = text_kept text (and_parts (nat_le 1 (length text) && nat_le (
 
 -- what comes of the whole
 
-pub takes_meta : (n : ℕ) (found : Found) (old new : Option (List ℕ)) → Whole n found old new → (r : Result Meta MetaFault) → IsMeta found r → IfOk r (λ meta. TakesMeta (said_of meta) old new)
+pub takes_meta : (n : ℕ) (found : Found) (old new : Option (List ℕ)) → Whole n found old new → (r : Result Meta MetaFault) → IsMeta found r → IfOk r (λ meta. TakesMeta (meta_values_of meta) old new)
 takes_meta n found old new whole (Err fault) is = tt
 takes_meta n found old new whole (Ok meta) is =
     let text : is_uid is.0 ≡ true = uid_found 0x0010 whole.elements is.0 (sym whole.is.syntax ∙ is.3) in
     let named : transfer_named is.0 ≡ Some meta.syntax = ap transfer_named (sym (kept_text is.0 text)) ∙ is.4 in
     let syntax : found.syntax ≡ Some (transfer_uid meta.syntax) = is.3 ∙ ap (λ z. Some z) (named_text is.0 meta.syntax named) in
-    (((whole.preamble ++ codes "DICM") ++ length_element n) ++ whole.group, spells_whole n found old new whole (said_of meta) is.1 is.2 syntax, whole.taken)
+    (((whole.preamble ++ codes "DICM") ++ length_element n) ++ whole.group, spells_whole n found old new whole (meta_values_of meta) is.1 is.2 syntax, whole.taken)
 
 pub meta_refused : (n : ℕ) (found : Found) (old new : Option (List ℕ)) → Whole n found old new → (r : Result Meta MetaFault) → IsMeta found r → IfErr r (λ fault. FailsToReadAny fault old)
 meta_refused n found old new whole (Ok meta) is = tt
@@ -150,7 +150,7 @@ meta_refused n found old new whole (Err BadMeta) none =
     ))
 meta_refused n found old new whole (Err OtherSyntax) is =
     bad_after old new _ NamesNone whole.taken (λ rest.
-    let said : Said = record { class = is.0; instance = is.1; syntax = is.2 } in
+    let said : MetaValues = record { class = is.0; instance = is.1; syntax = is.2 } in
     let text : is_uid is.2 ≡ true = uid_found 0x0010 whole.elements is.2 (sym whole.is.syntax ∙ is.5) in
     let unnamed : transfer_named is.2 ≡ None = ap transfer_named (sym (kept_text is.2 text)) ∙ is.6 in
     (said, record { front = _; back = rest; whole = refl; spelled = spells_whole n found old new whole said is.3 is.4 is.5 }, not_named is.2 unnamed))
@@ -161,7 +161,7 @@ names_other n found old new whole (Err ReadFailed) is = λ same. absurd is
 names_other n found old new whole (Err NotPart10) is = λ same. absurd is
 names_other n found old new whole (Err BadMeta) none = λ same. absurd cc
 names_other n found old new whole (Err OtherSyntax) is =
-    let said : Said = record { class = is.0; instance = is.1; syntax = is.2 } in
+    let said : MetaValues = record { class = is.0; instance = is.1; syntax = is.2 } in
     let text : is_uid is.2 ≡ true = uid_found 0x0010 whole.elements is.2 (sym whole.is.syntax ∙ is.5) in
     let unnamed : transfer_named is.2 ≡ None = ap transfer_named (sym (kept_text is.2 text)) ∙ is.6 in
     λ same. (said, (_, spells_whole n found old new whole said is.3 is.4 is.5, whole.taken), not_named is.2 unnamed)

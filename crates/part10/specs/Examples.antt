@@ -5,11 +5,11 @@ use Rattle.element.specs.Numbers.{le}
 use Rattle.part10.specs.declared.meta.Meta.{Meta}
 use Rattle.part10.specs.File.{meta_element, uid_element, length_element, head, File}
 use Rattle.part10.specs.declared.meta_fault.MetaFault.TheVariants.{NotPart10, BadMeta, OtherSyntax}
-use Rattle.part10.specs.MetaText.{Said, SpellsMeta, MetaFaultOf}
+use Rattle.part10.specs.MetaText.{MetaValues, SpellsMeta, MetaFaultOf}
 use Rattle.part10.specs.Naming.{LosesNone, Rises, refusals, standing}
 use Rattle.part10.specs.declared.call.Call.{Call}
 use Rattle.part10.specs.declared.call.Call.TheVariants.{Created, Linked, SeenFree, Renamed, Removed, Refused}
-use Rattle.part10.specs.declared.place.Place.{Place}
+use Rattle.part10.specs.declared.location.Location.{Location}
 
 -- a CT image from SCANNER1
 abbrev pub ct_meta : Meta
@@ -48,7 +48,7 @@ abbrev pub least_header : List ℕ → List ℕ
 least_header syntax =
     replicate 128 7 ++ codes "DICM" ++ length_element (length (least_group syntax)) ++ least_group syntax
 
-abbrev pub least_said : List ℕ → Said
+abbrev pub least_said : List ℕ → MetaValues
 least_said syntax = record { class = codes "1.2.840.10008.5.1.4.1.1.2"; instance = codes "1.2.3"; syntax = syntax }
 
 -- a file in Explicit VR Little Endian is accepted, one in JPEG Baseline is a fault
@@ -58,7 +58,7 @@ SyntaxIsSaid =
     × MetaFaultOf (least_header (codes "1.2.840.10008.1.2.4.50") ++ replicate 20 0) OtherSyntax
 
 -- a place in a folder without subfolders
-abbrev pub flat : ℕ → Place
+abbrev pub flat : ℕ → Location
 flat number = record { folder = 0; file = number }
 
 -- the system calls, newest first: a file was linked and another one renamed; a third one was linked, syncing its

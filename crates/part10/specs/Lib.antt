@@ -1,6 +1,7 @@
-pub mod Places
+pub mod Locations
 pub mod Numbers
 pub mod Naming
+pub mod Settling
 pub mod Store
 pub mod EntryNames
 pub mod File

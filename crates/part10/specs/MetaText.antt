@@ -40,18 +40,18 @@ uid_at number [] = None
 uid_at number (e ∷ es) = if nat_eq e.number number then uid_of e.value else uid_at number es
 
 -- what a file header says of its instance: SOP class, SOP instance and transfer syntax
-pub record Said : Type 0 where
+pub record MetaValues : Type 0 where
   pub class : List ℕ
   pub instance : List ℕ
   pub syntax : List ℕ
 
 -- what the file header that is written for an instance says
-abbrev pub said_of : Meta → Said
-said_of meta = record { class = meta.class; instance = meta.instance; syntax = transfer_uid meta.syntax }
+abbrev pub meta_values_of : Meta → MetaValues
+meta_values_of meta = record { class = meta.class; instance = meta.instance; syntax = transfer_uid meta.syntax }
 
 -- the bytes b are a file header that says this: any preamble, the prefix DICM, and group 0002, which begins with its
 -- length and has the SOP class, the SOP instance and the transfer syntax
-pub record SpellsMeta (said : Said) (b : List ℕ) : Type 0 where
+pub record SpellsMeta (said : MetaValues) (b : List ℕ) : Type 0 where
   pub preamble : List ℕ
   pub group : List ℕ
   pub elements : List MetaElement
@@ -64,7 +64,7 @@ pub record SpellsMeta (said : Said) (b : List ℕ) : Type 0 where
   pub syntax : uid_at 0x0010 elements ≡ Some said.syntax
 
 -- the file begins with a file header that says this
-pub record HasMeta (said : Said) (file : List ℕ) : Type 0 where
+pub record HasMeta (said : MetaValues) (file : List ℕ) : Type 0 where
   pub front : List ℕ
   pub back : List ℕ
   pub whole : file ≡ front ++ back
@@ -91,17 +91,17 @@ fault_name ReadFailed = codes "ReadFailed"
 -- ones. A failed read is no fault of the file
 abbrev pub MetaFaultOf : List ℕ → MetaFault → Type 0
 MetaFaultOf file NotPart10 = ¬ HasLetters file
-MetaFaultOf file BadMeta = HasLetters file × ((said : Said) → ¬ HasMeta said file)
-MetaFaultOf file OtherSyntax = (said : Said) × HasMeta said file × ((s : Syntax) → said.syntax ≢ syntax_uid s)
+MetaFaultOf file BadMeta = HasLetters file × ((said : MetaValues) → ¬ HasMeta said file)
+MetaFaultOf file OtherSyntax = (said : MetaValues) × HasMeta said file × ((s : Syntax) → said.syntax ≢ syntax_uid s)
 MetaFaultOf file ReadFailed = ⊥
 
 -- reading consumed exactly a file header that says this
-abbrev pub TakesMeta : Said → Option (List ℕ) → Option (List ℕ) → Type 0
+abbrev pub TakesMeta : MetaValues → Option (List ℕ) → Option (List ℕ) → Type 0
 TakesMeta said old new = (header : List ℕ) × SpellsMeta said header × Consumes old new header
 
 -- reading consumed exactly a file header with a transfer syntax other than the two native ones
 abbrev pub NamesOther : Option (List ℕ) → Option (List ℕ) → Type 0
-NamesOther old new = (said : Said) × TakesMeta said old new × ((s : Syntax) → said.syntax ≢ syntax_uid s)
+NamesOther old new = (said : MetaValues) × TakesMeta said old new × ((s : Syntax) → said.syntax ≢ syntax_uid s)
 
 -- reading fails with this fault: a read failed, or it is the fault of the bytes that the reader had, if they are
 -- known
@@ -115,10 +115,10 @@ FailsToRead OtherSyntax old = IfSome old (λ file. MetaFaultOf file OtherSyntax)
 
 -- the file has a file header with a transfer syntax that is not in the dictionary
 abbrev pub NamesNone : List ℕ → Type 0
-NamesNone file = (said : Said) × HasMeta said file × ((t : Transfer) → said.syntax ≢ transfer_uid t)
+NamesNone file = (said : MetaValues) × HasMeta said file × ((t : Transfer) → said.syntax ≢ transfer_uid t)
 
 abbrev pub NamesUnknown : Option (List ℕ) → Option (List ℕ) → Type 0
-NamesUnknown old new = (said : Said) × TakesMeta said old new × ((t : Transfer) → said.syntax ≢ transfer_uid t)
+NamesUnknown old new = (said : MetaValues) × TakesMeta said old new × ((t : Transfer) → said.syntax ≢ transfer_uid t)
 
 abbrev pub FailsToReadAny : MetaFault → Option (List ℕ) → Type 0
 FailsToReadAny ReadFailed old = ⊤
@@ -128,11 +128,11 @@ FailsToReadAny OtherSyntax old = IfSome old NamesNone
 
 -- the file has a file header with one of the two native transfer syntaxes
 abbrev pub IsTaken : List ℕ → Type 0
-IsTaken file = (said : Said) × HasMeta said file × ((s : Syntax) × (said.syntax ≡ syntax_uid s))
+IsTaken file = (said : MetaValues) × HasMeta said file × ((s : Syntax) × (said.syntax ≡ syntax_uid s))
 
 -- a file determines its file header: what it says and where it ends
 abbrev pub OneHeader : Type 0
-OneHeader = (file : List ℕ) (said told : Said) (has : HasMeta said file) (also : HasMeta told file) → (said ≡ told) × (has.front ≡ also.front)
+OneHeader = (file : List ℕ) (said told : MetaValues) (has : HasMeta said file) (also : HasMeta told file) → (said ≡ told) × (has.front ≡ also.front)
 
 -- every file is accepted or has a fault
 abbrev pub TakenOrFaulty : Type 0

@@ -5,14 +5,14 @@ use Rattle.std.specs.List.{AllByRecursion}
 use Rattle.part10.specs.declared.call.Call.{Call}
 use Rattle.part10.specs.declared.call.Call.TheVariants.{Created, Linked, SeenFree, Renamed, Removed, Refused, Replaced}
 use Rattle.part10.specs.declared.numbers.Numbers.{Numbers}
-use Rattle.part10.specs.declared.place.Layout.{Layout}
-use Rattle.part10.specs.declared.place.Place.{Place}
+use Rattle.part10.specs.declared.location.Layout.{Layout}
+use Rattle.part10.specs.declared.location.Location.{Location}
 use Rattle.part10.specs.Numbers.{Keeps, is_covered}
-use Rattle.part10.specs.Places.{next_place, order}
+use Rattle.part10.specs.Locations.{next_location, order}
 
 -- the places of the files that a filing has named, newest first: those that it has linked or renamed, without those
 -- that it has removed again
-abbrev pub standing : List Call → List Place
+abbrev pub standing : List Call → List Location
 standing [] = []
 standing (Created ∷ before) = standing before
 standing (Linked place ∷ before) = place ∷ standing before
@@ -34,7 +34,7 @@ refusals (Refused ∷ before) = refusals before + 1
 refusals (Replaced ∷ before) = refusals before + 1
 
 -- the last call found the name of this place free
-abbrev pub FoundFree : Place → List Call → Type 0
+abbrev pub FoundFree : Location → List Call → Type 0
 FoundFree place [] = ⊥
 FoundFree place (SeenFree free ∷ before) = free ≡ place
 FoundFree place (Created ∷ before) = ⊥
@@ -45,7 +45,7 @@ FoundFree place (Refused ∷ before) = ⊥
 FoundFree place (Replaced ∷ before) = ⊥
 
 -- the file that was named last has this place
-abbrev pub IsNewest : Place → List Place → Type 0
+abbrev pub IsNewest : Location → List Location → Type 0
 IsNewest place [] = ⊥
 IsNewest place (newest ∷ before) = newest ≡ place
 
@@ -62,17 +62,17 @@ LosesNone (Refused ∷ before) = LosesNone before
 LosesNone (Replaced ∷ before) = LosesNone before
 
 -- each place in this list, the newest first, comes after all older ones in the order of places
-abbrev pub Rises : List Place → Type 0
+abbrev pub Rises : List Location → Type 0
 Rises [] = ⊤
 Rises (place ∷ before) = AllByRecursion (λ other. order other < order place) before × Rises before
 
 -- no place occurs twice in this list
-abbrev pub AreApart : List Place → Type 0
+abbrev pub AreApart : List Location → Type 0
 AreApart [] = ⊤
 AreApart (place ∷ before) = AllByRecursion (λ other. other ≢ place) before × AreApart before
 
 -- the file of numbers, if one is in use, covers the number of this place
-abbrev pub IsKept : Layout → Option Numbers → Place → Type 0
+abbrev pub IsKept : Layout → Option Numbers → Location → Type 0
 IsKept layout None place = ⊤
 IsKept layout (Some kept) place = is_covered layout kept place ≡ true
 
@@ -87,7 +87,7 @@ KeepsAll (Some kept) (Some more) = Keeps kept more
 -- file comes; the contents of the file of numbers, if one is in use; and the system calls so far, newest first
 pub record Naming : Type 0 where
   pub layout : Layout
-  pub last : Place
+  pub last : Location
   pub kept : Option Numbers
   pub calls : List Call
 
@@ -100,11 +100,11 @@ pub record IsOrderly (naming : Naming) : Type 0 where
 
 -- no place comes after the last one: all numbers are in use
 abbrev pub NoneIsLeft : Naming → Type 0
-NoneIsLeft naming = next_place naming.layout naming.last ≡ None
+NoneIsLeft naming = next_location naming.layout naming.last ≡ None
 
 -- after the calls `new`, which extend the calls `old`, the files have these places, `refused` calls have failed, and
 -- no file is lost
-pub record Asks (names : List Place) (refused : ℕ) (old new : List Call) : Type 0 where
+pub record Asks (names : List Location) (refused : ℕ) (old new : List Call) : Type 0 where
   pub standing : standing new ≡ names
   pub refusals : refusals new ≡ refused
   pub loses : LosesNone old → LosesNone new
@@ -114,9 +114,9 @@ abbrev pub WasRefused : Naming → Naming → Type 0
 WasRefused old new = (refusals old.calls < refusals new.calls) ⊎ NoneIsLeft new
 
 -- the second list is the first with one place more
-abbrev pub IsOneMore : List Place → List Place → Type 0
-IsOneMore old new = (place : Place) × (new ≡ place ∷ old)
+abbrev pub IsOneMore : List Location → List Location → Type 0
+IsOneMore old new = (place : Location) × (new ≡ place ∷ old)
 
 -- after a failed commit: the same files have names, or one more, whose name could not be removed again
-abbrev pub LeavesNames : List Place → List Place → Type 0
+abbrev pub LeavesNames : List Location → List Location → Type 0
 LeavesNames old new = (new ≡ old) ⊎ IsOneMore old new

@@ -5,9 +5,9 @@ use Rattle.std.specs.Str.{bytes_eq}
 use Rattle.part10.specs.EntryNames.{entry_number}
 use Rattle.part10.specs.declared.names.EntryKind.TheVariants.{File, Folder}
 use Rattle.part10.specs.declared.numbers.Numbers.{Numbers}
-use Rattle.part10.specs.declared.place.Layout.{Layout}
-use Rattle.part10.specs.declared.place.Layout.TheVariants.{Flat, Levels}
-use Rattle.part10.specs.declared.place.Place.{Place}
+use Rattle.part10.specs.declared.location.Layout.{Layout}
+use Rattle.part10.specs.declared.location.Layout.TheVariants.{Flat, Levels}
+use Rattle.part10.specs.declared.location.Location.{Location}
 
 -- the pair of a file number and a folder number; none if one of them is missing
 abbrev pub both_numbers : Option ℕ → Option ℕ → Option Numbers
@@ -24,7 +24,7 @@ numbers_of line =
     else None
 
 -- whether these numbers cover that of this place: that of its file or, with subfolders, that of its subfolder
-abbrev pub is_covered : Layout → Numbers → Place → Bool
+abbrev pub is_covered : Layout → Numbers → Location → Bool
 is_covered Flat kept place = nat_le place.file kept.file
 is_covered (Levels per) kept place = nat_le place.folder kept.folder
 
@@ -34,6 +34,6 @@ Keeps kept more = (kept.file ≤ more.file) × (kept.folder ≤ more.folder)
 
 -- `last` is where numbering continues: not before the place that was found, and with no number after it that these
 -- numbers cover
-abbrev pub Continues : Layout → Numbers → Place → Place → Type 0
+abbrev pub Continues : Layout → Numbers → Location → Location → Type 0
 Continues Flat kept found last = (kept.file ≤ last.file) × (found.file ≤ last.file) × (last.folder ≡ found.folder)
 Continues (Levels per) kept found last = (kept.folder ≤ last.folder) × (found.folder ≤ last.folder) × (last.file ≡ per)

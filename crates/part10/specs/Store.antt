@@ -1,6 +1,7 @@
 -- The state of a filing (storage for received files) as contracts see it, and the state after each of its calls. This
 -- product's own profile.
 use Rattle.std.specs.Prelude.{◌≡◌, ℕ, ◌+◌, Bool, false, List, [], ◌∷◌, ◌++◌, Option, Some, None, Result, Ok, Err, is_some}
+use Rattle.part10.specs.declared.pending.Pending.{Pending}
 use Rattle.part10.specs.Naming.{Naming}
 
 -- the contents of a filing: its files, oldest first, and the draft's bytes, which are empty if there is no draft
@@ -63,11 +64,12 @@ abbrev pub nothing_filed : MemoryState
 nothing_filed = record { files = []; draft = None; failures = 0 }
 
 -- the state of a filing over a folder, as contracts see it: the number of its draft, the files that it has committed
--- itself, and the names that it has given
+-- itself, the names that it has given, and what has become of its last commit
 pub record FolderState : Type 0 where
   pub number : ℕ
   pub contents : MemoryState
   pub names : Naming
+  pub pending : Pending
 
 -- the state of the writer of a folder, as contracts see it: how many filings it has made
 pub record WriterState : Type 0 where

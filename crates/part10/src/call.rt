@@ -1,6 +1,6 @@
 //! The system calls that contracts see.
 
-use crate::place::Place;
+use crate::location::Location;
 
 /// A system call of a [`FolderFiling`](crate::FolderFiling), as contracts see it: each that created,
 /// named or removed a file, each check of a name that found it free, and each call that failed.
@@ -10,13 +10,13 @@ pub enum Call {
     Created,
     /// The draft's file got the name of this place in addition to its own, by a hard link, which fails
     /// if the name is in use.
-    Linked(Place),
+    Linked(Location),
     /// The name of this place was checked and is free.
-    SeenFree(Place),
+    SeenFree(Location),
     /// The draft's file was renamed to the name of this place, which replaces a file that has it.
-    Renamed(Place),
+    Renamed(Location),
     /// The file with the name of this place was removed.
-    Removed(Place),
+    Removed(Location),
     /// A system call failed, or memory ran out.
     Refused,
     /// The path of the folder led to another folder than the one that is locked.

@@ -20,7 +20,7 @@ impl DraftSize {
     /// Returns the size after bytes were appended.
     pub(crate) fn with(self, count: usize) -> DraftSize
         ensures first { self.head ≡ None → result ≡ record { head = Some count; of_set = self.of_set } }
-        ensures further { (head : ℕ) → self.head ≡ Some head → self.of_set + count < 2 ^ 64 → result ≡ record { head = Some head; of_set = self.of_set + count } }
+        ensures additional { (head : ℕ) → self.head ≡ Some head → self.of_set + count < 2 ^ 64 → result ≡ record { head = Some head; of_set = self.of_set + count } }
     {
         match self.head {
             None => DraftSize {

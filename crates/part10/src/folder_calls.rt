@@ -11,9 +11,9 @@ ghost use Rattle.part10.specs.declared.call.Call.TheVariants as seen;
 
 use crate::call::Call;
 use crate::folder_identity::FolderIdentity;
+use crate::location::{Layout, Location};
 use crate::naming::{Obstacle, Target, check_free, is_without_links, obstacle_of};
 use crate::numbers::NumbersFile;
-use crate::place::{Layout, Place};
 use element::traced::Traced;
 use std::alloc::{AllocError, Allocator};
 use std::fs::{File, OpenFile};
@@ -82,7 +82,7 @@ impl FolderCalls {
     {}
 
     /// Returns the result `given` of a system call, and records a failed call if it is an error.
-    fn passed<T, E>(&mut self, given: Result<T, E>) -> Result<T, E>
+    pub(crate) fn passed<T, E>(&mut self, given: Result<T, E>) -> Result<T, E>
         ensures same { result ≡ given }
         ensures taken { OnOk result (self.new.all ≡ self.old.all) }
         ensures refused { OnErr result (self.new.all ≡ seen.Refused ∷ self.old.all) }
@@ -216,7 +216,7 @@ impl FolderCalls {
         rt: &R,
         file: &mut NumbersFile<R::A>,
         layout: Layout,
-        place: Place,
+        place: Location,
     ) -> io::Result<()>
         ensures kept { OnOk result (is_covered layout file.new.kept place ≡ true) }
         ensures keeps { Keeps file.old.kept file.new.kept }

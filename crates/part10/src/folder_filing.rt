@@ -1,18 +1,23 @@
 //! A [`Filing`] that stores files in a folder.
-ghost use Rattle.std.specs.Prelude.{◌≡◌, ◌≤◌, ◌<◌, ◌+◌, [], ◌∷◌, ◌++◌, None, Some, IfOk, OnOk, OnErr, is_some, true, false};
+ghost use Rattle.std.specs.Prelude.{◌≡◌, ◌≤◌, ◌<◌, ◌+◌, [], ◌∷◌, ◌++◌, None, Some, ◌⊎◌, IfOk, OnOk, OnErr, is_err, is_some, true, false};
 ghost use Rattle.part10.specs.Naming.{IsOneMore, IsOrderly, LeavesNames, WasRefused, refusals, standing};
+ghost use Rattle.part10.specs.Settling.{is_waiting};
 ghost use Rattle.part10.specs.Store.{LeavesStore, appended, committed, nothing_filed, or_nothing, stepped, store_of, without_draft};
 ghost use Rattle.part10.specs.declared.call.Call.TheVariants as seen;
+ghost use Rattle.part10.specs.declared.pending.Pending.TheVariants as pending;
 
 use crate::aside::SetAside;
 use crate::draft_size::DraftSize;
 use crate::filing::{Filing, FilingFailed};
 use crate::folder_writer::FolderWriter;
 use crate::given_names::GivenNames;
+use crate::location::Location;
 use crate::locked_folder::LockedFolder;
 use crate::notes::DraftNotes;
 use crate::numbers::NumbersFile;
+use crate::pending::Pending;
 use crate::quarantine::Quarantine;
+use crate::settling::Settling;
 use crate::stored_file::StoredFile;
 use crate::writeback::Writeback;
 use element::count::Count;
@@ -24,6 +29,11 @@ use std::io::{Error, ErrorKind};
 use std::marker::Model;
 use std::rc::Rc;
 use std::rt::Files;
+
+mod groups;
+
+/// The error message of a call while the last commit waits to be settled.
+const WAITS: &str = "the last file is not settled";
 
 /// A [`Filing`] that stores each committed draft as a file of a folder, named `I` and seven digits.
 ///
@@ -40,10 +50,14 @@ use std::rt::Files;
 /// fails if the name is in use. On a file system without hard links the draft is renamed, after a check
 /// that the name is free.
 ///
+/// With [`FolderWriter::in_groups`] a commit hands the draft over without a name, to be settled later
+/// (see [`Settling`](crate::Settling)). Until it is settled each `begin` and `commit` fails.
+///
 /// Contracts see the number of the draft; the bytes that were written to each committed file and to the
-/// draft; whether there is a draft; the number of failed calls; and the names given, with the system
-/// calls that gave them. How a [`Place`](crate::Place) is spelled as a file name, and that files
-/// survive a loss of power, is tested.
+/// draft; whether there is a draft; the number of failed calls; the names given, with the system calls
+/// that gave them; and what has become of the last commit. How a
+/// [`Location`](crate::Location) is spelled as a file name, and that files survive a loss of power, is
+/// tested.
 #[derive(Drop)]
 pub struct FolderFiling<R: Files + Alloc + Clone + Drop>
 where
@@ -53,6 +67,9 @@ where
     number: u32,
     draft_path: String<R::A>,
     draft: Option<Traced<R::File>>,
+    /// The file of the last commit, while it has no name.
+    handed: Option<Traced<R::File>>,
+    pending: Pending,
     /// The writeback of the draft.
     writeback: Writeback,
     /// For contracts: the bytes that were written to each file that this filing has committed, oldest
@@ -73,14 +90,20 @@ where
     R::File: StoredFile,
 {
     ghost use Rattle.std.specs.Prelude.{option_map};
-    ghost use Rattle.part10.specs.Naming.{IsOrderly};
+    ghost use Rattle.part10.specs.Naming.{IsOrderly, standing};
+    ghost use Rattle.part10.specs.Settling.{IsNamedLast};
     ghost use Rattle.part10.specs.Store.{FolderState};
 
     ghost Value = { FolderState };
 
-    ghost view = { λ f. record { number = f.number; contents = record { files = f.kept.all; draft = option_map (λ d. d.trace.bytes) f.draft; failures = f.failures.total }; names = f.names } };
+    ghost view = { λ f. record {
+      number = f.number;
+      contents = record { files = f.kept.all; draft = option_map (λ d. d.trace.bytes) f.draft; failures = f.failures.total };
+      names = f.names;
+      pending = f.pending;
+    } };
 
-    ghost invariant = { λ f. ∥ IsOrderly f.names ∥₁ };
+    ghost invariant = { λ f. ∥ IsOrderly f.names ∥₁ × ∥ IsNamedLast f.pending (standing f.names.calls) ∥₁ };
 }
 
 impl<R: Files + Alloc + Clone + Drop> FolderFiling<R>
@@ -92,6 +115,7 @@ where
     /// Fails with `WouldBlock` if another writer has locked the folder, and as the system does.
     pub fn open(rt: R, dir: &str) -> io::Result<FolderFiling<R>>
         ensures empty { IfOk result (λ filing. filing.contents ≡ nothing_filed) }
+        ensures settled { IfOk result (λ filing. filing.pending ≡ pending.Settled) }
     {
         FolderWriter::open(rt, dir)?.filing()
     }
@@ -104,6 +128,7 @@ where
         requires some { 1 ≤ per }
         requires most { per ≤ 9999 }
         ensures empty { IfOk result (λ filing. filing.contents ≡ nothing_filed) }
+        ensures settled { IfOk result (λ filing. filing.pending ≡ pending.Settled) }
     {
         FolderWriter::open_levels(rt, dir, per)?.filing()
     }
@@ -118,6 +143,7 @@ where
     ) -> io::Result<FolderFiling<R>>
         ensures number { IfOk result (λ filing. filing.number ≡ number) }
         ensures empty { IfOk result (λ filing. filing.contents ≡ nothing_filed) }
+        ensures settled { IfOk result (λ filing. filing.pending ≡ pending.Settled) }
     {
         let draft_path = folder.draft_path(number)?;
         let notes = Rc::new(folder.runtime().alloc(), DraftNotes::new())?;
@@ -127,6 +153,8 @@ where
             number,
             draft_path,
             draft: None,
+            handed: None,
+            pending: Pending::Settled,
             writeback: Writeback::new(None),
             kept: Traces::new(),
             committed: 0,
@@ -148,7 +176,8 @@ where
         self
     }
 
-    /// Returns how many drafts this filing has committed, at most `u32::MAX`.
+    /// Returns how many drafts this filing has committed, at most `u32::MAX`. In groups a commit counts
+    /// once it is settled.
     pub fn committed(&self) -> u32
         ensures orderly { ∥ IsOrderly self.now.names ∥₁ }
     {
@@ -156,7 +185,7 @@ where
     }
 
     /// Returns how many drafts of this filing ended without a commit, at most `u32::MAX`: discarded,
-    /// replaced by `begin`, or dropped by a failed call.
+    /// replaced by `begin`, dropped by a failed call, or lost before they were settled.
     pub fn dropped(&self) -> u32 {
         self.dropped
     }
@@ -195,6 +224,7 @@ where
 
     fn drop_draft(&mut self)
         ensures same_names { self.new.names ≡ self.old.names }
+        ensures same_pending { self.new.pending ≡ self.old.pending }
         ensures draft { self.new.contents.draft ≡ None }
         ensures same_files { self.new.contents.files ≡ self.old.contents.files }
         ensures same_count { self.new.contents.failures ≡ self.old.contents.failures }
@@ -209,6 +239,7 @@ where
         ensures created { OnOk result (self.new.names.calls ≡ seen.Created ∷ self.old.names.calls) }
         ensures refused { OnErr result (refusals self.old.names.calls < refusals self.new.names.calls) }
         ensures same_names { standing self.new.names.calls ≡ standing self.old.names.calls }
+        ensures same_pending { self.new.pending ≡ self.old.pending }
         ensures draft { OnOk result (self.new.contents.draft ≡ Some []) }
         ensures same_files { self.new.contents.files ≡ self.old.contents.files }
         ensures same_count { self.new.contents.failures ≡ self.old.contents.failures }
@@ -224,6 +255,7 @@ where
 
     fn sync_draft(&mut self) -> io::Result<()>
         ensures same { self.new.contents ≡ self.old.contents }
+        ensures same_pending { self.new.pending ≡ self.old.pending }
         ensures taken { OnOk result (self.new.names ≡ self.old.names) }
         ensures refused { OnErr result (self.new.names ≡ record self.old.names { calls = seen.Refused ∷ self.old.names.calls }) }
     {
@@ -233,9 +265,19 @@ where
         }
     }
 
+    /// Notes the place of a file that was committed.
+    fn note(&self, place: Location) {
+        self.notes.committed(place);
+        if self.folder.runs_low(place) {
+            self.notes.ran_low(place);
+        }
+    }
+
     /// Gives the draft its name, which makes it a file for contracts, too.
     fn name_draft(&mut self) -> io::Result<()>
         requires draft { is_some self.old.contents.draft ≡ true }
+        requires none_waits { self.old.pending ≡ pending.Settled }
+        ensures same_pending { self.new.pending ≡ self.old.pending }
         ensures next { OnOk result (IsOneMore (standing self.old.names.calls) (standing self.new.names.calls)) }
         ensures settled { OnOk result (refusals self.new.names.calls ≡ refusals self.old.names.calls) }
         ensures left { OnErr result (LeavesNames (standing self.old.names.calls) (standing self.new.names.calls)) }
@@ -246,10 +288,7 @@ where
     {
         let path = self.draft_path.as_str();
         let place = self.folder.name_draft(path, &mut self.names)?;
-        self.notes.committed(place);
-        if self.folder.runs_low(place) {
-            self.notes.ran_low(place);
-        }
+        self.note(place);
         self.committed = self.committed.saturating_add(1);
         if let Some(draft) = &self.draft {
             self.kept.push(draft.trace());
@@ -259,6 +298,8 @@ where
 
     fn commit_draft(&mut self) -> io::Result<()>
         requires draft { is_some self.old.contents.draft ≡ true }
+        requires none_waits { self.old.pending ≡ pending.Settled }
+        ensures same_pending { self.new.pending ≡ self.old.pending }
         ensures next { OnOk result (IsOneMore (standing self.old.names.calls) (standing self.new.names.calls)) }
         ensures settled { OnOk result (refusals self.new.names.calls ≡ refusals self.old.names.calls) }
         ensures left { OnErr result (LeavesNames (standing self.old.names.calls) (standing self.new.names.calls)) }
@@ -278,6 +319,7 @@ where
     /// Records the error in the notes, drops the draft and counts one failure.
     fn fail(&mut self, error: Error)
         ensures same_names { self.new.names ≡ self.old.names }
+        ensures same_pending { self.new.pending ≡ self.old.pending }
         ensures draft { self.new.contents.draft ≡ None }
         ensures same_files { self.new.contents.files ≡ self.old.contents.files }
         ensures counted { self.new.contents.failures ≡ self.old.contents.failures + 1 }
@@ -294,14 +336,20 @@ where
 {
     ghost store = { λ f. store_of f.contents };
 
-    /// Starts an empty draft, as a new file. Fails only if a system call failed, memory ran out, or the
-    /// path of the folder leads to another folder.
+    /// Starts an empty draft, as a new file. Fails only if a system call failed, memory ran out, the
+    /// path of the folder leads to another folder, or the last commit waits to be settled.
     fn begin(&mut self) -> Result<(), FilingFailed>
         ensures leaves { LeavesStore without_draft true result (store_of self.old.contents) (store_of self.new.contents) }
         ensures created { OnOk result (self.new.names.calls ≡ seen.Created ∷ self.old.names.calls) }
-        ensures refused { OnErr result (refusals self.old.names.calls < refusals self.new.names.calls) }
+        ensures refused { is_waiting self.old.pending ≡ false → OnErr result (refusals self.old.names.calls < refusals self.new.names.calls) }
+        ensures waits { is_waiting self.old.pending ≡ true → is_err result ≡ true }
         ensures same_names { standing self.new.names.calls ≡ standing self.old.names.calls }
+        ensures same_pending { self.new.pending ≡ self.old.pending }
     {
+        if self.pending.is_waiting() {
+            self.fail(Error::new(ErrorKind::ResourceBusy, WAITS));
+            return Err(FilingFailed);
+        }
         if let Err(error) = self.begin_draft() {
             self.fail(error);
             return Err(FilingFailed);
@@ -316,6 +364,7 @@ where
         ensures taken { OnOk result (self.new.names ≡ self.old.names) }
         ensures refused { OnErr result (refusals self.old.names.calls < refusals self.new.names.calls) }
         ensures same_names { standing self.new.names.calls ≡ standing self.old.names.calls }
+        ensures same_pending { self.new.pending ≡ self.old.pending }
     {
         let written = match &mut self.draft {
             Some(draft) => self.names.calls.write_all(draft, bytes),
@@ -335,14 +384,29 @@ where
     /// Gives the draft a name that no file of this filing had before and that no other file has. Fails
     /// only if a system call failed, memory ran out, the path of the folder leads to another folder, or
     /// all numbers are in use.
+    ///
+    /// In groups it hands the draft over without a name, and fails only if the last commit waits to be
+    /// settled.
     fn commit(&mut self) -> Result<(), FilingFailed>
         requires { (store_of self.old.contents).has_draft ≡ true }
         ensures leaves { LeavesStore committed false result (store_of self.old.contents) (store_of self.new.contents) }
-        ensures next { OnOk result (IsOneMore (standing self.old.names.calls) (standing self.new.names.calls)) }
+        ensures next { self.new.pending ≡ pending.Settled → OnOk result (IsOneMore (standing self.old.names.calls) (standing self.new.names.calls)) }
         ensures settled { OnOk result (refusals self.new.names.calls ≡ refusals self.old.names.calls) }
         ensures left { OnErr result (LeavesNames (standing self.old.names.calls) (standing self.new.names.calls)) }
-        ensures refused { OnErr result (WasRefused self.old.names self.new.names) }
+        ensures refused { is_waiting self.old.pending ≡ false → OnErr result (WasRefused self.old.names self.new.names) }
+        ensures waits { is_waiting self.old.pending ≡ true → is_err result ≡ true }
+        ensures handed { is_waiting self.new.pending ≡ true → (self.new.names ≡ self.old.names) }
+        ensures pending { OnOk result ((self.new.pending ≡ pending.Settled) ⊎ (self.new.pending ≡ pending.Unnamed)) }
+        ensures same_pending { OnErr result (self.new.pending ≡ self.old.pending) }
     {
+        if self.waits() {
+            self.fail(Error::new(ErrorKind::ResourceBusy, WAITS));
+            return Err(FilingFailed);
+        }
+        if self.folder.has_groups() {
+            self.hand_over();
+            return Ok(());
+        }
         if let Err(error) = self.commit_draft() {
             self.fail(error);
             return Err(FilingFailed);
@@ -355,6 +419,7 @@ where
     fn discard(&mut self)
         ensures leaves { store_of self.new.contents ≡ stepped without_draft false (store_of self.old.contents) }
         ensures same_names { self.new.names ≡ self.old.names }
+        ensures same_pending { self.new.pending ≡ self.old.pending }
     {
         self.set_aside();
         self.drop_draft();

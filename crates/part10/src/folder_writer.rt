@@ -1,11 +1,12 @@
 //! The writer of a folder, from which its filings are made.
 ghost use Rattle.std.specs.Prelude.{◌≡◌, ◌≤◌, ◌+◌, IfOk, OnOk, OnErr};
 ghost use Rattle.part10.specs.Store.{nothing_filed};
+ghost use Rattle.part10.specs.declared.pending.Pending.TheVariants as pending;
 
 use crate::folder_filing::FolderFiling;
+use crate::location::Layout;
 use crate::locked_folder::LockedFolder;
 use crate::numbers::NumbersFile;
-use crate::place::Layout;
 use crate::quarantine::Quarantine;
 use crate::stored_file::StoredFile;
 use std::io;
@@ -102,6 +103,22 @@ where
         self
     }
 
+    /// Settles commits in groups, for all filings of the folder: each commit waits until it is settled (see
+    /// [`Settling`](crate::Settling)), so that one sync of the folder settles several. Without syncs
+    /// nothing changes.
+    pub fn in_groups(self) -> FolderWriter<R>
+        ensures same { result ≡ self }
+    {
+        self.folder.set_groups();
+        self
+    }
+
+    /// Syncs the names that files were given since the last call to the disk. Fails as the system does:
+    /// then no file that was named since the last call is known to keep its name after a loss of power.
+    pub fn sync_names(&self) -> io::Result<()> {
+        self.folder.sync_names()
+    }
+
     /// Keeps the greatest numbers that files and subfolders were given in a file at this path, which is
     /// created if it does not exist, and gives only greater ones. So no number is given twice, even if
     /// the files are moved away and the folder is opened again. With subfolders, the next file goes to
@@ -160,6 +177,7 @@ where
         ensures failed { OnErr result (self.new.filings ≡ self.old.filings) }
         ensures number { IfOk result (λ filing. filing.number ≡ self.new.filings) }
         ensures empty { IfOk result (λ filing. filing.contents ≡ nothing_filed) }
+        ensures settled { IfOk result (λ filing. filing.pending ≡ pending.Settled) }
     {
         let Some(number) = self.filings.checked_add(1) else {
             return Err(Error::new(ErrorKind::StorageFull, "all numbers of drafts are in use"));

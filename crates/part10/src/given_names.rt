@@ -3,8 +3,8 @@ ghost use Rattle.std.specs.Prelude.{◌≡◌, ◌≤◌, OnOk, OnErr, ◌∷◌
 ghost use Rattle.part10.specs.declared.call.Call.TheVariants as seen;
 
 use crate::folder_calls::FolderCalls;
+use crate::location::{Layout, Location};
 use crate::numbers::NumbersFile;
-use crate::place::{Layout, Place};
 use std::alloc::Allocator;
 use std::marker::Model;
 
@@ -14,7 +14,7 @@ use std::marker::Model;
 pub(crate) struct GivenNames<A: Allocator> {
     pub(crate) layout: Layout,
     /// The place of the last file of the folder, by any filing, when this filing last looked.
-    pub(crate) last: Place,
+    pub(crate) last: Location,
     pub(crate) numbers: Option<NumbersFile<A>>,
     pub(crate) calls: FolderCalls,
 }
@@ -32,7 +32,11 @@ impl<A: Allocator> GivenNames<A> {
     ghost use Rattle.part10.specs.Naming.{IsOrderly};
 
     /// Creates the state before the first commit. The next file comes after `last`.
-    pub(crate) fn new(layout: Layout, last: Place, numbers: Option<NumbersFile<A>>) -> GivenNames<A>
+    pub(crate) fn new(
+        layout: Layout,
+        last: Location,
+        numbers: Option<NumbersFile<A>>,
+    ) -> GivenNames<A>
         ensures none { result.calls ≡ [] }
         ensures layout { result.layout ≡ layout }
         ensures last { result.last ≡ last }

@@ -4,8 +4,8 @@ ghost use Rattle.std.specs.Prelude.{◌≡◌, ◌^◌, ◌<◌, ◌≤◌, ℕ,
 ghost use Rattle.element.specs.Uid.{is_uid};
 ghost use Rattle.part10.specs.declared.meta.Meta as meta;
 ghost use Rattle.part10.specs.File.{head, meta_group};
-ghost use Rattle.part10.specs.MetaText.{OneHeader, OneVerdict, SpellsMeta, TakenOrFaulty, said_of};
-ghost use Rattle.part10.specs.declared.place.Place as place;
+ghost use Rattle.part10.specs.MetaText.{OneHeader, OneVerdict, SpellsMeta, TakenOrFaulty, meta_values_of};
+ghost use Rattle.part10.specs.declared.location.Location as place;
 ghost use Rattle.part10.specs.Naming.{AreApart, Rises};
 ghost use Rattle.part10.specs.Examples.{OneCtStore, NoHeaders, WorkedNames, SyntaxIsSaid, least_group, least_header, least_said};
 
@@ -24,7 +24,7 @@ pub fn no_headers()
 /// were written.
 pub fn written_headers_are_read()
     ensures { (m : meta.Meta) → is_uid m.class ≡ true → is_uid m.instance ≡ true → length m.calling.0 ≡ 16 → length (meta_group m) ≤ 360
-        → SpellsMeta (said_of m) (head m) }
+        → SpellsMeta (meta_values_of m) (head m) }
 {}
 
 /// File Meta Information with the required elements alone is valid, for each transfer syntax.
@@ -56,7 +56,7 @@ pub fn one_verdict()
 
 /// In a list of places in strictly ascending order no place occurs twice: no number is given twice.
 pub fn places_that_rise_differ()
-    ensures { (places : List place.Place) → Rises places → AreApart places }
+    ensures { (places : List place.Location) → Rises places → AreApart places }
 {}
 
 /// Examples: the system calls that name three files, and lists of calls that would lose a file.

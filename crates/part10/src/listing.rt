@@ -1,8 +1,8 @@
 //! Lists a folder of received files, to continue its numbering.
 
 use crate::drafts::is_further_draft;
+use crate::location::{Layout, Location};
 use crate::names::{EntryKind, EntryName};
-use crate::place::{Layout, Place};
 use std::alloc::{AllocError, Allocator};
 use std::io::ErrorKind;
 use std::rt::Files;
@@ -74,7 +74,7 @@ pub(crate) fn file_path<A: Allocator>(
 #[derive(Drop)]
 pub(crate) struct FolderContents<A: Allocator> {
     /// The place of the last file; file number 0 if there is none.
-    pub(crate) last: Place,
+    pub(crate) last: Location,
     /// The names of the drafts that were left there, except that of the first filing.
     pub(crate) drafts: Vec<String<A>, A>,
 }
@@ -86,10 +86,10 @@ fn last_in_levels<R: Files + Alloc + Clone + Drop>(
     dir: &str,
     per: u32,
     highest: Option<u32>,
-) -> io::Result<Place> {
+) -> io::Result<Location> {
     // Without a subfolder, as if one before the first were full: the next file opens the first.
     let Some(folder) = highest else {
-        return Ok(Place {
+        return Ok(Location {
             folder: 0,
             file: per,
         });
@@ -97,7 +97,7 @@ fn last_in_levels<R: Files + Alloc + Clone + Drop>(
     let path = folder_path(rt.alloc(), dir, folder)?;
     let entries = entries_of(rt, path.as_str(), EntryKind::File)?;
     let file = entries.highest.unwrap_or(0);
-    Ok(Place { folder, file })
+    Ok(Location { folder, file })
 }
 
 /// Lists a folder of received files. Fails if it, or its last subfolder, cannot be listed.
@@ -111,7 +111,7 @@ pub(crate) fn contents_of<R: Files + Alloc + Clone + Drop>(
             let entries = entries_of(rt, dir, EntryKind::File)?;
             let file = entries.highest.unwrap_or(0);
             Ok(FolderContents {
-                last: Place { folder: 0, file },
+                last: Location { folder: 0, file },
                 drafts: entries.drafts,
             })
         }

@@ -1,20 +1,21 @@
 //! A locked folder, in which the filings of its writer create drafts and give them their names.
 ghost use Rattle.std.specs.Prelude.{◌≡◌, ◌≤◌, ◌<◌, ◌+◌, [], ◌∷◌, None, IfOk, OnOk, OnErr};
 ghost use Rattle.part10.specs.Naming.{Asks, IsKept, IsOrderly, KeepsAll, LeavesNames, LosesNone, WasRefused, refusals, standing};
-ghost use Rattle.part10.specs.Places.{next_place, order};
+ghost use Rattle.part10.specs.Locations.{next_location, order};
 ghost use Rattle.part10.specs.declared.call.Call.TheVariants as seen;
-ghost use Rattle.part10.specs.declared.place.Layout.TheVariants as layout;
+ghost use Rattle.part10.specs.declared.location.Layout.TheVariants as layout;
 ghost use Rattle.part10.specs.machine.Naming.{NameLeaves, PlaceLeaves, SameTerms};
 
 use crate::drafts::DraftName;
 use crate::folder_calls::{FolderCalls, create_draft, remove_left};
 use crate::folder_identity::FolderIdentity;
 use crate::given_names::GivenNames;
+use crate::group::Group;
 use crate::listing::{contents_of, file_path, folder_path};
+use crate::location::{GREATEST, Layout, Location};
 use crate::names::{EntryKind, EntryName};
 use crate::naming::{Attempt, Named, Obstacle, Target, name_file};
 use crate::numbers::{Numbers, NumbersFile};
-use crate::place::{GREATEST, Layout, Place};
 use crate::quarantine::Quarantine;
 use crate::stored_file::StoredFile;
 use std::alloc::{AllocError, Allocator};
@@ -23,6 +24,8 @@ use std::fs::{OpenFile, TryLockError};
 use std::io::{Error, ErrorKind};
 use std::rt::Files;
 use std::{fs, io};
+
+mod groups;
 
 /// A folder that stays locked until this value is dropped. All filings over it share it, so that each
 /// number is given once, in the order of the commits.
@@ -43,10 +46,11 @@ where
     identity: FolderIdentity,
     layout: Layout,
     /// The place of the last file that was found or committed, by any filing.
-    last: Cell<Place>,
+    last: Cell<Location>,
     /// The numbers that any filing last wrote to the file of numbers; `NONE` without such a file.
     kept: Cell<Numbers>,
     has_sync: Cell<bool>,
+    group: Group<R::A>,
     /// Whether the warning that few numbers are left was given.
     has_run_low: Cell<bool>,
 }
@@ -72,8 +76,8 @@ fn unmade<A: Allocator>(alloc: A, folder: u32, error: &Error) -> Error {
 /// Returns the error for a folder whose last place has no place after it, in either layout.
 fn none_left(per: u32, folder: u32, file: u32) -> Error
     requires far { 18446744073709551615 ≤ order (record { folder = folder; file = file }) }
-    ensures flat { next_place layout.Flat (record { folder = folder; file = file }) ≡ None }
-    ensures levels { next_place (layout.Levels per) (record { folder = folder; file = file }) ≡ None }
+    ensures flat { next_location layout.Flat (record { folder = folder; file = file }) ≡ None }
+    ensures levels { next_location (layout.Levels per) (record { folder = folder; file = file }) ≡ None }
 {
     let _is_last = folder >= GREATEST && file >= per;
     Error::new(ErrorKind::StorageFull, NO_NUMBER)
@@ -102,9 +106,13 @@ fn draft_path<A: Allocator>(alloc: A, dir: &str, number: u32) -> Result<String<A
 }
 
 /// Removes the drafts that a killed writer has left: that of its first filing, and these.
-fn remove_drafts<R: Files + Alloc>(rt: &R, dir: &str, further: &[String<R::A>]) -> io::Result<()> {
+fn remove_drafts<R: Files + Alloc>(
+    rt: &R,
+    dir: &str,
+    additional: &[String<R::A>],
+) -> io::Result<()> {
     remove_left(rt, draft_path(rt.alloc(), dir, 1)?.as_str())?;
-    for name in further {
+    for name in additional {
         let path = format!(in rt.alloc(); "{dir}/{name}")?;
         remove_left(rt, path.as_str())?;
     }
@@ -126,6 +134,7 @@ where
         let contents = contents_of(&rt, dir, layout)?;
         remove_drafts(&rt, dir, contents.drafts.as_slice())?;
         let dir = String::from_str(rt.alloc(), dir)?;
+        let group = Group::new(rt.alloc());
         Ok(LockedFolder {
             rt,
             dir,
@@ -135,6 +144,7 @@ where
             last: Cell::new(contents.last),
             kept: Cell::new(Numbers::NONE),
             has_sync: Cell::new(true),
+            group,
             has_run_low: Cell::new(false),
         })
     }
@@ -185,7 +195,7 @@ where
     }
 
     /// Makes sure that the file of numbers, if there is one, covers the number of this place.
-    fn keep_number(&self, place: Place, names: &mut GivenNames<R::A>) -> io::Result<()>
+    fn keep_number(&self, place: Location, names: &mut GivenNames<R::A>) -> io::Result<()>
         ensures kept { OnOk result (IsKept names.old.layout names.new.kept place) }
         ensures keeps { KeepsAll names.old.kept names.new.kept }
         ensures same { (names.new.layout ≡ names.old.layout) × (names.new.last ≡ names.old.last) }
@@ -280,13 +290,17 @@ where
         Ok(())
     }
 
-    /// Syncs the folder of a file that was just named and, after a rename, the folder of the draft.
-    fn sync_name(&self, place: Place, named: Named, calls: &mut FolderCalls) -> io::Result<()>
+    /// Syncs the folder of a file that was just named and, after a rename, the folder of the draft. In a
+    /// group the folders are recorded instead: [`sync_names`](LockedFolder::sync_names) syncs them.
+    fn sync_name(&self, place: Location, named: Named, calls: &mut FolderCalls) -> io::Result<()>
         ensures taken { OnOk result (calls.new.all ≡ calls.old.all) }
         ensures refused { OnErr result (calls.new.all ≡ seen.Refused ∷ calls.old.all) }
     {
         if !self.has_sync() {
             return Ok(());
+        }
+        if self.has_groups() {
+            return self.leave_unsynced(place, named, calls);
         }
         if matches!(self.layout, Layout::Flat) {
             return calls.sync(&self.folder);
@@ -300,7 +314,7 @@ where
         }
     }
 
-    fn path_of(&self, place: Place) -> Result<String<R::A>, AllocError> {
+    fn path_of(&self, place: Location) -> Result<String<R::A>, AllocError> {
         let dir = self.dir.as_str();
         if matches!(self.layout, Layout::Flat) {
             return file_path(self.rt.alloc(), dir, place.file);
@@ -326,19 +340,20 @@ where
     }
 
     /// Sets the place of the last file, for this filing and the folder.
-    fn go_on(&self, place: Place, names: &mut GivenNames<R::A>)
+    fn go_on(&self, place: Location, names: &mut GivenNames<R::A>)
         ensures last { names.new ≡ record names.old { last = place } }
     {
         self.last.set(place);
         names.last = place;
     }
 
-    /// Gives a draft the name of this place, which the file of numbers covers, and syncs the folder.
-    /// After an error the file has its draft name alone, unless the new name could not be removed.
+    /// Gives a draft the name of this place, which the file of numbers covers, and syncs the folder, as
+    /// [`sync_name`](LockedFolder::sync_name) does. After an error the file has its draft name alone,
+    /// unless the new name could not be removed.
     fn name_at(
         &self,
         draft: &str,
-        place: Place,
+        place: Location,
         names: &mut GivenNames<R::A>,
     ) -> io::Result<Attempt>
         requires kept { IsKept names.old.layout names.old.kept place }
@@ -372,7 +387,7 @@ where
     /// in the next subfolder, that is created.
     ///
     /// Fails with `StorageFull` if all numbers are in use.
-    fn next_place(&self, names: &mut GivenNames<R::A>) -> io::Result<Place>
+    fn next_location(&self, names: &mut GivenNames<R::A>) -> io::Result<Location>
         ensures kept { IfOk result (λ place. IsKept names.new.layout names.new.kept place) }
         ensures behind { IfOk result (λ place. order names.new.last < order place) }
         ensures rises { order names.old.last ≤ order names.new.last }
@@ -388,7 +403,7 @@ where
         self.keep_number(place, names)?;
         if place.folder != last.folder {
             self.make_folder(place.folder, &mut names.calls)?;
-            let before = Place {
+            let before = Location {
                 folder: place.folder,
                 file: 0,
             };
@@ -398,13 +413,13 @@ where
     }
 
     /// Continues after a place, or a subfolder, whose name another program has used.
-    fn pass_over(&self, place: Place, obstacle: Obstacle, names: &mut GivenNames<R::A>)
+    fn pass_over(&self, place: Location, obstacle: Obstacle, names: &mut GivenNames<R::A>)
         ensures behind { order place ≤ order names.new.last }
         ensures same { SameTerms names.old names.new }
         ensures calls { names.new.calls ≡ names.old.calls }
     {
         let last = match (obstacle, self.layout) {
-            (Obstacle::Blocked, Layout::Levels { per }) => Place {
+            (Obstacle::Blocked, Layout::Levels { per }) => Location {
                 folder: place.folder,
                 file: place.file.max(per),
             },
@@ -415,25 +430,29 @@ where
 
     /// Returns whether few numbers are left after this place: `true` only once, for the first such
     /// place. With subfolders it is always `false`, as there are far more numbers.
-    pub(crate) fn runs_low(&self, place: Place) -> bool {
+    pub(crate) fn runs_low(&self, place: Location) -> bool {
         matches!(self.layout, Layout::Flat) && place.file >= LOW && !self.has_run_low.replace(true)
     }
 
     /// Gives a draft the next free name, after those that the filings of the folder gave, and returns
-    /// the place of the file.
+    /// the place of the file. In a group the name is not synced.
     ///
     /// Fails with `StorageFull` if all numbers are in use.
-    pub(crate) fn name_draft(&self, draft: &str, names: &mut GivenNames<R::A>) -> io::Result<Place>
+    pub(crate) fn name_draft(
+        &self,
+        draft: &str,
+        names: &mut GivenNames<R::A>,
+    ) -> io::Result<Location>
         ensures named { IfOk result (λ place. standing names.new.calls ≡ place ∷ standing names.old.calls) }
         ensures settled { OnOk result (refusals names.new.calls ≡ refusals names.old.calls) }
         ensures left { OnErr result (LeavesNames (standing names.old.calls) (standing names.new.calls)) }
         ensures refused { OnErr result (WasRefused names.old names.new) }
         ensures orderly { IsOrderly names.old → IsOrderly names.new }
     {
-        self.check_path(&mut names.calls)?;
+        self.check_group(&mut names.calls)?;
         names.last = names.last.later(self.last.get());
         for _turn in 0..u64::MAX {
-            let place = self.next_place(names)?;
+            let place = self.next_location(names)?;
             match self.name_at(draft, place, names)? {
                 Attempt::Named(_) => return Ok(place),
                 Attempt::Met(obstacle) => self.pass_over(place, obstacle, names),

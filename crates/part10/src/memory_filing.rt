@@ -3,6 +3,7 @@ ghost use Rattle.std.specs.Prelude.{◌≡◌, ◌+◌, [], None, map};
 ghost use Rattle.part10.specs.Store.{store_of};
 
 use crate::filing::{Filing, FilingFailed};
+use crate::settling::Settling;
 use element::count::Count;
 use std::alloc::Allocator;
 use std::marker::Model;
@@ -88,5 +89,24 @@ impl<A: Allocator + Copy> Filing for MemoryFiling<A> {
 
     fn discard(&mut self) {
         let _draft = self.draft.take();
+    }
+}
+
+/// Nothing waits: each commit is settled at once.
+impl<A: Allocator + Copy> Settling for MemoryFiling<A> {
+    ghost use Rattle.std.specs.Prelude.{false};
+
+    ghost waits = { λ f. false };
+
+    fn waits(&self) -> bool {
+        false
+    }
+
+    fn start_writing(&self) {}
+
+    fn write_out(&mut self) {}
+
+    fn settle(&mut self, _are_named: bool) -> Result<(), FilingFailed> {
+        Ok(())
     }
 }

@@ -2,7 +2,7 @@
 ghost use Rattle.part10.specs.machine.Naming.{NameLeaves};
 
 use crate::folder_calls::FolderCalls;
-use crate::place::{Layout, Place};
+use crate::location::{Layout, Location};
 use std::io::{Error, ErrorKind};
 use std::rt::Files;
 use std::{fs, io};
@@ -42,7 +42,7 @@ pub(crate) enum Attempt {
 /// The name that a file is to get: its place, and the path of that.
 #[derive(Clone, Copy)]
 pub(crate) struct Target<'a> {
-    pub(crate) place: Place,
+    pub(crate) place: Location,
     pub(crate) path: &'a str,
     pub(crate) layout: Layout,
     /// Whether a missing subfolder is an obstacle, after which it is created and the attempt repeated,

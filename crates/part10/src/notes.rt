@@ -1,7 +1,7 @@
 //! What a filing tells its log about its drafts.
 
 use crate::aside::SetAside;
-use crate::place::Place;
+use crate::location::Location;
 use crate::stored_file::StoredFile;
 use std::cell::Cell;
 use std::io::Error;
@@ -15,9 +15,9 @@ pub struct DraftNotes<R: Files + Alloc + Clone + Drop>
 where
     R::File: StoredFile,
 {
-    place: Cell<Option<Place>>,
+    place: Cell<Option<Location>>,
     error: Cell<Option<Error>>,
-    low: Cell<Option<Place>>,
+    low: Cell<Option<Location>>,
     aside: Cell<Option<SetAside<R>>>,
     not_aside: Cell<Option<Error>>,
 }
@@ -38,7 +38,7 @@ where
     }
 
     /// Records that a draft was committed as the file at this place.
-    pub(crate) fn committed(&self, place: Place) {
+    pub(crate) fn committed(&self, place: Location) {
         self.place.set(Some(place));
     }
 
@@ -48,7 +48,7 @@ where
     }
 
     /// Records the warning that few numbers are left after this place.
-    pub(crate) fn ran_low(&self, place: Place) {
+    pub(crate) fn ran_low(&self, place: Location) {
         self.low.set(Some(place));
     }
 
@@ -78,13 +78,13 @@ where
 
     /// Takes the warning that few numbers are left after a place, or returns `None` if there is none.
     /// It is given once for a folder.
-    pub fn take_low(&self) -> Option<Place> {
+    pub fn take_low(&self) -> Option<Location> {
         self.low.take()
     }
 
     /// Takes the place of the last committed file, or returns `None` if none was committed since the
     /// last call.
-    pub fn take_place(&self) -> Option<Place> {
+    pub fn take_place(&self) -> Option<Location> {
         self.place.take()
     }
 

@@ -2,8 +2,8 @@
 //! that no number is given again after its file was moved away.
 ghost use Rattle.std.specs.Prelude.{◌≡◌, IfOk, OnOk, OnErr, true, false};
 
+use crate::location::{GREATEST, Layout, Location};
 use crate::names::{EntryKind, EntryName};
-use crate::place::{GREATEST, Layout, Place};
 use std::alloc::{AllocError, Allocator};
 use std::fs::OpenFile;
 use std::io::{Error, ErrorKind, Read, Write};
@@ -59,7 +59,7 @@ impl Numbers {
 
     /// Returns whether these numbers cover that of this place: that of its file or, with subfolders,
     /// that of its subfolder. Only covered numbers are given.
-    fn covers(self, layout: Layout, place: Place) -> bool
+    fn covers(self, layout: Layout, place: Location) -> bool
         ensures { result ≡ is_covered layout self place }
     {
         match layout {
@@ -70,7 +70,7 @@ impl Numbers {
 
     /// Returns the numbers to write before the number of this place, which these do not cover, is
     /// given. Without subfolders they reserve 100 numbers from it on.
-    fn with(self, layout: Layout, place: Place) -> Numbers
+    fn with(self, layout: Layout, place: Location) -> Numbers
         requires uncovered { is_covered layout self place ≡ false }
         ensures covers { is_covered layout result place ≡ true }
         ensures keeps { Keeps self result }
@@ -103,15 +103,15 @@ impl Numbers {
     /// Returns the place after which the next file comes, given the place of the last file that was
     /// found: not before any number that may have been given. With subfolders, it is the end of one, so
     /// that a new one is opened.
-    pub(crate) fn last(self, layout: Layout, found: Place) -> Place
+    pub(crate) fn last(self, layout: Layout, found: Location) -> Location
         ensures { Continues layout self found result }
     {
         match layout {
-            Layout::Flat => Place {
+            Layout::Flat => Location {
                 folder: found.folder,
                 file: found.file.max(self.file),
             },
-            Layout::Levels { per } => Place {
+            Layout::Levels { per } => Location {
                 folder: found.folder.max(self.folder),
                 file: per,
             },
@@ -216,7 +216,7 @@ impl<A: Allocator> NumbersFile<A> {
         &mut self,
         rt: &R,
         layout: Layout,
-        place: Place,
+        place: Location,
     ) -> io::Result<()>
         ensures kept { OnOk result (is_covered layout self.new.kept place ≡ true) }
         ensures keeps { Keeps self.old.kept self.new.kept }

@@ -5,7 +5,7 @@ ghost use Rattle.std.specs.Str.{bytes_eq};
 ghost use Rattle.element.specs.Padding as padding;
 ghost use Rattle.element.specs.Numbers.{le};
 ghost use Rattle.dictionary.specs.Transfers.{native, syntax_in};
-ghost use Rattle.part10.specs.MetaText.{said_of, TakesMeta, NamesOther, NamesUnknown, FailsToRead, FailsToReadAny};
+ghost use Rattle.part10.specs.MetaText.{meta_values_of, TakesMeta, NamesOther, NamesUnknown, FailsToRead, FailsToReadAny};
 ghost use Rattle.part10.specs.File.{length_element};
 ghost use Rattle.part10.specs.declared.meta_fault.MetaFault.TheVariants.{ReadFailed, OtherSyntax};
 ghost use Rattle.part10.specs.machine.Reading as part;
@@ -15,7 +15,7 @@ use crate::meta_fault::MetaFault;
 use arrayvec::ArrayVec;
 use byteorder::{ByteOrder, LittleEndian};
 use dictionary::Transfer;
-use element::again::read_again;
+use element::interrupted::read_retrying;
 use element::{AeTitle, Header, Need, Syntax, Tag, Uid, need, read_header, unpadded};
 use std::io::Read;
 
@@ -30,7 +30,7 @@ fn fill<R: Read>(input: &mut R, room: &mut [u8]) -> Result<usize, MetaFault>
 {
     let mut at = 0;
     while at < room.len() {
-        let Ok(n) = read_again(input, &mut room[at..]) else {
+        let Ok(n) = read_retrying(input, &mut room[at..]) else {
             return Err(MetaFault::ReadFailed);
         };
         if n == 0 {
@@ -295,7 +295,7 @@ fn read_group<R: Read>(input: &mut R, size: u32) -> Result<Found, MetaFault>
 /// Fails as [`MetaFault`] says. After `OtherSyntax` exactly the File Meta Information was read; after
 /// any other error the position of the reader is unspecified.
 pub fn read_any_meta<R: Read>(input: &mut R) -> Result<Meta, MetaFault>
-    ensures header { IfOk result (λ meta. TakesMeta (said_of meta) (R.remaining input.old) (R.remaining input.new)) }
+    ensures header { IfOk result (λ meta. TakesMeta (meta_values_of meta) (R.remaining input.old) (R.remaining input.new)) }
     ensures calling { IfOk result (λ meta. meta.calling.0 ≡ replicate 16 32) }
     ensures fault { IfErr result (λ fault. FailsToReadAny fault (R.remaining input.old)) }
     ensures other_syntax { IfErr result (λ fault. fault ≡ OtherSyntax → NamesUnknown (R.remaining input.old) (R.remaining input.new)) }
@@ -309,7 +309,7 @@ pub fn read_any_meta<R: Read>(input: &mut R) -> Result<Meta, MetaFault>
 /// only the two native transfer syntaxes, Implicit and Explicit VR Little Endian. Any other one is
 /// `OtherSyntax`, after which exactly the File Meta Information was read.
 pub fn read_meta<R: Read>(input: &mut R) -> Result<Meta, MetaFault>
-    ensures header { IfOk result (λ meta. TakesMeta (said_of meta) (R.remaining input.old) (R.remaining input.new)) }
+    ensures header { IfOk result (λ meta. TakesMeta (meta_values_of meta) (R.remaining input.old) (R.remaining input.new)) }
     ensures native { IfOk result (λ meta. meta.syntax ≡ native (syntax_in meta.syntax)) }
     ensures calling { IfOk result (λ meta. meta.calling.0 ≡ replicate 16 32) }
     ensures fault { IfErr result (λ fault. FailsToRead fault (R.remaining input.old)) }

@@ -73,19 +73,45 @@ impl Writeback {
         }
     }
 
-    /// Counts bytes that were appended to the draft's file, and advises the system to start the
-    /// writeback of the next range if it is due.
+    /// Returns the range that was appended after the last one whose writeback was started.
+    fn rest(&self) -> Extent
+        ensures from { result.from ≡ self.now.from }
+        ensures count { result.count ≡ self.now.waiting }
+    {
+        Extent {
+            from: self.from,
+            count: self.waiting,
+        }
+    }
+
+    /// Advises the system to start the writeback of a range.
     ///
     /// `POSIX_FADV_DONTNEED` is that advice: Linux starts to write the dirty pages of the range and
     /// does not wait for them. A failed advice is ignored, as nothing rests on it: the sync of the
     /// commit writes each byte that is not on the disk yet, or fails. It fails, too, if writeback that
     /// was started before has failed.
-    pub(crate) fn appended(&mut self, count: usize) {
-        let (Some(range), Some(descriptor)) = (self.add(count), self.descriptor) else {
+    fn advise(&self, range: Extent) {
+        let Some(descriptor) = self.descriptor else {
             return;
         };
         if let (Ok(from), Ok(count)) = (i64::try_from(range.from), i64::try_from(range.count)) {
             let _status = libc::posix_fadvise(descriptor, from, count, POSIX_FADV_DONTNEED);
+        }
+    }
+
+    /// Counts bytes that were appended to the draft's file, and starts the writeback of the next range
+    /// if it is due.
+    pub(crate) fn appended(&mut self, count: usize) {
+        if let Some(range) = self.add(count) {
+            self.advise(range);
+        }
+    }
+
+    /// Starts the writeback of what is left, as the file gets no more bytes. It has to be open still.
+    pub(crate) fn start_rest(&self) {
+        let rest = self.rest();
+        if rest.count > 0 {
+            self.advise(rest);
         }
     }
 }

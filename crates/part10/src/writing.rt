@@ -6,7 +6,7 @@ ghost use Rattle.element.specs.Title.{title_text};
 ghost use Rattle.element.specs.Uid.{is_uid};
 ghost use Rattle.element.specs.Vr.{is_short_vr};
 ghost use Rattle.part10.specs.File as file;
-ghost use Rattle.part10.specs.MetaText.{SpellsMeta, said_of};
+ghost use Rattle.part10.specs.MetaText.{SpellsMeta, meta_values_of};
 ghost use Rattle.element.specs.Padding.{padded};
 
 use crate::Meta;
@@ -151,7 +151,7 @@ fn file_header(meta: &Meta) -> Head
 /// zero bytes, the prefix `DICM`, and the File Meta Information in Explicit VR Little Endian.
 pub fn meta_bytes(meta: &Meta) -> ArrayVec<u8, 512>
     ensures bytes { result.items ≡ file.head meta.now }
-    ensures reads_back { SpellsMeta (said_of meta.now) result.items }
+    ensures reads_back { SpellsMeta (meta_values_of meta.now) result.items }
 {
     file_header(meta)
 }

@@ -123,8 +123,8 @@ a class by its name, twice | SCANNER1 private private | mixed | | 1 Known(Ct) Ex
 rows have places | SCANNER1 all private | mixed | | 1 Known(Ct) Explicit, \
     3 1.2.840.10008.5.1.4.1.1.88.33 Explicit, 5 1.2.826.0.1.3680043.2.1143.1 Explicit | 3 | | \
     [ContextRow { id: 1, class: Known(Ct), syntax: Explicit }, \
-    ContextRow { id: 3, class: Further(122), syntax: Explicit }, \
-    ContextRow { id: 5, class: Further(0), syntax: Explicit }]
+    ContextRow { id: 3, class: Additional(122), syntax: Explicit }, \
+    ContextRow { id: 5, class: Additional(0), syntax: Explicit }]
 as many classes as contexts | SCANNER1 all | fixed application first-classes user | | | 128 | |
 ten of the eleven in as many classes | SCANNER1 | fixed application first-classes user | | | 10 | |
 no compressed syntax | SCANNER1 | compressed | | 3 Known(Ct) Implicit | 1 | |
@@ -221,7 +221,7 @@ fn put_context(
     }
     let shown = match class {
         Service::Known(class) => format!(in alloc; "{id} Known({class:?}) {syntax:?}")?,
-        Service::Further(uid) => {
+        Service::Additional(uid) => {
             let uid = str::from_utf8(uid.as_bytes()).unwrap_or("?");
             format!(in alloc; "{id} {uid} {syntax:?}")?
         }

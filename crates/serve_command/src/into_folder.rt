@@ -1,9 +1,9 @@
 //! `dcmbox serve` into a folder.
-use crate::serve::serve;
+use crate::serve::{form_of, serve};
 use arguments::{Serve, VERSION};
 use failures::{ProgramError, WordsError};
 use folders::{numbered, open_writer, quarantined, try_draft};
-use journal::{Limits, Output, QuarantineCleared, QuarantineFull, Started, Teller};
+use journal::{Limits, Logger, Output, QuarantineCleared, QuarantineFull, Started};
 use log::{Log, Logged};
 use part10::QuarantineFound;
 use std::time::Clock;
@@ -57,7 +57,7 @@ fn drafts_in(rt: &HostRuntime, folder: &str) -> u64 {
 
 /// Returns where the lines of the log go. Where standard error is systemd's journal, each has its priority.
 fn output_of(rt: &HostRuntime, settings: &Serve) -> Output<HostRuntime> {
-    let output = Output::new(*rt, settings.form);
+    let output = Output::new(*rt, form_of(rt.alloc(), settings));
     if env::var(rt, "JOURNAL_STREAM").is_ok() {
         output.with_priorities()
     } else {
@@ -66,12 +66,12 @@ fn output_of(rt: &HostRuntime, settings: &Serve) -> Output<HostRuntime> {
 }
 
 /// Writes what the quarantine had at the start: how many drafts were removed, and whether it is full.
-fn tell_quarantine<R: Log + Clock>(teller: &Teller<'_, R>, found: QuarantineFound) {
+fn tell_quarantine<R: Log + Clock>(logger: &Logger<'_, R>, found: QuarantineFound) {
     if found.removed > 0 {
-        teller.tell(&QuarantineCleared(u64::from(found.removed)));
+        logger.tell(&QuarantineCleared(u64::from(found.removed)));
     }
     if found.is_full {
-        teller.tell(&QuarantineFull);
+        logger.tell(&QuarantineFull);
     }
 }
 
@@ -87,8 +87,8 @@ pub fn serve_into(rt: &HostRuntime, settings: &Serve) -> Result<(), ProgramError
     try_draft(&mut filing)?;
     let logged = Logged::new(rt, settings.level, output_of(rt, settings));
     let config = &settings.config;
-    let teller = Teller::new(&logged, settings.form);
-    teller.tell(&Started {
+    let logger = Logger::new(&logged, form_of(rt.alloc(), settings));
+    logger.tell(&Started {
         version: VERSION,
         title: config.ae.trimmed(),
         folder: settings.out,
@@ -100,7 +100,7 @@ pub fn serve_into(rt: &HostRuntime, settings: &Serve) -> Result<(), ProgramError
         drafts,
     });
     if let Some(found) = found {
-        tell_quarantine(&teller, found);
+        tell_quarantine(&logger, found);
     }
     serve(&logged, settings, rt, (writer, filing))
 }

@@ -1,11 +1,15 @@
 //! `dcmbox serve`: associations over TCP, one after the other or several at once.
 ghost use Rattle.std.specs.Prelude.{◌≡◌, IfOk, OnErr};
+ghost use Rattle.arguments.specs.declared.options.LogForm.TheVariants as asked;
+ghost use Rattle.journal.specs.declared.form.Form.TheVariants as form;
 ghost use Rattle.negotiate.specs.Settings.{settings_of};
-ghost use Rattle.server.specs.Alone.{CameOf};
+ghost use Rattle.server.specs.Alone.{IsServedAlone};
 
-use arguments::{Serve, VERSION};
+use arguments::{LogForm, Serve, VERSION};
+use connection::Timeouts;
 use core::mem::replace_with;
 use failures::{Failure, ProgramError};
+use journal::Form;
 use log::Log;
 use metrics::MetricsFile;
 use part10::{Filing, FolderFiling, FolderWriter};
@@ -17,14 +21,35 @@ use std::net::{Net, SocketAddr, TcpListener, TcpStream};
 use std::rt::Files;
 use std::time::Clock;
 
+/// Returns the form of the log that is asked for.
+pub fn form_of(alloc: Global, settings: &Serve) -> Form
+    ensures text { settings.now.form ≡ asked.Text → result ≡ form.Text }
+    ensures json { settings.now.form ≡ asked.Json → result ≡ form.Json alloc }
+{
+    match settings.form {
+        LogForm::Text => Form::Text,
+        LogForm::Json => Form::Json(alloc),
+    }
+}
+
 /// Returns what the server is held to. Where one association is served after the other, further peers
 /// wait as a matter of course, of which nothing is told. What happens is counted in this file, if there is one.
-fn terms_of<'a>(settings: &'a Serve, metrics: Option<&'a MetricsFile>) -> ServerTerms<'a>
+fn terms_of<'a>(
+    alloc: Global,
+    settings: &'a Serve,
+    metrics: Option<&'a MetricsFile>,
+) -> ServerTerms<'a>
     ensures config { result.config.now ≡ settings.now.config }
+    ensures timeouts { (result.timeouts.artim ≡ settings.now.artim) × (result.timeouts.idle ≡ settings.now.idle) }
+    ensures text { settings.now.form ≡ asked.Text → result.form ≡ form.Text }
+    ensures json { settings.now.form ≡ asked.Json → result.form ≡ form.Json alloc }
 {
     ServerTerms {
         config: &settings.config,
-        timeouts: settings.timeouts,
+        timeouts: Timeouts {
+            artim: settings.artim,
+            idle: settings.idle,
+        },
         at_once: settings.at_once.associations,
         per_peer: settings.at_once.per_peer,
         longest: settings.at_once.longest,
@@ -32,7 +57,7 @@ fn terms_of<'a>(settings: &'a Serve, metrics: Option<&'a MetricsFile>) -> Server
         grace: settings.at_once.grace,
         tells_full: !settings.at_once.is_serial(),
         once: settings.once,
-        form: settings.form,
+        form: form_of(alloc, settings),
         metrics,
     }
 }
@@ -45,7 +70,7 @@ fn serve_accepted<
     filing: FolderFiling<S>,
     accepted: (&R, (TcpStream, SocketAddr), ServerTerms<'_>),
 ) -> (FolderFiling<S>, ServedAlone)
-    ensures came { CameOf (settings_of accepted.entry.2.config.now) result.1 (⟦<FolderFiling<S> as Filing>⟧.store filing) (⟦<FolderFiling<S> as Filing>⟧.store result.0) }
+    ensures came { IsServedAlone (settings_of accepted.entry.2.config.now) result.1 (⟦<FolderFiling<S> as Filing>⟧.store filing) (⟦<FolderFiling<S> as Filing>⟧.store result.0) }
 {
     let (rt, connection, terms) = accepted;
     serve_alone(rt, connection, terms, filing)
@@ -70,10 +95,10 @@ pub fn serve_one<
     settings: &Serve,
     filing: &mut FolderFiling<S>,
 ) -> io::Result<ServedAlone>
-    ensures came { IfOk result (λ e. CameOf (settings_of settings.now.config) e (⟦<FolderFiling<S> as Filing>⟧.store filing.old) (⟦<FolderFiling<S> as Filing>⟧.store filing.new)) }
+    ensures came { IfOk result (λ e. IsServedAlone (settings_of settings.now.config) e (⟦<FolderFiling<S> as Filing>⟧.store filing.old) (⟦<FolderFiling<S> as Filing>⟧.store filing.new)) }
     ensures failed { OnErr result (⟦<FolderFiling<S> as Filing>⟧.store filing.new ≡ ⟦<FolderFiling<S> as Filing>⟧.store filing.old) }
 {
-    let accepted = (rt, listener.accept()?, terms_of(settings, None));
+    let accepted = (rt, listener.accept()?, terms_of(rt.alloc(), settings, None));
     Ok(replace_with(filing, accepted, serve_accepted))
 }
 
@@ -103,7 +128,8 @@ fn listen<R: Net<Listener = TcpListener, Stream = TcpStream>>(
 
 /// Listens on the port, and serves as many associations at once as the settings say until the program is
 /// to end, or only one where that was asked for. Logs where it listens, and that it has stopped. The
-/// first place files by the filing that is handed in, each other one by one of the folder.
+/// first place files by the filing that is handed in, each other one by one of the folder. Where several
+/// are served at once, files that end together are settled together.
 ///
 /// Fails if the address or the port can't be listened on, if memory runs out at the start, or if the system fails to
 /// tell what is ready.
@@ -118,8 +144,14 @@ pub fn serve<
 ) -> Result<(), ProgramError> {
     let listener = listen(rt, settings)?;
     let metrics = metrics_of(rt, settings)?;
-    let terms = terms_of(settings, metrics.as_ref());
-    let (_history, served) = serve_many(rt, listener, terms, files, folder);
+    let terms = terms_of(rt.alloc(), settings, metrics.as_ref());
+    let (writer, filing) = folder;
+    let writer = if settings.at_once.is_serial() {
+        writer
+    } else {
+        writer.in_groups()
+    };
+    let (_history, served) = serve_many(rt, listener, terms, files, (writer, filing));
     match served {
         Ok(()) => Ok(()),
         Err(error) => Err(ProgramError::System(Failure::Serve, error)),

@@ -7,7 +7,7 @@ use Rattle.std.proofs.lemmas.List.Elements.{All-push}
 use Rattle.std.specs.List.{All}
 use Rattle.negotiate.specs.Settings.{Settings}
 use Rattle.part10.specs.Store.{Store}
-use Rattle.serving.specs.Served.{Leaves}
+use Rattle.serving.specs.Served.{IsServed}
 use Rattle.serving.specs.declared.open_connection.ConnectionEnd.{ConnectionEnd}
 use Rattle.server.specs.declared.socket.Socket.{Socket}
 use Rattle.server.specs.declared.server.opening.history.SlotHistory.{SlotHistory}
@@ -17,9 +17,9 @@ use Rattle.server.specs.machine.Slots.{HaveEnded, seen_in, seen_of}
 -- one connection has ended, of a server whose settings these are
 pub one_ended : {F : Type 0} (store : F → Store) (s t : Settings) (old new : SlotHistory F) (e : ConnectionEnd Socket F) (filing : F)
     → t ≡ s → opened_in new ≡ opened_in old → ended_in new ≡ ended_in old ++ e ∷ [] → e.opened.value ≡ filing
-    → ∥ Leaves t e.exchange (store filing) (store e.filing) ∥₁ → HaveEnded store s (filing ∷ []) old new
+    → ∥ IsServed t e.exchange (store filing) (store e.filing) ∥₁ → HaveEnded store s (filing ∷ []) old new
 one_ended store s t old new e filing same opened ended over left =
-    let by : LeftBy store s e = subst (λ t. ∥ Leaves t e.exchange (store e.opened.value) (store e.filing) ∥₁) same (subst (λ f. ∥ Leaves t e.exchange (store f) (store e.filing) ∥₁) (sym over) left) in
+    let by : LeftBy store s e = subst (λ t. ∥ IsServed t e.exchange (store e.opened.value) (store e.filing) ∥₁) same (subst (λ f. ∥ IsServed t e.exchange (store f) (store e.filing) ∥₁) (sym over) left) in
     record {
       opened = opened;
       ended = ap (map opened_over) ended ∙ (map-append opened_over (ended_in old) (e ∷ []) ∙ ap (λ f. map opened_over (ended_in old) ++ f ∷ []) over);
@@ -27,11 +27,11 @@ one_ended store s t old new e filing same opened ended over left =
     }
 
 -- one connection more was opened, after the one before it has ended
-pub opened_next : {F T A : Type 0} (see : T → F) (store : F → Store) (s : Settings) (old noted new : SlotHistory F) (filing : F) (memory : Option (Box (Option T) A)) (empty : Box (Option T) A) (had now : Option T) (seat : T)
+pub opened_next : {F T A : Type 0} (see : T → F) (store : F → Store) (s : Settings) (old noted new : SlotHistory F) (filing : F) (memory : Option (Box (Option T) A)) (empty : Box (Option T) A) (had now : Option T) (occupant : T)
     → opened_in old ≡ map opened_over (ended_in old) ++ seen_in memory see → memory ≡ Some empty → had ≡ empty.value
     → opened_in noted ≡ opened_in old ++ filing ∷ [] → ended_in noted ≡ ended_in old
-    → HaveEnded store s (seen_of had see) noted new → now ≡ Some seat → see seat ≡ filing → opened_in new ≡ map opened_over (ended_in new) ++ seen_of now see
-opened_next see store s old noted new filing memory empty had now seat none there value opened ended ends is over =
+    → HaveEnded store s (seen_of had see) noted new → now ≡ Some occupant → see occupant ≡ filing → opened_in new ≡ map opened_over (ended_in new) ++ seen_of now see
+opened_next see store s old noted new filing memory empty had now occupant none there value opened ended ends is over =
     let before : seen_in memory see ≡ seen_of had see = ap (λ m. seen_in m see) there ∙ ap (λ o. seen_of o see) (sym value) in
     let all : opened_in old ≡ map opened_over (ended_in new) = none ∙ (ap (λ fs. map opened_over (ended_in old) ++ fs) before ∙ sym (ends.ended ∙ ap (λ es. map opened_over es ++ seen_of had see) ended)) in
     let last : seen_of now see ≡ filing ∷ [] = ap (λ o. seen_of o see) is ∙ ap (λ f. f ∷ []) over in

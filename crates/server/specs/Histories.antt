@@ -3,7 +3,7 @@ use Rattle.std.specs.Prelude.{◌≡◌, List, map}
 use Rattle.std.specs.List.{All}
 use Rattle.negotiate.specs.Settings.{Settings}
 use Rattle.part10.specs.Store.{Store}
-use Rattle.serving.specs.Served.{Leaves}
+use Rattle.serving.specs.Served.{IsServed}
 use Rattle.serving.specs.declared.open_connection.ConnectionEnd.{ConnectionEnd}
 use Rattle.server.specs.declared.socket.Socket.{Socket}
 use Rattle.server.specs.declared.server.opening.history.ServerHistory.{ServerHistory}
@@ -15,7 +15,7 @@ opened_over e = e.opened.value
 
 -- a connection left what these settings give
 abbrev pub LeftBy : {S F : Type 0} → (F → Store) → Settings → ConnectionEnd S F → Type 0
-LeftBy store s e = ∥ Leaves s e.exchange (store e.opened.value) (store e.filing) ∥₁
+LeftBy store s e = ∥ IsServed s e.exchange (store e.opened.value) (store e.filing) ∥₁
 
 -- the filings over which connections were opened in a slot, one after the other
 abbrev pub opened_in : {F : Type 0} → SlotHistory F → List F

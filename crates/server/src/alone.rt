@@ -1,14 +1,14 @@
 //! One connection that is served alone.
 ghost use Rattle.std.specs.Prelude.{◌≡◌};
 ghost use Rattle.negotiate.specs.Settings.{settings_of};
-ghost use Rattle.server.specs.Alone.{CameOf};
+ghost use Rattle.server.specs.Alone.{IsServedAlone};
 
+use crate::occupant::Occupant;
 use crate::policy::Policy;
-use crate::seat::Seat;
 use crate::served_alone::ServedAlone;
 use crate::terms::ServerTerms;
 use crate::watch::WatchedConnection;
-use journal::{ConnectionFailed, Journal, Teller};
+use journal::{ConnectionFailed, Journal, Logger};
 use log::Log;
 use part10::{Filing, FolderFiling};
 use std::alloc::Global;
@@ -19,7 +19,7 @@ use std::rt::Files;
 use std::time::Clock;
 
 /// Serves the association of a connection that is watched.
-// Its frame has the seat: it is none of the loop over several.
+// Its frame has the occupant: it is none of the loop over several.
 #[inline(never)]
 fn serve_watched<
     'a,
@@ -29,12 +29,12 @@ fn serve_watched<
 >(
     rt: &'a R,
     watched: WatchedConnection<S>,
-    teller: Teller<'a, R>,
+    logger: Logger<'a, R>,
     terms: ServerTerms<'a>,
     filing: FolderFiling<S>,
 ) -> (FolderFiling<S>, ServedAlone)
     requires { settings_of terms.config.now ≡ P.settings }
-    ensures came { CameOf (settings_of terms.entry.config.now) result.1 (⟦<FolderFiling<S> as Filing>⟧.store filing) (⟦<FolderFiling<S> as Filing>⟧.store result.0) }
+    ensures came { IsServedAlone (settings_of terms.entry.config.now) result.1 (⟦<FolderFiling<S> as Filing>⟧.store filing) (⟦<FolderFiling<S> as Filing>⟧.store result.0) }
 {
     let WatchedConnection {
         socket,
@@ -44,16 +44,16 @@ fn serve_watched<
         now,
     } = watched;
     let mut watch = watch;
-    let journal = Journal::new(rt.alloc(), teller, notes, terms.limits());
-    let mut seat = Seat::<R, S, P>::open((socket, filing, journal), memory, terms, now);
-    match seat.run(rt, &mut watch, now) {
+    let journal = Journal::new(rt.alloc(), logger, notes, terms.limits());
+    let mut occupant = Occupant::<R, S, P>::open((socket, filing, journal), memory, terms, now);
+    match occupant.run(rt, &mut watch, now) {
         Ok(ended) => {
-            let end = seat.end(ended);
+            let end = occupant.end(ended);
             (end.filing, ServedAlone::Ended(end.exchange))
         }
         Err(failure) => {
-            teller.tell(&ConnectionFailed(failure.error()));
-            let end = seat.end(now);
+            logger.tell(&ConnectionFailed(failure.error()));
+            let end = occupant.end(now);
             (end.filing, ServedAlone::Interrupted(end.exchange, failure))
         }
     }
@@ -75,16 +75,16 @@ pub fn serve_alone<
     terms: ServerTerms<'a>,
     filing: FolderFiling<S>,
 ) -> (FolderFiling<S>, ServedAlone)
-    ensures came { CameOf (settings_of terms.entry.config.now) result.1 (⟦<FolderFiling<S> as Filing>⟧.store filing) (⟦<FolderFiling<S> as Filing>⟧.store result.0) }
+    ensures came { IsServedAlone (settings_of terms.entry.config.now) result.1 (⟦<FolderFiling<S> as Filing>⟧.store filing) (⟦<FolderFiling<S> as Filing>⟧.store result.0) }
 {
     let (stream, peer) = accepted;
-    let teller = Teller::new(rt, terms.form)
+    let logger = Logger::new(rt, terms.form)
         .about(peer)
         .counting(terms.metrics);
     match WatchedConnection::new(rt, stream, &filing, terms.config) {
-        Ok(watched) => serve_watched::<R, S, Brand>(rt, watched, teller, terms, filing),
+        Ok(watched) => serve_watched::<R, S, Brand>(rt, watched, logger, terms, filing),
         Err(failure) => {
-            teller.tell(&ConnectionFailed(failure.error()));
+            logger.tell(&ConnectionFailed(failure.error()));
             (filing, ServedAlone::Unopened(failure))
         }
     }

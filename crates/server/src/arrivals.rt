@@ -1,5 +1,5 @@
 //! Since when connections wait to be accepted, as far as the poll shows it.
-use journal::{Teller, Waited};
+use journal::{Logger, Waited};
 use log::Log;
 use std::alloc::{AllocError, Global};
 use std::time::{Clock, Duration, Instant};
@@ -75,9 +75,9 @@ impl Arrivals {
 }
 
 /// Writes that a connection waited long for the one place, if it did.
-pub(crate) fn note_waiting<R: Log + Clock>(teller: Teller<'_, R>, waited: Duration) {
+pub(crate) fn note_waiting<R: Log + Clock>(logger: Logger<'_, R>, waited: Duration) {
     let seconds = waited.as_secs();
     if seconds > LONG_SECONDS {
-        teller.tell(&Waited(seconds));
+        logger.tell(&Waited(seconds));
     }
 }

@@ -4,8 +4,8 @@
 
 mod alone;
 mod arrivals;
+mod occupant;
 mod policy;
-mod seat;
 mod served_alone;
 mod server;
 mod slot;
@@ -15,8 +15,8 @@ mod terms;
 mod watch;
 
 pub use alone::serve_alone;
+pub use occupant::Occupant;
 pub use policy::Policy;
-pub use seat::Seat;
 pub use served_alone::ServedAlone;
 pub use server::{ServerHistory, SlotHistory, serve_many};
 pub use socket::Socket;

@@ -14,7 +14,7 @@ pub trait Policy {
 }
 
 impl Policy for Brand {
-    ghost settings = { record { ae = []; callers = []; max_pdu = 0; max_data = 0; further = record { classes = []; transfers = [] } } };
+    ghost settings = { record { ae = []; callers = []; max_pdu = 0; max_data = 0; additional = record { classes = []; transfers = [] } } };
 
     ghost at_once = { 0 };
 }

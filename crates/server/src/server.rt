@@ -3,8 +3,11 @@ ghost use Rattle.std.specs.Prelude.{◌≡◌, ◌+◌, length, vec_len};
 ghost use Rattle.negotiate.specs.Settings.{settings_of};
 ghost use Rattle.server.specs.Histories.{slots_in};
 
+mod accepting;
+mod group;
 mod measuring;
 mod opening;
+mod settling;
 mod waiting;
 
 use crate::arrivals::Arrivals;
@@ -12,19 +15,21 @@ use crate::policy::Policy;
 use crate::slot::Slot;
 use crate::socket::{AcceptedStream, watched};
 use crate::stopping::is_asked;
-use crate::terms::{MOST_AT_ONCE, ServerTerms};
-use admitting::{Admission, Notice, Places, Queue, Waiter, peer_number};
-use journal::{ConnectionFailed, Journal, NotAccepted, PeerFull, Stopping, Teller, TurnedAway};
+use crate::terms::ServerTerms;
+use accepting::PAUSE_MILLISECONDS;
+use admitting::{Notice, Queue, Slots};
+use group::Group;
+pub(crate) use group::Waiting;
+use journal::{ConnectionFailed, Journal, Logger, Stopping};
 use log::Log;
 use mio::net::TcpListener;
 use mio::{Events, Poll, Token};
 use opening::{ClosedSlots, close_all};
 pub use opening::{ServerHistory, SlotHistory, serve_many};
-use part10::{Filing, FolderFiling, FolderWriter};
+use part10::{Filing, FolderFiling, FolderWriter, Settling};
 use std::alloc::{AllocError, Global};
 use std::fs::File;
 use std::io;
-use std::io::ErrorKind;
 use std::net::SocketAddr;
 use std::rt::Files;
 use std::time::{Clock, Duration, Instant};
@@ -38,10 +43,6 @@ const MOST_SECONDS: u64 = 60;
 /// How often it is looked whether the server is to end, in milliseconds.
 const LOOK_MILLISECONDS: u64 = 200;
 
-/// How long the server waits after a connection that could not be accepted, in milliseconds, so
-/// that a lasting failure does not keep it busy.
-const PAUSE_MILLISECONDS: u64 = 100;
-
 /// A server, with its connections. It is given up by `close` alone.
 struct Server<
     'a,
@@ -50,7 +51,7 @@ struct Server<
     P: Policy,
 >
 where
-    FolderFiling<S>: Filing,
+    FolderFiling<S>: Settling,
 {
     rt: &'a R,
     poll: Poll,
@@ -59,7 +60,7 @@ where
     folder: FolderWriter<S>,
     /// The filings of places that are free: of those that have had a connection, and of the first.
     filings: Vec<Option<FolderFiling<S>>>,
-    places: Places<Global>,
+    places: Slots<Global>,
     /// The memory of places that have had a connection, and of the first, with the connection that each
     /// has. So the first place takes no memory once the server has begun.
     slots: Vec<Slot<'a, R, S, P>>,
@@ -72,6 +73,8 @@ where
     /// Whether a connection may be there to be accepted.
     may_accept: bool,
     arrivals: Arrivals,
+    /// The files that wait to be settled.
+    group: Group,
     /// Until when none is accepted, after one could not be.
     paused: Option<Instant>,
     /// When it was last looked whether the server is to end.
@@ -111,12 +114,13 @@ impl<
     }
 
     /// Returns what writes lines about no connection.
-    fn teller(&self) -> Teller<'a, R> {
-        Teller::new(self.rt, self.terms.form)
+    fn logger(&self) -> Logger<'a, R> {
+        Logger::new(self.rt, self.terms.form)
     }
 
     /// Takes note of what the poll reported.
     fn wake(&mut self, events: &Events) {
+        self.group.polled(!events.is_empty());
         for event in events.iter() {
             let Token(place) = event.token();
             if place == LISTENER {
@@ -145,13 +149,13 @@ impl<
         filing: &FolderFiling<S>,
     ) -> Result<Journal<'a, R, S>, AllocError> {
         let notes = filing.notes()?;
-        let teller = self.teller().about(peer).counting(self.terms.metrics);
-        Ok(Journal::new(*self.slots.allocator(), teller, notes, self.terms.limits()))
+        let logger = self.logger().about(peer).counting(self.terms.metrics);
+        Ok(Journal::new(*self.slots.allocator(), logger, notes, self.terms.limits()))
     }
 
     /// Opens an association over a connection, in a place that its peer got.
     #[inline(never)]
-    fn seat(&mut self, accepted: AcceptedStream, place: usize, now: Instant) -> io::Result<()> {
+    fn occupy(&mut self, accepted: AcceptedStream, place: usize, now: Instant) -> io::Result<()> {
         let AcceptedStream { stream, peer } = accepted;
         let socket = watched(&self.poll, stream, place)?;
         self.make_slot(place)?;
@@ -164,10 +168,10 @@ impl<
     }
 
     /// Opens an association, or logs why there is none, and frees the place.
-    fn seat_or_tell(&mut self, accepted: AcceptedStream, place: usize, now: Instant) {
+    fn occupy_or_tell(&mut self, accepted: AcceptedStream, place: usize, now: Instant) {
         let peer = accepted.peer;
-        if let Err(failure) = self.seat(accepted, place, now) {
-            self.teller().about(peer).tell(&ConnectionFailed(&failure));
+        if let Err(failure) = self.occupy(accepted, place, now) {
+            self.logger().about(peer).tell(&ConnectionFailed(&failure));
             self.leave(place);
         }
     }
@@ -199,75 +203,6 @@ impl<
         true
     }
 
-    /// Gives a connection that was accepted its place, or lets it wait.
-    fn admit(&mut self, accepted: AcceptedStream, now: Instant) {
-        let teller = self.teller().about(accepted.peer);
-        let peer = peer_number(accepted.peer.ip());
-        match self.places.admit(peer) {
-            Admission::Place(place) => self.seat_or_tell(accepted, place, now),
-            Admission::Full | Admission::PeerFull => {
-                if self.peer_told.is_due(now) {
-                    teller.tell(&PeerFull(self.terms.per_peer as u64));
-                }
-                let waiter = Waiter {
-                    peer,
-                    waiting: accepted,
-                };
-                if !self.queue.push(waiter) {
-                    teller.tell(&TurnedAway);
-                }
-            }
-        }
-    }
-
-    /// Gives free places to those that wait for one, and then to those that are to be accepted.
-    fn admit_all(&mut self, now: Instant) {
-        for _ in 0..MOST_AT_ONCE {
-            match self.queue.admit(&mut self.places) {
-                Some((waiter, place)) => self.seat_or_tell(waiter.waiting, place, now),
-                None => break,
-            }
-        }
-        for _ in 0..MOST_AT_ONCE {
-            if !self.is_open || !self.may_accept || self.is_paused(now) {
-                return;
-            }
-            if !self.has_vacancy() {
-                self.note_full(now);
-                return;
-            }
-            self.accept(now);
-        }
-    }
-
-    fn is_paused(&self, now: Instant) -> bool {
-        match self.paused {
-            Some(until) => now.duration_since(until).is_zero(),
-            None => false,
-        }
-    }
-
-    /// Accepts a connection, if one is there.
-    fn accept(&mut self, now: Instant) {
-        match self.listener.accept() {
-            Ok((stream, peer)) => {
-                self.note_accepted(peer, now);
-                self.admit(AcceptedStream { stream, peer }, now);
-                self.is_open = !self.terms.once;
-            }
-            Err(failure) if failure.kind() == ErrorKind::WouldBlock => {
-                self.may_accept = false;
-                self.arrivals.clear();
-            }
-            Err(failure) => {
-                if self.accept_told.is_due(now) {
-                    self.teller().tell(&NotAccepted(&failure));
-                }
-                self.paused = now.checked_add(Duration::from_millis(PAUSE_MILLISECONDS));
-            }
-        }
-    }
-
     /// Gives the connection of a place its turn, if it has one, and returns whether its association has ended.
     fn turn(&mut self, place: usize, now: Instant) -> bool {
         match self.slots.get_mut(place) {
@@ -290,11 +225,13 @@ impl<
         self.slots.get_mut(place)?.leave(now)
     }
 
-    /// Lets the connection of a place go.
+    /// Lets the connection of a place go. Its filing serves the next one, unless a file of it was lost.
     fn end(&mut self, place: usize, now: Instant) {
         if let Some(filing) = self.left_filing(place, now) {
             if let Some(empty) = self.filings.get_mut(place) {
-                *empty = Some(filing);
+                if !filing.waits() {
+                    *empty = Some(filing);
+                }
             }
         }
         self.leave(place);
@@ -334,7 +271,7 @@ impl<
         }
         self.looked = Some(now);
         if is_asked(files, self.terms.stop_file) {
-            self.teller().tell(&Stopping);
+            self.logger().tell(&Stopping);
             self.asked = Some(now);
             self.is_open = false;
             self.queue.clear();
@@ -356,6 +293,7 @@ impl<
             self.arrivals.note(now);
             self.look(files, now);
             self.turn_each(now);
+            self.settle_due(now);
             // A place that was freed is given on before the poll, which may wait long.
             self.admit_all(now);
             self.measure(files, now);
@@ -369,10 +307,14 @@ impl<
         Ok(())
     }
 
-    /// Lets each connection go. Returns what there was of all, beside what there was before.
+    /// Settles the files that wait, and lets each connection go. Returns what there was of all, beside what
+    /// there was before.
     fn close(self, closed: ClosedSlots<FolderFiling<S>, P>) -> ClosedSlots<FolderFiling<S>, P>
         ensures { length (slots_in result.history) ≡ length (slots_in closed.history) + P.at_once }
     {
+        let mut server = self;
+        let now = server.now;
+        server.settle_all(now);
         let Server {
             rt: _rt,
             poll: _poll,
@@ -384,16 +326,17 @@ impl<
             slots,
             queue: _queue,
             is_open: _is_open,
-            now,
+            now: _now,
             may_accept: _may_accept,
             arrivals: _arrivals,
+            group: _group,
             paused: _paused,
             looked: _looked,
             asked: _asked,
             places_told: _places_told,
             peer_told: _peer_told,
             accept_told: _accept_told,
-        } = self;
+        } = server;
         close_all(slots, closed, now)
     }
 }

@@ -6,20 +6,20 @@ ghost use Rattle.serving.specs.Connections.{opening_of};
 ghost use Rattle.server.specs.Histories.{AllEnded, LeftBy, ended_in, opened_in, opened_over};
 ghost use Rattle.server.specs.machine.Slots.{HaveEnded, seen_in, seen_of};
 
+use crate::occupant::{Occupant, OccupantParts, turned};
 use crate::policy::Policy;
-use crate::seat::{Seat, SeatParts, turned};
-use crate::server::SlotHistory;
+use crate::server::{SlotHistory, Waiting};
 use crate::terms::ServerTerms;
 use log::Log;
 use negotiate::Config;
-use part10::{Filing, FolderFiling};
+use part10::{Filing, FolderFiling, Settling};
 use serving::ConnectionMemory;
 use std::alloc::{AllocError, AllocFailed, Global};
 use std::fs::File;
 use std::rt::Files;
 use std::time::{Clock, Duration, Instant};
 
-/// A slot for one connection after the other. Like a [`Seat`] it is not `Drop`: it is given up by `close`
+/// A slot for one connection after the other. Like an [`Occupant`] it is not `Drop`: it is given up by `close`
 /// alone.
 pub(crate) struct Slot<
     'a,
@@ -28,16 +28,16 @@ pub(crate) struct Slot<
     P: Policy,
 >
 where
-    FolderFiling<S>: Filing,
+    FolderFiling<S>: Settling,
 {
     /// The memory, once it was taken, with the connection that it has.
-    seat: Option<Box<Option<Seat<'a, R, S, P>>>>,
+    occupant: Option<Box<Option<Occupant<'a, R, S, P>>>>,
     /// The memory of its next connection, once it was taken, while it has none.
     memory: Option<ConnectionMemory>,
     history: SlotHistory<FolderFiling<S>>,
     ghost left: { ∥ All (LeftBy ⟦<FolderFiling<S> as Filing>⟧.store P.settings) (ended_in history) ∥₁ },
     /// Each connection that was opened has ended, except the one that it has.
-    ghost none_missing: { opened_in history ≡ map opened_over (ended_in history) ++ seen_in seat (λ s. opening_of s.connection) },
+    ghost none_missing: { opened_in history ≡ map opened_over (ended_in history) ++ seen_in occupant (λ s. opening_of s.connection) },
 }
 
 impl<'a, R: Log + Clock, S: Files<File = File> + Alloc<A = Global> + Clone + Drop, P: Policy> Slot<
@@ -49,7 +49,7 @@ impl<'a, R: Log + Clock, S: Files<File = File> + Alloc<A = Global> + Clone + Dro
     /// Creates a slot without memory.
     pub(crate) fn new() -> Slot<'a, R, S, P> {
         Slot {
-            seat: None,
+            occupant: None,
             memory: None,
             history: SlotHistory::new(),
         }
@@ -57,8 +57,8 @@ impl<'a, R: Log + Clock, S: Files<File = File> + Alloc<A = Global> + Clone + Dro
 
     /// Returns whether it has a connection.
     pub(crate) fn is_taken(&self) -> bool {
-        match &self.seat {
-            Some(seat) => seat.is_some(),
+        match &self.occupant {
+            Some(occupant) => occupant.is_some(),
             None => false,
         }
     }
@@ -70,17 +70,22 @@ impl<'a, R: Log + Clock, S: Files<File = File> + Alloc<A = Global> + Clone + Dro
         config: &Config,
         now: Instant,
     ) -> Result<(), AllocError> {
-        if self.seat.is_some() {
+        if self.occupant.is_some() {
             return Ok(());
         }
         let memory = ConnectionMemory::new(alloc, config)?;
-        make(alloc, &mut self.seat, &mut self.history, now)?;
+        make(alloc, &mut self.occupant, &mut self.history, now)?;
         self.memory = Some(memory);
         Ok(())
     }
 
     /// Opens an association over a connection that was accepted at this instant, if it has its memory.
-    pub(crate) fn open(&mut self, parts: SeatParts<'a, R, S>, terms: ServerTerms<'a>, now: Instant)
+    pub(crate) fn open(
+        &mut self,
+        parts: OccupantParts<'a, R, S>,
+        terms: ServerTerms<'a>,
+        now: Instant,
+    )
         requires { settings_of terms.config.now ≡ P.settings }
     {
         if let Some(memory) = self.memory.take() {
@@ -89,39 +94,85 @@ impl<'a, R: Log + Clock, S: Files<File = File> + Alloc<A = Global> + Clone + Dro
     }
 
     /// Opens an association, in this memory, over a connection that was accepted at this instant.
-    // Not inlined, as is what ends one: its frame has copies of a seat, and is left before the first turn.
+    // Not inlined, as is what ends one: its frame has copies of an occupant, and is left before the first turn.
     #[inline(never)]
     fn open_in(
         &mut self,
         memory: ConnectionMemory,
-        parts: SeatParts<'a, R, S>,
+        parts: OccupantParts<'a, R, S>,
         terms: ServerTerms<'a>,
         now: Instant,
     )
         requires { settings_of terms.config.now ≡ P.settings }
     {
         let (socket, filing, journal) = parts;
-        if let Some(empty) = &mut self.seat {
+        if let Some(empty) = &mut self.occupant {
             self.history.open(&filing);
-            let seat = Seat::open((socket, filing, journal), memory, terms, now);
-            end(empty.replace(seat), &mut self.history, now);
+            let occupant = Occupant::open((socket, filing, journal), memory, terms, now);
+            end(empty.replace(occupant), &mut self.history, now);
         }
     }
 
     /// The socket of its connection may have something to read, or take something.
     pub(crate) fn wake(&mut self) {
-        if let Some(seat) = &mut self.seat {
-            if let Some(seat) = &mut **seat {
-                seat.wake();
+        if let Some(occupant) = &mut self.occupant {
+            if let Some(occupant) = &mut **occupant {
+                occupant.wake();
             }
         }
     }
 
     /// Gives its connection its turn, if it has one, and returns whether its association has ended.
     pub(crate) fn turn(&mut self, asked: Option<Instant>, now: Instant) -> bool {
-        if let Some(seat) = &mut self.seat {
-            if let Some(seat) = &mut **seat {
-                return turned(seat, asked, now);
+        if let Some(occupant) = &mut self.occupant {
+            if let Some(occupant) = &mut **occupant {
+                return turned(occupant, asked, now);
+            }
+        }
+        false
+    }
+
+    /// Counts its connection, if it has one: whether a file of it waits to be settled, or another may come
+    /// to wait.
+    pub(crate) fn count(&self, waiting: &mut Waiting) {
+        if let Some(occupant) = &self.occupant {
+            if let Some(occupant) = &**occupant {
+                waiting.count(occupant.waits(), occupant.is_ready());
+            }
+        }
+    }
+
+    /// Advises the system to start to write the file that waits, if one does.
+    pub(crate) fn start_writing(&self) {
+        if let Some(occupant) = &self.occupant {
+            if let Some(occupant) = &**occupant {
+                if occupant.waits() {
+                    occupant.start_writing();
+                }
+            }
+        }
+    }
+
+    /// Writes the file that waits to the disk, if one does, and gives it its name.
+    pub(crate) fn write_out(&mut self) {
+        if let Some(occupant) = &mut self.occupant {
+            if let Some(occupant) = &mut **occupant {
+                if occupant.waits() {
+                    occupant.write_out();
+                }
+            }
+        }
+    }
+
+    /// Settles the file that waits, if one does, and sends the reply to its store. Returns whether its
+    /// connection is to be let go, since the file is lost.
+    pub(crate) fn settle(&mut self, are_named: bool, now: Instant) -> bool {
+        if let Some(occupant) = &mut self.occupant {
+            if let Some(occupant) = &mut **occupant {
+                if occupant.waits() {
+                    occupant.settle(are_named, now);
+                    return occupant.is_over();
+                }
             }
         }
         false
@@ -129,9 +180,9 @@ impl<'a, R: Log + Clock, S: Files<File = File> + Alloc<A = Global> + Clone + Dro
 
     /// Returns how long its connection may be left alone, at most so long.
     pub(crate) fn patience(&self, now: Instant, most: Duration) -> Duration {
-        if let Some(seat) = &self.seat {
-            if let Some(seat) = &**seat {
-                return seat.patience(now, most);
+        if let Some(occupant) = &self.occupant {
+            if let Some(occupant) = &**occupant {
+                return occupant.patience(now, most);
             }
         }
         most
@@ -140,8 +191,8 @@ impl<'a, R: Log + Clock, S: Files<File = File> + Alloc<A = Global> + Clone + Dro
     /// Lets its connection go, if it has one, and returns its filing.
     #[inline(never)]
     pub(crate) fn leave(&mut self, now: Instant) -> Option<FolderFiling<S>> {
-        match &mut self.seat {
-            Some(seat) => left_by(seat.take(), &mut self.memory, &mut self.history, now),
+        match &mut self.occupant {
+            Some(occupant) => left_by(occupant.take(), &mut self.memory, &mut self.history, now),
             None => None,
         }
     }
@@ -151,28 +202,28 @@ impl<'a, R: Log + Clock, S: Files<File = File> + Alloc<A = Global> + Clone + Dro
         ensures { AllEnded ⟦<FolderFiling<S> as Filing>⟧.store P.settings result }
     {
         let Slot {
-            seat,
+            occupant,
             memory: _memory,
             history,
         } = self;
         let mut history = history;
-        let_go(seat, &mut history, now);
+        let_go(occupant, &mut history, now);
         history
     }
 }
 
 /// Lets a connection go, if there is one, whose memory becomes that of the next one. Returns its filing.
 fn left_by<R: Log + Clock, S: Files<File = File> + Alloc<A = Global> + Clone + Drop, P: Policy>(
-    seat: Option<Seat<'_, R, S, P>>,
+    occupant: Option<Occupant<'_, R, S, P>>,
     memory: &mut Option<ConnectionMemory>,
     history: &mut SlotHistory<FolderFiling<S>>,
     now: Instant,
 ) -> Option<FolderFiling<S>>
-    ensures { HaveEnded ⟦<FolderFiling<S> as Filing>⟧.store P.settings (seen_of seat.entry (λ s. opening_of s.connection)) history.old history.new }
+    ensures { HaveEnded ⟦<FolderFiling<S> as Filing>⟧.store P.settings (seen_of occupant.entry (λ s. opening_of s.connection)) history.old history.new }
 {
-    match seat {
-        Some(seat) => {
-            let left = seat.end(now);
+    match occupant {
+        Some(occupant) => {
+            let left = occupant.end(now);
             history.end(&left);
             let (filing, kept) = left.into_parts();
             *memory = Some(kept);
@@ -184,14 +235,14 @@ fn left_by<R: Log + Clock, S: Files<File = File> + Alloc<A = Global> + Clone + D
 
 /// Lets a connection go, if there is one.
 fn end<R: Log + Clock, S: Files<File = File> + Alloc<A = Global> + Clone + Drop, P: Policy>(
-    seat: Option<Seat<'_, R, S, P>>,
+    occupant: Option<Occupant<'_, R, S, P>>,
     history: &mut SlotHistory<FolderFiling<S>>,
     now: Instant,
 )
-    ensures { HaveEnded ⟦<FolderFiling<S> as Filing>⟧.store P.settings (seen_of seat.entry (λ s. opening_of s.connection)) history.old history.new }
+    ensures { HaveEnded ⟦<FolderFiling<S> as Filing>⟧.store P.settings (seen_of occupant.entry (λ s. opening_of s.connection)) history.old history.new }
 {
-    if let Some(seat) = seat {
-        let left = seat.end(now);
+    if let Some(occupant) = occupant {
+        let left = occupant.end(now);
         history.end(&left);
     }
 }
@@ -199,14 +250,14 @@ fn end<R: Log + Clock, S: Files<File = File> + Alloc<A = Global> + Clone + Drop,
 /// Gives up the memory of a slot, if it has any, and lets its connection go.
 #[inline(never)]
 fn let_go<R: Log + Clock, S: Files<File = File> + Alloc<A = Global> + Clone + Drop, P: Policy>(
-    seat: Option<Box<Option<Seat<'_, R, S, P>>>>,
+    occupant: Option<Box<Option<Occupant<'_, R, S, P>>>>,
     history: &mut SlotHistory<FolderFiling<S>>,
     now: Instant,
 )
-    ensures { HaveEnded ⟦<FolderFiling<S> as Filing>⟧.store P.settings (seen_in seat.entry (λ s. opening_of s.connection)) history.old history.new }
+    ensures { HaveEnded ⟦<FolderFiling<S> as Filing>⟧.store P.settings (seen_in occupant.entry (λ s. opening_of s.connection)) history.old history.new }
 {
-    if let Some(seat) = seat {
-        end(Box::into_inner(seat), history, now);
+    if let Some(occupant) = occupant {
+        end(Box::into_inner(occupant), history, now);
     }
 }
 
@@ -214,16 +265,16 @@ fn let_go<R: Log + Clock, S: Files<File = File> + Alloc<A = Global> + Clone + Dr
 #[inline(never)]
 fn make<'a, R: Log + Clock, S: Files<File = File> + Alloc<A = Global> + Clone + Drop, P: Policy>(
     alloc: Global,
-    seat: &mut Option<Box<Option<Seat<'a, R, S, P>>>>,
+    occupant: &mut Option<Box<Option<Occupant<'a, R, S, P>>>>,
     history: &mut SlotHistory<FolderFiling<S>>,
     now: Instant,
 ) -> Result<(), AllocError>
-    requires { seat.old ≡ None }
+    requires { occupant.old ≡ None }
     ensures ended { HaveEnded ⟦<FolderFiling<S> as Filing>⟧.store P.settings [] history.old history.new }
-    ensures empty { seen_in seat.new (λ s. opening_of s.connection) ≡ [] }
+    ensures empty { seen_in occupant.new (λ s. opening_of s.connection) ≡ [] }
 {
     match Box::new(alloc, None) {
-        Ok(empty) => let_go(seat.replace(empty), history, now),
+        Ok(empty) => let_go(occupant.replace(empty), history, now),
         Err(AllocFailed { value }) => {
             end(value, history, now);
             return Err(AllocError);

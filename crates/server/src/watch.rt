@@ -4,8 +4,8 @@ ghost use Rattle.std.specs.Prelude.{◌≡◌, IfOk, true};
 ghost use Rattle.engine.specs.Held.{is_ended};
 ghost use Rattle.serving.specs.Connections.{opening_of, state_at};
 
+use crate::occupant::Occupant;
 use crate::policy::Policy;
-use crate::seat::Seat;
 use crate::socket::Socket;
 use log::Log;
 use mio::net::TcpStream;
@@ -106,7 +106,7 @@ impl Watch {
     }
 }
 
-impl<R: Log + Clock, S: Files<File = File> + Alloc<A = Global> + Clone + Drop, P: Policy> Seat<
+impl<R: Log + Clock, S: Files<File = File> + Alloc<A = Global> + Clone + Drop, P: Policy> Occupant<
     '_,
     R,
     S,
@@ -114,7 +114,8 @@ impl<R: Log + Clock, S: Files<File = File> + Alloc<A = Global> + Clone + Drop, P
 > {
     /// Gives the association its turns until it has ended. Returns when that was.
     ///
-    /// Fails if the clock or the poll does, or after 2^64 - 1 turns.
+    /// Fails if the clock or the poll does, or after 2^64 - 1 turns, or if its filing settles files in
+    /// groups: its file is lost then.
     pub(crate) fn run(
         &mut self,
         rt: &R,
@@ -130,6 +131,11 @@ impl<R: Log + Clock, S: Files<File = File> + Alloc<A = Global> + Clone + Drop, P
             self.turn(now);
             if self.has_ended() {
                 return Ok(now);
+            }
+            if self.waits() {
+                // No other file can be settled with it, and nobody is here to sync its name.
+                self.settle(false, now);
+                return Err(SystemFailed(io::Error::from(ErrorKind::Unsupported)));
             }
             let most = self.patience(now, Duration::from_secs(MOST_SECONDS));
             match watch.wait(rt, most) {

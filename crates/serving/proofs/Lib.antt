@@ -3,3 +3,4 @@ pub mod GivenLemmas
 pub mod CloseLemmas
 pub mod TakenLemmas
 pub mod InboxLemmas
+pub mod SettledLemmas

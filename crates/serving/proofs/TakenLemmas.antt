@@ -20,7 +20,7 @@ use Rattle.engine.specs.FrameFields.{Fields}
 use Rattle.engine.specs.Held.{is_ended}
 use Rattle.engine.specs.Inputs.{Received, Bytes, UserAbort, stream_of, input_of, inputs_of}
 use Rattle.engine.specs.Moves.{Moved}
-use Rattle.engine.specs.OutputLaws.{SendsFew, IsSilent}
+use Rattle.engine.specs.OutputLaws.{SendsFew, IsSilent, most_beside_answers}
 use Rattle.engine.specs.Progress.{at_start}
 use Rattle.engine.specs.Ran.{standing_of}
 use Rattle.engine.specs.Run.{progress_of, sent_of, wire_failures}
@@ -31,6 +31,7 @@ use Rattle.engine.proofs.Public.{turns_begin, one_turn_more, turns_are_a_run, en
 use Rattle.serving.proofs.CloseLemmas.{one_more_closes, still_closed}
 use Rattle.serving.proofs.GivenLemmas.{gives_one, still_whole, whole_more}
 use Rattle.serving.specs.declared.outbox.Outbox.{Outbox}
+use Rattle.serving.specs.Capacities.{outbox_size}
 use Rattle.serving.specs.Closes.{HasClosed, ClosesWithSocket}
 use Rattle.serving.specs.Rooms.{served_rooms}
 use Rattle.serving.specs.Taken.{supply_of, unfailed_line, HasTaken}
@@ -126,12 +127,12 @@ module _ (s : Settings) (named : List (Input × List ℕ)) (kind : Input) (bytes
   -- ---- nothing is sent for which there is no room
 
   -- where an outbox that has refused a send is full
-  pub unfailed : (0 < n → length pending_new ≡ 18631) → length pending_new < 18631 → n ≡ 0
+  pub unfailed : (0 < n → length pending_new ≡ outbox_size) → length pending_new < outbox_size → n ≡ 0
   unfailed full few = elim (cases_lt 0 n) [ inl lt ↦ absurd (let e = full lt in omega (arith, e, few)) | inr none ↦ omega (arith, none) ]
 
   pub piece_fits : (most : ℕ) → kind ≡ Piece → pending ≡ [] → length bytes ≤ most → IsBytes (stream_of (inputs_of named) ++ bytes)
       → ((inputs : List Received) (story : List Happened) (failed : Bool) → Stands served_rooms s inputs story failed seen old → SendsFew served_rooms s inputs story most)
-      → HasTaken s named seen (socket ++ pending) opened old → length pending_new < 18631
+      → HasTaken s named seen (socket ++ pending) opened old → length pending_new < outbox_size
   piece_fits most is none few are portion h =
       let g = grew h in
       let input : input_of kind bytes ≡ Bytes bytes = ap (λ (k : Input). input_of k bytes) is in
@@ -139,13 +140,13 @@ module _ (s : Settings) (named : List (Input × List ℕ)) (kind : Input) (bytes
       let sent = portion g.inputs g.story g.failed g.stands bytes g.more few (subst (λ (xs : List Received). IsBytes (stream_of xs ++ bytes)) (sym g.inputs_are) are) told in
       omega (arith, ap length g.waits, length-append pending (sent_of served_rooms s (progress_of served_rooms s at_start g.story) g.more), ap length none, sent)
 
-  pub silent_fits : IsSilent (input_of kind bytes) → length pending < 18631 → HasTaken s named seen (socket ++ pending) opened old → length pending_new < 18631
+  pub silent_fits : IsSilent (input_of kind bytes) → length pending < outbox_size → HasTaken s named seen (socket ++ pending) opened old → length pending_new < outbox_size
   silent_fits silent few h =
       let g = grew h in
       let nothing = silent_sends_nothing served_rooms s (progress_of served_rooms s at_start g.story) (stream_of g.inputs) (input_of kind bytes) g.more silent g.told in
       omega (arith, ap length g.waits, length-append pending (sent_of served_rooms s (progress_of served_rooms s at_start g.story) g.more), ap length nothing, few)
 
-  pub abort_fits : input_of kind bytes ≡ UserAbort → length pending + 30 < 18631 → HasTaken s named seen (socket ++ pending) opened old → length pending_new < 18631
+  pub abort_fits : input_of kind bytes ≡ UserAbort → length pending + most_beside_answers < outbox_size → HasTaken s named seen (socket ++ pending) opened old → length pending_new < outbox_size
   abort_fits is few h =
       let g = grew h in
       let told : entries_of g.more ≡ entries (stream_of g.inputs) (UserAbort ∷ []) = g.told ∙ ap (λ (x : Received). entries (stream_of g.inputs) (x ∷ [])) is in
@@ -162,8 +163,8 @@ module _ (s : Settings) (named : List (Input × List ℕ)) (kind : Input) (bytes
 
 -- an input that has no bytes
 pub other_fits : (s : Settings) (named : List (Input × List ℕ)) (kind : Input) (bytes : List ℕ) (seen seen_new : Fields) (socket pending pending_new : List ℕ) (m n : ℕ) (opened old new : Store)
-    → m ≡ 0 → OnInput s kind bytes seen seen_new (devices (line pending m) old) (devices (line pending_new n) new) → kind ≢ Piece → (kind ≡ LocalAbort → length pending + 30 < 18631) → length pending < 18631
-    → HasTaken s named seen (socket ++ pending) opened old → length pending_new < 18631
+    → m ≡ 0 → OnInput s kind bytes seen seen_new (devices (line pending m) old) (devices (line pending_new n) new) → kind ≢ Piece → (kind ≡ LocalAbort → length pending + most_beside_answers < outbox_size) → length pending < outbox_size
+    → HasTaken s named seen (socket ++ pending) opened old → length pending_new < outbox_size
 other_fits s named Piece bytes seen seen_new socket pending pending_new m n opened old new never moved no_piece room few h = absurd (no_piece refl)
 other_fits s named Closed bytes seen seen_new socket pending pending_new m n opened old new never moved no_piece room few h = silent_fits s named Closed bytes seen seen_new socket pending pending_new m n opened old new never moved tt few h
 other_fits s named Expired bytes seen seen_new socket pending pending_new m n opened old new never moved no_piece room few h = silent_fits s named Expired bytes seen seen_new socket pending pending_new m n opened old new never moved tt few h
@@ -175,7 +176,7 @@ other_fits s named LocalAbort bytes seen seen_new socket pending pending_new m n
 -- it has taken these inputs, whose pieces are what was read; no send failed, and there is room for one byte more
 pub record Keeps (s : Settings) (named : List (Input × List ℕ)) (seen : Fields) (read socket pending : List ℕ) (failures : ℕ) (opened now : Store) : Type 0 where
   pub never : failures ≡ 0
-  pub fits : length pending < 18631
+  pub fits : length pending < outbox_size
   pub whole : stream_of (inputs_of named) ≡ read
   pub taken : ∥ HasTaken s named seen (socket ++ pending) opened now ∥₁
 
@@ -202,9 +203,9 @@ pub more_bytes : (read read_new bytes : List ℕ) → read_new ≡ read ++ bytes
 more_bytes read read_new bytes e h k = subst IsBytes (sym e) (both_bytes read bytes h k)
 
 module _ (s set : Settings) (named named_new : List (Input × List ℕ)) (kind : Input) (bytes : List ℕ) (seen seen_new : Fields) (read socket pending pending_new : List ℕ) (m n : ℕ) (opened old new : Store)
-    (settings : set ≡ s) (pushed : named_new ≡ named ++ (kind, bytes) ∷ []) (open_still : is_ended seen.kept.state ≡ false) (full : 0 < n → length pending_new ≡ 18631)
+    (settings : set ≡ s) (pushed : named_new ≡ named ++ (kind, bytes) ∷ []) (open_still : is_ended seen.kept.state ≡ false) (full : 0 < n → length pending_new ≡ outbox_size)
     (moved : OnInput s kind bytes seen seen_new (devices (line pending m) old) (devices (line pending_new n) new)) (was : Keeps s named seen read socket pending m opened old) where
-  keeps_on : length pending_new < 18631 → (read_new : List ℕ) → stream_of (inputs_of (named ++ (kind, bytes) ∷ [])) ≡ read_new → Keeps set named_new seen_new read_new socket pending_new n opened new
+  keeps_on : length pending_new < outbox_size → (read_new : List ℕ) → stream_of (inputs_of (named ++ (kind, bytes) ∷ [])) ≡ read_new → Keeps set named_new seen_new read_new socket pending_new n opened new
   keeps_on fits read_new whole =
       let none : n ≡ 0 = unfailed s named kind bytes seen seen_new socket pending pending_new m n opened old new was.never moved full fits in
       record {
@@ -215,7 +216,7 @@ module _ (s set : Settings) (named named_new : List (Input × List ℕ)) (kind :
       }
 
   -- with an input that has no bytes
-  pub keeps_other : kind ≢ Piece → (kind ≡ LocalAbort → length pending + 30 < 18631) → Keeps set named_new seen_new read socket pending_new n opened new
+  pub keeps_other : kind ≢ Piece → (kind ≡ LocalAbort → length pending + most_beside_answers < outbox_size) → Keeps set named_new seen_new read socket pending_new n opened new
   keeps_other no_piece room =
       keeps_on (∥∥₁_elim was.taken le_prop (λ h. other_fits s named kind bytes seen seen_new socket pending pending_new m n opened old new was.never moved no_piece room was.fits h)) read
       (still_whole named kind bytes read no_piece was.whole)
@@ -246,30 +247,32 @@ ended_stands Sta13 reported e over = absurd cc
 
 pub ends : (s : Settings) (named : List (Input × List ℕ)) (seen : Fields) (report : Report) (read untaken : List ℕ) (stopped : ℕ) (socket unsent : List ℕ) (refusals : ℕ) (opened old new : Store) → stream_of (inputs_of named) ++ untaken ≡ read
     → ClosesWithSocket (inputs_of named) untaken stopped unsent refusals → Reports served_rooms s seen old report → new ≡ stepped without_draft false old → HasTaken s named seen (socket ++ unsent) opened old
-    → ExchangedSoFar s report read untaken stopped socket unsent refusals opened new
+    → (served : ExchangedSoFar s report read untaken stopped socket unsent refusals opened new) × (served.inputs ≡ inputs_of named)
 ends s named seen report read untaken stopped socket unsent refusals opened old new e closes reports store h =
     let mid = devices (unfailed_line (socket ++ unsent)) old in
     let last = devices (unfailed_line (socket ++ unsent)) new in
     let r = turns_are_a_run served_rooms s h.turns h.turns (supply_of []) (supply_of named) seen (devices (unfailed_line []) opened) mid last report h.took (omega arith) (λ lt. absurd (omega (arith, lt))) reports refl store in
     let a = r.answered in
-    let same : inputs_of named ≡ r.taken = received_same (inputs_of named) r.taken r.given in
-    record {
-      inputs = r.taken;
-      story = a.story;
-      failed = a.failed;
-      files = a.files;
-      state = a.state;
-      pieces = ap (λ (xs : List Received). stream_of xs ++ untaken) (sym same) ∙ e;
-      run = record { story_is = a.run.story_is; sent_is = sent_same (socket ++ unsent) a.sent (ap (λ (l : Line). l.sent) a.line) ∙ a.run.sent_is; files_are = a.run.files_are; state_is = a.run.state_is };
-      last = a.last;
-      closed = λ before last. closes before (same ∙ last);
-      unfailed = omega (arith, ap (λ (l : Line). l.failures) a.line);
-      standing = a.standing;
-      held = a.held;
-      told = a.told;
-      count = a.count;
-      no_draft = r.no_draft;
-    }
+    let same : inputs_of named ≡ r.taken = received_same (inputs_of named) r.taken r.given in (
+      record {
+        inputs = r.taken;
+        story = a.story;
+        failed = a.failed;
+        files = a.files;
+        state = a.state;
+        pieces = ap (λ (xs : List Received). stream_of xs ++ untaken) (sym same) ∙ e;
+        run = record { story_is = a.run.story_is; sent_is = sent_same (socket ++ unsent) a.sent (ap (λ (l : Line). l.sent) a.line) ∙ a.run.sent_is; files_are = a.run.files_are; state_is = a.run.state_is };
+        last = a.last;
+        closed = λ before last. closes before (same ∙ last);
+        unfailed = omega (arith, ap (λ (l : Line). l.failures) a.line);
+        standing = a.standing;
+        held = a.held;
+        told = a.told;
+        count = a.count;
+        no_draft = r.no_draft;
+      },
+      sym same,
+    )
   where
     received_same : (xs ys : List Received) → Some xs ≡ Some ys → xs ≡ ys
     received_same xs ys e = cc

@@ -2,6 +2,8 @@ pub mod Waits
 pub mod Closes
 pub mod Wires
 pub mod Rooms
+pub mod Capacities
 pub mod Taken
 pub mod Connections
 pub mod Served
+pub mod Settled

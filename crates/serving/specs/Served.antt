@@ -37,7 +37,7 @@ pub record ExchangedSoFar (s : Settings) (report : Report) (read untaken : List 
   pub no_draft : new.has_draft ≡ false
 
 -- a connection leaves this
-abbrev pub Leaves : {S : Type 0} → Settings → Exchange S → Store → Store → Type 0
-Leaves s exchange old new =
+abbrev pub IsServed : {S : Type 0} → Settings → Exchange S → Store → Store → Type 0
+IsServed s exchange old new =
     ExchangedSoFar s exchange.report exchange.read.trace.bytes (untaken_in exchange.untaken) exchange.read.stops.total
     exchange.sent.trace.bytes (pending_in exchange.unsent) exchange.sent.stops.total old new

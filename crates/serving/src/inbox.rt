@@ -1,13 +1,17 @@
 //! What was read from a socket and its association has not taken yet.
 ghost use Rattle.std.specs.Prelude.{◌≡◌, ◌≤◌, ◌<◌, [], drop, length, true};
+ghost use Rattle.serving.specs.Capacities.{inbox_size};
 
 use crate::counted_stream::CountedStream;
 use connection::ReadEnd;
 use std::io::{ErrorKind, Read};
 
-/// How many bytes may wait for an association to take them: four P-DATA-TF PDUs of the maximum length that
-/// most peers keep to, 16,384, and their heads (PS3.8 section 9.3.5).
-pub const INBOX: usize = 65_560;
+/// The maximum length of a P-DATA-TF that most peers keep to (`negotiate::Config::DEFAULT_MAX_PDU`), and the
+/// head of a PDU (PS3.8 section 9.3.5).
+const USUAL_PDU: usize = 16_384 + 6;
+
+/// How many bytes may wait for an association to take them, 65,560: four such PDUs.
+pub const INBOX: usize = 4 * USUAL_PDU;
 
 /// What a socket that does not block gave.
 #[derive(Clone, Copy, Debug, PartialEq, Eq)]
@@ -29,7 +33,7 @@ pub struct Inbox {
     /// How many of them were read.
     read: usize,
     ghost ordered: { taken ≤ read },
-    ghost within: { read ≤ 65560 },
+    ghost within: { read ≤ inbox_size },
 }
 
 impl Inbox {
@@ -69,7 +73,7 @@ impl Inbox {
     /// Returns whether more is to be read before an association takes so many bytes: none waits, or fewer do
     /// and the last read left no capacity, so that more may have come.
     pub(crate) fn is_short(&self, most: usize) -> bool
-        ensures room { result ≡ true → length (untaken_in self.now) < 65560 }
+        ensures room { result ≡ true → length (untaken_in self.now) < inbox_size }
     {
         let waits = self.read - self.taken;
         waits == 0 || (waits < most && waits < self.read && self.read == INBOX)
@@ -89,7 +93,7 @@ impl Inbox {
 
     /// Reads what has come behind what waits, as many bytes as there is capacity for.
     pub(crate) fn fill<S: Read>(&mut self, stream: &mut CountedStream<S>) -> Arrival
-        requires room { length (untaken_in self.old) < 65560 }
+        requires room { length (untaken_in self.old) < inbox_size }
         ensures reads { ReadsMore result (untaken_in self.old) (untaken_in self.new) stream.old.traced.read.bytes stream.new.traced.read.bytes }
         ensures ends { CountsEnd result stream.old.ends.total stream.new.ends.total }
         ensures same_written { stream.new.traced.written ≡ stream.old.traced.written }

@@ -38,11 +38,11 @@ impl<S> Link<S> {
     }
 
     /// Shows the observer the first of the bytes that wait to be taken, which the association has just taken,
-    /// those after them, and its answer, which is all that waits to be sent.
-    pub(crate) fn show_taken<B: Observer>(&self, taken: usize, observer: &B) {
+    /// those after them, and its answer, which is all that waits to be sent, and whether that is held.
+    pub(crate) fn show_taken<B: Observer>(&self, taken: usize, is_held: bool, observer: &B) {
         let pending = self.inbox.pending();
         let (bytes, ahead) = pending.split_at(taken.min(pending.len()));
-        observer.took(bytes, ahead, self.outbox.pending());
+        observer.took(bytes, ahead, self.outbox.pending(), is_held);
     }
 
     /// Shows the observer that nothing more is read, and what waits to be sent after so many bytes: the

@@ -7,9 +7,11 @@ ghost use Rattle.engine.specs.Inputs.{inputs_of, stream_of};
 ghost use Rattle.engine.specs.Turns.{Reports};
 ghost use Rattle.part10.specs.Store.{Store};
 ghost use Rattle.serving.specs.Rooms.{served_rooms};
+ghost use Rattle.serving.specs.Settled.{SentAfter};
 ghost use Rattle.serving.specs.Taken.{HasTaken};
 ghost use Rattle.serving.specs.Wires.{ClosesWith, IsTakenOf};
 
+mod settled;
 mod turns;
 
 use crate::exchange::Exchange;
@@ -20,7 +22,7 @@ use acceptor::State;
 use connection::Timeouts;
 use engine::{Given, Report};
 use negotiate::Config;
-use part10::Filing;
+use part10::Settling;
 use std::snapshot::Snapshot;
 use std::time::Instant;
 pub use turns::Turn;
@@ -32,8 +34,11 @@ pub use turns::Turn;
 /// was read is taken in portions. Nothing is taken while anything waits that the peer is to take, so what
 /// waits is bounded by what one portion has the association send, and no send ever fails for want of room;
 /// and no more is read than an inbox holds.
+///
+/// While a file waits to be settled, nothing is read and nothing is sent. So one file waits at most, and no
+/// byte of a reply is sent before the file of its store is settled.
 #[derive(Drop)]
-pub struct Connection<S, F: Filing> {
+pub struct Connection<S, F: Settling> {
     link: Link<S>,
     running: Box<ServedAssociation>,
     filing: F,
@@ -41,6 +46,8 @@ pub struct Connection<S, F: Filing> {
     received: u64,
     /// What contracts see of the filing when the connection was opened.
     opened: Snapshot<F>,
+    /// What contracts see of the filing when bytes were last written to the socket.
+    settled: Snapshot<F>,
     /// What contracts see of the inputs that were taken.
     given: Given,
     ghost there: { IsThere (drafting_of (association_in running.value)) (F.store filing) },
@@ -54,7 +61,11 @@ pub struct Connection<S, F: Filing> {
     /// and none taken twice.
     ghost whole: { IsTakenOf (stream_of (inputs_of given.named)) link },
     /// What the socket took and what waits, and the files, are what came of the inputs.
-    ghost taken: { ∥ HasTaken (settings_in (association_in running.value)) given.named (fields_of (association_in running.value)) (link.stream.traced.written.bytes ++ link.outbox.bytes.items) (F.store opened.value) (F.store filing) ∥₁ },
+    ghost taken: { ∥ HasTaken (settings_in (association_in running.value)) given.named (fields_of (association_in running.value))
+        (link.stream.traced.written.bytes ++ link.outbox.bytes.items) (F.store opened.value) (F.store filing) ∥₁ },
+    /// What the socket took came of inputs whose files were all settled.
+    ghost sent: { ∥ SentAfter (settings_in (association_in running.value)) (inputs_of given.named) link.stream.traced.written.bytes (F.store opened.value) (F.store settled.value) ∥₁ },
+    ghost rested: { link.stream.traced.written.bytes ≢ [] → F.waits settled.value ≡ false },
     /// The transport's close was taken only where the socket has closed.
     ghost closed: { ∥ ClosesWith (inputs_of given.named) link ∥₁ },
 }
@@ -75,7 +86,9 @@ pub struct ConnectionEnd<S, F> {
     pub exchange: Exchange<S>,
     /// What contracts see of its filing when the connection was opened.
     pub opened: Snapshot<F>,
-    /// Its filing, without a draft.
+    /// What contracts see of its filing when bytes were last written to its socket.
+    pub settled: Snapshot<F>,
+    /// Its filing, without a draft. If a file of it waits, nothing was sent for its store.
     pub filing: F,
     /// The memory that its association had.
     running: Box<ServedAssociation>,
@@ -93,7 +106,7 @@ impl<S: Drop, F> ConnectionEnd<S, F> {
     }
 }
 
-impl<S, F: Filing> Connection<S, F> {
+impl<S, F: Settling> Connection<S, F> {
     ghost use Rattle.negotiate.specs.Settings.{settings_of};
     ghost use Rattle.engine.specs.Held.{is_ended};
     ghost use Rattle.std.specs.Time.{instant_nanos};
@@ -113,6 +126,7 @@ impl<S, F: Filing> Connection<S, F> {
         ensures opening { opening_of result ≡ filing }
     {
         let opened = Snapshot::of(&filing);
+        let settled = Snapshot::of(&filing);
         let (inbox, running) = memory.open(terms.config);
         Connection {
             link: Link::new(socket, inbox),
@@ -121,6 +135,7 @@ impl<S, F: Filing> Connection<S, F> {
             waiting: Waiting::new(terms.timeouts.artim, terms.timeouts.idle, now),
             received: 0,
             opened,
+            settled,
             given: Given::new(),
         }
     }
@@ -167,11 +182,12 @@ fn report(running: &Box<ServedAssociation>) -> Report
     running.report()
 }
 
-impl<S: Drop, F: Filing> Connection<S, F> {
+impl<S: Drop, F: Settling> Connection<S, F> {
     ghost use Rattle.engine.specs.Held.{is_ended};
     ghost use Rattle.engine.specs.declared.report.Standing.TheVariants as standing;
     ghost use Rattle.serving.specs.Connections.{settings_at, opening_of, state_at};
-    ghost use Rattle.serving.specs.Served.{Leaves};
+    ghost use Rattle.serving.specs.Served.{IsServed};
+    ghost use Rattle.serving.specs.Settled.{SettlesFirst, sent_by};
 
     /// Closes the connection, wherever its association stands, and drops the draft that may be there.
     ///
@@ -180,10 +196,16 @@ impl<S: Drop, F: Filing> Connection<S, F> {
     /// and how the association stands. `opened`: which filing it was opened over is kept.
     ///
     /// `ended`: where the association has ended, the report says so.
+    ///
+    /// `sent`, `rested`: the bytes that the socket took are the first of what the definitions give for the
+    /// first of the same inputs, and the filing had their files, and waited for none to be settled, when
+    /// the last of these bytes were written.
     pub fn end(self) -> ConnectionEnd<S, F>
-        ensures left { ∥ Leaves (settings_at self) result.exchange (F.store (opening_of self)) (F.store result.filing) ∥₁ }
+        ensures left { ∥ IsServed (settings_at self) result.exchange (F.store (opening_of self)) (F.store result.filing) ∥₁ }
         ensures opened { result.opened.value ≡ opening_of self }
         ensures ended { is_ended (state_at self) ≡ true → result.exchange.report.standing ≡ standing.Ended }
+        ensures sent { ∥ SettlesFirst (settings_at self) result.exchange (F.store (opening_of self)) (F.store result.settled.value) (F.store result.filing) ∥₁ }
+        ensures rested { sent_by result.exchange ≢ [] → F.waits result.settled.value ≡ false }
     {
         let mut filing = self.filing;
         filing.discard();
@@ -200,6 +222,7 @@ impl<S: Drop, F: Filing> Connection<S, F> {
                 unsent,
             },
             opened: self.opened,
+            settled: self.settled,
             filing,
             running: self.running,
         }

@@ -1,15 +1,26 @@
 //! What an association has sent and its socket has not taken yet.
 ghost use Rattle.std.specs.Prelude.{◌≡◌, ◌≤◌, ◌<◌, ◌-◌, ◌+◌, [], drop, length};
 ghost use Rattle.arrayvec.specs.ArrayVec.{array_vec_len};
+ghost use Rattle.serving.specs.Capacities.{outbox_size};
 
 use arrayvec::ArrayVec;
 use element::count::Count;
 use pdu::{Wire, WireFailed};
 
-/// How many bytes may wait for a peer to take them: the 18,600 that an association sends at most for a
-/// portion of what it receives (`engine::Running::input_limit`), then an A-ABORT, and one more, so that an
-/// outbox that is full is known to have refused a send.
-pub const OUTBOX: usize = 18_631;
+/// The most bytes that an event has an association send beside an A-ASSOCIATE-AC or a reply, an A-ABORT among
+/// them.
+const MOST_BESIDE_ANSWERS: usize = 30;
+
+/// The longest A-ASSOCIATE-AC, which is longer than any reply.
+const LONGEST_ACCEPT: usize = 140 + 35 * 128;
+
+/// The most bytes that an association sends for a portion of what it receives
+/// (`engine::Running::input_limit`), 18,600: at most four events come of it.
+const MOST_SENT: usize = 4 * (MOST_BESIDE_ANSWERS + LONGEST_ACCEPT);
+
+/// How many bytes may wait for a peer to take them, 18,631: what is sent for a portion, then an A-ABORT, and
+/// one more, so that an outbox that is full is known to have refused a send.
+pub const OUTBOX: usize = MOST_SENT + MOST_BESIDE_ANSWERS + 1;
 
 /// Keeps what an association sends until its socket takes it.
 ///
@@ -18,7 +29,7 @@ pub const OUTBOX: usize = 18_631;
 pub struct Outbox {
     bytes: ArrayVec<u8, OUTBOX>,
     failures: Count,
-    ghost full: { 0 < failures.total → array_vec_len bytes ≡ 18631 },
+    ghost full: { 0 < failures.total → array_vec_len bytes ≡ outbox_size },
 }
 
 impl Outbox {
@@ -44,7 +55,7 @@ impl Outbox {
 
     /// Returns how many more bytes may wait.
     pub fn room(&self) -> usize
-        ensures { result + length (pending_in self.now) ≡ 18631 }
+        ensures { result + length (pending_in self.now) ≡ outbox_size }
     {
         self.bytes.remaining_capacity()
     }

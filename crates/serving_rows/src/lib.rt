@@ -24,7 +24,11 @@ mod streams;
 mod timer_rows;
 #[cfg(test)]
 mod turn_rows;
+mod waiting_filing;
+#[cfg(test)]
+mod waiting_rows;
 
 pub use chance::Chance;
 pub use peer::{Audience, FickleSocket};
 pub use streams::{Traffic, stream_of};
+pub use waiting_filing::WaitingFiling;

@@ -27,7 +27,8 @@ dcmbox_associations_total{end=\"idle\"} 7
 dcmbox_associations_total{end=\"too_long\"} 8
 dcmbox_associations_total{end=\"stopping\"} 9
 dcmbox_associations_total{end=\"connection_failed\"} 10
-dcmbox_associations_total{end=\"unknown\"} 11
+dcmbox_associations_total{end=\"file_lost\"} 11
+dcmbox_associations_total{end=\"unknown\"} 12
 # HELP dcmbox_stores_total Stores by the status of their replies; none is of those without a reply.
 # TYPE dcmbox_stores_total counter
 dcmbox_stores_total{status=\"0000\"} 1
@@ -39,7 +40,7 @@ dcmbox_stores_total{status=\"other\"} 6
 dcmbox_stores_total{status=\"none\"} 70
 # HELP dcmbox_received_bytes_total Bytes that associations received that have ended.
 # TYPE dcmbox_received_bytes_total counter
-dcmbox_received_bytes_total 6600
+dcmbox_received_bytes_total 7800
 ";
 
 /// Returns counters of which each differs from its neighbours: the first way to end once, the second twice, and so on.

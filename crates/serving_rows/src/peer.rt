@@ -85,6 +85,11 @@ pub struct Audience {
     pub end: Cell<Option<ReadEnd>>,
     /// How many writes failed.
     pub failures: Cell<u32>,
+    /// Whether the last answer is held.
+    pub is_held: Cell<bool>,
+    /// How many files were settled and kept, and how many were lost.
+    pub kept: Cell<u32>,
+    pub lost: Cell<u32>,
 }
 
 impl Audience {
@@ -97,6 +102,9 @@ impl Audience {
             sent: RefCell::new(Vec::new(alloc)),
             end: Cell::new(None),
             failures: Cell::new(0),
+            is_held: Cell::new(false),
+            kept: Cell::new(0),
+            lost: Cell::new(0),
         }
     }
 }
@@ -108,10 +116,16 @@ fn keep(kept: &RefCell<Vec<u8>>, bytes: &[u8]) {
 }
 
 impl Observer for Audience {
-    fn took(&self, bytes: &[u8], ahead: &[u8], answer: &[u8]) {
+    fn took(&self, bytes: &[u8], ahead: &[u8], answer: &[u8], is_held: bool) {
         keep(&self.received, bytes);
         keep(&self.answers, answer);
         self.most_ahead.set(self.most_ahead.get().max(ahead.len()));
+        self.is_held.set(is_held);
+    }
+
+    fn settled(&self, is_kept: bool) {
+        let count = if is_kept { &self.kept } else { &self.lost };
+        count.set(count.get().saturating_add(1));
     }
 
     fn sent(&self, bytes: &[u8]) {

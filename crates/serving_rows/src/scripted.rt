@@ -2,7 +2,7 @@
 
 use connection::Timeouts;
 use fixtures::config;
-use part10::{Filing, MemoryFiling};
+use part10::{MemoryFiling, Settling};
 use serving::{Connection, ConnectionMemory, ConnectionTerms};
 use std::alloc::{AllocError, Global};
 use std::cell::{Cell, RefCell};
@@ -120,7 +120,7 @@ pub fn scripted(alloc: Global, script: &Script, now: Instant) -> Result<Scripted
 }
 
 /// Opens a connection over this socket and this filing, with memory of its own and those times.
-pub fn over<S: Drop, F: Filing + Drop>(
+pub fn over<S: Drop, F: Settling + Drop>(
     alloc: Global,
     socket: S,
     filing: F,

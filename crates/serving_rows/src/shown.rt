@@ -3,7 +3,7 @@ use crate::scripted::{Script, ScriptedSocket, after, over};
 use connection::ReadEnd;
 use fixtures::config;
 use fixtures::folders::fresh;
-use journal::{Form, Journal, Limits, Served, Teller};
+use journal::{Form, Journal, Limits, Logger, Served};
 use log::sink::Memory;
 use log::{Level, Logged};
 use metrics::{CountedEnd, Counters, MetricsFile};
@@ -68,10 +68,10 @@ fn run(
     let logged = Logged::new(*rt, level, sink);
     let peer = SocketAddr::new(IpAddr::V4(Ipv4Addr::new(192, 0, 2, 7)), 51234);
     let metrics = MetricsFile::new(rt, rt.alloc(), "box.prom", "1.0.0")?;
-    let teller = Teller::new(&logged, form)
+    let logger = Logger::new(&logged, form)
         .about(peer)
         .counting(Some(&metrics));
-    let journal = Journal::new(rt.alloc(), teller, notes, limits());
+    let journal = Journal::new(rt.alloc(), logger, notes, limits());
     let script = Script::new(rt.alloc());
     let mut now = Instant::now(rt)?;
     let mut one = over(rt.alloc(), ScriptedSocket(&script), filing, now)?;
@@ -109,6 +109,7 @@ fn words_of(end: CountedEnd) -> &'static str {
         CountedEnd::TooLong => "aborted: it lasted too long",
         CountedEnd::Stopping => "aborted: the box stops",
         CountedEnd::ConnectionFailed => "the wire failed",
+        CountedEnd::FileLost => "closed by dcmbox: a file was lost",
         CountedEnd::Unknown => "",
     }
 }
@@ -181,7 +182,7 @@ pub fn lines_of(
 /// Returns the line without its time, which has 24 characters after the level and the target.
 fn untimed(rt: &HostRuntime, line: &str) -> Result<String, Fail> {
     match line.split_once(" 192.0.2.7:51234 ") {
-        Some((before, after)) if before.len() == 43 => {
+        Some((before, after)) if before.len() == 46 => {
             let level = before.get(..7).unwrap_or("");
             Ok(format!(in rt.alloc(); "{level}{after}")?)
         }

@@ -1,5 +1,5 @@
 -- The values without which a subcommand's matches are no job.
-use Rattle.std.specs.Prelude.{Bool, List, [], ◌∷◌, length, codes, is_some, nat_le}
+use Rattle.std.specs.Prelude.{Bool, ◌&&◌, List, [], ◌∷◌, length, codes, is_some, nat_le}
 use Rattle.std.specs.List.{list_all}
 use Rattle.clap.specs.Walk.{Row, Text, first_of}
 use Rattle.arguments.specs.CommandLine.{values_of}
@@ -38,3 +38,11 @@ classes_fit rows = nat_le (length (values_of rows (codes "storage-class"))) 64
 -- at most 16 transfer syntaxes are named
 abbrev pub transfers_fit : List Row → Bool
 transfers_fit rows = nat_le (length (values_of rows (codes "transfer-syntax"))) 16
+
+-- each argument that `replay` needs has a value, and no more storage classes and transfer syntaxes are named than are kept
+abbrev pub fits_replay : List Row → Bool
+fits_replay rows = have_values rows replay_needs && (classes_fit rows && transfers_fit rows)
+
+-- so it is for `serve`, nor are more titles
+abbrev pub fits_serve : List Row → Bool
+fits_serve rows = have_values rows serve_needs && (callers_fit rows && (classes_fit rows && transfers_fit rows))

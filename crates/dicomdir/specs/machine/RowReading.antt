@@ -46,8 +46,8 @@ pub data WalkFails {V D : ℕ} (w : Walker V D) (old : Option (List ℕ)) (reaso
 -- a read failed, or the File Meta Information of the file has this fault, if these further transfer syntaxes are
 -- supported
 abbrev pub FailsToTake : List Transfer → MetaFault → Option (List ℕ) → Type 0
-FailsToTake further ReadFailed old = ⊤
-FailsToTake further fault old = IfSome old (λ file. HeaderFaultOf further file fault)
+FailsToTake additional ReadFailed old = ⊤
+FailsToTake additional fault old = IfSome old (λ file. HeaderFaultOf additional file fault)
 
 -- ---- the fault in the result of a walker's step, if any, and the fault of a directory for a fault of its File Meta
 -- Information

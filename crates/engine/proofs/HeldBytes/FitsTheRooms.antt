@@ -82,17 +82,17 @@ no_bytes i = lit< tt
 -- ---- requests
 
 -- of one that is read: it has more bytes than its rows, and at most 128 contexts
-small_request : (rooms : Rooms) (further : Taken) (body : List ℕ) → IsBytes body → request_fault body ≡ None → length body ≤ rooms.request - 12
-    → IsSmall rooms (offered further (items.request_record body))
-small_request rooms further body bytes none le =
+small_request : (rooms : Rooms) (additional : Taken) (body : List ℕ) → IsBytes body → request_fault body ≡ None → length body ≤ rooms.request - 12
+    → IsSmall rooms (offered additional (items.request_record body))
+small_request rooms additional body bytes none le =
     let r = items.request_record body in
     let text = request_text body none in
     let kept = request_kept r body bytes text in
     let ids = few_ids _ kept.ids_odd kept.ids_distinct in
-    let count = count_by-le-length (λ (p : Proposal). nat_eq (result_of p) 0) (map (seen further) r.contexts) in
+    let count = count_by-le-length (λ (p : Proposal). nat_eq (result_of p) 0) (map (seen additional) r.contexts) in
     record {
-      rows = omega (arith, few_rows further r body text, le);
-      contexts = omega (arith, count, ids, length-map r.contexts (seen further), length-map r.contexts (λ (p : Proposal). p.id));
+      rows = omega (arith, few_rows additional r body text, le);
+      contexts = omega (arith, count, ids, length-map r.contexts (seen additional), length-map r.contexts (λ (p : Proposal). p.id));
     }
 
 length_fits : (room n : ℕ) (b : Bool) → nat_lt room n ≡ b → (if b then TooLong else (if nat_lt n 68 then AtOnce event.Invalid 6 else NoEvent)) ≡ NoEvent → n ≤ room
@@ -233,7 +233,7 @@ module _ (rooms : Rooms) where
     abbrev asking : State → List ℕ → Progress
     asking st body = record (keeping s body p) { state = st }
 
-    answered_fits : (body : List ℕ) (a : Answer) → IsSmall rooms (offered s.further (items.request_record body))
+    answered_fits : (body : List ℕ) (a : Answer) → IsSmall rooms (offered s.additional (items.request_record body))
         → Fits rooms (answered s (items.request_record body) (asking Sta2 body) a).next Between
     answered_fits body Accept small = record { command = h.command; bytes = h.bytes; agreed = λ e. small; room = tt }
     answered_fits body (Reject result source reason) small = by (nat_eq source 2)
@@ -251,7 +251,7 @@ module _ (rooms : Rooms) where
         by : (fault : Option PduFault) → request_fault body ≡ fault → Fits rooms (by_fault s p body fault).next Between
         by None e =
             subst (λ (st : State). Fits rooms (answered s (items.request_record body) (asking st body) (judged s (items.request_record body))).next Between) (sym (due_is p.state due))
-            (answered_fits body (judged s (items.request_record body)) (small_request rooms s.further body bytes e le))
+            (answered_fits body (judged s (items.request_record body)) (small_request rooms s.additional body bytes e le))
         by (Some f) e = event_fits p Between event.Invalid (stays_invalid p.state) (with_nothing p o h)
 
     released_fits : is_established p.state ≡ true → Fits rooms (released p).next Between

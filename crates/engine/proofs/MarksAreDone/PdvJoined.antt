@@ -1,6 +1,6 @@
 -- The head of a value is judged as its entry says (`head_accepted`, `head_unaccepted`), and what the join returns of a whole
--- value is what it brings to the message (`goes_of`, `due_of`, `ends_of`, `refuses_of`). Stands on FieldsShow and
--- StoresAreKept/DraftAndWalk.
+-- value (`ends_pdv`) is what it brings to the message (`goes_of`, `due_of`, `ends_of`, `refuses_of`). Stands on FieldsShow
+-- and StoresAreKept/DraftAndWalk.
 use Rattle.std.proofs.Common.{◌≡◌, ℕ, ◌≤◌, Bool, true, false, not, ◌&&◌, List, [], ◌++◌, length, drop, get_or, Option, Some, None, Result, Ok, Err, nat_eq, refl, ap, sym, subst, ◌∙◌, arith, if◌then◌else◌, inl, inr}
 use Rattle.std.proofs.lemmas.Grind.{common_steps}
 use Rattle.std.proofs.lemmas.Bool.{cases_Bool, eqb-true}
@@ -33,15 +33,16 @@ use Rattle.engine.specs.Replies.{invalid, user_aborts, aborted_if_refused, at_pd
 use Rattle.engine.specs.Run.{Rooms, at_entry}
 use Rattle.engine.specs.Fair.{InStore, IsVerdict, message_at}
 use Rattle.engine.specs.Held.{is_ended}
-use Rattle.engine.specs.Kept.{Kept, Pends, counted_body, counted_pdv}
+use Rattle.engine.specs.Kept.{Kept, Pends, counted_body, counted_pdv, takes_pdvs_in}
+use Rattle.engine.specs.machine.Does.{Does}
 use Rattle.engine.specs.machine.Messages.{with_join, Aside, HasCome}
 use Rattle.engine.specs.StoredData.{Stored}
 use Rattle.engine.proofs.StoresAreKept.DraftAndWalk.{Carried, so_far, carried, no_store_yet, long_pdv, store_fragment, head_carried}
 use Rattle.engine.specs.Devices.{Devices}
 use Rattle.engine.specs.machine.PerformsReaction.{PerformsReaction}
 use Rattle.engine.proofs.FieldsShow.AfterAnEvent.{tries_from}
-use Rattle.engine.proofs.FieldsShow.TriedIsDone.{taken_when, if_nothing, none_counted_pdv, tries_nothing}
-use Rattle.engine.proofs.FieldsShow.NothingCounts.{no_store}
+use Rattle.engine.proofs.FieldsShow.TriedIsDone.{does_nothing, taken_when, if_nothing, none_counted_pdv, tries_nothing}
+use Rattle.engine.proofs.FieldsShow.NothingCounts.{no_store, takes_shown}
 
 -- ---- where PDVs count
 
@@ -146,7 +147,7 @@ join_between k store p body h =
     let shows : ShowsMessage k.room k.join p.message [] = subst (λ (xs : List ℕ). ShowsMessage k.room k.join p.message xs) (if_nothing (takes_pdvs p)) h.join_is in
     ap (λ (j : Joining). j.message) shows.shows
 
-pub context_shown : (k : Kept) (store : Store) (p : Progress) (body begun : List ℕ) (id : ℕ) → Pends k store p body begun → takes_pdvs p ≡ true → context_in k.further k.table id ≡ context_of (request_record p.request) id
+pub context_shown : (k : Kept) (store : Store) (p : Progress) (body begun : List ℕ) (id : ℕ) → Pends k store p body begun → takes_pdvs p ≡ true → context_in k.additional k.table id ≡ context_of (request_record p.request) id
 context_shown k store p body begun id h t = (h.agreed (taken_state p t)).contexts id
 
 -- ---- a whole PDV
@@ -184,6 +185,32 @@ verdict_by rooms s p q f begun b t e h =
 pub verdict_none : (rooms : Rooms) (s : Settings) (p : Progress) (begun : List ℕ) → takes_pdvs p ≡ false → IsVerdict rooms s p good (message_at p (At (entry_of begun)))
 verdict_none rooms s p begun t =
     subst (λ (o : Option Message). IsVerdict rooms s p good o) (sym (ap (λ (x : Bool). if x then message_by (brought p.message (pdv_of begun)) else None) t)) tt
+
+-- ---- the end of a PDV at the join
+
+-- a PDV that is taken goes on with the message that the join shows, and the join ends it with this result
+pub record EndsPdv (k : Kept) (p : Progress) (begun : List ℕ) (j : Joining) (r : Result Joined DimseFault) : Type 0 where
+  pub taken : takes_pdvs p ≡ true
+  pub shows : ShowsMessage k.room k.join p.message begun
+  pub joins : Joins k.room p.message (brought p.message (pdv_of begun)) k.join j r
+
+pub ends_pdv : (k : Kept) (store : Store) (p : Progress) (begun : List ℕ) (j : Joining) (given r : Result Joined DimseFault) → 6 ≤ length begun → Pends k store p [] begun → takes_pdvs_in k ≡ true
+    → ((m : Begun) (b : List ℕ) → 6 ≤ length b → ShowsMessage k.room k.join m b → Joins k.room m (brought m (pdv_of b)) k.join j given) → given ≡ r → EndsPdv k p begun j r
+ends_pdv k store p begun j given r six h takes ends is =
+    let taken = sym (takes_shown k store p [] begun h) ∙ takes in
+    let shows = subst (λ (xs : List ℕ). ShowsMessage k.room k.join p.message xs) (counted_taken p begun taken) h.join_is in
+    record { taken = taken; shows = shows; joins = subst (λ (x : Result Joined DimseFault). Joins k.room p.message (brought p.message (pdv_of begun)) k.join j x) is (ends p.message begun six shows) }
+
+-- what is carried of the store, with the PDV
+pub carried_taken : (k : Kept) (store : Store) (p : Progress) (begun : List ℕ) → takes_pdvs p ≡ true → Pends k store p [] begun → Carried k.depth k.most k.storing store p.request (with_pdv begun p.message) p.filing_failed
+carried_taken k store p begun taken h =
+    subst (λ (xs : List ℕ). Carried k.depth k.most k.storing store p.request (with_pdv xs p.message) p.filing_failed) (counted_taken p begun taken) (carried k store p [] begun h)
+
+-- a PDV that is not taken does nothing
+pub does_dropped : (rooms : Rooms) (s : Settings) (k : Kept) (p : Progress) (begun : List ℕ) (d : Devices) → takes_pdvs_in k ≡ false → Pends k d.store p [] begun → Does rooms s p (At (entry_of begun)) k [] [] d d
+does_dropped rooms s k p begun d drops h =
+    let dropped = sym (takes_shown k d.store p [] begun h) ∙ drops in
+    does_nothing rooms s p (At (entry_of begun)) k [] [] d (pdv_dropped rooms s p begun dropped) (verdict_none rooms s p begun dropped) (pends_dropped k d.store p [] begun [] dropped h)
 
 -- ---- by what the join returned
 

@@ -26,11 +26,11 @@ contexts_items [] (i ∷ is) h = absurd h
 contexts_items (p ∷ ps) [] h = absurd h
 contexts_items (p ∷ ps) (i ∷ is) h = omega (arith, contexts_items ps is h.1)
 
-seen_length : (further : Taken) (ps : List Proposal) → length (map (seen further) ps) ≡ length ps
-seen_length further ps = grind (arith, common_steps)
+seen_length : (additional : Taken) (ps : List Proposal) → length (map (seen additional) ps) ≡ length ps
+seen_length additional ps = grind (arith, common_steps)
 
-pub few_rows : (further : Taken) (r : RequestRecord) (b : List ℕ) → RequestText r b → 68 + 4 * accepted_count (offered further r) ≤ length b
-few_rows further r b h =
+pub few_rows : (additional : Taken) (r : RequestRecord) (b : List ℕ) → RequestText r b → 68 + 4 * accepted_count (offered additional r) ≤ length b
+few_rows additional r b h =
     let rest = joined h.items in
     let size = ap length h.whole in
     let fixed : length (joined (h.version ∷ h.unused ∷ r.called ∷ r.calling ∷ r.reserved ∷ h.items)) ≡ 68 + length rest =
@@ -47,8 +47,8 @@ few_rows further r b h =
       h.calling_size,
       h.reserved_size,
     ) in
-    let few = count_by-le-length (λ (p : Proposal). nat_eq (result_of p) 0) (map (seen further) r.contexts) in
-    let proposed = seen_length further r.contexts in
+    let few = count_by-le-length (λ (p : Proposal). nat_eq (result_of p) 0) (map (seen additional) r.contexts) in
+    let proposed = seen_length additional r.contexts in
     let same = contexts_items r.contexts (of_kind proposed_context_item h.items) h.contexts in
     let kinds = length-filter (is_kind proposed_context_item) h.items in
     let some = count_by-le-length (is_kind proposed_context_item) h.items in

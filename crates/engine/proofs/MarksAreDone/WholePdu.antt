@@ -94,9 +94,9 @@ whole_other s p kind body a b c =
 
 -- ---- bytes of a body that do not count
 
-came_to : (further : Taken) (body : List ℕ) (p : Progress) (g first : Advance) (xs : List ℕ) → LeavesOrStands further body p g first → counted_body g.next xs ≡ []
-came_to further body p g first xs (a, b, inl (x, is)) = ap (λ (q : Progress). counted_body q xs) is
-came_to further body p g first xs (a, b, inr (x, is)) = ap (λ (q : Progress). counted_body q xs) is
+came_to : (additional : Taken) (body : List ℕ) (p : Progress) (g first : Advance) (xs : List ℕ) → LeavesOrStands additional body p g first → counted_body g.next xs ≡ []
+came_to additional body p g first xs (a, b, inl (x, is)) = ap (λ (q : Progress). counted_body q xs) is
+came_to additional body p g first xs (a, b, inr (x, is)) = ap (λ (q : Progress). counted_body q xs) is
 
 pends_recounted : (k : Kept) (store : Store) (q : Progress) (xs : List ℕ) → counted_body q xs ≡ [] → Pends k store q xs [] → Pends k store q [] []
 pends_recounted k store q xs e h = record {
@@ -166,5 +166,5 @@ does_request rooms s p kind body k n old new e h tries =
     let comes = request_comes s body p (due_is p.state due) in
     does_by rooms s p (At (End kind body)) (at_request s p body) n [] [] old new
     (taken_end rooms s p kind body unrefused ∙ ap (λ (x : ℕ). at_end s p x body) one ∙ ap (λ (t : Bool). if t then at_request s p body else nothing p) due) comes.1 tt
-    (tries_recounted p (at_request s p body) n body old new (came_to s.further body p (at_request s p body) (at_request s at_start body) body comes)
+    (tries_recounted p (at_request s p body) n body old new (came_to s.additional body p (at_request s p body) (at_request s at_start body) body comes)
     (tries p body (subst (λ (x : ℕ). Pends k old.store p (body_in x body) []) one h) unrefused due))

@@ -103,27 +103,27 @@ module _ (s : Settings) (body : List ℕ) (st : State) (due : st ≡ Sta2) (none
 
 -- a request to a receiver that takes these further storage classes
 abbrev pub asked : Taken → List ℕ → Requested
-asked further body = record { further = further; body = body }
+asked additional body = record { additional = additional; body = body }
 
 -- the association is left, or established with this request
 abbrev pub LeavesOrStands : Taken → List ℕ → Progress → Advance → Advance → Type 0
-LeavesOrStands further body p g first =
-    (g.sent ≡ first.sent) × (g.files ≡ []) × (((first.next.state ≡ Sta13) × (g.next ≡ left Sta13 p)) ⊎ ((first.next.state ≡ Sta6) × (g.next ≡ record p { state = Sta6; request = asked further body })))
+LeavesOrStands additional body p g first =
+    (g.sent ≡ first.sent) × (g.files ≡ []) × (((first.next.state ≡ Sta13) × (g.next ≡ left Sta13 p)) ⊎ ((first.next.state ≡ Sta6) × (g.next ≡ record p { state = Sta6; request = asked additional body })))
 
 rejects : (s : Settings) (body : List ℕ) (p : Progress) (t : Bool) (text : List ℕ) → p.state ≡ Sta2
-    → LeavesOrStands s.further body p (if t then done text 0 (keeping s body p) event.UnacceptableRq else declined (keeping s body p) text) (if t then done text 0 (keeping s body at_start) event.UnacceptableRq else declined (keeping s body at_start) text)
-rejects s body p true text e = subst (λ (y : State). LeavesOrStands s.further body (record p { state = y }) (done text 0 (keeping s body (record p { state = y })) event.UnacceptableRq) (done text 0 (keeping s body at_start) event.UnacceptableRq)) (sym e) (refl, refl, inl (refl, refl))
-rejects s body p false text e = subst (λ (y : State). LeavesOrStands s.further body (record p { state = y }) (declined (keeping s body (record p { state = y })) text) (declined (keeping s body at_start) text)) (sym e) (refl, refl, inl (refl, refl))
+    → LeavesOrStands s.additional body p (if t then done text 0 (keeping s body p) event.UnacceptableRq else declined (keeping s body p) text) (if t then done text 0 (keeping s body at_start) event.UnacceptableRq else declined (keeping s body at_start) text)
+rejects s body p true text e = subst (λ (y : State). LeavesOrStands s.additional body (record p { state = y }) (done text 0 (keeping s body (record p { state = y })) event.UnacceptableRq) (done text 0 (keeping s body at_start) event.UnacceptableRq)) (sym e) (refl, refl, inl (refl, refl))
+rejects s body p false text e = subst (λ (y : State). LeavesOrStands s.additional body (record p { state = y }) (declined (keeping s body (record p { state = y })) text) (declined (keeping s body at_start) text)) (sym e) (refl, refl, inl (refl, refl))
 
-comes_to : (s : Settings) (body : List ℕ) (p : Progress) (o : Option PduFault) (a : Answer) → p.state ≡ Sta2 → LeavesOrStands s.further body p (by_fault s body p o a) (by_fault s body at_start o a)
-comes_to s body p (Some f) a e = subst (λ (y : State). LeavesOrStands s.further body (record p { state = y }) (by_fault s body (record p { state = y }) (Some f) a) (by_fault s body at_start (Some f) a)) (sym e) (refl, refl, inl (refl, refl))
-comes_to s body p None Accept e = subst (λ (y : State). LeavesOrStands s.further body (record p { state = y }) (by_fault s body (record p { state = y }) None Accept) (by_fault s body at_start None Accept)) (sym e) (refl, refl, inr (refl, refl))
+comes_to : (s : Settings) (body : List ℕ) (p : Progress) (o : Option PduFault) (a : Answer) → p.state ≡ Sta2 → LeavesOrStands s.additional body p (by_fault s body p o a) (by_fault s body at_start o a)
+comes_to s body p (Some f) a e = subst (λ (y : State). LeavesOrStands s.additional body (record p { state = y }) (by_fault s body (record p { state = y }) (Some f) a) (by_fault s body at_start (Some f) a)) (sym e) (refl, refl, inl (refl, refl))
+comes_to s body p None Accept e = subst (λ (y : State). LeavesOrStands s.additional body (record p { state = y }) (by_fault s body (record p { state = y }) None Accept) (by_fault s body at_start None Accept)) (sym e) (refl, refl, inr (refl, refl))
 comes_to s body p None (Reject x b c) e = rejects s body p (nat_eq b 2) (reject_text x b c) e
 
-pub request_comes : (s : Settings) (body : List ℕ) (p : Progress) → p.state ≡ Sta2 → LeavesOrStands s.further body p (at_request s p body) (at_request s at_start body)
+pub request_comes : (s : Settings) (body : List ℕ) (p : Progress) → p.state ≡ Sta2 → LeavesOrStands s.additional body p (at_request s p body) (at_request s at_start body)
 request_comes s body p e =
-    subst (λ (g : Advance). LeavesOrStands s.further body p g (at_request s at_start body)) (sym (request_is s p body))
-    (subst (λ (g : Advance). LeavesOrStands s.further body p (by_fault s body p (request_fault body) (judged s (request_record body))) g) (sym (request_is s at_start body))
+    subst (λ (g : Advance). LeavesOrStands s.additional body p g (at_request s at_start body)) (sym (request_is s p body))
+    (subst (λ (g : Advance). LeavesOrStands s.additional body p (by_fault s body p (request_fault body) (judged s (request_record body))) g) (sym (request_is s at_start body))
     (comes_to s body p (request_fault body) (judged s (request_record body)) e))
 
 -- the association is established with this request, and nothing of a message has come
@@ -131,7 +131,7 @@ pub record IsEstablishedBy (kept : Kept) (r : RequestRecord) : Type 0 where
   pub body : kept.body ≡ []
   pub join : ShowsMessage kept.room kept.join NoMessage []
   pub storing : kept.storing ≡ Nothing
-  pub agreed : Agreed kept.caller kept.peer_max kept.table kept.further r
+  pub agreed : Agreed kept.caller kept.peer_max kept.table kept.additional r
 
 not_taken : (st : State) (r : Bool) → ◌≡◌ {A = List ℕ} (if is_established st && not r then [] else []) []
 not_taken st r = if_nothing (is_established st && not r)
@@ -144,13 +144,13 @@ pends_due p old store body h due r =
 quiet_between : (p : Progress) → p.message ≡ NoMessage → so_far p [] ≡ NoMessage
 quiet_between p none = ap (λ (xs : List ℕ). with_pdv xs p.message) (none_counted_pdv p) ∙ none
 
-stood : (further : Taken) (p : Progress) (body : List ℕ) (old given new : Kept) (store : Store) → Pends old store p body [] → old.state ≡ Sta2 → given.refused ≡ old.refused
-    → new ≡ record given { state = Sta6 } → IsEstablishedBy given (requested.request_record (asked further body)) → Pends new store (record p { state = Sta6; request = asked further body }) body []
-stood further p body old given new store h due same is fresh =
-    let q = record p { state = Sta6; request = asked further body } in
+stood : (additional : Taken) (p : Progress) (body : List ℕ) (old given new : Kept) (store : Store) → Pends old store p body [] → old.state ≡ Sta2 → given.refused ≡ old.refused
+    → new ≡ record given { state = Sta6 } → IsEstablishedBy given (requested.request_record (asked additional body)) → Pends new store (record p { state = Sta6; request = asked additional body }) body []
+stood additional p body old given new store h due same is fresh =
+    let q = record p { state = Sta6; request = asked additional body } in
     let two : p.state ≡ Sta2 = sym h.state_is ∙ due in
     let none = h.none_left (ap is_established two) in
-    let c = none_carried given.depth given.most given.storing store (asked further body) (so_far q []) p.filing_failed fresh.storing (no_store (asked further body) (so_far q []) (quiet_between q none)) in
+    let c = none_carried given.depth given.most given.storing store (asked additional body) (so_far q []) p.filing_failed fresh.storing (no_store (asked additional body) (so_far q []) (quiet_between q none)) in
     subst (λ (k : Kept). Pends k store q body []) (sym is)
     (record {
       state_is = refl;
@@ -166,9 +166,9 @@ stood further p body old given new store h due same is fresh =
     })
 
 -- the request that is whole was answered, or the wire failed
-module _ (further : Taken) (p : Progress) (g first : Advance) (body : List ℕ) (n : State) (old given new : Kept) (lo ln : Line) (so sn : Store) where
-  pends_answered : Pends old so p body [] → old.state ≡ Sta2 → given.refused ≡ old.refused → LeavesOrStands further body p g first → n ≡ first.next.state → ComesTo n (Ok tt) given new so sn
-      → (n ≡ Sta6 → IsEstablishedBy given (requested.request_record (asked further body))) → Pends new sn g.next body []
+module _ (additional : Taken) (p : Progress) (g first : Advance) (body : List ℕ) (n : State) (old given new : Kept) (lo ln : Line) (so sn : Store) where
+  pends_answered : Pends old so p body [] → old.state ≡ Sta2 → given.refused ≡ old.refused → LeavesOrStands additional body p g first → n ≡ first.next.state → ComesTo n (Ok tt) given new so sn
+      → (n ≡ Sta6 → IsEstablishedBy given (requested.request_record (asked additional body))) → Pends new sn g.next body []
   pends_answered h due same (sent, files, inl (st, is)) e settles fresh =
       let gone : is_left new.state ≡ true = ap is_left (settles.state_is ∙ e ∙ st) in
       subst (λ (q : Progress). Pends new sn q body []) (sym is)
@@ -177,10 +177,10 @@ module _ (further : Taken) (p : Progress) (g first : Advance) (body : List ℕ) 
       let six : new.state ≡ Sta6 = settles.state_is ∙ e ∙ st in
       subst (λ (x : Store). Pends new x g.next body []) (sym (settles.store_same (ap is_left six)))
       (subst (λ (q : Progress). Pends new so q body []) (sym is)
-      (stood further p body old given new so h due same (settles.same (ap is_left six) ∙ ap (λ (y : State). record given { state = y }) six) (fresh (e ∙ st))))
+      (stood additional p body old given new so h due same (settles.same (ap is_left six) ∙ ap (λ (y : State). record given { state = y }) six) (fresh (e ∙ st))))
 
-  tries_answered : (r : Result (Unit {0}) WireFailed) → Pends old so p body [] → old.state ≡ Sta2 → given.refused ≡ old.refused → LeavesOrStands further body p g first → n ≡ first.next.state → ComesTo n r given new so sn
-      → (n ≡ Sta6 → IsEstablishedBy given (requested.request_record (asked further body)))
+  tries_answered : (r : Result (Unit {0}) WireFailed) → Pends old so p body [] → old.state ≡ Sta2 → given.refused ≡ old.refused → LeavesOrStands additional body p g first → n ≡ first.next.state → ComesTo n r given new so sn
+      → (n ≡ Sta6 → IsEstablishedBy given (requested.request_record (asked additional body)))
       → Sends first.sent r lo ln → OnErr r (0 < length first.sent) → PerformsReaction p g new body [] (devices lo so) (devices ln sn)
   tries_answered (Ok u) h due same c e settles fresh sends some =
       record { wire = None; fair = tt; pends = pends_answered h due same c e settles fresh; line = sends ∙ ap (λ (t : List ℕ). sent_all t lo) (sym c.0); unfiled = settles.unfiled }
@@ -196,14 +196,14 @@ module _ (further : Taken) (p : Progress) (g first : Advance) (body : List ℕ) 
 -- `given` is what is kept before the answer's result is known
 pub request_tries : (s : Settings) (p : Progress) (body : List ℕ) (n : State) (r : Result (Unit {0}) WireFailed) (old given new : Kept) (lo ln : Line) (so sn : Store)
     → Pends old so p body [] → old.state ≡ Sta2 → p.refused ≡ false → given.refused ≡ old.refused → n ≡ (at_request s at_start old.body).next.state → ComesTo n r given new so sn
-    → (n ≡ Sta6 → IsEstablishedBy given (requested.request_record (asked s.further old.body)))
+    → (n ≡ Sta6 → IsEstablishedBy given (requested.request_record (asked s.additional old.body)))
     → Sends (at_request s at_start old.body).sent r lo ln → OnErr r (0 < length (at_request s at_start old.body).sent)
     → PerformsReaction p (at_request s p body) new body [] (devices lo so) (devices ln sn)
 request_tries s p body n r old given new lo ln so sn h due unrefused kept state settles fresh sends some =
     let same = pends_due p old so body h due unrefused in
-    tries_answered s.further p (at_request s p body) (at_request s at_start body) body n old given new lo ln so sn r h due kept (request_comes s body p (sym h.state_is ∙ due))
+    tries_answered s.additional p (at_request s p body) (at_request s at_start body) body n old given new lo ln so sn r h due kept (request_comes s body p (sym h.state_is ∙ due))
     (state ∙ ap (λ (b : List ℕ). (at_request s at_start b).next.state) same) settles
-    (λ six. subst (λ (b : List ℕ). IsEstablishedBy given (requested.request_record (asked s.further b))) same (fresh six))
+    (λ six. subst (λ (b : List ℕ). IsEstablishedBy given (requested.request_record (asked s.additional b))) same (fresh six))
     (subst (λ (b : List ℕ). Sends (at_request s at_start b).sent r lo ln) same sends)
     (subst (λ (b : List ℕ). OnErr r (0 < length (at_request s at_start b).sent)) same some)
 

@@ -10,7 +10,7 @@ use Rattle.element.specs.Uid.{uid_of}
 use Rattle.dictionary.specs.declared.class.Class.{Class}
 use Rattle.dictionary.specs.Classes.{class_of, class_uid}
 use Rattle.negotiate.specs.declared.proposals.Service.{Service}
-use Rattle.negotiate.specs.declared.proposals.Service.TheVariants.{Known, Further}
+use Rattle.negotiate.specs.declared.proposals.Service.TheVariants.{Known, Additional}
 use Rattle.negotiate.specs.Contexts.{service_of}
 use Rattle.dictionary.proofs.Public.{class_back}
 use Rattle.sequence.specs.declared.fault.Fault.{Fault}
@@ -79,11 +79,11 @@ same_service (Known a) (Known b) = by (same_or_not (class_uid a) (class_uid b)) 
   by : (class_uid a ≡ class_uid b) ⊎ (class_uid a ≢ class_uid b) → (Known a ≡ Known b) ⊎ (Known a ≡ Known b → ⊥)
   by (inl e) = inl (ap Known (one_class a b e))
   by (inr other) = inr (λ e. other (let k : a ≡ b = cc in ap class_uid k))
-same_service (Known a) (Further v) = inr (λ e. absurd cc)
-same_service (Further u) (Known b) = inr (λ e. absurd cc)
-same_service (Further u) (Further v) = by (same_or_not u v) where
-  by : (u ≡ v) ⊎ (u ≢ v) → (Further u ≡ Further v) ⊎ (Further u ≡ Further v → ⊥)
-  by (inl e) = inl (ap Further e)
+same_service (Known a) (Additional v) = inr (λ e. absurd cc)
+same_service (Additional u) (Known b) = inr (λ e. absurd cc)
+same_service (Additional u) (Additional v) = by (same_or_not u v) where
+  by : (u ≡ v) ⊎ (u ≢ v) → (Additional u ≡ Additional v) ⊎ (Additional u ≡ Additional v → ⊥)
+  by (inl e) = inl (ap Additional e)
   by (inr other) = inr (λ e. other (let k : u ≡ v = cc in k))
 
 pub of_context_or_not : (context : Context) (command : CommandRecord) → IsOfContext context command ⊎ (IsOfContext context command → ⊥)

@@ -42,7 +42,7 @@ use Rattle.engine.specs.Examples.{rooms, settings, calm}
 use Rattle.engine.specs.WholeExamples.{unsupported, echo_inputs, request_inputs, TheEchoRuns, TheRequestIsHeld, ItStandsEstablished, VerdictsOnStores, ct_context, store_of}
 use Rattle.negotiate.specs.Settings.{Settings}
 use Rattle.engine.specs.FrameFields.{reads}
-use Rattle.negotiate.specs.Taken.{nothing_further}
+use Rattle.negotiate.specs.Taken.{nothing_additional}
 
 calm_entries : (es : List Entry) → entries_of (calm es) ≡ es
 calm_entries [] = refl
@@ -109,7 +109,7 @@ it_stands_established = (
           refused_is = λ e. refl;
           body_is = refl;
           join_is = record { shows = refl; accepted = λ le. absurd (omega (arith, le)) };
-          agreed = λ e. record { caller = refl; maximum = refl; rows = refl; contexts = context_in-context_rows nothing_further (items.request_record (drop 6 request)) (one_distinct 1); count = refl };
+          agreed = λ e. record { caller = refl; maximum = refl; rows = refl; contexts = context_in-context_rows nothing_additional (items.request_record (drop 6 request)) (one_distinct 1); count = refl };
           none_left = λ e. absurd cc;
           unagreed = λ e. absurd cc;
           failed_in = λ still failed. absurd cc;

@@ -4,6 +4,6 @@ use Rattle.engine.specs.declared.phase.Peer.{Peer}
 use Rattle.engine.specs.Kept.{Agreed}
 use Rattle.negotiate.specs.Taken.{Taken}
 
--- the peer has the values of this request, with the storage classes `further` added to those of the dictionary
+-- the peer has the values of this request, with the storage classes `additional` added to those of the dictionary
 abbrev pub IsPeerOf : Peer → Taken → RequestRecord → Type 0
-IsPeerOf peer further r = Agreed peer.caller peer.max_length peer.contexts.items further r
+IsPeerOf peer additional r = Agreed peer.caller peer.max_length peer.contexts.items additional r

@@ -37,7 +37,7 @@ pub record Aside (kept : Kept) (p : Progress) : Type 0 where
   pub state_is : kept.state ≡ p.state
   pub refused_is : is_ended p.state ≡ false → kept.refused ≡ p.refused
   pub body_is : kept.body ≡ counted_body p []
-  pub agreed : p.state ≡ Sta6 → Agreed kept.caller kept.peer_max kept.table kept.further (request_record p.request)
+  pub agreed : p.state ≡ Sta6 → Agreed kept.caller kept.peer_max kept.table kept.additional (request_record p.request)
   pub unagreed : is_established p.state ≡ false → IsUnagreed kept.caller kept.peer_max kept.table
   pub none_left : is_established p.state ≡ false → p.message ≡ NoMessage
 
@@ -57,7 +57,7 @@ origin_settings origin = settings_of origin.config.now
 
 -- the message was received in the association of this request
 abbrev pub IsFrom : Requested → Origin → Type 0
-IsFrom request origin = IsPeerOf origin.peer.now (origin_settings origin).further (request_record request)
+IsFrom request origin = IsPeerOf origin.peer.now (origin_settings origin).additional (request_record request)
 
 -- the effect of the end of a command set that announces a data set
 abbrev pub BeginsData : ℕ → Origin → List ℕ → Stored → Stored → Store → Store → Type 0

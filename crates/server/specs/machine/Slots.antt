@@ -9,7 +9,7 @@ use Rattle.server.specs.Histories.{LeftBy, ended_in, opened_in, opened_over}
 -- what is seen of the connection that is there
 abbrev pub seen_of : {T F : Type 0} → Option T → (T → F) → List F
 seen_of None see = []
-seen_of (Some seat) see = see seat ∷ []
+seen_of (Some occupant) see = see occupant ∷ []
 
 -- what is seen of the connection that a slot's memory has
 abbrev pub seen_in : {T A F : Type 0} → Option (Box (Option T) A) → (T → F) → List F

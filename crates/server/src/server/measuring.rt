@@ -2,7 +2,7 @@
 use super::Server;
 use crate::policy::Policy;
 use crate::terms::ServerTerms;
-use journal::{MetricsNotWritten, MetricsWritten, Teller};
+use journal::{Logger, MetricsNotWritten, MetricsWritten};
 use log::Log;
 use metrics::WriteReport;
 use std::alloc::Global;
@@ -11,11 +11,11 @@ use std::rt::Files;
 use std::time::{Clock, Instant};
 
 /// Writes the log's line of a file that was to be written, if there is one.
-fn tell<R: Log + Clock>(teller: Teller<'_, R>, report: WriteReport) {
+fn tell<R: Log + Clock>(logger: Logger<'_, R>, report: WriteReport) {
     match report {
         WriteReport::Nothing => {}
-        WriteReport::Fails(failure) => teller.tell(&MetricsNotWritten(&failure)),
-        WriteReport::Works => teller.tell(&MetricsWritten),
+        WriteReport::Fails(failure) => logger.tell(&MetricsNotWritten(&failure)),
+        WriteReport::Works => logger.tell(&MetricsWritten),
     }
 }
 
@@ -27,7 +27,7 @@ pub(super) fn measure_end<R: Log + Clock, S: Files + Alloc>(
 ) {
     if let Some(metrics) = terms.metrics {
         metrics.set_open(0);
-        tell(Teller::new(rt, terms.form), metrics.write(files));
+        tell(Logger::new(rt, terms.form), metrics.write(files));
     }
 }
 
@@ -52,7 +52,7 @@ impl<R: Log + Clock, S: Files<File = File> + Alloc<A = Global> + Clone + Drop, P
     pub(super) fn measure(&self, files: &S, now: Instant) {
         if let Some(metrics) = self.terms.metrics {
             metrics.set_open(self.taken());
-            tell(self.teller(), metrics.write_due(files, now));
+            tell(self.logger(), metrics.write_due(files, now));
         }
     }
 }

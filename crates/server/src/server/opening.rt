@@ -6,6 +6,7 @@ ghost use Rattle.server.specs.Histories.{AllEnded, slots_in};
 
 mod history;
 
+use super::group::Group;
 use super::measuring::measure_end;
 use super::{LISTENER, Server};
 use crate::arrivals::Arrivals;
@@ -14,10 +15,10 @@ use crate::slot::Slot;
 use crate::socket::AcceptedStream;
 use crate::stopping::clear;
 use crate::terms::ServerTerms;
-use admitting::{Notice, Places, Queue};
+use admitting::{Notice, Queue, Slots};
 pub(crate) use history::ClosedSlots;
 pub use history::{ServerHistory, SlotHistory};
-use journal::{Listening, Stopped, Teller};
+use journal::{Listening, Logger, Stopped};
 use log::Log;
 use mio::net::TcpListener;
 use mio::{Events, Interest, Poll, Token};
@@ -55,17 +56,17 @@ fn watched<R: Net>(rt: &R, listener: net::TcpListener) -> io::Result<(Poll, TcpL
     Ok((poll, listener))
 }
 
-/// Places that are free, and room for those that wait for one.
+/// Slots that are free, and room for those that wait for one.
 #[derive(Drop)]
 struct Vacancies {
-    places: Places<Global>,
+    places: Slots<Global>,
     queue: Queue<AcceptedStream, Global>,
 }
 
 /// Returns the places of a server that is held to these terms.
 fn vacancies_of(alloc: Global, terms: &ServerTerms<'_>) -> Result<Vacancies, AllocError> {
     Ok(Vacancies {
-        places: Places::new(alloc, terms.at_once, terms.per_peer)?,
+        places: Slots::new(alloc, terms.at_once, terms.per_peer)?,
         queue: Queue::new(alloc, terms.at_once)?,
     })
 }
@@ -178,6 +179,7 @@ fn server_of<
         now,
         may_accept: true,
         arrivals,
+        group: Group::new(),
         paused: None,
         looked: None,
         asked: None,
@@ -197,7 +199,7 @@ fn begin<R: Log + Clock + Alloc<A = Global>, S: Files>(
 ) -> io::Result<Events> {
     clear(files, terms.stop_file)?;
     let address = listener.local_addr()?;
-    Teller::new(rt, terms.form).tell(&Listening(address));
+    Logger::new(rt, terms.form).tell(&Listening(address));
     Ok(Events::with_capacity(rt.alloc(), terms.at_once.saturating_add(1))?)
 }
 
@@ -258,7 +260,7 @@ pub fn serve_many<
 {
     let (history, served) = served::<R, S, Brand>(rt, listener, terms, files, folder);
     if served.is_ok() {
-        Teller::new(rt, terms.form).tell(&Stopped);
+        Logger::new(rt, terms.form).tell(&Stopped);
     }
     (history, served)
 }

@@ -2,7 +2,7 @@
 use super::{LISTENER, Server};
 use crate::arrivals::note_waiting;
 use crate::policy::Policy;
-use journal::PlacesFull;
+use journal::SlotsFull;
 use log::Log;
 use mio::{Interest, Token};
 use std::alloc::Global;
@@ -22,7 +22,7 @@ impl<R: Log + Clock, S: Files<File = File> + Alloc<A = Global> + Clone + Drop, P
     pub(super) fn note_full(&mut self, now: Instant) {
         if self.arrivals.is_known() {
             if self.terms.tells_full && self.places_told.is_due(now) {
-                self.teller().tell(&PlacesFull(self.terms.at_once as u64));
+                self.logger().tell(&SlotsFull(self.terms.at_once as u64));
             }
         } else if self.arrivals.ask() {
             // A socket that is registered anew is reported at once if it is ready.
@@ -35,7 +35,7 @@ impl<R: Log + Clock, S: Files<File = File> + Alloc<A = Global> + Clone + Drop, P
     pub(super) fn note_accepted(&mut self, peer: SocketAddr, now: Instant) {
         let waited = self.arrivals.accept(now);
         if self.terms.at_once == 1 {
-            note_waiting(self.teller().about(peer), waited);
+            note_waiting(self.logger().about(peer), waited);
         }
     }
 }

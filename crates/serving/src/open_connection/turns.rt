@@ -17,9 +17,10 @@ use crate::memory::ServedAssociation;
 use crate::waiting::Wait;
 use connection::{Observer, ReadEnd};
 use engine::Input;
-use part10::Filing;
+use part10::{Filing, Settling};
 use pdu::Wire;
 use std::io::{Error, ErrorKind, Read, Write};
+use std::snapshot::Snapshot;
 use std::time::Instant;
 
 /// The bytes that an A-ABORT may take.
@@ -50,6 +51,8 @@ pub enum Turn {
     Next,
     /// For its socket, which has nothing to be read or takes nothing.
     Socket,
+    /// For the last file of its filing to be settled.
+    Filing,
     /// For nothing: its association has ended.
     Over,
 }
@@ -73,9 +76,9 @@ fn take<W: Wire, F: Filing>(
     running.take(input, piece, wire, filing);
 }
 
-impl<S, F: Filing> Connection<S, F> {
+impl<S, F: Settling> Connection<S, F> {
     ghost use Rattle.engine.specs.Held.{is_ended};
-    ghost use Rattle.serving.specs.Connections.{IsClosedAt, settings_at, opening_of, state_at, waiting_at};
+    ghost use Rattle.serving.specs.Connections.{IsClosedAt, settings_at, opening_of, socket_of, state_at, waiting_at};
 
     /// Has the association take an input that has no bytes: the transport's close where the socket has closed.
     fn give(&mut self, input: Input, now: Instant)
@@ -85,6 +88,7 @@ impl<S, F: Filing> Connection<S, F> {
         requires closed { input ≡ kind.Closed → ∥ IsClosedAt self.old ∥₁ }
         ensures settings { settings_at self.new ≡ settings_at self.old }
         ensures opening { opening_of self.new ≡ opening_of self.old }
+        ensures quiet { socket_of self.new ≡ socket_of self.old }
     {
         self.given.push(&input, &[]);
         take(
@@ -98,13 +102,14 @@ impl<S, F: Filing> Connection<S, F> {
     }
 }
 
-impl<S: Write, F: Filing> Connection<S, F> {
+impl<S: Write, F: Settling> Connection<S, F> {
     ghost use Rattle.engine.specs.Held.{is_ended};
-    ghost use Rattle.serving.specs.Connections.{settings_at, opening_of, refusals_at, state_at, waiting_at};
+    ghost use Rattle.serving.specs.Connections.{filing_of, settings_at, opening_of, refusals_at, socket_of, state_at, waiting_at};
 
     /// Writes what waits, as much as the socket takes, unless the association has ended. Where the socket
-    /// fails, that is the transport's close.
+    /// fails, that is the transport's close. No file may wait to be settled.
     fn flush<B: Observer>(&mut self, now: Instant, observer: &B) -> Flush
+        requires settled { F.waits (filing_of self.old) ≡ false }
         ensures settings { settings_at self.new ≡ settings_at self.old }
         ensures opening { opening_of self.new ≡ opening_of self.old }
         ensures open { result ≢ Flush.Over → is_ended (state_at self.new) ≡ false }
@@ -116,6 +121,7 @@ impl<S: Write, F: Filing> Connection<S, F> {
             return Flush::Over;
         }
         let before = self.link.outbox.pending().len();
+        self.settled = Snapshot::of(&self.filing);
         match self.link.flush(observer) {
             Ok(all) => {
                 if self.link.outbox.pending().len() < before {
@@ -131,16 +137,35 @@ impl<S: Write, F: Filing> Connection<S, F> {
         }
     }
 
+    /// Writes what waits to be sent, as much as the socket takes, unless a file waits to be settled.
+    pub fn send<B: Observer>(&mut self, now: Instant, observer: &B)
+        ensures settings { settings_at self.new ≡ settings_at self.old }
+        ensures opening { opening_of self.new ≡ opening_of self.old }
+        ensures quiet { F.waits (filing_of self.old) ≡ true → self.new ≡ self.old }
+    {
+        if !self.filing.waits() {
+            self.flush(now, observer);
+        }
+    }
+
     /// Has the local user abort the association, unless it has ended: an A-ABORT goes out, where one is due
     /// and the peer takes it, and the ARTIM timer starts. The observer is shown `why`.
+    ///
+    /// `quiet`: while a file waits to be settled, nothing is sent; the A-ABORT goes out after the reply to
+    /// its store.
     pub fn abort<B: Observer>(&mut self, now: Instant, why: ReadEnd, observer: &B)
         ensures settings { settings_at self.new ≡ settings_at self.old }
         ensures opening { opening_of self.new ≡ opening_of self.old }
+        ensures quiet { F.waits (filing_of self.old) ≡ true → socket_of self.new ≡ socket_of self.old }
     {
         if self.is_over() {
             return;
         }
+        let waited = self.filing.waits();
         if self.link.outbox.room() <= ABORT {
+            if waited {
+                return;
+            }
             match self.flush(now, observer) {
                 Flush::All => {}
                 Flush::Blocked => {
@@ -153,7 +178,9 @@ impl<S: Write, F: Filing> Connection<S, F> {
         let before = self.link.outbox.pending().len();
         self.give(Input::LocalAbort, now);
         self.link.show_end(why, before, observer);
-        self.flush(now, observer);
+        if !waited && !self.filing.waits() {
+            self.flush(now, observer);
+        }
     }
 
     /// Closes a connection whose peer takes nothing: nor would it take an A-ABORT.
@@ -172,6 +199,7 @@ impl<S: Write, F: Filing> Connection<S, F> {
     /// connection closed if the peer did not take what waits. That is offered to it once more: a peer that
     /// takes some of it is not silent.
     fn end_silence<B: Observer>(&mut self, now: Instant, observer: &B)
+        requires settled { F.waits (filing_of self.old) ≡ false }
         ensures settings { settings_at self.new ≡ settings_at self.old }
         ensures opening { opening_of self.new ≡ opening_of self.old }
     {
@@ -191,11 +219,15 @@ impl<S: Write, F: Filing> Connection<S, F> {
     /// Ends what the peer took too long for: once the ARTIM timer has expired, the association; where an
     /// established association was silent for the idle time, it is aborted, or the connection closed if the
     /// peer did not take what waits.
+    ///
+    /// `quiet`: while a file waits to be settled, nothing is done: the peer is not the one that is waited
+    /// for.
     pub fn expire<B: Observer>(&mut self, now: Instant, observer: &B)
         ensures settings { settings_at self.new ≡ settings_at self.old }
         ensures opening { opening_of self.new ≡ opening_of self.old }
+        ensures quiet { F.waits (filing_of self.old) ≡ true → self.new ≡ self.old }
     {
-        if self.is_over() {
+        if self.is_over() || self.filing.waits() {
             return;
         }
         match self.waiting.wait(now) {
@@ -209,9 +241,9 @@ impl<S: Write, F: Filing> Connection<S, F> {
     }
 }
 
-impl<S: Read + Write, F: Filing> Connection<S, F> {
+impl<S: Read + Write, F: Settling> Connection<S, F> {
     ghost use Rattle.engine.specs.Held.{is_ended};
-    ghost use Rattle.serving.specs.Connections.{settings_at, opening_of, state_at, untaken_at, waiting_at};
+    ghost use Rattle.serving.specs.Connections.{filing_of, settings_at, opening_of, state_at, untaken_at, waiting_at};
 
     /// Has the association take a portion of what was read, or else of what has come, at most so many bytes.
     fn receive<B: Observer>(&mut self, now: Instant, most: usize, observer: &B) -> Arrival
@@ -237,7 +269,7 @@ impl<S: Read + Write, F: Filing> Connection<S, F> {
                     &mut self.link.outbox,
                     &mut self.filing,
                 );
-                self.link.show_taken(len, observer);
+                self.link.show_taken(len, self.filing.waits(), observer);
                 self.link.inbox.drop_front(len);
                 self.waiting.hear(now);
                 self.waiting.follow(now, self.running.state());
@@ -251,8 +283,10 @@ impl<S: Read + Write, F: Filing> Connection<S, F> {
     }
 
     /// Writes what waits, has the association take what was read and what has come, at most so many bytes,
-    /// and writes what it sends for them. Returns whether it then waits for its socket.
+    /// and writes what it sends for them, until a file waits to be settled. Returns whether it then waits
+    /// for its socket.
     fn advance<B: Observer>(&mut self, now: Instant, most: usize, observer: &B) -> bool
+        requires settled { F.waits (filing_of self.old) ≡ false }
         ensures settings { settings_at self.new ≡ settings_at self.old }
         ensures opening { opening_of self.new ≡ opening_of self.old }
         ensures rests { result ≡ true → waiting_at self.new ≡ [] → untaken_at self.new ≡ [] }
@@ -272,6 +306,9 @@ impl<S: Read + Write, F: Filing> Connection<S, F> {
                 Arrival::Nothing => return true,
                 Arrival::End(_) => return false,
             }
+            if self.waits() {
+                return false;
+            }
         }
         false
     }
@@ -284,18 +321,26 @@ impl<S: Read + Write, F: Filing> Connection<S, F> {
     ///
     /// `rests`: it waits for its socket only where the peer is to take something, or the association has
     /// taken all that was read.
+    ///
+    /// `waits`: it waits for its filing exactly where a file is to be settled, unless its association has
+    /// ended. `quiet`: where one was before, nothing is done.
     pub fn turn<B: Observer>(&mut self, now: Instant, most: usize, observer: &B) -> Turn
         ensures settings { settings_at self.new ≡ settings_at self.old }
         ensures opening { opening_of self.new ≡ opening_of self.old }
         ensures over { (result ≡ Turn.Over) ↔ (is_ended (state_at self.new) ≡ true) }
         ensures rests { result ≡ Turn.Socket → waiting_at self.new ≡ [] → untaken_at self.new ≡ [] }
+        ensures waits { (result ≡ Turn.Filing) ↔ ((is_ended (state_at self.new) ≡ false) × (F.waits (filing_of self.new) ≡ true)) }
+        ensures quiet { F.waits (filing_of self.old) ≡ true → self.new ≡ self.old }
     {
         if self.is_over() {
             return Turn::Over;
         }
-        let rests = self.advance(now, most, observer);
+        let rests = !self.filing.waits() && self.advance(now, most, observer);
         if self.is_over() {
             return Turn::Over;
+        }
+        if self.filing.waits() {
+            return Turn::Filing;
         }
         if rests { Turn::Socket } else { Turn::Next }
     }

@@ -61,10 +61,10 @@ returns-in-Reject-clause-due g c =
 
 pub returns-in-Accept-clause-accepted : goal.returns-in-Accept-clause-accepted
 returns-in-Accept-clause-accepted g c =
-    let further = (settings_of c.args.config.now).further in (
+    let additional = (settings_of c.args.config.now).additional in (
       c.step-next-in-Accept.ensures.state ∙ ap (λ (x : Action × State). (table x.1 UserAccepts).1) c.act-asked.ensures.table,
-      subst (λ (r : RequestRecord). IsPeerOf c.peer_of-peer.result further (offered further r)) c.in-Ok.ensures.record c.peer_of-peer.ensures,
+      subst (λ (r : RequestRecord). IsPeerOf c.peer_of-peer.result additional (offered additional r)) c.in-Ok.ensures.record c.peer_of-peer.ensures,
     )
 
 pub returns-in-Accept-clause-room : goal.returns-in-Accept-clause-room
-returns-in-Accept-clause-room g c = omega (arith, c.peer_of-peer.ensures.count, few_rows (settings_of c.args.config.now).further c.in-Ok.request c.args.body.now c.in-Ok.ensures.text)
+returns-in-Accept-clause-room g c = omega (arith, c.peer_of-peer.ensures.count, few_rows (settings_of c.args.config.now).additional c.in-Ok.request c.args.body.now c.in-Ok.ensures.text)

@@ -10,7 +10,7 @@ abbrev pub invariant-loop-proposal : goal.invariant-loop-proposal
 invariant-loop-proposal l = record {
   can_next : (goal.iterator-loop-proposal).can_next l.proposal-iterator;
   is_finite : (goal.iterator-loop-proposal).is_finite l.proposal-iterator;
-  size : l.size + length (flat_map context_text (map (seen (settings_of l.config).further) (proposals_left l.proposal-iterator))) ≡ 76 + (16 + 16 + 32) + length (flat_map context_text (map (seen (settings_of l.config).further) l.request.contexts));
+  size : l.size + length (flat_map context_text (map (seen (settings_of l.config).additional) (proposals_left l.proposal-iterator))) ≡ 76 + (16 + 16 + 32) + length (flat_map context_text (map (seen (settings_of l.config).additional) l.request.contexts));
   least : 76 ≤ l.size;
   most : l.size + 35 * length (proposals_left l.proposal-iterator) ≤ longest_accept;
 }

@@ -9,4 +9,4 @@ abbrev pub invariant-loop-proposal : goal.invariant-loop-proposal
 invariant-loop-proposal l =
     (goal.iterator-loop-proposal).can_next l.proposal-iterator ×
     (goal.iterator-loop-proposal).is_finite l.proposal-iterator ×
-    (find (λ p. nat_eq p.id l.id) (map (seen (settings_of l.config).further) l.request.contexts) ≡ find (λ p. nat_eq p.id l.id) (map (seen (settings_of l.config).further) (proposals_left l.proposal-iterator)))
+    (find (λ p. nat_eq p.id l.id) (map (seen (settings_of l.config).additional) l.request.contexts) ≡ find (λ p. nat_eq p.id l.id) (map (seen (settings_of l.config).additional) (proposals_left l.proposal-iterator)))

@@ -8,4 +8,4 @@ abbrev pub invariant-loop-uid : goal.invariant-loop-uid
 invariant-loop-uid l =
     (goal.iterator-loop-uid).can_next l.uid-iterator ×
     (goal.iterator-loop-uid).is_finite l.uid-iterator ×
-    (first_known (taken_transfers (settings_of l.config).further.transfers l.proposal.transfer_syntaxes) ≡ first_known (taken_transfers (settings_of l.config).further.transfers (syntaxes_left l.uid-iterator)))
+    (first_known (taken_transfers (settings_of l.config).additional.transfers l.proposal.transfer_syntaxes) ≡ first_known (taken_transfers (settings_of l.config).additional.transfers (syntaxes_left l.uid-iterator)))

@@ -10,6 +10,6 @@ abbrev pub invariant-loop-proposal : goal.invariant-loop-proposal
 invariant-loop-proposal l = record {
   can_next : (goal.iterator-loop-proposal).can_next l.proposal-iterator;
   is_finite : (goal.iterator-loop-proposal).is_finite l.proposal-iterator;
-  rows : l.table.items ++ filter_map (row_of (settings_of l.config).further) (map (seen (settings_of l.config).further) (proposals_left l.proposal-iterator)) ≡ context_rows (settings_of l.config).further (offered (settings_of l.config).further l.request);
+  rows : l.table.items ++ filter_map (row_of (settings_of l.config).additional) (map (seen (settings_of l.config).additional) (proposals_left l.proposal-iterator)) ≡ context_rows (settings_of l.config).additional (offered (settings_of l.config).additional l.request);
   few : length l.table.items + length (proposals_left l.proposal-iterator) ≤ 128;
 }

@@ -12,10 +12,10 @@ take_past at n xs ys zs p q =
 pub loop-at-preserved : goal.loop-at-preserved
 loop-at-preserved g c =
     let at = c.loop-at.at in
-    let bound : c.in-Ok.n ≤ length c.read_again.new.room = c.in-Ok.ensures.within in
-    let same : length c.read_again.new.room ≡ length (take (length c.loop-at.room - c.loop-at.at) (drop c.loop-at.at c.loop-at.room)) = c.read_again.ensures.size in
+    let bound : c.in-Ok.n ≤ length c.read_retrying.new.room = c.in-Ok.ensures.within in
+    let same : length c.read_retrying.new.room ≡ length (take (length c.loop-at.room - c.loop-at.at) (drop c.loop-at.at c.loop-at.room)) = c.read_retrying.ensures.size in
     record {
       size = simp (length-append, length-take, length-drop) (omega (arith, same, length-take (length c.loop-at.room - c.loop-at.at) (drop c.loop-at.at c.loop-at.room), length-drop c.loop-at.at c.loop-at.room, c.loop-at.invariant.within, c.loop-at.invariant.size));
       within = simp (length-append, length-take) (omega (arith, bound, c.loop-at.invariant.within));
-      took = rw (take_past at c.in-Ok.n c.loop-at.room c.read_again.new.room _ c.loop-at.invariant.within bound) (Consumes-trans _ _ _ _ _ c.loop-at.invariant.took c.in-Ok.ensures.took);
+      took = rw (take_past at c.in-Ok.n c.loop-at.room c.read_retrying.new.room _ c.loop-at.invariant.within bound) (Consumes-trans _ _ _ _ _ c.loop-at.invariant.took c.in-Ok.ensures.took);
     }

@@ -1,12 +1,10 @@
 -- By what the join makes of the PDV.
-use Rattle.std.proofs.Common.{◌≡◌, ◌∙◌, ◌&&◌, Bool, not, ap, sym, subst, refl, List, ℕ, [], get_or, false, true, Ok, Result}
+use Rattle.std.proofs.Common.{◌≡◌, ◌∙◌, ◌&&◌, Bool, not, ap, sym, subst, refl, List, ℕ, [], get_or, false, true, Ok}
 use Rattle.acceptor.specs.declared.event.Event.TheVariants as event
 use Rattle.dimse.specs.declared.joined.Joined.{Joined}
-use Rattle.dimse.specs.declared.joined.Joined.TheVariants as joined
-use Rattle.dimse.specs.declared.fault.DimseFault.{DimseFault}
 use Rattle.dimse.specs.Reading.{command_in}
-use Rattle.dimse.specs.Messages.{Begun, InSet, Goes, Refuses, brought}
-use Rattle.dimse.specs.Joining.{Joining, Joins, ShowsMessage, pdv_of, with_pdv, command_bytes}
+use Rattle.dimse.specs.Messages.{Begun, InSet, Goes, Refuses}
+use Rattle.dimse.specs.Joining.{Joining, with_pdv, command_bytes}
 use Rattle.engine.specs.Timeline.{At, good}
 use Rattle.engine.specs.Progress.{nothing, done}
 use Rattle.engine.specs.Replies.{user_aborts, going_on}
@@ -16,10 +14,9 @@ use Rattle.engine.specs.machine.Does.{Does}
 use Rattle.engine.specs.machine.Messages.{with_join, with_storing, Proceeds}
 use Rattle.engine.specs.Run.{rooms_of}
 use Rattle.engine.specs.StoredData.{stored_of}
-use Rattle.engine.proofs.FieldsShow.NothingCounts.{takes_shown}
-use Rattle.engine.proofs.StoresAreKept.DraftAndWalk.{Carried, carried, nothing_walked, no_store_yet, long_pdv, pdv_store, same_drafts, drops_drafts, drops_unfiled, drafts_then}
-use Rattle.engine.proofs.FieldsShow.TriedIsDone.{does_by, does_nothing, refused_by}
-use Rattle.engine.proofs.MarksAreDone.PdvJoined.{entry_of, pdv_taken, pdv_dropped, pdv_comes, pends_dropped, goes_of, ends_of, refuses_of, due_of, counted_taken, pends_going_on, aside_of, aside_joined, taken_state, aborted_pdv, aborted_body, verdict_by, verdict_none, tries_still, pdv_context}
+use Rattle.engine.proofs.StoresAreKept.DraftAndWalk.{nothing_walked, no_store_yet, long_pdv, pdv_store, same_drafts, drops_drafts, drops_unfiled, drafts_then}
+use Rattle.engine.proofs.FieldsShow.TriedIsDone.{does_by, refused_by}
+use Rattle.engine.proofs.MarksAreDone.PdvJoined.{carried_taken, does_dropped, ends_pdv, entry_of, pdv_taken, pdv_comes, goes_of, ends_of, refuses_of, due_of, pends_going_on, aside_of, aside_joined, taken_state, aborted_pdv, aborted_body, verdict_by, tries_still, pdv_context}
 use Rattle.engine.proofs.MarksAreDone.MessageEnds.{concludes, does_concluded}
 use Rattle.engine.proofs.MarksAreDone.DataOfStores.{does_due}
 use Rattle.engine.proofs.FieldsShow.KeptInPhases.{refused_pdvs, kept_by, unestablished}
@@ -27,22 +24,17 @@ use Rattle.engine.proofs.provider.Provider.on_pdv.Goals as goal
 
 pub returns-then-self-clause-does : goal.returns-then-self-clause-does
 returns-then-self-clause-does g c = λ p begun six whole h.
-    let rooms = rooms_of g.row.A g.row.C g.row.V g.row.D in
-    let s = settings_in c.args.self.now in
     let k = kept_of c.args.self.now in
-    let dropped = sym (takes_shown k _ p [] begun h) ∙ refused_pdvs k c.if-self.true in
-    does_nothing rooms s p (At (entry_of begun)) k [] [] _ (pdv_dropped rooms s p begun dropped) (verdict_none rooms s p begun dropped) (pends_dropped k _ p [] begun [] dropped h)
+    does_dropped (rooms_of g.row.A g.row.C g.row.V g.row.D) (settings_in c.args.self.now) k p begun _ (refused_pdvs k c.if-self.true) h
 
 pub returns-in_default : goal.returns-in_default
 returns-in_default g c = record {
   settings = refl;
   drafts = same_drafts _ _ c.requires.draft;
   does = λ p begun six whole h.
-      let rooms = rooms_of g.row.A g.row.C g.row.V g.row.D in
-      let s = settings_in c.args.self.now in
       let k = kept_of c.args.self.now in
-      let dropped = sym (takes_shown k _ p [] begun h) ∙ ap (λ (t : Bool). t && not k.refused) (unestablished c.args.self.now.phase c.in_default.not-Established) in
-      does_nothing rooms s p (At (entry_of begun)) k [] [] _ (pdv_dropped rooms s p begun dropped) (verdict_none rooms s p begun dropped) (pends_dropped k _ p [] begun [] dropped h);
+      let drops = ap (λ (t : Bool). t && not k.refused) (unestablished c.args.self.now.phase c.in_default.not-Established) in
+      does_dropped (rooms_of g.row.A g.row.C g.row.V g.row.D) (settings_in c.args.self.now) k p begun _ drops h;
 }
 
 pub returns-in-Ok-More-clause-drafts : goal.returns-in-Ok-More-clause-drafts
@@ -54,17 +46,13 @@ returns-in-Ok-More-clause-does g c = rw c.in-Established.is (λ p begun six whol
     let s = settings_in c.args.self.now in
     let k = kept_by c.args.self.now c.in-Established.peer c.in-Established.message in
     let so = g.F.Filing.store c.args.devices.filing.now in
-    let taken = sym (takes_shown k so p [] begun h) ∙ ap not c.if-self.false in
-    let was : ShowsMessage g.row.C k.join p.message begun = subst (λ (xs : List ℕ). ShowsMessage g.row.C k.join p.message xs) (counted_taken p begun taken) h.join_is in
     let j = c.end.new.self in
-    let joins : Joins g.row.C p.message (brought p.message (pdv_of begun)) k.join j c.end.result = c.end.ensures p.message begun six was in
-    let is : c.end.result ≡ Ok joined.More = c.in-Ok-More.is ∙ ap (λ (x : Joined). Ok x) c.in-Ok-More.field-0-is in
-    let told = subst (λ (r : Result Joined DimseFault). Joins g.row.C p.message (brought p.message (pdv_of begun)) k.join j r) is joins in
-    let got = goes_of g.row.C p.message begun six (was.accepted six) k.join j told in
+    let pdv = ends_pdv k so p begun j _ _ six h (ap not c.if-self.false) c.end.ensures (c.in-Ok-More.is ∙ ap (λ (x : Joined). Ok x) c.in-Ok-More.field-0-is) in
+    let got = goes_of g.row.C p.message begun six (pdv.shows.accepted six) k.join j pdv.joins in
     let later = got.0 in
     does_by rooms s p (At (entry_of begun)) (nothing (going_on later p)) (with_join j k) [] [] _ _
-    (pdv_taken rooms s p good begun taken ∙ pdv_comes p good begun (Goes later) got.1) refl (verdict_by rooms s p p good begun (Goes later) taken got.1 tt)
-    (tries_still p (going_on later p) (with_join j k) [] [] _ (pends_going_on k so p j later begun h taken got.2 got.3 six)))
+    (pdv_taken rooms s p good begun pdv.taken ∙ pdv_comes p good begun (Goes later) got.1) refl (verdict_by rooms s p p good begun (Goes later) pdv.taken got.1 tt)
+    (tries_still p (going_on later p) (with_join j k) [] [] _ (pends_going_on k so p j later begun h pdv.taken got.2 got.3 six)))
 
 pub returns-in-Ok-Message-clause-does : goal.returns-in-Ok-Message-clause-does
 returns-in-Ok-Message-clause-does g c = rw c.in-Established.is (λ p begun six whole h.
@@ -72,22 +60,18 @@ returns-in-Ok-Message-clause-does g c = rw c.in-Established.is (λ p begun six w
     let s = settings_in c.args.self.now in
     let k = kept_by c.args.self.now c.in-Established.peer c.in-Established.message in
     let so = g.F.Filing.store c.args.devices.filing.now in
-    let taken = sym (takes_shown k so p [] begun h) ∙ ap not c.if-self.false in
-    let was : ShowsMessage g.row.C k.join p.message begun = subst (λ (xs : List ℕ). ShowsMessage g.row.C k.join p.message xs) (counted_taken p begun taken) h.join_is in
     let j = c.end.new.self in
-    let joins : Joins g.row.C p.message (brought p.message (pdv_of begun)) k.join j c.end.result = c.end.ensures p.message begun six was in
-    let is : c.end.result ≡ Ok joined.Message = c.in-Ok-Message.is ∙ ap (λ (x : Joined). Ok x) c.in-Ok-Message.field-0-is in
-    let told = subst (λ (r : Result Joined DimseFault). Joins g.row.C p.message (brought p.message (pdv_of begun)) k.join j r) is joins in
-    let got = ends_of g.row.C p.message begun six (was.accepted six) k.join j told in
+    let pdv = ends_pdv k so p begun j _ _ six h (ap not c.if-self.false) c.end.ensures (c.in-Ok-Message.is ∙ ap (λ (x : Joined). Ok x) c.in-Ok-Message.field-0-is) in
+    let got = ends_of g.row.C p.message begun six (pdv.shows.accepted six) k.join j pdv.joins in
     let m = got.0 in
     let come = with_pdv begun p.message in
     let same : j.command ≡ m.command = ap (λ (x : Joining). x.command) got.2 in
-    let here : c.context.result ≡ m.context = pdv_context g.row.C k.join p.message begun c.context.result six was c.context.ensures ∙ sym got.4 in
-    let kept = subst (λ (xs : List ℕ). Carried k.depth k.most k.storing so p.request (with_pdv xs p.message) p.filing_failed) (counted_taken p begun taken) (carried k so p [] begun h) in
+    let here : c.context.result ≡ m.context = pdv_context g.row.C k.join p.message begun c.context.result six pdv.shows c.context.ensures ∙ sym got.4 in
+    let kept = carried_taken k so p begun pdv.taken h in
     let aside = aside_joined k p j (aside_of k so p begun h) in
-    let agreed = aside.agreed (taken_state p taken) in
+    let agreed = aside.agreed (taken_state p pdv.taken) in
     let ended = c.reply-sent.ensures.ended g.row.A p m come agreed got.3 same here kept.0 kept.1 in
-    does_concluded rooms s p begun m come (kept_of c.settle.new.self) _ _ taken got.1 (λ st. pdv_store p.request begun p.message six st)
+    does_concluded rooms s p begun m come (kept_of c.settle.new.self) _ _ pdv.taken got.1 (λ st. pdv_store p.request begun p.message six st)
     (concludes rooms s p m come c.reply-sent.result (with_join j k) (kept_of c.settle.new.self) c.clear.new.self (stored_of c.leave.new.self) _ _ _ _ _ _
     aside refl c.clear.ensures c.leave.ensures.nothing ended (drops_unfiled _ _ _ c.leave.ensures.drops) c.settle.ensures.settles))
 
@@ -105,25 +89,21 @@ returns-in-Ok-DataDue-clause-does g c = rw c.in-Established.is (λ p begun six w
     let s = settings_in c.args.self.now in
     let k = kept_by c.args.self.now c.in-Established.peer c.in-Established.message in
     let so = g.F.Filing.store c.args.devices.filing.now in
-    let taken = sym (takes_shown k so p [] begun h) ∙ ap not c.if-self.false in
-    let was : ShowsMessage g.row.C k.join p.message begun = subst (λ (xs : List ℕ). ShowsMessage g.row.C k.join p.message xs) (counted_taken p begun taken) h.join_is in
     let j = c.end.new.self in
-    let joins : Joins g.row.C p.message (brought p.message (pdv_of begun)) k.join j c.end.result = c.end.ensures p.message begun six was in
-    let is : c.end.result ≡ Ok joined.DataDue = c.in-Ok-DataDue.is ∙ ap (λ (x : Joined). Ok x) c.in-Ok-DataDue.field-0-is in
-    let told = subst (λ (r : Result Joined DimseFault). Joins g.row.C p.message (brought p.message (pdv_of begun)) k.join j r) is joins in
-    let got = due_of g.row.C p.message begun six (was.accepted six) k.join j told in
+    let pdv = ends_pdv k so p begun j _ _ six h (ap not c.if-self.false) c.end.ensures (c.in-Ok-DataDue.is ∙ ap (λ (x : Joined). Ok x) c.in-Ok-DataDue.field-0-is) in
+    let got = due_of g.row.C p.message begun six (pdv.shows.accepted six) k.join j pdv.joins in
     let later = got.0 in
     let due = got.3 in
     let z = stored_of c.begin.new.self.storing in
-    let kept = subst (λ (xs : List ℕ). Carried k.depth k.most k.storing so p.request (with_pdv xs p.message) p.filing_failed) (counted_taken p begun taken) (carried k so p [] begun h) in
+    let kept = carried_taken k so p begun pdv.taken h in
     let none = nothing_walked (λ st. no_store_yet p.request (with_pdv begun p.message) (get_or begun 4 0) due.command (long_pdv begun p.message six ∙ due.came) st) kept.0 in
     let command : j.command ≡ due.command = ap (λ (x : Joining). x.command) got.2.shows ∙ ap command_bytes due.later_is in
-    let same : InSet c.context.result j.command [] ≡ later = ap (λ (n : ℕ). InSet n j.command []) (pdv_context g.row.C k.join p.message begun c.context.result six was c.context.ensures) ∙ ap (λ (xs : List ℕ). InSet (get_or begun 4 0) xs []) command ∙ sym due.later_is in
-    let agreed = (aside_joined k p j (aside_of k so p begun h)).agreed (taken_state p taken) in
+    let same : InSet c.context.result j.command [] ≡ later = ap (λ (n : ℕ). InSet n j.command []) (pdv_context g.row.C k.join p.message begun c.context.result six pdv.shows c.context.ensures) ∙ ap (λ (xs : List ℕ). InSet (get_or begun 4 0) xs []) command ∙ sym due.later_is in
+    let agreed = (aside_joined k p j (aside_of k so p begun h)).agreed (taken_state p pdv.taken) in
     let proceeds = c.begin.ensures.proceeds p.request agreed none (λ x e. due.announced x (ap command_in (sym command) ∙ e)) in
     subst (λ (x : Joining). Does rooms s p (At (entry_of begun)) (with_storing z (with_join x k)) [] [] (devices (g.W.Wire.line c.args.devices.wire.now) so) (devices (g.W.Wire.line c.args.devices.wire.now) (g.F.Filing.store c.begin.new.filing)))
     (sym c.begin.ensures.join)
-    (does_due rooms s p begun g.row.C k j z _ so _ later h taken got.1 got.2 due
+    (does_due rooms s p begun g.row.C k j z _ so _ later h pdv.taken got.1 got.2 due
     (subst (λ (x : Begun). Proceeds g.row.D c.args.self.now.config.max_data p.request x false z so (g.F.Filing.store c.begin.new.filing)) same proceeds)))
 
 pub returns-in-Err-clause-does : goal.returns-in-Err-clause-does
@@ -132,14 +112,11 @@ returns-in-Err-clause-does g c = rw c.in-Established.is (λ p begun six whole h.
     let s = settings_in c.args.self.now in
     let k = kept_by c.args.self.now c.in-Established.peer c.in-Established.message in
     let so = g.F.Filing.store c.args.devices.filing.now in
-    let taken = sym (takes_shown k so p [] begun h) ∙ ap not c.if-self.false in
-    let was : ShowsMessage g.row.C k.join p.message begun = subst (λ (xs : List ℕ). ShowsMessage g.row.C k.join p.message xs) (counted_taken p begun taken) h.join_is in
     let j = c.end.new.self in
-    let joins : Joins g.row.C p.message (brought p.message (pdv_of begun)) k.join j c.end.result = c.end.ensures p.message begun six was in
-    let told = subst (λ (r : Result Joined DimseFault). Joins g.row.C p.message (brought p.message (pdv_of begun)) k.join j r) c.in-Err.is joins in
-    let got = refuses_of g.row.C p.message begun six (was.accepted six) k.join j c.in-Err.field-0 told in
+    let pdv = ends_pdv k so p begun j _ _ six h (ap not c.if-self.false) c.end.ensures c.in-Err.is in
+    let got = refuses_of g.row.C p.message begun six (pdv.shows.accepted six) k.join j c.in-Err.field-0 pdv.joins in
     let pends : Pends (with_join j k) so p [] begun = subst (λ (x : Joining). Pends (with_join x k) so p [] begun) (sym got.1) h in
     let new = kept_of c.perform.new.self in
     does_by rooms s p (At (entry_of begun)) (user_aborts p) (record new { refused = true }) [] [] _ _
-    (pdv_taken rooms s p good begun taken ∙ pdv_comes p good begun (Refuses c.in-Err.field-0) got.0) refl (verdict_by rooms s p p good begun (Refuses c.in-Err.field-0) taken got.0 tt)
-    (refused_by p (done [] 0 p event.UserAborts) new [] begun [] [] _ _ (aborted_body p taken) (aborted_pdv p begun taken) (c.perform.ensures.tries p [] begun pends)))
+    (pdv_taken rooms s p good begun pdv.taken ∙ pdv_comes p good begun (Refuses c.in-Err.field-0) got.0) refl (verdict_by rooms s p p good begun (Refuses c.in-Err.field-0) pdv.taken got.0 tt)
+    (refused_by p (done [] 0 p event.UserAborts) new [] begun [] [] _ _ (aborted_body p pdv.taken) (aborted_pdv p begun pdv.taken) (c.perform.ensures.tries p [] begun pends)))

@@ -49,7 +49,7 @@ returns-in_default-context-clause-due g c = rw c.in-Established.is (λ store p b
     let taken = sym (takes_shown k _ p [] [] h) ∙ ap not c.if-self.false in
     let id : c.args.head.context ≡ get_or begun 4 0 = ap (λ (x : PdvHead). x.context) head in
     let none : context_of (request_record p.request) (get_or begun 4 0) ≡ None =
-    sym (context_shown k _ p [] [] (get_or begun 4 0) h taken) ∙ ap (context_in k.further k.table) (sym id) ∙ sym c.context.ensures ∙ c.in_default-context.is in
+    sym (context_shown k _ p [] [] (get_or begun 4 0) h taken) ∙ ap (context_in k.additional k.table) (sym id) ∙ sym c.context.ensures ∙ c.in_default-context.is in
     leaves_refused p _ (answering.Abort 6) event.Invalid k store _ _ (head_taken rooms (settings_in c.args.self.now) p _ _ _ taken ∙ head_unaccepted g.row.C p _ (get_or begun 4 0) _ none) h)
 
 pub returns-in-Err-clause-due : goal.returns-in-Err-clause-due
@@ -59,7 +59,7 @@ returns-in-Err-clause-due g c = rw c.in-Established.is (λ store p begun six hea
     let taken = sym (takes_shown k _ p [] [] h) ∙ ap not c.if-self.false in
     let id : c.args.head.context ≡ get_or begun 4 0 = ap (λ (x : PdvHead). x.context) head in
     let some : context_of (request_record p.request) (get_or begun 4 0) ≡ Some c.in-Some.field-0 =
-    sym (context_shown k _ p [] [] (get_or begun 4 0) h taken) ∙ ap (context_in k.further k.table) (sym id) ∙ sym c.context.ensures ∙ c.in-Some.is in
+    sym (context_shown k _ p [] [] (get_or begun 4 0) h taken) ∙ ap (context_in k.additional k.table) (sym id) ∙ sym c.context.ensures ∙ c.in-Some.is in
     let message = join_between k _ p [] h in
     let wrong : head_refusal g.row.C p.message (pdv_head_of begun) ≡ Some c.in-Err.field-0 =
     ap (head_refusal g.row.C p.message) (sym head) ∙ judged_some (head_refusal g.row.C p.message c.args.head) c.in-Err.field-0 (sym (c.head.ensures.judged p.message message) ∙ c.in-Err.is) in
@@ -74,7 +74,7 @@ returns-in-Ok-clause-due g c = rw c.in-Established.is (λ store p begun six head
     let taken = sym (takes_shown k _ p [] [] h) ∙ ap not c.if-self.false in
     let id : c.args.head.context ≡ get_or begun 4 0 = ap (λ (x : PdvHead). x.context) head in
     let some : context_of (request_record p.request) (get_or begun 4 0) ≡ Some c.in-Some.field-0 =
-    sym (context_shown k _ p [] [] (get_or begun 4 0) h taken) ∙ ap (context_in k.further k.table) (sym id) ∙ sym c.context.ensures ∙ c.in-Some.is in
+    sym (context_shown k _ p [] [] (get_or begun 4 0) h taken) ∙ ap (context_in k.additional k.table) (sym id) ∙ sym c.context.ensures ∙ c.in-Some.is in
     let message = join_between k _ p [] h in
     let fine : head_refusal g.row.C p.message (pdv_head_of begun) ≡ None =
     ap (head_refusal g.row.C p.message) (sym head) ∙ judged_none (head_refusal g.row.C p.message c.args.head) c.in-Ok.field-0 (sym (c.head.ensures.judged p.message message) ∙ c.in-Ok.is) in

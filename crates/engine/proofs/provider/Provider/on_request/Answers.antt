@@ -43,7 +43,7 @@ returns-in-Some g c =
             body = refl;
             join = c.new.ensures;
             storing = refl;
-            agreed = subst (λ (b : List ℕ). IsPeerOf c.in-Some.peer s.further (request_record (asked s.further b))) bytes accepted.1;
+            agreed = subst (λ (b : List ℕ). IsPeerOf c.in-Some.peer s.additional (request_record (asked s.additional b))) bytes accepted.1;
           })
           (subst (λ (b : List ℕ). Sends (at_request s at_start b).sent a.result.2 (g.W.Wire.line c.args.devices.wire.now) (g.W.Wire.line a.new.wire)) bytes a.ensures.sends)
           (subst (λ (b : List ℕ). OnErr a.result.2 (0 < length (at_request s at_start b).sent)) bytes a.ensures.due);

@@ -8,16 +8,16 @@ use Rattle.negotiate.proofs.config.Config.place.Goals as goal
 
 pub returns-then-eq : goal.returns-then-eq
 returns-then-eq c =
-    sym (c.loop-place.invariant ∙ is_here (is_text c.args.uid.now) (settings_of c.args.self.now).further.classes c.loop-place.place c.in-Some.text.now (sym c.in-Some.ensures)
+    sym (c.loop-place.invariant ∙ is_here (is_text c.args.uid.now) (settings_of c.args.self.now).additional.classes c.loop-place.place c.in-Some.text.now (sym c.in-Some.ensures)
     (ap (λ u. pointwise nat_eq c.in-Some.text.now u) (sym c.as_bytes.ensures) ∙ sym c.if-eq.ensures))
 
 pub returns-in-None : goal.returns-in-None
 returns-in-None c =
-    sym (c.loop-place.invariant ∙ none_here (is_text c.args.uid.now) (settings_of c.args.self.now).further.classes c.loop-place.place (sym c.in-None.ensures))
+    sym (c.loop-place.invariant ∙ none_here (is_text c.args.uid.now) (settings_of c.args.self.now).additional.classes c.loop-place.place (sym c.in-None.ensures))
 
 pub loop-place-preserved : goal.loop-place-preserved
 loop-place-preserved c =
-    c.loop-place.invariant ∙ not_here (is_text c.args.uid.now) (settings_of c.args.self.now).further.classes c.loop-place.place c.in-Some.text.now (sym c.in-Some.ensures)
+    c.loop-place.invariant ∙ not_here (is_text c.args.uid.now) (settings_of c.args.self.now).additional.classes c.loop-place.place c.in-Some.text.now (sym c.in-Some.ensures)
     (ap (λ u. pointwise nat_eq c.in-Some.text.now u) (sym c.as_bytes.ensures) ∙ sym c.if-eq.ensures)
 
 pub returns : goal.returns

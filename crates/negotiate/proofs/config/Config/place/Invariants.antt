@@ -6,4 +6,4 @@ use Rattle.negotiate.proofs.config.Config.place.Given as goal
 
 abbrev pub invariant-loop-place : goal.invariant-loop-place
 invariant-loop-place l =
-    position_from (is_text l.uid) 0 (settings_of l.self).further.classes ≡ position_from (is_text l.uid) l.place (drop l.place (settings_of l.self).further.classes)
+    position_from (is_text l.uid) 0 (settings_of l.self).additional.classes ≡ position_from (is_text l.uid) l.place (drop l.place (settings_of l.self).additional.classes)

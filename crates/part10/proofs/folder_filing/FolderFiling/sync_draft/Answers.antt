@@ -1,11 +1,14 @@
 use Rattle.std.proofs.Common.{refl, arith, subst, sym}
 use Rattle.std.proofs.Math.Logic.{∥∥₁_map}
-use Rattle.part10.specs.Naming.{IsOrderly}
+use Rattle.part10.specs.Naming.{IsOrderly, standing}
+use Rattle.part10.specs.Settling.{IsNamedLast}
 use Rattle.part10.proofs.NamingLemmas.{goes_on, keeps_same, passed_on}
+use Rattle.part10.proofs.SettlingLemmas.{same_last}
 use Rattle.part10.proofs.folder_filing.FolderFiling.sync_draft.Goals as goal
 
 pub invariant_of-self : goal.invariant_of-self
 invariant_of-self g c =
     let asked = passed_on _ _ _ c.sync_draft.ensures.taken c.sync_draft.ensures.refused in
-    let was = subst (λ z. ∥ IsOrderly z.names ∥₁) (sym c.self-inside.view_is) c.self.invariant in
-    ∥∥₁_map was (goes_on _ _ refl (omega arith) (keeps_same _) asked.0 asked.1)
+    let was = subst (λ z. ∥ IsOrderly z.names ∥₁) (sym c.self-inside.view_is) c.self.invariant.0 in
+    let last = subst (λ z. ∥ IsNamedLast z.pending (standing z.names.calls) ∥₁) (sym c.self-inside.view_is) c.self.invariant.1 in
+    (∥∥₁_map was (goes_on _ _ refl (omega arith) (keeps_same _) asked.0 asked.1), same_last _ _ _ asked.0 last)

@@ -1,8 +1,8 @@
 use Rattle.std.proofs.Common.{None, sym, inl, inr, ◌≡◌, ◌≤◌, subst, ap, ◌∙◌, arith}
 use Rattle.std.proofs.lemmas.Result.{err_from_is_err_and}
 use Rattle.part10.specs.Naming.{NoneIsLeft}
-use Rattle.part10.specs.Places.{next_place, order}
-use Rattle.part10.specs.declared.place.Layout.TheVariants.{Levels}
+use Rattle.part10.specs.Locations.{next_location, order}
+use Rattle.part10.specs.declared.location.Layout.TheVariants.{Levels}
 use Rattle.part10.proofs.NamingLemmas.{search_begins, search_ends, search_fails, search_goes_on, search_is_refused}
 use Rattle.part10.proofs.locked_folder.LockedFolder.name_draft.Goals as goal
 use Rattle.part10.proofs.locked_folder.LockedFolder.name_draft.Goals.{in-Flat, in-Levels}
@@ -10,7 +10,7 @@ use Rattle.part10.proofs.locked_folder.LockedFolder.name_draft.Goals.{in-Flat, i
 pub loop-turn-init : goal.loop-turn-init
 loop-turn-init g c =
     let is = c.names.view_is in
-    search_begins c.args.names.now _ (ap (λ n. n.layout) is) (ap (λ n. n.kept) is) (c.in_ok-check_path.ensures.taken ∙ ap (λ n. n.calls) is)
+    search_begins c.args.names.now _ (ap (λ n. n.layout) is) (ap (λ n. n.kept) is) (c.in_ok-check_group.ensures.taken ∙ ap (λ n. n.calls) is)
     (subst (λ z. order z ≤ order c.later-names-inside.result) (ap (λ n. n.last) is) c.later-names-inside.ensures.own)
 
 pub loop-turn-preserved : goal.loop-turn-preserved
@@ -55,8 +55,8 @@ none_left-requires g c =
 pub returns : goal.returns
 returns g c =
     let was = c.loop-turn.invariant in
-    let none : next_place c.names-2.inside.layout c.names-2.inside.last ≡ None = elim c.match-names.branch [
+    let none : next_location c.names-2.inside.layout c.names-2.inside.last ≡ None = elim c.match-names.branch [
       | in-Flat w ↦ rw w.in-Flat.is c.none_left.ensures.flat
-      | in-Levels w ↦ rw w.in-Levels.is (subst (λ z. next_place (Levels z) c.names-2.inside.last ≡ None) w.per-is c.none_left.ensures.levels)
+      | in-Levels w ↦ rw w.in-Levels.is (subst (λ z. next_location (Levels z) c.names-2.inside.last ≡ None) w.per-is c.none_left.ensures.levels)
     ] in
     record { named = tt; settled = tt; left = inl was.same; refused = inr (subst NoneIsLeft c.names-2.view_is none); orderly = was.orderly }

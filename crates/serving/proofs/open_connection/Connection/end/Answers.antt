@@ -1,6 +1,7 @@
 -- What was taken is a run, and the report is of the state.
 use Rattle.std.proofs.Common.{refl}
 use Rattle.std.proofs.Math.Logic.{∥∥₁_elim, ∥∥₁_map, ∥∥₁_prop}
+use Rattle.serving.proofs.SettledLemmas.{ends_settled}
 use Rattle.serving.proofs.TakenLemmas.{ended_stands, ends}
 use Rattle.serving.proofs.open_connection.Connection.end.Goals as goal
 
@@ -9,7 +10,10 @@ returns g c =
     let was = c.args.self in
     let traces = c.end-traces.ensures in
     record {
-      left = ∥∥₁_elim was.closed ∥∥₁_prop (λ closes. ∥∥₁_map was.taken (λ h. rw (traces.read, traces.ends, traces.sent, traces.refusals, traces.inbox, traces.outbox) (ends _ _ _ _ _ _ _ _ _ _ _ _ _ was.whole closes (c.report-report.ensures.reports _) c.discard.ensures.leaves h)));
+      left = ∥∥₁_elim was.closed ∥∥₁_prop (λ closes. ∥∥₁_map was.taken (λ h. rw (traces.read, traces.ends, traces.sent, traces.refusals, traces.inbox, traces.outbox) (ends _ _ _ _ _ _ _ _ _ _ _ _ _ was.whole closes (c.report-report.ensures.reports _) c.discard.ensures.leaves h).0));
       opened = refl;
       ended = ended_stands _ _ (c.report-report.ensures.reports (g.F.Filing.store was.filing)).standing;
+      sent = ∥∥₁_elim was.closed ∥∥₁_prop (λ closes. ∥∥₁_elim was.sent ∥∥₁_prop (λ first. ∥∥₁_map was.taken (λ h. rw (traces.read, traces.ends, traces.sent, traces.refusals, traces.inbox, traces.outbox)
+          (ends_settled _ _ _ _ _ _ _ _ _ _ _ _ _ _ was.whole closes (c.report-report.ensures.reports _) c.discard.ensures.leaves h first))));
+      rested = rw traces.sent was.rested;
     }

@@ -1,7 +1,8 @@
 -- What is written to a socket does not show whether it had closed: an association that has not ended was not given the close.
-use Rattle.std.proofs.Common.{◌∙◌, sym}
+use Rattle.std.proofs.Common.{◌∙◌, ap, arith, sym}
 use Rattle.engine.specs.Fields.{association_in}
 use Rattle.serving.proofs.CloseLemmas.{open_unclosed}
+use Rattle.serving.proofs.SettledLemmas.{sent_at}
 use Rattle.serving.proofs.open_connection.Connection.flush.Goals as goal
 
 pub invariant_of-self-clause-whole : goal.invariant_of-self-clause-whole
@@ -25,3 +26,25 @@ pub invariant_of-self-else-pending-before-clause-closed : goal.invariant_of-self
 invariant_of-self-else-pending-before-clause-closed g c =
     let was = c.args.self.now in
     open_unclosed (association_in was.running.value) _ _ _ _ _ _ _ _ _ was.taken (sym c.is_over.ensures.over ∙ c.if-is_over.false)
+
+pub invariant_of-self-clause-sent : goal.invariant_of-self-clause-sent
+invariant_of-self-clause-sent g c = sent_at _ _ _ _ _ c.args.self.now.link.stream.traced.written.bytes c.args.self.now.link.outbox.bytes.items _ _ _ c.flush.ensures.same_sent (ap g.F.Filing.store c.of.ensures) c.args.self.now.taken
+
+pub invariant_of-self-else-pending-before-clause-sent : goal.invariant_of-self-else-pending-before-clause-sent
+invariant_of-self-else-pending-before-clause-sent g c = sent_at _ _ _ _ _ c.args.self.now.link.stream.traced.written.bytes c.args.self.now.link.outbox.bytes.items _ _ _ c.flush.ensures.same_sent (ap g.F.Filing.store c.of.ensures) c.args.self.now.taken
+
+pub invariant_of-self-in-Err-1 : goal.invariant_of-self-in-Err-1
+invariant_of-self-in-Err-1 g c =
+    let was = c.args.self.now in
+    record {
+      there = was.there;
+      never = rw c.flush.ensures.same_failures was.never;
+      fits = omega (arith, c.flush.ensures.fewer, was.fits);
+      bytes = was.bytes;
+      followed = was.followed;
+      whole = rw (c.flush.ensures.same_inbox, c.flush.ensures.same_read) was.whole;
+      taken = rw c.flush.ensures.same_sent was.taken;
+      sent = sent_at _ _ _ _ _ c.args.self.now.link.stream.traced.written.bytes c.args.self.now.link.outbox.bytes.items _ _ _ c.flush.ensures.same_sent (ap g.F.Filing.store c.of.ensures) was.taken;
+      rested = λ _. rw c.of.ensures c.requires.settled;
+      closed = open_unclosed (association_in was.running.value) _ _ _ _ _ _ _ _ _ was.taken (sym c.is_over.ensures.over ∙ c.if-is_over.false);
+    }

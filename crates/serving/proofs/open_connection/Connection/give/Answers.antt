@@ -1,6 +1,8 @@
 -- One input more, which has no bytes.
 use Rattle.std.proofs.Common.{◌∙◌, refl, subst, sym}
+use Rattle.std.proofs.Math.Logic.{∥∥₁_map}
 use Rattle.element.specs.Numbers.{IsBytes}
+use Rattle.serving.proofs.SettledLemmas.{sent_before}
 use Rattle.serving.proofs.TakenLemmas.{Keeps, keeps_closed, keeps_other}
 use Rattle.serving.proofs.open_connection.Connection.give.Goals as goal
 
@@ -17,5 +19,7 @@ invariant_of-self g c =
       followed = rw (← c.deref.ensures) (c.follow.ensures.state ∙ c.state.ensures);
       whole = rw k.whole was.whole;
       taken = k.taken;
+      sent = ∥∥₁_map was.sent (λ h. sent_before _ _ _ _ _ _ _ _ _ c.take.ensures.settings c.push.ensures h);
+      rested = was.rested;
       closed = keeps_closed _ _ _ _ _ _ _ _ _ _ _ _ _ _ _ _ _ c.take.ensures.settings c.push.ensures c.requires.open c.take.new.wire.full c.take.ensures.moved before _ _ _ c.requires.closed;
     }

@@ -5,6 +5,7 @@ use Rattle.serving.specs.Waits.{Waits}
 use Rattle.engine.specs.Inputs.{inputs_of}
 use Rattle.serving.proofs.CloseLemmas.{none_closes}
 use Rattle.serving.proofs.InboxLemmas.{nothing_read}
+use Rattle.serving.proofs.SettledLemmas.{nothing_sent}
 use Rattle.serving.proofs.TakenLemmas.{begins_due, opens}
 use Rattle.serving.proofs.open_connection.Connection.open.Goals as goal
 
@@ -19,5 +20,7 @@ invariant_of-result g c =
       followed = ap (λ (w : Waits). w.state) c.new-2.ensures ∙ begins_due _ _ _ (c.open-inbox.ensures.stands (g.F.Filing.store c.args.filing));
       whole = nothing_read _ _ _ k.whole c.new.ensures.nothing_untaken c.new.ensures.nothing_read;
       taken = k.taken;
+      sent = ∣ nothing_sent _ _ _ _ _ _ _ c.new-3.ensures c.new.ensures.nothing_sent (ap g.F.Filing.store (c.of-opened.ensures ∙ sym c.of-settled.ensures)) c.open-inbox.ensures.settings c.open-inbox.ensures.stands ∣₁;
+      rested = λ some. absurd (some c.new.ensures.nothing_sent);
       closed = ∣ none_closes _ _ _ _ _ (ap inputs_of c.new-3.ensures) ∣₁;
     }

@@ -1,10 +1,12 @@
 -- One portion more.
 use Rattle.std.proofs.Common.{ℕ, ◌<◌, refl, ap, sym, subst, ◌∙◌}
+use Rattle.std.proofs.Math.Logic.{∥∥₁_map}
 use Rattle.element.specs.Numbers.{IsBytes}
 use Rattle.element.specs.declared.count.Count.{Count}
 use Rattle.serving.specs.declared.outbox.Outbox.{Outbox}
 use Rattle.serving.proofs.CloseLemmas.{one_more_closes, still_closes}
 use Rattle.serving.proofs.InboxLemmas.{front_taken, nothing_more, within_portion}
+use Rattle.serving.proofs.SettledLemmas.{sent_before}
 use Rattle.serving.proofs.TakenLemmas.{keeps_piece, more_bytes, same_link}
 use Rattle.serving.proofs.open_connection.Connection.receive.Goals as goal
 
@@ -25,6 +27,8 @@ invariant_of-self-in-Bytes g c =
       followed = rw (← c.deref-in-Bytes.ensures) (c.follow.ensures.state ∙ c.state.ensures);
       whole = rw k.whole (front_taken _ _ _ _ _ _ c.pending.ensures c.drop_front.ensures (lent.arrives.2 _ was.whole));
       taken = k.taken;
+      sent = ∥∥₁_map was.sent (λ h. rw lent.same_written (sent_before _ _ _ _ _ _ _ _ _ c.take.ensures.settings c.push.ensures h));
+      rested = rw lent.same_written was.rested;
       closed = one_more_closes _ _ _ _ _ _ _ _ c.push.ensures (λ e. absurd cc);
     }
 
@@ -38,3 +42,9 @@ invariant_of-self-clause-whole g c = let lent = c.in-Nothing.ensures.arrives in 
 
 pub invariant_of-self-clause-taken : goal.invariant_of-self-clause-taken
 invariant_of-self-clause-taken g c = let lent = c.in-Nothing.ensures in rw (lent.same_written, lent.same_outbox) c.args.self.now.taken
+
+pub invariant_of-self-clause-sent : goal.invariant_of-self-clause-sent
+invariant_of-self-clause-sent g c = rw c.in-Nothing.ensures.same_written c.args.self.now.sent
+
+pub invariant_of-self-clause-rested : goal.invariant_of-self-clause-rested
+invariant_of-self-clause-rested g c = rw c.in-Nothing.ensures.same_written c.args.self.now.rested

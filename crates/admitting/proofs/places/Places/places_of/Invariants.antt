@@ -1,7 +1,0 @@
--- The places that were counted and those to come are all of the peer's.
-use Rattle.std.proofs.Common.{◌≡◌, ◌≤◌, ◌+◌, drop}
-use Rattle.admitting.specs.Seats.{places_of}
-use Rattle.admitting.proofs.places.Places.places_of.Given as goal
-
-abbrev pub invariant-loop-other : goal.invariant-loop-other
-invariant-loop-other g l = (l.count ≤ l.other-index) × (l.count + places_of l.peer (drop l.other-index l.other-items) ≡ places_of l.peer l.other-items)

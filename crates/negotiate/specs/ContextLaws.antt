@@ -1,0 +1,15 @@
+-- What laws say of the contexts of a request.
+use Rattle.std.specs.Prelude.{◌≡◌, ℕ, Option}
+use Rattle.pdu.specs.Record.{RequestRecord, Proposal}
+use Rattle.negotiate.specs.declared.proposals.Service.{Service}
+use Rattle.negotiate.specs.Contexts.{context_of, offered, service_of, taken_syntax}
+use Rattle.negotiate.specs.ContextRows.{context_in, context_rows}
+use Rattle.negotiate.specs.Taken.{Taken}
+
+-- under each presentation context ID the table has the context that the request has there, and none where that has none
+abbrev pub TableIsOffered : Taken → RequestRecord → Type 0
+TableIsOffered additional r = (id : ℕ) → context_in additional (context_rows additional (offered additional r)) id ≡ context_of (offered additional r) id
+
+-- the service that a proposed context names, if it is taken
+abbrev pub service_taken : Taken → Proposal → Option Service
+service_taken additional p = service_of (taken_syntax additional.classes p.abstract_syntax)

@@ -1,0 +1,93 @@
+//! How a server accepts connections.
+use super::Server;
+use crate::policy::Policy;
+use crate::socket::AcceptedStream;
+use crate::terms::MOST_AT_ONCE;
+use admitting::{Admission, Waiter, peer_number};
+use journal::{NotAccepted, PeerFull, TurnedAway};
+use log::Log;
+use std::alloc::Global;
+use std::fs::File;
+use std::io::ErrorKind;
+use std::rt::Files;
+use std::time::{Clock, Duration, Instant};
+
+/// How long the server waits after a connection that could not be accepted, in milliseconds, so
+/// that a lasting failure does not keep it busy.
+pub(super) const PAUSE_MILLISECONDS: u64 = 100;
+
+impl<R: Log + Clock, S: Files<File = File> + Alloc<A = Global> + Clone + Drop, P: Policy> Server<
+    '_,
+    R,
+    S,
+    P,
+> {
+    /// Gives a connection that was accepted its place, or lets it wait.
+    fn admit(&mut self, accepted: AcceptedStream, now: Instant) {
+        let logger = self.logger().about(accepted.peer);
+        let peer = peer_number(accepted.peer.ip());
+        match self.places.admit(peer) {
+            Admission::Slot(place) => self.occupy_or_tell(accepted, place, now),
+            Admission::Full | Admission::PeerFull => {
+                if self.peer_told.is_due(now) {
+                    logger.tell(&PeerFull(self.terms.per_peer as u64));
+                }
+                let waiter = Waiter {
+                    peer,
+                    waiting: accepted,
+                };
+                if !self.queue.push(waiter) {
+                    logger.tell(&TurnedAway);
+                }
+            }
+        }
+    }
+
+    /// Gives free places to those that wait for one, and then to those that are to be accepted.
+    pub(super) fn admit_all(&mut self, now: Instant) {
+        for _ in 0..MOST_AT_ONCE {
+            match self.queue.admit(&mut self.places) {
+                Some((waiter, place)) => self.occupy_or_tell(waiter.waiting, place, now),
+                None => break,
+            }
+        }
+        for _ in 0..MOST_AT_ONCE {
+            if !self.is_open || !self.may_accept || self.is_paused(now) {
+                return;
+            }
+            if !self.has_vacancy() {
+                self.note_full(now);
+                return;
+            }
+            self.accept(now);
+        }
+    }
+
+    pub(super) fn is_paused(&self, now: Instant) -> bool {
+        match self.paused {
+            Some(until) => now.duration_since(until).is_zero(),
+            None => false,
+        }
+    }
+
+    /// Accepts a connection, if one is there.
+    fn accept(&mut self, now: Instant) {
+        match self.listener.accept() {
+            Ok((stream, peer)) => {
+                self.note_accepted(peer, now);
+                self.admit(AcceptedStream { stream, peer }, now);
+                self.is_open = !self.terms.once;
+            }
+            Err(failure) if failure.kind() == ErrorKind::WouldBlock => {
+                self.may_accept = false;
+                self.arrivals.clear();
+            }
+            Err(failure) => {
+                if self.accept_told.is_due(now) {
+                    self.logger().tell(&NotAccepted(&failure));
+                }
+                self.paused = now.checked_add(Duration::from_millis(PAUSE_MILLISECONDS));
+            }
+        }
+    }
+}

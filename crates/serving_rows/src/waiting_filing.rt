@@ -1,0 +1,66 @@
+//! A filing of a test whose files wait to be settled.
+ghost use Rattle.std.specs.Prelude.{◌≡◌, true};
+ghost use Rattle.part10.specs.Store.{store_of};
+
+use part10::{Filing, FilingFailed, MemoryFiling, Settling};
+use std::alloc::Global;
+
+/// A filing over memory. Each file waits to be settled.
+#[derive(Drop)]
+pub struct WaitingFiling {
+    pub files: MemoryFiling<Global>,
+    waits: bool,
+}
+
+impl WaitingFiling {
+    /// Creates a filing without files.
+    pub fn new(alloc: Global) -> WaitingFiling {
+        WaitingFiling {
+            files: MemoryFiling::new(alloc),
+            waits: false,
+        }
+    }
+}
+
+impl Filing for WaitingFiling {
+    ghost store = { λ f. store_of f.files };
+
+    fn begin(&mut self) -> Result<(), FilingFailed> {
+        self.files.begin()
+    }
+
+    fn append(&mut self, bytes: &[u8]) -> Result<(), FilingFailed> {
+        self.files.append(bytes)
+    }
+
+    fn commit(&mut self) -> Result<(), FilingFailed> {
+        let committed = self.files.commit();
+        self.waits = self.waits || committed.is_ok();
+        committed
+    }
+
+    fn discard(&mut self) {
+        self.files.discard();
+    }
+}
+
+impl Settling for WaitingFiling {
+    ghost waits = { λ f. f.waits };
+
+    fn waits(&self) -> bool {
+        self.waits
+    }
+
+    fn start_writing(&self) {}
+
+    fn write_out(&mut self) {}
+
+    /// Fails if the names are not on the disk.
+    fn settle(&mut self, are_named: bool) -> Result<(), FilingFailed> {
+        if self.waits && !are_named {
+            return Err(FilingFailed);
+        }
+        self.waits = false;
+        Ok(())
+    }
+}
