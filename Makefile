@@ -93,7 +93,7 @@ check:
 
 # The wrong bodies of one crate: make wrong-bodies CRATE=pdu
 wrong-bodies:
-	tools/wrong-bodies $(CRATE)
+	tools/wrong-bodies --all $(CRATE)
 
 # Lays out every .rt and .antt file as the gate wants it.
 fmt:
@@ -101,7 +101,7 @@ fmt:
 
 # Proves every crate and its tests from nothing, tries the wrong bodies, and prints what each crate cost; docs/GATE.md has it.
 gate-table:
-	tools/gate-table sh -c 'rt ci && tools/wrong-bodies'
+	tools/gate-table sh -c 'rt ci && tools/wrong-bodies --all'
 
 # Installs what `make dcmbox` proved and built. A package sets DESTDIR to the folder that it packs.
 install:

@@ -19,6 +19,9 @@ class Function:
         self.name, self.is_const, self.start, self.end = found[3], bool(found[2]), found.start(), found.end()
         if not found[0].endswith("}"):
             self.end = end_of(text, found)
+        # (a body on one line with the head is none of its own)
+        body = re.compile(rf"^{found[1]}(?:\{{|(?:\)|(?:pub(?:\([a-z]+\))? )?(?:unsafe )?fn ).* \{{)$", re.M).search(text, self.start, self.end)
+        self.body = body.end() if body else self.end
         self.text = text[found.start(3) + len(self.name) : self.end]
         self.type = ([""] + [of for start, end, of in impls if start <= self.start < end])[-1]
         module = [it for it in file[len("src/") : -len(".rt")].split("/") if it not in ("lib", "main", "mod")]
@@ -55,6 +58,16 @@ def type_of(header):
 def functions_in(crate, file, text):
     impls = [(it.start(), end_of(text, it), type_of(it[2])) for it in IMPL.finditer(text)]
     return [Function(crate, file, text, it, impls) for it in FUNCTION.finditer(text)]
+
+
+def without_bodies(text, functions):
+    """A text without the bodies of these functions and without comments of whole lines. Those of `const fn`s stay."""
+    parts, at = [], 0
+    for it in functions:
+        if not it.is_const and it.body >= at:
+            parts.append(text[at : it.body])
+            at = it.end
+    return re.sub(r"^[ ]*//.*\n", "", "".join([*parts, text[at:]]), flags=re.M)
 
 
 class Said:

@@ -1,4 +1,5 @@
-"""tools/wrong-bodies tells wrong bodies that are refused from those that are not, and says why.
+"""tools/wrong-bodies tells wrong bodies that are refused from those that are not, and says why. What it found refused it
+does not try again, until something changes that this rests on.
 
 It is tried on a crate of three functions, which it proves.
 """
@@ -78,9 +79,9 @@ REFUSED = {
 }
 
 
-def try_them(folder, *chosen):
-    """Runs the tool over the crate, and gives its status, and all that it prints."""
-    texts = dict(DIGITS)
+def try_them(folder, *chosen, change=("", "")):
+    """Runs the tool over the crate with a change of its source, and gives its status, and all that it prints."""
+    texts = {name: text.replace(*change) for name, text in DIGITS.items()}
     for name, (old, new, refused, *_) in {**TAKEN, **REFUSED}.items():
         lines = ["file: src/lib.rt", f"old: {old}", f"new: {new}"]
         lines += [f"refused: {refused}"] * bool(refused)
@@ -91,10 +92,16 @@ def try_them(folder, *chosen):
 
 
 @pytest.fixture(scope="module")
-def said():
-    """The status of the tool and what it printed, of all edits."""
+def tried():
+    """The folder in which all edits were tried, the tool's status and what it printed."""
     with tempfile.TemporaryDirectory(prefix="dcmbox-") as folder:
-        return try_them(folder)
+        yield folder, *try_them(folder)
+
+
+@pytest.fixture(scope="module")
+def said(tried):
+    """The status of the tool and what it printed, of all edits."""
+    return tried[1:]
 
 
 # They look at one run of the tool, so they go to one worker.
@@ -122,6 +129,34 @@ def test_its_status_and_last_line_tell_of_failures(said):
     assert status == 1 and f"{last}{len(REFUSED)} failed" in output, output
 
 
-def test_one_that_is_refused_passes(work):
-    status, output = try_them(work, "digits/returns_four")
-    assert status == 0, output
+# Two edits, of two functions that do not call one another.
+TWO = ("digits/returns_four", "digits/returns_ten")
+
+# What changes in the source, what is tried then, and how many of these are not tried again.
+CHANGES = {
+    "nothing": ("", "", TWO, 2),
+    "a comment": ("/// Returns three.", "/// Returns 3.", TWO, 2),
+    "the body of a third function": ("    digit()", "    let _three = three();\n    digit()", TWO, 2),
+    "the body of one": ("    5", "    let _three = 3;\n    5", TWO, 1),
+    "a contract": ("{ 1 ≤ result }", "{ 2 ≤ result }", TWO[:1], 0),
+    "nothing, and all are asked for": ("", "", (TWO[0], "--all"), 0),
+}
+
+
+@together
+@pytest.mark.parametrize("what", CHANGES)
+def test_what_was_refused_is_tried_again_where_it_rests_on_a_change(tried, what):
+    old, new, words, before = CHANGES[what]
+    lock = pathlib.Path(tried[0], "crates/digits/wrong-bodies/refused.lock")
+    kept = lock.read_text()
+    status, output = try_them(tried[0], *words, change=(old, new))
+    lock.write_text(kept)
+    count = sum(word != "--all" for word in words)
+    also = f", {before} of them before" * bool(before)
+    assert status == 0 and f"{count} wrong bodies: {count} refused by the clause that they name{also} (" in output, output
+
+
+@together
+def test_only_what_is_refused_is_kept(tried):
+    lines = pathlib.Path(tried[0], "crates/digits/wrong-bodies/refused.lock").read_text().splitlines()
+    assert [line.split()[0] for line in lines[1:]] == sorted(TAKEN), lines
