@@ -55,7 +55,7 @@ test: packages
 
 steps:
 	tools/timed env $(TREE) tests/tree
-	tools/timed rt ci
+	tools/timed env RT_JOBS=$$(tools/build --lanes) rt ci
 	tools/timed tools/examples
 	tools/timed tools/wrong-bodies
 	tools/timed env $(OUTSIDE) tests/program
