@@ -7,8 +7,6 @@ mod history;
 mod notice;
 mod peer;
 mod queue;
-#[cfg(test)]
-mod rows;
 mod slots;
 
 pub use history::History;

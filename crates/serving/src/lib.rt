@@ -9,8 +9,6 @@ mod link;
 mod memory;
 mod open_connection;
 mod outbox;
-#[cfg(test)]
-mod rows;
 mod traces;
 mod waiting;
 

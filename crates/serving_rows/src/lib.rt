@@ -3,7 +3,10 @@
 #![tactic(auto)]
 
 #[cfg(test)]
+mod admitting_rows;
+#[cfg(test)]
 mod association_lines;
+#[cfg(test)]
 mod chance;
 #[cfg(test)]
 mod json_lines;
@@ -13,22 +16,23 @@ mod message_lines;
 mod metrics_rows;
 #[cfg(test)]
 mod mixed_rows;
+#[cfg(test)]
 mod peer;
+#[cfg(test)]
 mod scripted;
 #[cfg(test)]
 mod shown;
 #[cfg(test)]
 mod store_lines;
+#[cfg(test)]
 mod streams;
+#[cfg(test)]
+mod time_rows;
 #[cfg(test)]
 mod timer_rows;
 #[cfg(test)]
 mod turn_rows;
+#[cfg(test)]
 mod waiting_filing;
 #[cfg(test)]
 mod waiting_rows;
-
-pub use chance::Chance;
-pub use peer::{Audience, FickleSocket};
-pub use streams::{Traffic, stream_of};
-pub use waiting_filing::WaitingFiling;

@@ -1,6 +1,6 @@
 //! Tests of slots, queue, rate limit and peer numbers.
 
-use crate::{Admission, Notice, Queue, Slots, Waiter, peer_number};
+use admitting::{Admission, Notice, Queue, Slots, Waiter, peer_number};
 use std::net::{IpAddr, Ipv4Addr, Ipv6Addr};
 use std::test::Fail;
 use std::time::{Duration, Instant};

@@ -1,7 +1,7 @@
 //! Times that run out.
 
-use crate::{Wait, Waiting};
 use acceptor::State;
+use serving::{Wait, Waiting};
 use std::test::Fail;
 use std::time::{Duration, Instant};
 
