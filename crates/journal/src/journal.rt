@@ -1,11 +1,10 @@
 //! Is shown what goes over one connection, and writes the lines that tell of it.
 use crate::accepted::Results;
 use crate::answer::Answer;
-use crate::end::{Abort, End};
-use crate::entries::{
-    Aborted, Answered, ClassesRefused, ContextRefused, Ended, FilingFailed, NotConfirmed,
-    NotStored, Rejected, Served, Unanswered,
+use crate::association_entries::{
+    Aborted, ClassesRefused, ContextRefused, Ended, Rejected, Served,
 };
+use crate::end::{Abort, End};
 use crate::entry::Entry;
 use crate::incoming::Taken;
 use crate::limits::Limits;
@@ -17,6 +16,7 @@ use crate::reply::{Reply, Value, status_of};
 use crate::server_entries::NumbersLow;
 use crate::sheet::sheet_of;
 use crate::state::{Phase, State};
+use crate::store_entries::{Answered, FilingFailed, NotConfirmed, NotStored, Unanswered};
 use crate::text::Text;
 use connection::{Observer, ReadEnd};
 use dimse::{read_command, status};

@@ -4,10 +4,11 @@
 
 mod accepted;
 mod answer;
+mod association_entries;
 mod cause;
 mod end;
-mod entries;
 mod entry;
+mod entry_fields;
 mod fields;
 mod form;
 mod incoming;
@@ -26,10 +27,11 @@ mod reply;
 mod server_entries;
 mod sheet;
 mod state;
+mod store_entries;
 mod text;
 mod words;
 
-pub use entries::Served;
+pub use association_entries::Served;
 pub use form::Form;
 pub use journal::Journal;
 pub use limits::Limits;

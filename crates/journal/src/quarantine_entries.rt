@@ -1,6 +1,6 @@
 //! What the log tells of data sets that are kept in a quarantine, and what the texts beside them tell.
-use crate::entries::{Words, give_calling, give_error, give_status};
 use crate::entry::{Entry, Event, Fields, Name};
+use crate::entry_fields::{Words, give_calling, give_error, give_status};
 use crate::refusal::Reason;
 use crate::reply::{Reply, Value};
 use crate::state::Title;

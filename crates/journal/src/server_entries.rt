@@ -1,6 +1,6 @@
 //! What the lines of the log tell of the box itself, and not of one association.
-use crate::entries::{Words, give_error};
 use crate::entry::{Entry, Event, Fields, Name};
+use crate::entry_fields::{Words, give_error};
 use crate::limits::Limits;
 use log::Level;
 use part10::Location;

@@ -1,0 +1,209 @@
+//! What the lines of the log tell of an association: that it was rejected or aborted, or ended.
+use crate::end::{End, Rejection};
+use crate::entry::{Entry, Event, Fields, Name};
+use crate::entry_fields::{CALLING, CLASS, END, REASON, Words, end_words, give_calling};
+use crate::outcome::Counts;
+use crate::refused::RefusedClasses;
+use crate::reply::Value;
+use crate::state::{State, Title};
+use crate::text::Text;
+use crate::words::context_words;
+use log::Level;
+use std::fmt::Write;
+
+const CALLED: Name = Name {
+    key: "called",
+    before: " called \"",
+    after: "\"",
+};
+
+/// An association request was rejected.
+#[derive(Clone, Copy)]
+pub(crate) struct Rejected<'a> {
+    pub rejection: Rejection,
+    pub called: &'a Title,
+    pub calling: &'a Title,
+}
+
+impl Entry for Rejected<'_> {
+    fn level(&self) -> Level {
+        Level::Warn
+    }
+
+    fn event(&self) -> Event {
+        Event {
+            key: "rejected",
+            words: "rejected",
+        }
+    }
+
+    fn fields<F: Fields>(&self, out: &mut F) {
+        let mut reason = Words::new();
+        let _ = write!(reason, "{}", self.rejection);
+        out.text(REASON, reason.as_str());
+        out.text(CALLING, self.calling.as_str());
+        out.text(CALLED, self.called.as_str());
+    }
+}
+
+/// The association was aborted, and not by the peer.
+#[derive(Clone, Copy)]
+pub(crate) struct Aborted<'a> {
+    pub end: Option<End>,
+    pub calling: &'a Title,
+}
+
+impl Entry for Aborted<'_> {
+    fn level(&self) -> Level {
+        Level::Warn
+    }
+
+    fn event(&self) -> Event {
+        Event {
+            key: "aborted",
+            words: "",
+        }
+    }
+
+    fn fields<F: Fields>(&self, out: &mut F) {
+        out.text(Name::new("end", ""), end_words(self.end).as_str());
+        give_calling(self.calling, out);
+    }
+}
+
+/// No context of these classes was accepted: those that are named, and how many others there are.
+#[derive(Clone, Copy)]
+pub(crate) struct ClassesRefused<'a> {
+    pub refused: &'a RefusedClasses,
+    pub calling: &'a Title,
+}
+
+impl Entry for ClassesRefused<'_> {
+    fn level(&self) -> Level {
+        Level::Warn
+    }
+
+    fn event(&self) -> Event {
+        Event {
+            key: "classes refused",
+            words: "classes refused",
+        }
+    }
+
+    fn fields<F: Fields>(&self, out: &mut F) {
+        out.text(Name::new("classes", ": "), self.refused.named.as_str());
+        if self.refused.others > 0 {
+            let others = Name {
+                key: "others",
+                before: " and ",
+                after: " more",
+            };
+            out.number(others, self.refused.others);
+        }
+        give_calling(self.calling, out);
+    }
+}
+
+/// A proposed presentation context that was not accepted.
+#[derive(Clone, Copy)]
+pub(crate) struct ContextRefused<'a> {
+    pub id: u8,
+    /// Its result (PS3.8 Table 9-18).
+    pub answer: u8,
+    pub class: &'a Value,
+    pub syntaxes: &'a Text<300>,
+}
+
+impl Entry for ContextRefused<'_> {
+    fn level(&self) -> Level {
+        Level::Trace
+    }
+
+    fn event(&self) -> Event {
+        Event {
+            key: "context refused",
+            words: "context",
+        }
+    }
+
+    fn fields<F: Fields>(&self, out: &mut F) {
+        out.number(Name::new("context", " "), u64::from(self.id));
+        out.text(
+            Name::new("reason", " refused: "),
+            context_words(self.answer),
+        );
+        out.text(CLASS, self.class.as_str());
+        out.text(Name::new("syntaxes", " syntaxes "), self.syntaxes.as_str());
+    }
+}
+
+/// What an association came to.
+#[derive(Clone, Copy)]
+pub struct Served {
+    /// How it stands.
+    pub standing: &'static str,
+    /// How many bytes it holds.
+    pub held: usize,
+    /// How many files it put into the folder.
+    pub files: u32,
+    /// How many bytes it received.
+    pub received: u64,
+    pub seconds: u64,
+}
+
+/// An association ended.
+#[derive(Clone, Copy)]
+pub(crate) struct Ended<'a> {
+    pub served: Served,
+    pub state: &'a State,
+}
+
+/// Gives how many stores came to what.
+fn give_counts<F: Fields>(counts: Counts, out: &mut F) {
+    out.number(Name::new("stored", " stored "), counts.stored);
+    out.number(Name::new("refused", " refused "), counts.refused);
+    out.number(Name::new("failed", " failed "), counts.failed);
+}
+
+impl Entry for Ended<'_> {
+    fn level(&self) -> Level {
+        Level::Info
+    }
+
+    fn event(&self) -> Event {
+        Event {
+            key: "association",
+            words: "",
+        }
+    }
+
+    fn fields<F: Fields>(&self, out: &mut F) {
+        let Served {
+            standing,
+            held,
+            files,
+            received,
+            seconds,
+        } = self.served;
+        let state = self.state;
+        out.text(Name::new("state", ""), standing);
+        out.number(Name::new("held", " held "), held as u64);
+        out.number(Name::new("files", " files "), u64::from(files));
+        out.number(Name::new("dropped", " dropped "), state.counts.dropped());
+        out.number(Name::new("received", " received "), received);
+        out.number(
+            Name {
+                key: "seconds",
+                before: " in ",
+                after: " s",
+            },
+            seconds,
+        );
+        out.text(CALLING, state.calling.as_str());
+        out.text(CALLED, state.called.as_str());
+        out.text(END, end_words(state.end).as_str());
+        out.number(Name::new("accepted", " contexts "), state.accepted);
+        out.number(Name::new("proposed", " of "), state.proposed);
+        give_counts(state.counts, out);
+    }
+}

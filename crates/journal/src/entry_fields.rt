@@ -1,0 +1,97 @@
+//! Fields that several lines of the log have.
+use crate::end::End;
+use crate::entry::{Fields, Name};
+use crate::reply::Reply;
+use crate::state::Title;
+use crate::text::Text;
+use std::fmt::Write;
+use std::io;
+
+pub(crate) const CALLING: Name = Name {
+    key: "calling",
+    before: " calling \"",
+    after: "\"",
+};
+
+pub(crate) const CLASS: Name = Name {
+    key: "class",
+    before: " class ",
+    after: "",
+};
+
+pub(crate) const END: Name = Name {
+    key: "end",
+    before: " ",
+    after: "",
+};
+
+pub(crate) const REASON: Name = Name {
+    key: "reason",
+    before: ": ",
+    after: "",
+};
+
+const STATUS: Name = Name {
+    key: "status",
+    before: " status ",
+    after: "",
+};
+
+const FAULT: Name = Name {
+    key: "fault",
+    before: " ",
+    after: "",
+};
+
+const TAG: Name = Name {
+    key: "tag",
+    before: " tag ",
+    after: "",
+};
+
+const ERROR: Name = Name {
+    key: "error",
+    before: ": ",
+    after: "",
+};
+
+/// A short text of the log itself.
+pub(crate) type Words = Text<160>;
+
+/// Returns how an association ended, in words; empty where it has not.
+pub(crate) fn end_words(end: Option<End>) -> Words {
+    let mut words = Words::new();
+    if let Some(end) = end {
+        let _ = write!(words, "{end}");
+    }
+    words
+}
+
+/// Gives a system's error.
+pub(crate) fn give_error<F: Fields>(error: &io::Error, out: &mut F) {
+    let mut words = Words::new();
+    let _ = write!(words, "{error}");
+    out.text(ERROR, words.as_str());
+}
+
+/// Gives the calling title, where it is known.
+pub(crate) fn give_calling<F: Fields>(calling: &Title, out: &mut F) {
+    if calling.len() > 0 {
+        out.text(CALLING, calling.as_str());
+    }
+}
+
+/// Gives the status of a reply in hexadecimal, and its cause.
+pub(crate) fn give_status<F: Fields>(reply: &Reply, out: &mut F) {
+    let mut status = Text::<4>::new();
+    let _ = write!(status, "{:04X}", reply.status);
+    out.text(STATUS, status.as_str());
+    if reply.comment.len() > 0 {
+        out.text(FAULT, reply.comment.as_str());
+    }
+    if let Some(tag) = reply.tag {
+        let mut text = Text::<9>::new();
+        let _ = write!(text, "{:04x},{:04x}", tag.0, tag.1);
+        out.text(TAG, text.as_str());
+    }
+}

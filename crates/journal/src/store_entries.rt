@@ -1,0 +1,191 @@
+//! What the lines of the log tell of a store.
+use crate::end::End;
+use crate::entry::{Entry, Event, Fields, Name};
+use crate::entry_fields::{CLASS, END, REASON, end_words, give_calling, give_error, give_status};
+use crate::refusal::Reason;
+use crate::reply::{Reply, Value};
+use crate::state::Title;
+use crate::text::Text;
+use log::Level;
+use part10::Location;
+use std::fmt::Write;
+use std::io;
+
+const INSTANCE: Name = Name {
+    key: "instance",
+    before: " instance ",
+    after: "",
+};
+
+const BYTES: Name = Name {
+    key: "bytes",
+    before: " bytes ",
+    after: "",
+};
+
+const FILE: Name = Name {
+    key: "file",
+    before: " file ",
+    after: "",
+};
+
+/// A file could not be written: the system's error.
+#[derive(Clone, Copy)]
+pub(crate) struct FilingFailed<'a>(pub &'a io::Error);
+
+impl Entry for FilingFailed<'_> {
+    fn level(&self) -> Level {
+        Level::Error
+    }
+
+    fn event(&self) -> Event {
+        Event {
+            key: "filing failed",
+            words: "a file could not be written",
+        }
+    }
+
+    fn fields<F: Fields>(&self, out: &mut F) {
+        give_error(self.0, out);
+    }
+}
+
+/// Gives where a file stands, if there is one.
+fn give_place<F: Fields>(place: Option<Location>, out: &mut F) {
+    if let Some(place) = place {
+        let mut file = Text::<32>::new();
+        let _ = write!(file, "{place}");
+        out.text(FILE, file.as_str());
+    }
+}
+
+/// A store was answered.
+#[derive(Clone, Copy)]
+pub(crate) struct Answered<'a> {
+    pub reply: &'a Reply,
+    pub class: &'a Value,
+    /// How many bytes its data set has.
+    pub bytes: u64,
+    pub place: Option<Location>,
+}
+
+impl Entry for Answered<'_> {
+    fn level(&self) -> Level {
+        Level::Debug
+    }
+
+    fn event(&self) -> Event {
+        Event {
+            key: "store",
+            words: "store",
+        }
+    }
+
+    fn fields<F: Fields>(&self, out: &mut F) {
+        out.text(CLASS, self.class.as_str());
+        out.text(INSTANCE, self.reply.instance.as_str());
+        out.number(BYTES, self.bytes);
+        give_status(self.reply, out);
+        give_place(self.place, out);
+    }
+}
+
+/// A store was answered, and not with success.
+#[derive(Clone, Copy)]
+pub(crate) struct NotStored<'a> {
+    pub reply: &'a Reply,
+    pub class: &'a Value,
+    /// What its status does not tell, if anything.
+    pub reason: &'a Reason,
+    pub calling: &'a Title,
+}
+
+impl Entry for NotStored<'_> {
+    fn level(&self) -> Level {
+        Level::Warn
+    }
+
+    fn event(&self) -> Event {
+        Event {
+            key: "not stored",
+            words: "not stored:",
+        }
+    }
+
+    fn fields<F: Fields>(&self, out: &mut F) {
+        give_status(self.reply, out);
+        if self.reason.len() > 0 {
+            out.text(Name::new("reason", " "), self.reason.as_str());
+        }
+        out.text(CLASS, self.class.as_str());
+        out.text(INSTANCE, self.reply.instance.as_str());
+        give_calling(self.calling, out);
+    }
+}
+
+/// The association ended before stores were answered: the last one that was asked for.
+#[derive(Clone, Copy)]
+pub(crate) struct Unanswered<'a> {
+    pub end: Option<End>,
+    /// Why its file was lost, if it was.
+    pub lost: Option<&'a Reason>,
+    pub count: u64,
+    pub class: &'a Value,
+    pub instance: &'a Value,
+    pub calling: &'a Title,
+}
+
+impl Entry for Unanswered<'_> {
+    fn level(&self) -> Level {
+        Level::Warn
+    }
+
+    fn event(&self) -> Event {
+        Event {
+            key: "not answered",
+            words: "not stored: no reply,",
+        }
+    }
+
+    fn fields<F: Fields>(&self, out: &mut F) {
+        out.text(END, end_words(self.end).as_str());
+        if let Some(reason) = self.lost {
+            out.text(REASON, reason.as_str());
+        }
+        out.text(CLASS, self.class.as_str());
+        out.text(INSTANCE, self.instance.as_str());
+        out.number(Name::new("stores", " stores "), self.count);
+        give_calling(self.calling, out);
+    }
+}
+
+/// A store was filed, and the association ended before its reply was sent.
+#[derive(Clone, Copy)]
+pub(crate) struct NotConfirmed<'a> {
+    pub end: Option<End>,
+    pub place: Option<Location>,
+    pub class: &'a Value,
+    pub instance: &'a Value,
+    pub calling: &'a Title,
+}
+
+impl Entry for NotConfirmed<'_> {
+    fn level(&self) -> Level {
+        Level::Warn
+    }
+
+    fn event(&self) -> Event {
+        Event {
+            key: "not confirmed",
+            words: "filed, but not confirmed:",
+        }
+    }
+
+    fn fields<F: Fields>(&self, out: &mut F) {
+        out.text(END, end_words(self.end).as_str());
+        give_place(self.place, out);
+        out.text(CLASS, self.class.as_str());
+        out.text(INSTANCE, self.instance.as_str());
+        give_calling(self.calling, out);
+    }
+}
