@@ -89,9 +89,9 @@ def test_booklet_is_fresh():
         (
             "a law that is gone",
             SENTENCES,
-            "dicomdir::rows_are_grouped",
-            "dicomdir::rows_are_sorted",
-            "there is no law rows_are_sorted in dicomdir\n",
+            "dicomdir_writing::rows_are_grouped",
+            "dicomdir_writing::rows_are_sorted",
+            "there is no law rows_are_sorted in dicomdir_writing\n",
         ),
     ),
 )

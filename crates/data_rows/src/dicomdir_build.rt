@@ -1,6 +1,7 @@
-//! Directories that are built of rows and written, by the public calls of `dicomdir` alone.
+//! Directories that are built of rows and written, by the public calls of `dicomdir` and `dicomdir_writing` alone.
 use crate::files::{Change, ONE_IMAGE, Record, change, has, one_image, two_images};
-use dicomdir::{DirFault, FileId, Keys, Row, TreeRecord, build, check, write_dir};
+use dicomdir::{DirFault, FileId, TreeRecord, check};
+use dicomdir_writing::{Keys, Row, build, write_dir};
 use dictionary::Transfer;
 use element::{Tag, Uid};
 use std::alloc::{Allocator, Global};

@@ -2,7 +2,7 @@
 use crate::images::{
     IMAGE, SERIES_DESCRIPTION, STUDY_ID, changed, id, image, is_described, is_image, put, row_of,
 };
-use dicomdir::{Row, Skip, described_row_of};
+use dicomdir_writing::{Row, Skip, described_row_of};
 use dictionary::Transfer;
 use element::{Syntax, Tag};
 use fixtures::readers::{FailsWhen, SlowReader};

@@ -1,8 +1,10 @@
-//! Memory that is refused to each public call of `dicomdir` that takes some, at each call of the allocator in turn.
+//! Memory that is refused to each public call of `dicomdir` and `dicomdir_writing` that takes some, at each call of
+//! the allocator in turn.
 use crate::dicomdir_build::{FILES, rows};
 use crate::files::{Record, has, two_images};
 use crate::images::{id, image, is_described, is_image};
-use dicomdir::{DirFault, Skip, build, build_within, check, described_row_of, kept_of, rows_of};
+use dicomdir::{DirFault, check, kept_of};
+use dicomdir_writing::{Skip, build, build_within, described_row_of, rows_of};
 use dictionary::Transfer;
 use element::{Syntax, Tag, Uid};
 use fixtures::refusing::Refusing;

@@ -1,6 +1,6 @@
 //! Rows that are read of files that end early or are long, by readers that are slow or fail, and with little memory.
 use crate::images::{Element, header, id, image, is_image, put, reason};
-use dicomdir::{Skip, rows_of};
+use dicomdir_writing::{Skip, rows_of};
 use dictionary::Transfer;
 use element::{Syntax, Tag};
 use fixtures::readers::{FailsWhen, SlowReader};

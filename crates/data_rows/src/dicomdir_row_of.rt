@@ -1,9 +1,9 @@
-//! Rows that are read from files, by the public calls of `dicomdir` and `part10` alone.
+//! Rows that are read from files, by the public calls of `dicomdir_writing` and `part10` alone.
 use crate::images::{
     Element, IMAGE, STUDY_ID, changed, compressed, header, id, image, is_image, is_skipped, put,
     reason, row_of, same,
 };
-use dicomdir::{Row, Skip, rows_of};
+use dicomdir_writing::{Row, Skip, rows_of};
 use dictionary::Transfer;
 use element::{Syntax, Tag};
 use std::alloc::Global;

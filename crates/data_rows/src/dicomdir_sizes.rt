@@ -2,9 +2,8 @@
 //! that would have more bytes than they may have.
 use crate::dicomdir_build::{FILES, rows as rows_of_files, uid};
 use crate::images::{Element, IMAGE, header, put};
-use dicomdir::{
-    Built, DirFault, FileId, Row, build, build_within, check, kept_of, rows_of, write_dir,
-};
+use dicomdir::{DirFault, FileId, check, kept_of};
+use dicomdir_writing::{Built, Row, build, build_within, rows_of, write_dir};
 use element::{Syntax, Tag};
 use std::alloc::Global;
 use std::test::Fail;

@@ -1,7 +1,7 @@
 //! Directories that are written by writers that are slow and fail.
 use crate::dicomdir_build::{FILES, rows, uid};
 use crate::files::one_image;
-use dicomdir::{Built, build, write_dir};
+use dicomdir_writing::{Built, build, write_dir};
 use fixtures::writers::SlowWriter;
 use std::alloc::Global;
 use std::io::ErrorKind;

@@ -1,5 +1,6 @@
 //! Files of an image, and the rows that are read from them.
-use dicomdir::{FileId, Row, Skip, rows_of};
+use dicomdir::FileId;
+use dicomdir_writing::{Row, Skip, rows_of};
 use dictionary::Transfer;
 use element::{AeTitle, Syntax, Tag, Uid};
 use part10::{Meta, meta_bytes};

@@ -1,19 +1,10 @@
 -- Places that are distinct in two lists put together are so in each, and in one alone (`split_distinct`); tests of one place
 -- among some (`not_place`, `same_one`, `same_out`). Stands on the definitions alone.
 use Rattle.std.proofs.Common.{◌≡◌, ℕ, Bool, true, false, not, ◌||◌, List, [], ◌∷◌, ◌++◌, refl, sym, ◌∙◌, arith, eqb-true, nat_eq}
-use Rattle.std.proofs.lemmas.Bool.{and_parts, and_from, or_parts}
+use Rattle.std.proofs.lemmas.Bool.{and_parts, and_from, or_parts, not-true}
 use Rattle.std.proofs.lemmas.Bool.Decides.{nat_tests}
 use Rattle.std.proofs.lemmas.List.Folds.{list_any-append}
 use Rattle.dicomdir.specs.Linked.{is_distinct, is_one_of}
-
-pub not_true : (b : Bool) → not b ≡ true → b ≡ false
-not_true v1 e = grind (arith, nat_tests)
-
-pub second_true : (a b c : Bool) → b ≡ true → (a || (b || c)) ≡ true
-second_true v1 b c e = grind (arith, nat_tests)
-
-pub third_true : (a b c : Bool) → c ≡ true → (a || (b || c)) ≡ true
-third_true v1 b c e = grind (arith, nat_tests)
 
 one_of_cons : (p x : ℕ) (xs ys : List ℕ) → is_one_of x ys ≡ false → (is_one_of p xs ≡ true → is_one_of p ys ≡ false) → is_one_of p (x ∷ xs) ≡ true → is_one_of p ys ≡ false
 one_of_cons p x xs ys none rest h = grind (arith, nat_tests)
@@ -22,7 +13,7 @@ pub split_distinct : (xs ys : List ℕ) → is_distinct (xs ++ ys) ≡ true → 
 split_distinct [] ys e = (refl, e, λ p h. absurd cc)
 split_distinct (x ∷ xs) ys e =
     let parts = and_parts (not (is_one_of x (xs ++ ys))) (is_distinct (xs ++ ys)) e in
-    let none : (is_one_of x xs || is_one_of x ys) ≡ false = sym (list_any-append (nat_eq x) xs ys) ∙ not_true (is_one_of x (xs ++ ys)) parts.0 in
+    let none : (is_one_of x xs || is_one_of x ys) ≡ false = sym (list_any-append (nat_eq x) xs ys) ∙ not-true (is_one_of x (xs ++ ys)) parts.0 in
     let each = or_parts (is_one_of x xs) (is_one_of x ys) none in
     let rest = split_distinct xs ys parts.1 in
     let first : not (is_one_of x xs) ≡ true = rw each.0 refl in

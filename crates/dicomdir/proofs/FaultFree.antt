@@ -1,23 +1,22 @@
--- A directory without a fault is linked to the forest that following its offsets goes through (`no_fault_is_linked`), which
--- names records alone (`paths_name_records`). Stands on Distinct, NoFault and PathForests.
+-- A directory without a fault is linked to the forest that following its offsets goes through (`no_fault_is_linked`), and
+-- longer paths find no more (`longer_paths_change_nothing`). Stands on Distinct, NoFault and PathForests.
 use Rattle.std.proofs.Common.{◌≡◌, ℕ, zero, suc, ◌+◌, ◌≤◌, Bool, true, false, not, ◌||◌, List, ◌∷◌, ◌++◌, length, map, Option, Some, None, is_some, is_none, refl, sym, ap, subst, ◌∙◌, arith, eqb-true, nat_eq, ◌&&◌, []}
 use Rattle.std.specs.List.{list_all}
-use Rattle.std.proofs.lemmas.Bool.{and_parts, or_right, or_left, or_from, cond-true, cond-false, and_from, false_from_ne_true}
+use Rattle.std.proofs.lemmas.Bool.{not-true, and_parts, or_right, or_left, or_from, cond-true, cond-false, and_from, false_from_ne_true}
 use Rattle.std.proofs.lemmas.List.{length-map, map-append, append-nil, append_assoc}
 use Rattle.std.proofs.lemmas.List.Folds.{list_any-append, list_all-append}
 use Rattle.sequence.specs.Tree.{Elements, no_elements}
-use Rattle.dicomdir.specs.TreeOf.{Forest, no_nodes, node}
+use Rattle.dicomdir.specs.Forest.{Forest, no_nodes, node}
 use Rattle.dicomdir.specs.Directory.{Record, carried_node, lower_offset, next_offset, or_zero, Found, missing, value_at, items_at, found, number_in, header_size, records_at, records_in, first_offset, last_offset, records_of, has_record, has_file_id, Node}
 use Rattle.dicomdir.specs.Linked.{PlacedNode, first_place, is_distinct, record_at, fits, AreLinked, is_one_of, elements_at, nodes_of, places_of, are_records, LinkedElements, IsAllReached}
 use Rattle.dicomdir.specs.Paths.{Links, Turn, named_by, level_of, paths_from, reached_by, paths_of, root_records, last_from}
-use Rattle.dicomdir.proofs.Distinct.{not_true, same_place, not_place, split_distinct, clash}
+use Rattle.dicomdir.proofs.Distinct.{same_place, not_place, split_distinct, clash}
 use Rattle.dicomdir.proofs.NoFault.{places, length_places, no_more, stands_there}
 use Rattle.dicomdir.proofs.PathForests.{forest_from, lower_path, next_path, paths_more, is_good, good_parts, forest_places, forest_last, both_none, are_free, paths_none, path_free}
 use Rattle.std.proofs.lemmas.Bool.Decides.{nat_tests}
 use Rattle.std.proofs.lemmas.Grind.{common_steps}
 use Rattle.dicomdir.specs.DirFault.{◌or_else◌, offset_fault, records_fault, root_fault, record_fault, each_fault, unreached_fault, first_fault, last_fault, links_of, links_fault, records_then_links, directory_fault, Fault, path_fault}
-use Rattle.dicomdir.specs.Laws.{NoFaultIsLinked, LongerPathsChangeNothing, PathsNameRecords}
-use Rattle.element.specs.Vr.{is_short}
+use Rattle.dicomdir.specs.Laws.{NoFaultIsLinked, LongerPathsChangeNothing}
 
 -- distinct places of records
 pub record IsIn (records : List Record) (reached : List ℕ) : Type 0 where
@@ -62,7 +61,7 @@ go_down links path xs ys on =
     let o : ℕ = named_by links path in
     let joined : reached_by links (xs ++ ys) ≡ reached_by links xs ++ reached_by links ys = map-append (named_by links) xs ys in
     let parts = and_parts (not (is_one_of o (reached_by links (xs ++ ys)))) (is_distinct (reached_by links (xs ++ ys))) on.distinct in
-    let none : is_one_of o (reached_by links (xs ++ ys)) ≡ false = not_true (is_one_of o (reached_by links (xs ++ ys))) parts.0 in
+    let none : is_one_of o (reached_by links (xs ++ ys)) ≡ false = not-true (is_one_of o (reached_by links (xs ++ ys))) parts.0 in
     let split = split_distinct (reached_by links xs) (reached_by links ys) (subst (λ z. is_distinct z ≡ true) joined parts.1) in
     let goods = and_parts (is_good links path) (list_all (is_good links) (xs ++ ys)) on.good in
     let both = and_parts (list_all (is_good links) xs) (list_all (is_good links) ys) (sym (list_all-append (is_good links) xs ys) ∙ goods.1) in
@@ -332,7 +331,3 @@ longer_paths_change_nothing links more =
           let free = are_free links [] (paths_of links) e in
           unchanged most more links [] (omega arith) (record { along = none; distinct = free.distinct; apart = λ p h. refl; good = free.good }),
     )
-
-pub paths_name_records : PathsNameRecords
-unfolding directory_fault is_short
-paths_name_records = (refl, refl, refl, refl, refl, refl)

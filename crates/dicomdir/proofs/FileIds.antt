@@ -1,15 +1,14 @@
 -- A file ID is read from its end (`is_file_id_by_parts`), has 71 characters at most (`file_id_room`), and one that is padded
--- is read back (`file_id_back`). Stands on Distinct.
+-- is read back (`file_id_back`). Stands on the definitions alone.
 use Rattle.std.proofs.Common.{◌≡◌, ℕ, suc, ◌+◌, ◌*◌, ◌<◌, ◌≤◌, Bool, true, false, ◌&&◌, List, [], ◌∷◌, replicate, ◌-◌, length, get_or, take, drop, refl, sym, ap, ◌∙◌, add-one, drop-cons, arith, nat_eq, nat_le, not, ◌++◌, Some}
 use Rattle.std.specs.List.{list_all}
-use Rattle.std.proofs.lemmas.Bool.{and_parts, and_from}
+use Rattle.std.proofs.lemmas.Bool.{not-true, and_parts, and_from}
 use Rattle.std.proofs.lemmas.Bool.Decides.{nat_tests}
 use Rattle.std.proofs.lemmas.List.{drop-replicate}
 use Rattle.std.proofs.Math.Seq.{take-append_seam}
 use Rattle.dicomdir.specs.FileId.{is_id_character, is_file_id_component, before_parts, parts_of, is_file_id, filled, file_id_of, IsKept}
 use Rattle.std.proofs.lemmas.Grind.{common_steps}
 use Rattle.element.specs.Padding.{is_space, kept_before, without_trailing, padded}
-use Rattle.dicomdir.proofs.Distinct.{not_true}
 
 -- the first part, of which characters may still come in front
 abbrev pub first_size : List (List ℕ) → ℕ
@@ -148,7 +147,7 @@ components_are (part ∷ parts) e =
     and_from (list_all is_id_character part) (are_characters parts) chars.1 (components_are parts two.1)
 
 keeps : (c : ℕ) (rest : List ℕ) → no_space c ≡ true → kept_before is_space c rest ≡ c ∷ rest
-keeps c rest e = grind (arith, nat_tests, not_true (is_space c) e)
+keeps c rest e = grind (arith, nat_tests, not-true (is_space c) e)
 
 trimmed : (text : List ℕ) → list_all no_space text ≡ true → without_trailing is_space text ≡ text
 trimmed [] e = refl

@@ -2,7 +2,7 @@
 -- `kept_whole`). Stands on the definitions alone.
 use Rattle.std.proofs.Common.{◌≡◌, ℕ, suc, ◌+◌, ◌<◌, ◌≤◌, List, [], ◌∷◌, ◌++◌, length, drop, get_or, map, refl, sym, ap, ◌∙◌, arith}
 use Rattle.std.proofs.lemmas.List.{append_assoc, append-nil, drop_more, drop_all}
-use Rattle.dicomdir.specs.TreeOf.{Forest, no_nodes, node}
+use Rattle.dicomdir.specs.Forest.{Forest, no_nodes, node}
 use Rattle.dicomdir.specs.Linked.{PlacedNode, nodes_of}
 use Rattle.dicomdir.specs.NodesInUse.{LevelNode, nodes_in_use, HasNodes, file_id_of_image, KeptOf, kept_in, node_of}
 use Rattle.dicomdir.specs.declared.tree.TreeRecord.{TreeRecord}

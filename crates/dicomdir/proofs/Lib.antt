@@ -1,9 +1,8 @@
+pub mod Public
 pub mod FileIds
 pub mod Examples
-pub mod Laid
 pub mod NoFault
 pub mod Distinct
-pub mod BuildingLemmas
 pub mod TextLemmas
 pub mod FindLemmas
 pub mod RecordsLemmas
@@ -13,14 +12,4 @@ pub mod WalkLemmas
 pub mod PathForests
 pub mod FaultFree
 pub mod KeptLemmas
-pub mod TakenLemmas
-pub mod RowLaws
-pub mod DescriptionLaws
-pub mod RecordLemmas
-pub mod GroupingLemmas
-pub mod LaidRecords
-pub mod Placed
-pub mod WrittenLinked
-pub mod LayingLemmas
-pub mod RowWalking
 pub mod Following

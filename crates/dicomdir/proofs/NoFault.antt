@@ -1,16 +1,16 @@
 -- The tree of a linked directory is the only one (`one_tree_of_file`), its nodes stand at records (`paths_name_nodes`), and
 -- it has no fault (`linked_has_no_fault`). Stands on Distinct, PathForests and the laws of `part10` and `sequence`.
 use Rattle.std.proofs.Common.{◌≡◌, ℕ, suc, ◌+◌, ◌<◌, ◌≤◌, Bool, true, false, not, ◌||◌, List, [], ◌∷◌, ◌++◌, length, Some, refl, sym, ap, ◌∙◌, arith, nat_eq, if◌then◌else◌, subst, zero, Option, None}
-use Rattle.std.proofs.lemmas.Bool.{and_parts, or_right, or_left}
+use Rattle.std.proofs.lemmas.Bool.{not-true, and_parts, or_right, or_left}
 use Rattle.std.proofs.lemmas.List.{length-append, append_cancel_left}
 use Rattle.std.proofs.lemmas.Bool.Decides.{nat_tests}
 use Rattle.element.specs.declared.header.Header.{Header}
 use Rattle.sequence.specs.Tree.{Elements, Items, no_items, item, fragment, DataSet}
-use Rattle.dicomdir.specs.TreeOf.{Forest, no_nodes, node, count_of}
+use Rattle.dicomdir.specs.Forest.{Forest, no_nodes, node, count_of}
 use Rattle.dicomdir.specs.Directory.{Found, missing, value_at, items_at, found, Record, header_size, size_of, end_size, records_at, records_in, Node, carried_node, first_offset, records_of, next_offset, lower_offset, IsExplicitFile, IsDirectoryFile, number_in, or_zero}
 use Rattle.dicomdir.specs.Linked.{PlacedNode, places_of, is_distinct, record_at, AreLinked, is_one_of, LinkedElements, nodes_of, first_place, are_records}
 use Rattle.dicomdir.specs.Laws.{NodesAreRecords, OneTreeOfFile, LinkedHasNoFault, PathsNameNodes, AcceptedHasNoFault, OneCheckFault, OneListOfNodes}
-use Rattle.dicomdir.proofs.Distinct.{not_true, not_place, same_place, same_one, backwards}
+use Rattle.dicomdir.proofs.Distinct.{not_place, same_place, same_one, backwards}
 use Rattle.std.proofs.lemmas.Grind.{common_steps}
 use Rattle.sequence.specs.declared.coding.Coding.TheVariants as codings
 use Rattle.element.specs.declared.syntax.Syntax.TheVariants.{Explicit, Implicit}
@@ -46,7 +46,7 @@ no_more [] qs distinct all = omega arith
 no_more (p ∷ ps) qs distinct all =
     let parts = and_parts (not (is_one_of p ps)) (is_distinct ps) distinct in
     let here : is_one_of p qs ≡ true = all p (or_left (nat_eq p p) (is_one_of p ps) (same_place p)) in
-    grind (arith, common_steps, and_parts (not (is_one_of p ps)) (is_distinct ps) distinct, not_true (is_one_of p ps) parts.0, or_left (nat_eq p p) (is_one_of p ps) (same_place p), same_place p, one_fewer p qs here, no_more ps (without p qs) parts.1, not_place, or_right, still_one)
+    grind (arith, common_steps, and_parts (not (is_one_of p ps)) (is_distinct ps) distinct, not-true (is_one_of p ps) parts.0, or_left (nat_eq p p) (is_one_of p ps) (same_place p), same_place p, one_fewer p qs here, no_more ps (without p qs) parts.1, not_place, or_right, still_one)
 
 -- the places of records
 

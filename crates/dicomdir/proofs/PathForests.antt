@@ -2,19 +2,19 @@
 -- that each name a record of their level (`are_free`, `free_paths`). Stands on Distinct.
 use Rattle.std.proofs.Common.{◌≡◌, ℕ, zero, suc, ◌<◌, Bool, true, false, ◌&&◌, List, [], ◌∷◌, ◌++◌, filter, refl, sym, ◌∙◌, arith, Option, Some, None, nat_eq, if◌then◌else◌, not}
 use Rattle.std.specs.List.{flat_map, list_all}
-use Rattle.std.proofs.lemmas.Bool.{or_parts, cond-false, and_parts, and_from, or_right, or_left, or_from, false_from_ne_true}
+use Rattle.std.proofs.lemmas.Bool.{not-true, or_parts, cond-false, and_parts, and_from, or_right, or_left, or_from, false_from_ne_true}
 use Rattle.std.proofs.lemmas.Bool.Decides.{nat_tests}
 use Rattle.std.proofs.lemmas.Grind.{common_steps}
 use Rattle.std.proofs.lemmas.List.Folds.{list_any-append}
 use Rattle.sequence.specs.Tree.{Elements, no_elements}
-use Rattle.dicomdir.specs.TreeOf.{Forest, no_nodes, node, count_of}
+use Rattle.dicomdir.specs.Forest.{Forest, no_nodes, node, count_of}
 use Rattle.dicomdir.specs.Directory.{Record, carried_node}
 use Rattle.dicomdir.specs.Linked.{PlacedNode, places_of, first_place, last_place_behind, record_at, AreLinked, is_one_of, elements_at, lower_at, next_at, is_distinct}
 use Rattle.dicomdir.specs.NodesInUse.{LevelNode, nodes_in_use}
 use Rattle.dicomdir.specs.Paths.{Links, Turn, named_by, level_of, paths_from, reached_by, root_records, last_from}
 use Rattle.dicomdir.specs.machine.Trail.{is_shown, node_on}
 use Rattle.dicomdir.specs.DirFault.{Fault, ◌or_else◌, names_no_record, names_wrong_level, path_fault, first_fault}
-use Rattle.dicomdir.proofs.Distinct.{not_true, same_place, not_place, clash, same_out, either_out}
+use Rattle.dicomdir.proofs.Distinct.{same_place, not_place, clash, same_out, either_out}
 
 -- the forest from an offset, with no more records one after or below the other than the first number says
 abbrev pub forest_from : ℕ → List Record → ℕ → Forest PlacedNode
@@ -146,7 +146,7 @@ free_paths links reached [] free = refl
 free_paths links reached (path ∷ paths) free =
     let o : ℕ = named_by links path in
     let apart = and_parts (not (is_one_of o (reached_by links paths))) (is_distinct (reached_by links paths)) free.distinct in
-    let none : is_one_of o (reached_by links paths) ≡ false = not_true (is_one_of o (reached_by links paths)) apart.0 in
+    let none : is_one_of o (reached_by links paths) ≡ false = not-true (is_one_of o (reached_by links paths)) apart.0 in
     let well = and_parts (is_good links path) (list_all (is_good links) paths) free.good in
     let here = good_parts links path well.0 in
     let new : is_one_of o reached ≡ false = free.apart o (or_left (nat_eq o o) (is_one_of o (reached_by links paths)) (same_place o)) in

@@ -1,6 +1,6 @@
 -- A fault of a file header (`header_check`), or of a walk over the whole text (`text_fails`, `data_set_check`), is the fault
 -- that a check returns. Stands on the laws of `dictionary` and `sequence`.
-use Rattle.std.proofs.Common.{◌≡◌, ℕ, ◌≤◌, Bool, Some, None, arith, if◌then◌else◌, List, ◌≢◌, ◌+◌, ◌-◌, length, refl, ap, subst, ◌∙◌, zero, suc, [], ◌∷◌, ◌++◌, take, drop, sym, not, ◌&&◌, nat_eq, nat_lt, nat_le, ◌%◌}
+use Rattle.std.proofs.Common.{append_assoc, true, ◌≡◌, ℕ, ◌≤◌, Bool, Some, None, arith, if◌then◌else◌, List, ◌≢◌, ◌+◌, ◌-◌, length, refl, ap, subst, ◌∙◌, zero, suc, [], ◌∷◌, ◌++◌, take, drop, sym, not, ◌&&◌, nat_eq, nat_lt, nat_le, ◌%◌}
 use Rattle.element.specs.declared.size.Need.{Need}
 use Rattle.element.specs.declared.syntax.Syntax.{Syntax}
 use Rattle.element.specs.declared.syntax.Syntax.TheVariants as syntaxes
@@ -16,7 +16,8 @@ use Rattle.sequence.specs.Ending.{Fails, breaks_rule, ends_early}
 use Rattle.sequence.specs.Rules.{Limits, Broken, broken_tag, broken_need, broken_header, broken, ◌or_else◌, no_tag, is_long_mark, is_not_allowed, is_endless, passes, counted_length, is_too_long, opens}
 use Rattle.std.proofs.lemmas.Bool.Decides.{nat_tests}
 use Rattle.std.proofs.lemmas.Grind.{common_steps}
-use Rattle.std.proofs.lemmas.List.{length-append, append-nil, length-drop, drop-drop, take-append-drop}
+use Rattle.std.specs.Bool.{◌==◌}
+use Rattle.std.proofs.lemmas.List.{take_rest, length-append, append-nil, length-drop, drop-drop, take-append-drop}
 use Rattle.sequence.specs.declared.coding.Coding.TheVariants.{Explicit}
 use Rattle.dictionary.specs.Syntaxes.{syntax_uid}
 use Rattle.dictionary.specs.Transfers.{native, syntax_in, transfer_uid}
@@ -27,7 +28,8 @@ use Rattle.part10.specs.declared.meta_fault.MetaFault.TheVariants.{NotPart10, Ba
 use Rattle.part10.specs.MetaText.{meta_values_of, TakesMeta, FailsToRead}
 use Rattle.dicomdir.specs.declared.fault.DirFault.{DirFault}
 use Rattle.dicomdir.specs.DirFault.{CheckFault, check_limits, HasHeader, IsAtNone, in_header, in_syntax, in_data_set, at_the_end}
-use Rattle.dicomdir.specs.machine.RowReading.{header_fault_of, refusal_of, IsGoing, FailsIn}
+use Rattle.dicomdir.specs.machine.Faults.{header_fault_of, refusal_of}
+use Rattle.dicomdir.specs.Walking.{IsGoing, IsSameSet, FailsIn}
 use Rattle.element.specs.Numbers.{IsBytes}
 use Rattle.sequence.specs.declared.step.Step.{Step}
 use Rattle.sequence.specs.FirstFault.{IsUnbroken}
@@ -35,7 +37,8 @@ use Rattle.sequence.specs.Walk.{Told, Tells, going, refused}
 use Rattle.sequence.specs.declared.step.Step.TheVariants.{Refused}
 use Rattle.sequence.specs.Answering.{IsRun, Answers, no_piece, goes_on, element, opened, closed, runs, refuses, stays}
 use Rattle.sequence.specs.declared.walker.Walker.{Walker}
-use Rattle.sequence.specs.Taken.{StandsAt, walker_syntax, limits_of}
+use Rattle.sequence.specs.Taken.{StandsAt, walker_syntax, limits_of, fault_of}
+use Rattle.dicomdir.specs.Laws.{WalkersStartWithoutFault}
 use Rattle.sequence.proofs.Public.{fault_stays, nothing_unbroken}
 
 -- a rule, if any is broken
@@ -195,10 +198,71 @@ fault_within (ends_early end) = omega arith
 pub not_refused : (step : Step) → ((x : Fault) → step ≡ Refused x → ⊥) → refusal_of step ≡ None
 not_refused v1 other = grind (arith, nat_tests)
 
+-- ---- a walk along a piece
+
+-- a walk along a piece, of which this is left
+pub record Walks {V D : ℕ} (w0 w : Walker V D) (piece rest : List ℕ) : Type 0 where
+  pub fits : length rest ≤ length piece
+  pub is_rest : rest ≡ drop (length piece - length rest) piece
+  pub along : (b : List ℕ) → StandsAt w0 b → StandsAt w (b ++ take (length piece - length rest) piece)
+  pub good : fault_of w ≡ None
+  pub same : IsSameSet w0 w
+
+pub walks_first : {V D : ℕ} (w : Walker V D) (piece : List ℕ) → fault_of w ≡ None → Walks w w piece piece
+walks_first w piece good = grind (arith, common_steps)
+
+pub walks_on : {V D : ℕ} (w0 w v : Walker V D) (piece rest : List ℕ) (n : ℕ) (step : Step) → IsGoing w0 → Walks w0 w piece rest → n ≤ length rest
+    → ((b : List ℕ) → StandsAt w b → StandsAt v (b ++ take n rest))
+    → ((b : List ℕ) → StandsAt w b → Answers (walker_syntax w) (limits_of w) b rest (take n rest) step)
+    → walker_syntax v ≡ walker_syntax w → limits_of v ≡ limits_of w → refusal_of step ≡ None → Walks w0 v piece (drop n rest)
+walks_on w0 w v piece rest n step goes g within stands answers syntax limits none =
+    let far = farther piece rest n g.fits g.is_rest within in
+    let a : ℕ = length piece - length rest in
+    let b : List ℕ = goes.0 ++ take a piece in
+    let here = g.along goes.0 goes.1 in
+    let there = stands b here in
+    let unbroken = unrefused (answers b here) none in
+    let moved : IsUnbroken (walker_syntax v) (limits_of v) (b ++ take n rest) = subst (λ z. IsUnbroken z (limits_of v) (b ++ take n rest)) (sym syntax) (subst (λ z. IsUnbroken (walker_syntax w) z (b ++ take n rest)) (sym limits) unbroken) in
+    record {
+      fits = far.fits;
+      is_rest = far.is_rest;
+      along = λ c at. subst (λ z. StandsAt v z) (append_assoc c (take a piece) (take n rest) ∙ ap (λ z. c ++ z) far.taken) (stands (c ++ take a piece) (g.along c at));
+      good = tells_none there.tells moved;
+      same = (syntax ∙ g.same.0, limits ∙ g.same.1);
+    }
+
+pub walks_next : {V D : ℕ} (w0 w v : Walker V D) (piece rest : List ℕ) (n : ℕ) (step : Step) → IsGoing w0 → Walks w0 w piece rest → n ≤ length rest
+    → ((b : List ℕ) → StandsAt w b → StandsAt v (b ++ take n rest))
+    → ((b : List ℕ) → StandsAt w b → Answers (walker_syntax w) (limits_of w) b rest (take n rest) step)
+    → walker_syntax v ≡ walker_syntax w → limits_of v ≡ limits_of w → ((x : Fault) → step ≡ Refused x → ⊥) → Walks w0 v piece (take (length rest - n) (drop n rest))
+walks_next w0 w v piece rest n step goes g within stands answers syntax limits other = grind (arith, common_steps, take_rest rest n, walks_on w0 w v piece rest n step goes g within stands answers syntax limits (not_refused step other))
+
+-- nothing is left of the piece
+pub walks_whole : {V D : ℕ} (w0 w : Walker V D) (piece rest : List ℕ) → Walks w0 w piece rest → true ≡ (length rest == 0) → (b : List ℕ) → StandsAt w0 b → StandsAt w (b ++ piece)
+walks_whole w0 w piece rest g none b stands = grind (arith, common_steps, g.along b stands)
+
+-- the text up to the end of the piece, and what follows
+regrouped : (b piece more front taken behind : List ℕ) → piece ≡ (front ++ taken) ++ behind → (b ++ piece) ++ more ≡ ((b ++ front) ++ taken) ++ (behind ++ more)
+regrouped b piece more front taken behind e = ap (λ z. (b ++ z) ++ more) e ∙ simp append_assoc refl
+
+pub walks_fails : {V D : ℕ} (w0 w : Walker V D) (piece rest : List ℕ) (n : ℕ) (step : Step) (fault : Fault) → Walks w0 w piece rest → n ≤ length rest
+    → ((b : List ℕ) → StandsAt w b → Answers (walker_syntax w) (limits_of w) b rest (take n rest) step)
+    → refusal_of step ≡ Some fault → FailsIn w0 piece fault
+walks_fails w0 w piece rest n step fault g within answers was b more stands bytes =
+    let far = farther piece rest n g.fits g.is_rest within in
+    let a : ℕ = length piece - length rest in
+    let front : List ℕ = b ++ take a piece in
+    let text : List ℕ = (b ++ piece) ++ more in
+    let whole : text ≡ (front ++ take n rest) ++ (drop n rest ++ more) = regrouped b piece more (take a piece) (take n rest) (drop n rest) far.whole in
+    failed_text (walker_syntax w0) (limits_of w0) text fault g.same.0 g.same.1 (refused_fails (drop n rest ++ more) text fault (answers front (g.along b stands)) was bytes whole)
+
 -- ---- a walk over a whole text as one piece
 
+pub starts_good : WalkersStartWithoutFault
+starts_good V D w stands = tells_none stands.tells (nothing_unbroken (walker_syntax w) (limits_of w))
+
 pub going_first : {V D : ℕ} (w : Walker V D) → StandsAt w [] → IsGoing w
-going_first w stands = ([], stands, tells_none stands.tells (nothing_unbroken (walker_syntax w) (limits_of w)))
+going_first {V = V} {D = D} w stands = ([], stands, starts_good V D w stands)
 
 pub text_fails : {V D : ℕ} (w : Walker V D) (text : List ℕ) (fault : Fault) → StandsAt w [] → walker_syntax w ≡ Explicit → limits_of w ≡ check_limits → IsBytes text
     → FailsIn w text fault → Fails Explicit check_limits text fault

@@ -11,10 +11,10 @@ use Rattle.dictionary.specs.Syntaxes.{syntax_uid}
 use Rattle.part10.specs.MetaText.{MetaValues, SpellsMeta}
 use Rattle.sequence.specs.Shape.{is_undefined}
 use Rattle.sequence.specs.Tree.{Elements, no_elements, value, sequence, Items, no_items, item, fragment, DataSet}
+use Rattle.element.specs.Padding.{is_padding, without_trailing}
 use Rattle.dicomdir.specs.FileId.{file_id_of}
-use Rattle.dicomdir.specs.Row.{key}
 use Rattle.dicomdir.specs.declared.level.Level.TheVariants.{Image}
-use Rattle.dicomdir.specs.Record.{kind_of}
+use Rattle.dicomdir.specs.Level.{kind_of}
 
 -- the file is a file header in Explicit VR Little Endian (`front`), followed by the bytes `back`
 pub record IsExplicitFile (file front back : List ℕ) : Type 0 where
@@ -119,6 +119,10 @@ is_in_use (Some flag) = nat_eq flag 0xffff
 abbrev pub is_use_flag : Option ℕ → Bool
 is_use_flag None = false
 is_use_flag (Some flag) = nat_eq flag 0xffff || nat_eq flag 0
+
+-- a value as it is compared, and written for a key: without spaces and zero bytes at its end
+abbrev pub key : List ℕ → List ℕ
+key v = without_trailing is_padding v
 
 -- the Directory Record Type, without spaces and zero bytes at its end
 abbrev pub kind_in : Found → List ℕ

@@ -1,7 +1,6 @@
 pub mod FileId
-pub mod Row
-pub mod Record
-pub mod TreeOf
+pub mod Level
+pub mod Forest
 pub mod Directory
 pub mod Linked
 pub mod FaultNumbers
@@ -9,10 +8,6 @@ pub mod DirFault
 pub mod Paths
 pub mod Laws
 pub mod Examples
-pub mod Places
 pub mod NodesInUse
+pub mod Walking
 pub mod machine
-pub mod RecordTable
-pub mod Keys
-pub mod RowOf
-pub mod Built

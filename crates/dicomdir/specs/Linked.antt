@@ -4,10 +4,10 @@ use Rattle.std.specs.Prelude.{◌≡◌, ℕ, suc, Bool, true, not, ◌&&◌, �
 use Rattle.std.specs.List.{list_any, list_all}
 use Rattle.std.specs.Str.{bytes_eq}
 use Rattle.sequence.specs.Tree.{Elements, no_elements}
-use Rattle.dicomdir.specs.TreeOf.{Forest, no_nodes, node}
+use Rattle.dicomdir.specs.Forest.{Forest, no_nodes, node}
 use Rattle.dicomdir.specs.Directory.{IsDirectoryFile, Record, Node, carried_node, first_offset, last_offset, records_of, next_offset, lower_offset, or_zero, has_record, has_file_id}
 use Rattle.dicomdir.specs.declared.level.Level.TheVariants.{Patient, Study, Series}
-use Rattle.dicomdir.specs.Record.{kind_of}
+use Rattle.dicomdir.specs.Level.{kind_of}
 
 -- the tree with the contents of its nodes in place of the elements of their records
 abbrev pub carried_forest : Forest Elements → Forest Node

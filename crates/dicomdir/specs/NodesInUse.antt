@@ -2,14 +2,14 @@
 -- directory references.
 use Rattle.std.specs.Prelude.{◌≡◌, ℕ, suc, List, [], ◌∷◌, ◌++◌, if◌then◌else◌, Option, Some, None, true, map}
 use Rattle.sequence.specs.Tree.{Elements}
-use Rattle.dicomdir.specs.TreeOf.{Forest, no_nodes, node}
+use Rattle.dicomdir.specs.Forest.{Forest, no_nodes, node}
 use Rattle.dicomdir.specs.Directory.{IsDirectoryFile, Node}
 use Rattle.dicomdir.specs.Linked.{PlacedNode, LinkedElements, IsAllReached}
 use Rattle.std.specs.Str.{bytes_eq}
 use Rattle.dicomdir.specs.declared.tree.TreeRecord.{TreeRecord}
 use Rattle.dicomdir.specs.declared.tree.Tree.{Tree}
 use Rattle.dicomdir.specs.declared.level.Level.TheVariants.{Image}
-use Rattle.dicomdir.specs.Record.{kind_of}
+use Rattle.dicomdir.specs.Level.{kind_of}
 
 -- a record of the tree: its position, its level, from 1 for a patient to 4 for an image, and its contents
 pub record LevelNode : Type 0 where

@@ -1,6 +1,3 @@
 pub mod Trail
 pub mod Texts
-pub mod RowReading
-pub mod RowRecords
-pub mod Building
-pub mod FirstSeen
+pub mod Faults

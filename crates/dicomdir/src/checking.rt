@@ -7,7 +7,7 @@ ghost use Rattle.dicomdir.specs.DirFault.{check_limits, CheckFault, HasHeader, H
 ghost use Rattle.dicomdir.specs.Directory.{Found};
 ghost use Rattle.dicomdir.specs.NodesInUse.{HasNodes, tree_nodes};
 ghost use Rattle.dicomdir.specs.machine.Trail.{FailsAs, IsRootOffset, ChecksAs};
-ghost use Rattle.dicomdir.specs.machine.RowReading.{header_fault_of};
+ghost use Rattle.dicomdir.specs.machine.Faults.{header_fault_of};
 ghost use Rattle.dicomdir.specs.machine.Texts.{Finds};
 
 use crate::data_set::walk_piece;

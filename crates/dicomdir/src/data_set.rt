@@ -1,12 +1,12 @@
 //! Walks data sets in pieces.
 ghost use Rattle.std.specs.Prelude.{◌≡◌, ℕ, List, ◌++◌, None, OnOk, IfErr};
 ghost use Rattle.sequence.specs.Taken.{StandsAt, fault_of};
-ghost use Rattle.dicomdir.specs.machine.RowReading.{IsGoing, IsSameSet, FailsIn};
+ghost use Rattle.dicomdir.specs.Walking.{IsGoing, IsSameSet, FailsIn};
 
 use sequence::{Fault, Step, Walker};
 
 /// Walks a piece of a data set to its end. The error is the first fault of the data set.
-pub(crate) fn walk_piece<const V: usize, const D: usize>(
+pub fn walk_piece<const V: usize, const D: usize>(
     walker: &mut Walker<V, D>,
     piece: &[u8],
 ) -> Result<(), Fault>

@@ -63,14 +63,14 @@ impl DirFault {
     }
 
     /// Returns the fault of a file that would be too large, 66.
-    pub(crate) fn too_large() -> DirFault
+    pub fn too_large() -> DirFault
         ensures { result ≡ record { number = 66; place = 0; tag = no_tag } }
     {
         DirFault::at(DirFault::TOO_LARGE, 0)
     }
 
     /// Returns the fault of memory that ran out, 67.
-    pub(crate) fn out_of_memory() -> DirFault
+    pub fn out_of_memory() -> DirFault
         ensures { result ≡ record { number = 67; place = 0; tag = no_tag } }
     {
         DirFault::at(DirFault::OUT_OF_MEMORY, 0)

@@ -1,12 +1,11 @@
 //! The levels of a directory.
 ghost use Rattle.std.specs.Prelude.{◌≡◌};
-ghost use Rattle.dicomdir.specs.TreeOf.{lower_level};
-ghost use Rattle.dicomdir.specs.TreeOf as levels;
-ghost use Rattle.dicomdir.specs.Record.{kind_of};
+ghost use Rattle.dicomdir.specs.Level.{lower_level, kind_of};
+ghost use Rattle.dicomdir.specs.Level as levels;
 
 /// The level of a directory record (PS3.3 section F.4).
 #[derive(Clone, Copy)]
-pub(crate) enum Level {
+pub enum Level {
     Patient,
     Study,
     Series,
@@ -15,14 +14,14 @@ pub(crate) enum Level {
 
 impl Level {
     /// Returns whether this is the level of images, the lowest.
-    pub(crate) fn is_image(self) -> bool
+    pub fn is_image(self) -> bool
         ensures { result ≡ levels.is_image self }
     {
         matches!(self, Level::Image)
     }
 
     /// Returns the next lower level; for images, the lowest, the same.
-    pub(crate) fn below(self) -> Level
+    pub fn below(self) -> Level
         ensures { result ≡ lower_level self }
     {
         match self {
@@ -33,7 +32,7 @@ impl Level {
     }
 
     /// Returns the Directory Record Type of records at this level (PS3.3 section F.5).
-    pub(crate) fn kind(self) -> &'static [u8]
+    pub fn kind(self) -> &'static [u8]
         ensures { result.now ≡ kind_of self }
     {
         match self {

@@ -1,7 +1,8 @@
 //! The files of a directory whose instance an earlier file has.
 use crate::names::path_of;
 use checkdir_command::PathText;
-use dicomdir::{Built, FileId, Row};
+use dicomdir::FileId;
+use dicomdir_writing::{Built, Row};
 use failures::ProgramError;
 use indexmap::IndexSet;
 use inspection::Printable;

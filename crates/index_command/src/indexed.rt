@@ -1,6 +1,6 @@
 //! What comes of a folder that is indexed.
 use crate::contents::Contents;
-use dicomdir::Built;
+use dicomdir_writing::Built;
 use inspection::Outcome;
 use std::alloc::Allocator;
 use std::fmt;

@@ -22,7 +22,7 @@ use Rattle.std.specs.Str.{bytes_eq}
 use Rattle.dicomdir.specs.declared.found.Element.{Element}
 use Rattle.dicomdir.specs.machine.Texts.{got_none, HasItems}
 use Rattle.dicomdir.specs.declared.level.Level.TheVariants.{Image}
-use Rattle.dicomdir.specs.Record.{kind_of}
+use Rattle.dicomdir.specs.Level.{kind_of}
 
 -- Lists of marks have the last mark first.
 

@@ -1,8 +1,0 @@
-use Rattle.std.proofs.Common.{take}
-use Rattle.dicomdir.specs.TreeOf.{rows_at, row_groups, key_for}
-use Rattle.dicomdir.proofs.GroupingLemmas.{Grouped}
-use Rattle.dicomdir.specs.machine.FirstSeen.{texts}
-use Rattle.dicomdir.proofs.build_groups.groups.Given as goal
-
-abbrev pub invariant-loop-row : goal.invariant-loop-row
-invariant-loop-row g l = Grouped (key_for l.level) (take l.row-index (rows_at l.rows)) (texts l.seen.keys) (row_groups l.groups.items)

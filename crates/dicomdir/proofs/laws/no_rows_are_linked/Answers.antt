@@ -1,5 +1,0 @@
-use Rattle.dicomdir.proofs.Examples.{no_rows_are_linked}
-use Rattle.dicomdir.proofs.laws.no_rows_are_linked.Goals as goal
-
-pub returns : goal.returns
-returns c = no_rows_are_linked

@@ -1,5 +1,0 @@
-use Rattle.dicomdir.proofs.BuildingLemmas.{sizes_are_true}
-use Rattle.dicomdir.proofs.laws.sizes_are_true.Goals as goal
-
-pub returns : goal.returns
-returns c = sizes_are_true

@@ -1,5 +1,0 @@
-use Rattle.std.proofs.Common.{refl}
-use Rattle.dicomdir.proofs.record_table.record_table.Goals as goal
-
-pub returns : goal.returns
-returns c = refl

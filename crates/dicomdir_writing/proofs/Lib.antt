@@ -1,0 +1,13 @@
+pub mod Examples
+pub mod Laid
+pub mod BuildingLemmas
+pub mod TakenLemmas
+pub mod RowLaws
+pub mod DescriptionLaws
+pub mod RecordLemmas
+pub mod GroupingLemmas
+pub mod LaidRecords
+pub mod Placed
+pub mod WrittenLinked
+pub mod LayingLemmas
+pub mod RowWalking

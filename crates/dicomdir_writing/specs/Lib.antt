@@ -1,0 +1,11 @@
+pub mod Row
+pub mod Record
+pub mod TreeOf
+pub mod Laws
+pub mod Examples
+pub mod Places
+pub mod machine
+pub mod RecordTable
+pub mod Keys
+pub mod RowOf
+pub mod Built

@@ -1,0 +1,93 @@
+-- The directory that this product builds from rows: the position of each record and its offsets (PS3.3 sections F.3
+-- and F.4). Records are depth first, without gaps, which is this product's own profile.
+use Rattle.std.specs.Prelude.{ℕ, suc, ◌+◌, ◌-◌, ◌^◌, Bool, List, [], ◌∷◌, ◌++◌, length, nat_lt, if◌then◌else◌}
+use Rattle.std.specs.List.{list_any}
+use Rattle.std.specs.Str.{bytes_eq}
+use Rattle.sequence.specs.Tree.{Elements, Items, no_items}
+use Rattle.dicomdir_writing.specs.Row.{Row}
+use Rattle.dicomdir.specs.Forest.{Forest, no_nodes, node}
+use Rattle.dicomdir_writing.specs.TreeOf.{TreeOf}
+use Rattle.dicomdir.specs.Directory.{Record}
+use Rattle.dicomdir_writing.specs.Record.{spelled, with_offsets, record_item, root_elements}
+
+-- the size of a record in bytes, with the header of its item and its two offsets
+abbrev pub record_size : Elements → ℕ
+record_size es = 8 + length (spelled (with_offsets 0 0 es))
+
+-- the size of the elements before the first record, in bytes
+abbrev pub root_size : ℕ
+root_size = length (spelled (root_elements 0 0 no_items))
+
+abbrev pub forest_size : Forest Elements → ℕ
+forest_size no_nodes = 0
+forest_size (node es below next) = record_size es + forest_size below + forest_size next
+
+-- the tree with the positions of its records, the first at `place`: after each record those below it, then its next
+-- sibling
+abbrev pub with_places : ℕ → Forest Elements → Forest Record
+with_places place no_nodes = no_nodes
+with_places place (node es below next) =
+    node (record { place = place; elements = es })
+    (with_places (place + record_size es) below)
+    (with_places (place + record_size es + forest_size below) next)
+
+-- the records of a tree, depth first
+abbrev pub flattened : Forest Record → List Record
+flattened no_nodes = []
+flattened (node r below next) = r ∷ (flattened below ++ flattened next)
+
+abbrev pub place_each : List Record → List ℕ
+place_each [] = []
+place_each (r ∷ records) = r.place ∷ place_each records
+
+-- the position of the first of these siblings, 0 if there is none; that of the last follows
+
+abbrev pub first_record_place : Forest Record → ℕ
+first_record_place no_nodes = 0
+first_record_place (node r below next) = r.place
+
+abbrev pub last_record_place_after : ℕ → Forest Record → ℕ
+last_record_place_after place no_nodes = place
+last_record_place_after place (node r below next) = last_record_place_after r.place next
+
+abbrev pub last_record_place : Forest Record → ℕ
+last_record_place records = last_record_place_after 0 records
+
+-- the items of the records, depth first, before the other items; each record has the offsets of its next sibling and
+-- of the first record below it
+abbrev pub record_items : Forest Record → Items → Items
+record_items no_nodes others = others
+record_items (node r below next) others =
+    record_item (first_record_place next) (first_record_place below) r.elements (record_items below (record_items next others))
+
+abbrev pub elements_with_places : Forest Record → Elements
+elements_with_places records = root_elements (first_record_place records) (last_record_place records) (record_items records no_items)
+
+-- the elements of the directory of a tree, the first at position `start`
+unfoldable pub directory_elements : ℕ → Forest Elements → Elements
+directory_elements start tree = elements_with_places (with_places (start + root_size) tree)
+
+-- the bytes of the directory of rows after this file header; their number follows
+abbrev pub directory_of : List ℕ → List Row → List ℕ
+directory_of front rows = front ++ spelled (directory_elements (length front) (TreeOf rows))
+
+abbrev pub directory_size : ℕ → List Row → ℕ
+directory_size start rows = start + root_size + forest_size (TreeOf rows)
+
+-- the greatest size of a directory, whose offsets have four bytes
+abbrev pub greatest_size : ℕ
+greatest_size = 2 ^ 32 - 1
+
+-- the directory of these rows has more than `most` bytes, and is not built
+abbrev pub is_too_large : ℕ → ℕ → List Row → Bool
+is_too_large most start rows = nat_lt most (directory_size start rows)
+
+-- the indices of the rows that are left out as doubles, where the first of these rows has index `at`
+abbrev pub doubles_after : ℕ → List (List ℕ) → List Row → List ℕ
+doubles_after at before [] = []
+doubles_after at before (row ∷ rows) =
+    if list_any (bytes_eq row.instance) before then at ∷ doubles_after (suc at) before rows
+    else doubles_after (suc at) (before ++ row.instance ∷ []) rows
+
+abbrev pub doubles_of : List Row → List ℕ
+doubles_of rows = doubles_after 0 [] rows

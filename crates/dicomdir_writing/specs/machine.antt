@@ -1,0 +1,4 @@
+pub mod RowReading
+pub mod RowRecords
+pub mod Building
+pub mod FirstSeen
