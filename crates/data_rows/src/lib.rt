@@ -1,6 +1,6 @@
 //! Worked rows and outside vectors of data sets, of files, of values and of directories, tried on the public calls of
-//! `element`, `dictionary`, `sequence`, `part10`, `values`, `inspection` and `dicomdir`. They stand here and not beside
-//! the code, because a crate with tests is proved twice.
+//! `element`, `dictionary`, `sequence`, `part10`, `values`, `inspection`, `dicomdir` and `dicomdir_writing`. They stand
+//! here and not beside the code, because a crate with tests is proved twice.
 #![tactic(auto)]
 
 #[cfg(test)]
