@@ -1,5 +1,5 @@
 -- Example file IDs (PS3.10 section 8.2), and faults of file headers.
-use Rattle.std.specs.Prelude.{◌≡◌, [], ◌∷◌, ◌++◌, replicate, None, codes, Some, ◌+◌}
+use Rattle.std.specs.Prelude.{◌≡◌, [], ◌∷◌, ◌++◌, replicate, None, codes, Some}
 use Rattle.dicomdir.specs.DirFault.{CheckFault}
 use Rattle.dicomdir.specs.FileId.{file_id_of}
 use Rattle.part10.specs.Examples.{least_header}

@@ -1,7 +1,7 @@
 -- Walking the data set of a file, piece by piece, gives its row (`whole_file`), or why there is none (`refused_header`,
 -- `refused_data_set`, `out_of_memory`). Stands on the laws of `dicomdir` and `sequence`.
 use Rattle.std.specs.Prelude.{IfErr}
-use Rattle.std.proofs.Common.{◌≡◌, ℕ, true, ◌-◌, List, [], ◌++◌, take, Option, Some, None, IfSome, refl, sym, ap, subst, ◌∙◌, arith, suc, ◌∷◌, Result, Err, false}
+use Rattle.std.proofs.Common.{◌≡◌, ℕ, true, List, [], ◌++◌, take, Option, Some, None, IfSome, refl, sym, ap, subst, ◌∙◌, arith, suc, ◌∷◌, Result, Err, false}
 use Rattle.std.proofs.lemmas.List.{append-nil}
 use Rattle.std.specs.Io.KnownBytes.{Consumes, IsAtEnd}
 use Rattle.std.proofs.KnownBytes.{Consumes-trans}

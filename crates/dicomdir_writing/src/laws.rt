@@ -1,7 +1,5 @@
 //! Lemmas on the definitions of this crate and examples, each stated as the contract of a function with
-//! an empty body.
-//!
-//! A directory is linked to a tree if the offsets of its records form that tree, from the root down.
+//! an empty body. [`dicomdir::laws`] says when a directory is linked to a tree.
 ghost use Rattle.dicomdir_writing.specs.Examples.{OneImageHasNodes, RowsAreGrouped, InactiveRecords, OneImageIsLinked, OneImageFaults, PreambleCounts, RecordFaults, NoRowsAreLinked, PlacesAreAssigned, SizesAreTrue};
 ghost use Rattle.dicomdir_writing.specs.Laws.{FiledHasRow, PathsNameRecords, KeysFit, NativeAloneAreTaken, OneRow, OneDescribedRow, DescriptionsCostNoRow, WrittenIsLinked};
 
