@@ -1,5 +1,6 @@
--- A fault of a file header (`header_check`), or of a walk over the whole text (`text_fails`, `data_set_check`), is the fault
--- that a check returns. Stands on the laws of `dictionary` and `sequence`.
+-- A walk along a piece goes to its end (`walks_whole`) or fails as the data set does (`walks_fails`). A fault of a file header
+-- (`header_check`), or of a walk over the whole text (`text_fails`, `data_set_check`), is the fault that a check returns. Stands
+-- on the laws of `dictionary` and `sequence`.
 use Rattle.std.proofs.Common.{append_assoc, true, ◌≡◌, ℕ, ◌≤◌, Bool, Some, None, arith, if◌then◌else◌, List, ◌≢◌, ◌+◌, ◌-◌, length, refl, ap, subst, ◌∙◌, zero, suc, [], ◌∷◌, ◌++◌, take, drop, sym, not, ◌&&◌, nat_eq, nat_lt, nat_le, ◌%◌}
 use Rattle.element.specs.declared.size.Need.{Need}
 use Rattle.element.specs.declared.syntax.Syntax.{Syntax}

@@ -1,11 +1,11 @@
 -- Statements that follow from the definitions; `src/laws.rt` has the functions whose contracts they are.
+use Rattle.std.specs.Prelude.{◌≡◌, ℕ, true, List, ◌≤◌, length, false, None, Some, suc, ◌+◌, []}
 use Rattle.element.specs.Padding.{padded}
 use Rattle.sequence.specs.declared.walker.Walker.{Walker}
 use Rattle.sequence.specs.Taken.{StandsAt, fault_of}
-use Rattle.dicomdir.specs.FileId.{is_file_id, file_id_of}
-use Rattle.std.specs.Prelude.{Some, ◌≡◌, ℕ, true, List, ◌≤◌, length, false, None, suc, ◌+◌, []}
 use Rattle.sequence.specs.Tree.{Elements}
 use Rattle.element.specs.declared.tag.Tag.{Tag}
+use Rattle.dicomdir.specs.FileId.{is_file_id, file_id_of}
 use Rattle.dicomdir.specs.NodesInUse.{LevelNode, HasNodes}
 use Rattle.dicomdir.specs.DirFault.{CheckFault, HasDataSet, directory_fault, first_fault, links_of}
 use Rattle.dicomdir.specs.Forest.{Forest, count_of}
