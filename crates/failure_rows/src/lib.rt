@@ -1,5 +1,5 @@
 //! Devices that fail or are refused memory, and the tests over them: after a failed call, or without memory, what was
-//! promised still holds; and many and large stores, at which nothing gives up. A disk in memory loses power, too.
+//! promised still holds; and many and large stores, at which nothing gives up.
 #![tactic(auto)]
 
 #[cfg(test)]
@@ -16,8 +16,6 @@ mod links;
 mod many_stores;
 #[cfg(test)]
 mod memory_failures;
-#[cfg(test)]
-mod power;
 #[cfg(test)]
 mod read_failures;
 #[cfg(test)]
