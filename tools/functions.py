@@ -20,7 +20,8 @@ class Function:
         if not found[0].endswith("}"):
             self.end = end_of(text, found)
         # (a body on one line with the head is none of its own)
-        body = re.compile(rf"^{found[1]}(?:\{{|(?:\)|(?:pub(?:\([a-z]+\))? )?(?:unsafe )?fn ).* \{{)$", re.M).search(text, self.start, self.end)
+        head = rf"^{found[1]}(?:\{{|(?:\)|(?:pub(?:\([a-z]+\))? )?(?:unsafe )?fn ).* \{{)$"
+        body = re.compile(head, re.M).search(text, self.start, self.end)
         self.body = body.end() if body else self.end
         self.text = text[found.start(3) + len(self.name) : self.end]
         self.type = ([""] + [of for start, end, of in impls if start <= self.start < end])[-1]

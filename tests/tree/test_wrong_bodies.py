@@ -1,5 +1,5 @@
-"""tools/wrong-bodies tells wrong bodies that are refused from those that are not, and says why. What it found refused it
-does not try again, until something changes that this rests on.
+"""tools/wrong-bodies tells wrong bodies that are refused from those that are not, and says why. What it found refused
+it does not try again, until something changes that this rests on.
 
 It is tried on a crate of three functions, which it proves.
 """
@@ -152,8 +152,8 @@ def test_what_was_refused_is_tried_again_where_it_rests_on_a_change(tried, what)
     status, output = try_them(tried[0], *words, change=(old, new))
     lock.write_text(kept)
     count = sum(word != "--all" for word in words)
-    also = f", {before} of them before" * bool(before)
-    assert status == 0 and f"{count} wrong bodies: {count} refused by the clause that they name{also} (" in output, output
+    refused = f"{count} refused by the clause that they name" + f", {before} of them before" * bool(before)
+    assert status == 0 and f"{count} wrong bodies: {refused} (" in output, output
 
 
 @together
