@@ -29,12 +29,13 @@ def ratios(path, titles, names, ratio_of):
             rows = [row + (place - (len(names) - 1) / 2) * width for row in range(len(titles))]
             side.barh(rows, [ratio_of(title, name, which) for title in titles], height=width, label=name)
         side.set_xscale("log")
+        side.set_xlim(left=0.5)
         side.set_xlabel(f"{what}, where the floor takes 1")
         side.axvline(1, color="black", linewidth=0.8)
         side.xaxis.set_major_formatter(matplotlib.ticker.FormatStrFormatter("%g"))
     sides[0].set_yticks(range(len(titles)), titles)
     sides[0].invert_yaxis()
-    sides[1].legend(loc="lower right")
+    sides[1].legend(loc="upper right")
     saved(figure, path)
 
 

@@ -24,10 +24,12 @@ ALLOCATING = re.compile(
     r"\b(Alloc|AllocGlobal|Allocator|Global|alloc|Vec|String|Box|Rc|Arc|format!)"
 )
 # What an association is made of, and which of its files are devices.
-ASSOCIATION = "element dictionary sequence pdu acceptor negotiate dimse part10 engine".split()
+ASSOCIATION = (
+    "element dictionary sequence pdu acceptor negotiate dimse part10 folder_filing engine"
+).split()
 DEVICES = (
     "memory_wire memory_filing folder_calls folder_filing folder_writer given_names group groups "
-    "listing locked_folder names numbers aside notes quarantine quarantine_names"
+    "listing locked_folder places names numbers aside notes quarantine quarantine_names"
 ).split()
 
 

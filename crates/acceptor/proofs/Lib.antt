@@ -1,1 +1,1 @@
-pub mod TimerLemmas
+pub mod TimerStartsAreEntries

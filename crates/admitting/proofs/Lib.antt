@@ -1,2 +1,2 @@
-pub mod OccupantLemmas
-pub mod QueueLemmas
+pub mod PeersStayWithinLimit
+pub mod FirstAdmittedGetsSlot

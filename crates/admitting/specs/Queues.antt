@@ -38,5 +38,6 @@ AdmitsFirst old new occupants occupants_new None = (new ≡ old) × (occupants_n
 
 -- the index of the first connection whose peer gets a slot, and that slot, which it has got
 abbrev pub FindsFirst : {T : Type 0} → List (Waiter T) → Occupants → Occupants → Option (ℕ × ℕ) → Type 0
-FindsFirst waiting occupants occupants_new (Some (at, slot)) = (at < length waiting) × AllGetNone occupants (take at waiting) × ((d : Waiter _) → Admits (get_or waiting at d).peer occupants occupants_new (admission.Slot slot))
+FindsFirst waiting occupants occupants_new (Some (at, slot)) = (at < length waiting) × AllGetNone occupants (take at waiting)
+    × ((d : Waiter _) → Admits (get_or waiting at d).peer occupants occupants_new (admission.Slot slot))
 FindsFirst waiting occupants occupants_new None = (occupants_new ≡ occupants) × AllGetNone occupants waiting

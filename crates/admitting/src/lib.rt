@@ -1,15 +1,12 @@
 //! Limits the number of connections: how many are served at a time and how many of one peer
-//! ([`Slots`]), who waits ([`Queue`]), how often a repeated message is logged ([`Notice`]), and what there was,
-//! for contracts ([`History`]).
+//! ([`Slots`]), who waits ([`Queue`]), and how often a repeated message is logged ([`Notice`]).
 #![tactic(auto)]
 
-mod history;
 mod notice;
 mod peer;
 mod queue;
 mod slots;
 
-pub use history::History;
 pub use notice::Notice;
 pub use peer::peer_number;
 pub use queue::{Queue, Waiter};

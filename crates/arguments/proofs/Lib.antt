@@ -1,5 +1,5 @@
-mod WordsLemmas
-mod TableLemmas
-mod ValuesLemmas
-mod TransferLemmas
-mod CallersLemmas
+mod SubcommandHasItsRows
+mod TableRowsAreAdded
+mod ValuesKeepTheirOrder
+mod TransfersAreAsAsked
+mod LinesGiveTheirTitles

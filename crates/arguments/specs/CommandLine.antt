@@ -81,7 +81,9 @@ abbrev pub logging_app : App
 logging_app = with_rules limited_app (counted_rule (codes "verbose") 118 ∷ letter_rule (codes "quiet") 113 ∷ free (codes "log") ∷ [])
 
 abbrev pub filing_app : App
-filing_app = with_rules logging_app (free (codes "per") ∷ free (codes "numbers") ∷ free (codes "quarantine") ∷ free (codes "quarantine-most") ∷ flag_rule (codes "no-sync") ∷ flag_rule (codes "once") ∷ [])
+filing_app = with_rules logging_app
+    (free (codes "per") ∷ free (codes "numbers") ∷ free (codes "quarantine") ∷ free (codes "quarantine-most")
+    ∷ flag_rule (codes "no-sync") ∷ flag_rule (codes "once") ∷ [])
 
 -- and how many are served at once, how long, and how that is ended
 abbrev pub serve_app : App
@@ -104,7 +106,8 @@ check_app = with_rules (files_app (codes "check")) (flag_rule (codes "strict") �
 
 abbrev pub index_app : App
 index_app = with_rules (new_app (codes "index"))
-    (positional (codes "DIR") ∷ free (codes "uid") ∷ flag_rule (codes "new-uid") ∷ flag_rule (codes "descriptions") ∷ flag_rule (codes "all-syntaxes") ∷ flag_rule (codes "keep") ∷ flag_rule (codes "replace") ∷ [])
+    (positional (codes "DIR") ∷ free (codes "uid") ∷ flag_rule (codes "new-uid") ∷ flag_rule (codes "descriptions")
+    ∷ flag_rule (codes "all-syntaxes") ∷ flag_rule (codes "keep") ∷ flag_rule (codes "replace") ∷ [])
 
 abbrev pub list_app : App
 list_app = with_rules (new_app (codes "list")) (positional (codes "DIR") ∷ flag_rule (codes "series") ∷ flag_rule (codes "instances") ∷ flag_rule (codes "json") ∷ [])

@@ -31,7 +31,7 @@ pub struct Per {
     pub ghost most: { files ≤ 9999 },
 }
 
-/// What `replay` does.
+/// The settings of `dcmbox replay`.
 #[derive(Drop)]
 pub struct Replay<'a> {
     pub file: &'a str,
@@ -89,7 +89,7 @@ pub struct AtOnce<'a> {
     pub longest: Option<Duration>,
     /// The path of a file whose appearance ends the program.
     pub stop_file: Option<&'a str>,
-    /// How long stores that have begun may go on then.
+    /// How long stores that have begun may go on once the program is asked to end (`--grace`).
     pub grace: Duration,
 }
 

@@ -12,7 +12,7 @@ use std::alloc::{AllocError, Global};
 /// How many titles may be named, and how many storage classes.
 pub const MOST_VALUES: usize = 64;
 
-/// How many transfer syntaxes may be named.
+/// How often `--transfer-syntax` may be given.
 pub const MOST_SYNTAXES: usize = 16;
 
 /// The arguments of a command that takes one file.

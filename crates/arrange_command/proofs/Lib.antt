@@ -1,1 +1,1 @@
-mod NameLemmas
+mod NamesArePrintable

@@ -1,7 +1,7 @@
 //! Copies files: to a draft, which gets its name once it is complete.
 use element::interrupted::read_retrying;
 use failures::{Failure, ProgramError};
-use part10::StoredFile;
+use folder_filing::StoredFile;
 use std::fs::{self, File, OpenFile};
 use std::io::{self, Error, ErrorKind, Read, Write};
 use std::rt::Files;

@@ -1,6 +1,6 @@
 //! A runtime that fails one of its calls of the system, whichever it is.
 
-use part10::StoredFile;
+use folder_filing::StoredFile;
 use std::alloc::{AllocError, Allocator, Global};
 use std::cell::Cell;
 use std::fs::{File, Metadata, OpenFile, OpenOptions, TryLockError};

@@ -3,9 +3,9 @@ use crate::images::{FIRST, MadeImage, SECOND, has_bytes, has_image, is_free, put
 use arrange_command::{ArrangeOptions, arrange_folder};
 use failures::ProgramError;
 use fixtures::folders::{count, fresh};
+use folder_filing::StoredFile;
 use inspection::Outcome;
 use keyed_files::Counter;
-use part10::StoredFile;
 use std::alloc::Global;
 use std::fs;
 use std::rt::Files;

@@ -6,7 +6,7 @@ use fixtures::bytes::{after_first, back, front};
 use fixtures::folders::{are_in, count};
 use fixtures::stores::{ACCEPT, CT_SET, EXPLICIT, INSTANCE};
 use fixtures::{Shown, Step, over_memory};
-use part10::FolderFiling;
+use folder_filing::FolderFiling;
 use pdu::MemoryWire;
 use std::alloc::{AllocError, Global};
 use std::test::Fail;

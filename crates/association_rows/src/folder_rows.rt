@@ -5,7 +5,7 @@ use acceptor::State;
 use dimse::status;
 use fixtures::folders::{are_in, count, fresh, holds, put};
 use fixtures::stores::{CT_SET, EXPLICIT, INSTANCE, reply, whole_store};
-use part10::FolderFiling;
+use folder_filing::FolderFiling;
 use std::alloc::{AllocError, Global};
 use std::test::Fail;
 use std::{fs, io};

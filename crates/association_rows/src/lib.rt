@@ -5,6 +5,8 @@
 #[cfg(test)]
 mod compressed_rows;
 #[cfg(test)]
+mod decision_rows;
+#[cfg(test)]
 mod draft_rows;
 #[cfg(test)]
 mod folder_rows;

@@ -7,7 +7,7 @@ use fixtures::echo::{RELEASE, RELEASED};
 use fixtures::folders::{are_in, count, fresh};
 use fixtures::refusing::Refusing;
 use fixtures::stores::{ACCEPT, CT_SET, EXPLICIT, INSTANCE, file, reply, request, whole_store};
-use part10::FolderFiling;
+use folder_filing::FolderFiling;
 use replay_command::replay_over;
 use std::alloc::{AllocError, Global};
 use std::io::Write;

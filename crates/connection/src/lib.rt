@@ -9,5 +9,5 @@ mod timeouts;
 
 pub use acknowledge::acknowledge_at_once;
 pub use limits::{COMMAND, DEPTH, REQUEST, VALUES};
-pub use observer::{Observer, ReadEnd};
+pub use observer::{Observer, ReadEnd, Taken};
 pub use timeouts::Timeouts;

@@ -1,4 +1,5 @@
 //! The interface of an observer of connections, such as a log.
+use decisions::Decision;
 use std::io;
 
 /// Why reading from a peer ended.
@@ -18,22 +19,42 @@ pub enum ReadEnd {
     Stopped,
 }
 
+/// Bytes that an association took of one part of a PDU: of its head, of its body, of the head of a
+/// presentation data value, or of a fragment; and what came of them.
+#[derive(Clone, Copy, Debug)]
+pub struct Taken<'a> {
+    /// The bytes.
+    pub bytes: &'a [u8],
+    /// The bytes that were read after them and wait to be taken.
+    pub ahead: &'a [u8],
+    /// Whether the part is complete with them. If not, nothing was decided.
+    pub is_complete: bool,
+    /// What the association decided last.
+    pub decision: Decision,
+    /// The command set of the unfinished message, as far as it was received.
+    pub command: &'a [u8],
+    /// How many bytes the association sends for them. They wait until the peer takes them, and if
+    /// `is_held`, until [`settled`](Observer::settled) is called.
+    pub answered: usize,
+    /// Whether what it sends is held until the file of a store is settled.
+    pub is_held: bool,
+}
+
 /// An observer of a connection. It is told what is sent and received, and cannot change it.
 pub trait Observer {
-    /// Called with bytes that the association took. The bytes of `ahead` were read after them and wait to be
-    /// taken. Those of `answer` are what it sends for them: they wait until the peer takes them, and if
-    /// `is_held`, until [`settled`](Observer::settled) is called.
-    fn took(&self, bytes: &[u8], ahead: &[u8], answer: &[u8], is_held: bool);
+    /// Called after each part of a PDU, or piece of a part, that the association took.
+    fn took(&self, taken: &Taken<'_>);
 
-    /// Called once the file of a store whose answer is held was settled, with whether it is kept. If it is
-    /// lost, nothing more is sent.
+    /// Called once the file of a store whose answer is held was settled, with whether it is kept.
+    /// If it is lost, nothing more is sent.
     fn settled(&self, is_kept: bool);
 
     /// Called with bytes that were sent.
     fn sent(&self, bytes: &[u8]);
 
-    /// Called once reading has ended, with the reason, and with the A-ABORT that was written for it, if one was.
-    fn read_ended(&self, why: ReadEnd, abort: &[u8]);
+    /// Called once reading has ended, with the reason, and with the size in bytes of the A-ABORT
+    /// that was written for it, 0 if none was.
+    fn read_ended(&self, why: ReadEnd, abort: usize);
 
     /// Called with the error of a send that failed.
     fn send_failed(&self, error: &io::Error);

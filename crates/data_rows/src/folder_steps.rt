@@ -9,7 +9,8 @@
 ghost use Rattle.std.specs.Prelude.{◌≤◌};
 
 use fixtures::folders::{count, fresh, holds, is_filed, put};
-use part10::{Filing, FolderFiling, FolderWriter};
+use folder_filing::{FolderFiling, FolderWriter};
+use part10::Filing;
 use std::io::ErrorKind;
 use std::test::Fail;
 use std::{fs, io};

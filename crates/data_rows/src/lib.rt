@@ -1,6 +1,6 @@
 //! Worked rows and outside vectors of data sets, of files, of values and of directories, tried on the public calls of
-//! `element`, `dictionary`, `sequence`, `part10`, `values`, `inspection`, `dicomdir` and `dicomdir_writing`. They stand
-//! here and not beside the code, because a crate with tests is proved twice.
+//! `element`, `dictionary`, `sequence`, `part10`, `folder_filing`, `values`, `inspection`, `dicomdir` and
+//! `dicomdir_writing`. They stand here and not beside the code, because a crate with tests is proved twice.
 #![tactic(auto)]
 
 #[cfg(test)]
@@ -32,6 +32,12 @@ mod extended_rows;
 #[cfg(test)]
 mod files;
 #[cfg(test)]
+mod folder_filing_numbers;
+#[cfg(test)]
+mod folder_filing_quarantine;
+#[cfg(test)]
+mod folder_filing_rows;
+#[cfg(test)]
 mod folder_steps;
 #[cfg(test)]
 mod fragment_rows;
@@ -43,12 +49,6 @@ mod inspection_rows;
 mod meta_rule_rows;
 #[cfg(test)]
 mod noted_values;
-#[cfg(test)]
-mod part10_folders;
-#[cfg(test)]
-mod part10_numbers;
-#[cfg(test)]
-mod part10_quarantine;
 #[cfg(test)]
 mod part10_rows;
 #[cfg(test)]

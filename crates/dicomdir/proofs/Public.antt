@@ -2,7 +2,7 @@
 -- definitions alone.
 use Rattle.dicomdir.specs.Laws.{FileIdsAreShort, FileIdsAreReadBack, WalkersStartWithoutFault, LinkedHasNoFault}
 use Rattle.dicomdir.proofs.FileIds as ids
-use Rattle.dicomdir.proofs.WalkLemmas as walks
+use Rattle.dicomdir.proofs.WalksEndOrFail as walks
 use Rattle.dicomdir.proofs.NoFault as linked
 
 pub file_id_room : FileIdsAreShort

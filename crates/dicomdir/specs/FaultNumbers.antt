@@ -5,7 +5,7 @@ use Rattle.dicomdir.specs.declared.rule.DirRule.{DirRule}
 use Rattle.dicomdir.specs.declared.rule.DirRule.TheVariants.{BadOffset, Cycle, TwiceReached, Unreached, WrongLevel, BadFileId, TooLarge, OutOfMemory, BadRecord}
 use Rattle.part10.specs.declared.meta_fault.MetaFault.TheVariants.{NotPart10, BadMeta, OtherSyntax}
 use Rattle.part10.specs.MetaText.{fault_name}
-use Rattle.sequence.specs.Names.{rule_name}
+use Rattle.element.specs.RuleNames.{rule_name}
 
 -- the number of a rule
 abbrev pub rule_number : DirRule → ℕ

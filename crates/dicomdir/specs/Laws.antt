@@ -37,7 +37,8 @@ AcceptedHasNoFault = (file : List ℕ) (nodes : List LevelNode) (number place : 
 
 -- a file has one first fault at most
 abbrev pub OneCheckFault : Type 0
-OneCheckFault = (file : List ℕ) (number number2 place place2 : ℕ) (tag tag2 : Tag) → CheckFault file number place tag → CheckFault file number2 place2 tag2 → (number ≡ number2) × (place ≡ place2) × (tag ≡ tag2)
+OneCheckFault = (file : List ℕ) (number number2 place place2 : ℕ) (tag tag2 : Tag)
+    → CheckFault file number place tag → CheckFault file number2 place2 tag2 → (number ≡ number2) × (place ≡ place2) × (tag ≡ tag2)
 
 -- a file determines the list of its records in use
 abbrev pub OneListOfNodes : Type 0

@@ -36,7 +36,7 @@ fn header_fault(fault: MetaFault) -> DirFault
 
 /// Reads the File Meta Information, and returns the bytes after it. Fails with 50, 51 or 53; any
 /// transfer syntax but Explicit VR Little Endian is 53.
-#[tactic(auto, using(crate::proofs::WalkLemmas::header_check, crate::proofs::WalkLemmas::header_at_none, crate::proofs::WalkLemmas::implicit_check, crate::proofs::WalkLemmas::explicit_check))]
+#[tactic(auto, using(crate::proofs::WalksEndOrFail::header_check, crate::proofs::WalksEndOrFail::header_at_none, crate::proofs::WalksEndOrFail::implicit_check, crate::proofs::WalksEndOrFail::explicit_check))]
 fn after_header(bytes: &[u8]) -> Result<&[u8], DirFault>
     ensures read { IfOk result (λ rest. HasHeader bytes.now rest.now) }
     ensures memory { IfErr result IsAtNone }
@@ -136,7 +136,7 @@ fn check_elements<'a, A: Allocator + Copy>(
 /// need not fit their level.
 ///
 /// If memory runs out, the error is 67, with position 0 and no tag.
-#[tactic(auto, using(crate::proofs::WalkLemmas::data_set_check, crate::proofs::WalkLemmas::header_before, crate::proofs::WalkLemmas::fault_within, crate::proofs::WalkLemmas::fault_at_none))]
+#[tactic(auto, using(crate::proofs::WalksEndOrFail::data_set_check, crate::proofs::WalksEndOrFail::header_before, crate::proofs::WalksEndOrFail::fault_within, crate::proofs::WalksEndOrFail::fault_at_none))]
 pub fn check<'a, A: Allocator + Copy>(alloc: A, bytes: &'a [u8]) -> Result<Tree<'a, A>, DirFault>
     ensures whole { IsOk result → HasDataSet bytes.now }
     ensures nodes { IfOk result (λ tree. HasNodes bytes.now (tree_nodes tree)) }

@@ -13,7 +13,7 @@ use std::fmt::{Display, Formatter};
 /// Why a directory file is invalid, or cannot be built.
 #[derive(Clone, Copy, Debug, PartialEq, Eq)]
 pub struct DirFault {
-    /// The number of the rule: 10 to 20 are rules of a data set (`sequence::Rule`), 50, 51 and 53
+    /// The number of the rule: 10 to 20 are rules of a data set (`element::Rule`), 50, 51 and 53
     /// faults of File Meta Information (`part10::MetaFault`), and 60 to 68 rules of directories
     /// ([`DirRule`]).
     pub number: u8,

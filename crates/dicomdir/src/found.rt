@@ -31,7 +31,7 @@ pub(crate) fn after(text: &[u8], count: usize) -> &[u8]
 }
 
 /// Reads the header at the front of the bytes. Returns `None` if it is unfinished or has no valid VR.
-#[tactic(auto, using(crate::proofs::TextLemmas::head_whole, crate::proofs::TextLemmas::head_some))]
+#[tactic(auto, using(crate::proofs::FrontIsFirstElement::head_whole, crate::proofs::FrontIsFirstElement::head_some))]
 pub(crate) fn head_of(syntax: Coding, text: &[u8]) -> Option<Head>
     ensures value { result ≡ head_at syntax text.now }
     ensures some { IfSome result (λ r. 8 ≤ r.size) }

@@ -1,5 +1,5 @@
 -- The record of a row is laid down as the standard has it, with any offsets (`record_node`), which are read back
--- (`number_back`). Stands on Laid, RecordLemmas and the laws of `dicomdir`.
+-- (`number_back`). Stands on Laid, RecordIsItsElements and the laws of `dicomdir`.
 use Rattle.std.proofs.Common.{◌≡◌, ℕ, ◌<◌, ◌≤◌, ◌^◌, Bool, true, false, not, cond, ◌&&◌, ◌||◌, List, [], ◌∷◌, nat_le, nat_lt, nat_eq, Option, Some, None, is_some, refl, sym, subst, ap, ◌∙◌, arith, codes, rules}
 use Rattle.std.specs.List.{list_all}
 use Rattle.std.specs.Str.{bytes_eq}
@@ -30,7 +30,7 @@ use Rattle.dicomdir.specs.Linked.{fits}
 use Rattle.dicomdir_writing.specs.Row.{Row}
 use Rattle.dicomdir.proofs.Public.{file_id_back}
 use Rattle.dicomdir_writing.proofs.Laid.{is_laid, is_header, is_element, IsGood, is_fixed, good_none, good_value}
-use Rattle.dicomdir_writing.proofs.RecordLemmas.{record_fields, record_rooms}
+use Rattle.dicomdir_writing.proofs.RecordIsItsElements.{record_fields, record_rooms}
 use Rattle.std.proofs.lemmas.Grind.{common_steps}
 
 rising_more : (last more : ℕ) (es : Elements) → last ≤ more → IsGood more es → IsGood last es

@@ -1,5 +1,5 @@
 -- A file has one row (`one_row`, `one_described_row`), whose keys fit (`keys_fit`), and a file that was filed has one
--- (`filed_has_row`). Stands on TakenLemmas and the laws of `part10` and `sequence`.
+-- (`filed_has_row`). Stands on OtherSyntaxesFail and the laws of `part10` and `sequence`.
 use Rattle.std.proofs.Common.{◌≡◌, ◌≤◌, ◌<◌, ◌+◌, get_or, ℕ, Bool, true, false, cond, List, [], ◌∷◌, map, Some, None, Ok, Err, refl, ap, subst, eqb-true, nat_eq, arith, rules, ◌++◌, length, take, drop, Option, is_some, sym, ◌∙◌, append_assoc, codes, Result}
 use Rattle.std.specs.List.{list_all, find}
 use Rattle.std.specs.Prelude.{filter, nat_le, IfErr}
@@ -36,7 +36,7 @@ use Rattle.sequence.proofs.Public.{one_fault, one_tree, whole_breaks_no_rule}
 use Rattle.dicomdir_writing.specs.Laws.{OneRow, OneDescribedRow, KeysFit, FiledHasRow}
 use Rattle.dicomdir_writing.specs.declared.skip.Skip.{Skip}
 use Rattle.dicomdir_writing.specs.declared.skip.Skip.TheVariants as skip
-use Rattle.dicomdir_writing.proofs.TakenLemmas.{one_transfer}
+use Rattle.dicomdir_writing.proofs.OtherSyntaxesFail.{one_transfer}
 
 pub too_long : (row : Row) → fits_rooms row ≡ false → checked_row row ≡ Err (skip.Fault 21)
 too_long row e = ap (λ (b : Bool). cond b (row_unless row (first_empty row)) (Err (skip.Fault 21))) e

@@ -1,5 +1,5 @@
 -- The directory that is written of rows is linked to their tree, and so has no fault (`written_is_linked`). Stands on
--- BuildingLemmas, Laid, LaidRecords, Placed and the laws of `dicomdir` and `part10`.
+-- DirectoryHasItsText, Laid, LaidRecords, Placed and the laws of `dicomdir` and `part10`.
 use Rattle.element.specs.Header.{item_tag}
 use Rattle.std.proofs.Common.{◌≡◌, ℕ, suc, ◌+◌, ◌%◌, ◌^◌, ◌<◌, ◌≤◌, true, false, List, ◌∷◌, ◌++◌, length, Some, None, refl, sym, ap, ◌∙◌, append_assoc, arith, nat_eq}
 use Rattle.std.proofs.lemmas.Bool.Decides.{nat_tests}
@@ -22,7 +22,7 @@ use Rattle.dicomdir_writing.specs.Row.{Row}
 use Rattle.dicomdir.specs.Forest.{Forest, no_nodes, node}
 use Rattle.dicomdir_writing.specs.TreeOf.{TreeOf}
 use Rattle.dicomdir_writing.specs.Laws.{IsDirectoryOf, WrittenIsLinked}
-use Rattle.dicomdir_writing.proofs.BuildingLemmas.{directory_text, root_size_is, items_size, offsets_size}
+use Rattle.dicomdir_writing.proofs.DirectoryHasItsText.{directory_text, root_size_is, items_size, offsets_size}
 use Rattle.dicomdir_writing.proofs.Laid.{is_laid, are_laid, is_item, laid_elements, padded_short}
 use Rattle.dicomdir_writing.proofs.LaidRecords.{number_back}
 use Rattle.dicomdir.proofs.Public.{linked_has_no_fault}

@@ -172,7 +172,8 @@ RecordFaults =
     × (directory_fault 266 (field (tag 0x0004 0x1200) (codes "UL") (le 0 4) no_elements) ≡ fault 68 266)
     × (directory_fault 266 (field (tag 0x0004 0x1130) (codes "CS") [] (field (tag 0x0004 0x1200) (codes "UL") (le 0 2) no_elements)) ≡ fault 68 274)
     × (directory_fault 266 (root_elements 320 320 (item_of (record_for Patient one_image_row) no_items)) ≡ fault 68 320)
-    × (directory_fault 266 (root_elements 320 320 (record_item 0 0 (field (tag 0x0004 0x1410) (codes "US") (le 0xffff 2) (field (tag 0x0004 0x1430) (codes "CS") (codes "IMAGE ") no_elements)) no_items)) ≡ fault 65 320)
+    × (directory_fault 266 (root_elements 320 320 (record_item 0 0
+    (field (tag 0x0004 0x1410) (codes "US") (le 0xffff 2) (field (tag 0x0004 0x1430) (codes "CS") (codes "IMAGE ") no_elements)) no_items)) ≡ fault 65 320)
 
 -- the directory of no rows has 320 bytes, and is linked to no node
 abbrev pub no_rows_elements : Elements

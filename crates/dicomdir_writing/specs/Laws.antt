@@ -38,7 +38,8 @@ OneRow =
 
 -- a file determines its row with Series Description, too, or why it has none
 abbrev pub OneDescribedRow : Type 0
-OneDescribedRow = (additional : List Transfer) (file file_id : List ℕ) (result other : Result Row Skip) → DescribedRow additional file file_id result → DescribedRow additional file file_id other → result ≡ other
+OneDescribedRow = (additional : List Transfer) (file file_id : List ℕ) (result other : Result Row Skip)
+    → DescribedRow additional file file_id result → DescribedRow additional file file_id other → result ≡ other
 
 -- a file that has a row without Series Description has one with it, too
 abbrev pub DescriptionsCostNoRow : Type 0

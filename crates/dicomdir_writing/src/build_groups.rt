@@ -46,7 +46,7 @@ fn open_group<'r, A: Allocator + Copy>(
     Ok(())
 }
 
-#[tactic(auto, using(crate::proofs::GroupingLemmas::row_put))]
+#[tactic(auto, using(crate::proofs::GroupsKeepSeenOrder::row_put))]
 fn put_row<'r, A: Allocator>(
     groups: &mut Vec<Vec<&'r Row<A>, A>, A>,
     number: usize,

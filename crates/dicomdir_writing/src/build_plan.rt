@@ -96,7 +96,7 @@ impl<'r, A: Allocator> Plan<'r, A> {
 
     /// Plans a record in front of the others, and returns its offset, counted back from the end of the
     /// file. Fails if there would be more than `most` bytes of records, or memory runs out.
-    #[tactic(auto, using(crate::proofs::LayingLemmas::record_length))]
+    #[tactic(auto, using(crate::proofs::TreeIsLaidDown::record_length))]
     fn add(&mut self, most: u32, entry: LaidRecord<'r, A>) -> Result<u32, Stop>
         ensures added { IfOk result (λ start. Adds entry.entry.level entry.entry.row.now entry.entry.next entry.entry.lower self.old.entries.items self.new.entries.items) }
         ensures size { IfOk result (λ start. self.new.size ≡ self.old.size + record_size (record_for entry.entry.level entry.entry.row.now)) }

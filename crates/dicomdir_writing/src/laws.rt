@@ -83,7 +83,7 @@ pub fn descriptions_cost_no_row()
 
 /// If no transfer syntax is accepted beside the two native ones, File Meta Information has the faults
 /// that `part10::read_meta` returns.
-#[tactic(auto, using(crate::proofs::TakenLemmas::native_alone))]
+#[tactic(auto, using(crate::proofs::OtherSyntaxesFail::native_alone))]
 pub fn native_alone_are_taken()
     ensures { NativeAloneAreTaken }
 {}

@@ -87,7 +87,7 @@ pub(crate) fn put_offset(out: &mut RecordBytes, tag: Tag, offset: u32)
 }
 
 /// Appends an element of a record, padded to an even length: UI with 00H, others with a space.
-#[tactic(auto, using(crate::proofs::RecordLemmas::field_text, crate::proofs::RecordLemmas::short_named))]
+#[tactic(auto, using(crate::proofs::RecordIsItsElements::field_text, crate::proofs::RecordIsItsElements::short_named))]
 fn put_field(out: &mut RecordBytes, rule: &RecordRule, value: &[u8])
     requires room { array_vec_len out.old + length value.now + 12 ≤ 1024 }
     requires short { has_short_header rule.now ≡ true }
@@ -139,7 +139,7 @@ fn put_rules<A: Allocator>(out: &mut RecordBytes, rules: &[RecordRule], entry: &
 
 /// Returns the elements of the record of a row at a level, with the offsets of the next record and of
 /// the lower level.
-#[tactic(auto, using(crate::proofs::RecordLemmas::record_fields, crate::proofs::RecordLemmas::record_fits, crate::proofs::RecordLemmas::short_table))]
+#[tactic(auto, using(crate::proofs::RecordIsItsElements::record_fields, crate::proofs::RecordIsItsElements::record_fits, crate::proofs::RecordIsItsElements::short_table))]
 fn record_elements<A: Allocator>(level: Level, row: &Row<A>, next: u32, lower: u32) -> RecordBytes
     ensures items { result.items ≡ spelled (with_offsets next lower (record_for level row.now)) }
     ensures bound { array_vec_len result ≤ 960 }

@@ -37,7 +37,7 @@ pub(crate) fn file_header(uid: &Uid) -> ArrayVec<u8, 512>
 /// Returns the elements before the first record (PS3.3 section F.3): an empty File-set ID, the offsets
 /// of the first and the last record of the root, File-set Consistency Flag, and the header of Directory
 /// Record Sequence, whose items have `size` bytes.
-#[tactic(auto, using(crate::proofs::RecordLemmas::four_fields), unfolding(element::specs::Vr::is_short, crate::specs::machine::Building::root_text))]
+#[tactic(auto, using(crate::proofs::RecordIsItsElements::four_fields), unfolding(element::specs::Vr::is_short, crate::specs::machine::Building::root_text))]
 pub(crate) fn root_bytes(first: u32, last: u32, size: u32) -> RecordBytes
     ensures { result.items ≡ root_text first last size }
 {

@@ -1,5 +1,5 @@
 pub mod Names
 pub mod Public
-pub mod StorageLemmas
-pub mod TransferLemmas
+pub mod StorageClassesAreFew
+pub mod TransferHasOneText
 pub mod TransferNames

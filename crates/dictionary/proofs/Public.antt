@@ -9,8 +9,8 @@ use Rattle.dictionary.specs.StorageClasses.{storage_classes}
 use Rattle.dictionary.specs.Syntaxes.{syntax_of, syntax_uid}
 use Rattle.dictionary.specs.Transfers.{native, native_of, syntax_in, transfer_named, transfer_of, transfer_uid}
 use Rattle.dictionary.proofs.Names as names
-use Rattle.dictionary.proofs.StorageLemmas as storage
-use Rattle.dictionary.proofs.TransferLemmas as transfers
+use Rattle.dictionary.proofs.StorageClassesAreFew as storage
+use Rattle.dictionary.proofs.TransferHasOneText as transfers
 use Rattle.dictionary.proofs.TransferNames as identifiers
 
 pub class_back : (c : Class) → class_of (class_uid c) ≡ Some c

@@ -172,10 +172,11 @@ impl Transfer {
         }
     }
 
-    /// Returns whether Pixel Data may be encapsulated in it.
+    /// Returns whether Pixel Data may be encapsulated in the transfer syntax.
     pub fn is_encapsulated(self) -> bool
         ensures { result ≡ table.is_encapsulated self }
     {
+        // One arm for each line of the definition: the proof goes through them one by one.
         match self {
             Transfer::Implicit => false,
             Transfer::Explicit => false,

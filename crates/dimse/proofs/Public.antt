@@ -6,8 +6,8 @@ use Rattle.pdu.specs.Texts.{data_text}
 use Rattle.dimse.specs.Command.{CommandRecord, c_echo, c_store, command_value, field_element, needed, status_element, two_bytes}
 use Rattle.dimse.specs.Reading.{command_in, set_of}
 use Rattle.dimse.specs.Reply.{command_pdus, fragments, reply_bytes, reply_command, reply_elements, response}
-use Rattle.dimse.proofs.LengthLemmas as length_of
-use Rattle.dimse.proofs.PduLemmas as pdus
+use Rattle.dimse.proofs.RepliesStayShort as length_of
+use Rattle.dimse.proofs.PdusCarryFragments as pdus
 use Rattle.dimse.proofs.ReadBack as back
 
 pub reply_bounded : (text : List ℕ) (command : CommandRecord) (status : ℕ) (detail : Option Detail) (context maximum : ℕ)

@@ -1,6 +1,6 @@
--- The command set of a reply reads back as its elements (`reply_again`): they rise, with even lengths (`reply_rises`). Its field
--- and its status read back as numbers (`field_again`, `status_again`), and the field is one of two (`reads_field`). Stands
--- on CommandLemmas, LengthLemmas and ReadLemmas.
+-- The command set of a reply reads back as its elements (`reply_again`): they rise, with even lengths (`reply_rises`).
+-- Its field and its status read back as numbers (`field_again`, `status_again`), and the field is one of two
+-- (`reads_field`). Stands on ReadCommandsNameUids, RepliesStayShort and TextSpellsOneCommand.
 use Rattle.std.proofs.Common.{◌≡◌, ℕ, ◌+◌, ◌%◌, ◌<◌, ◌≤◌, ◌^◌, ◌⊎◌, Bool, true, false, ◌&&◌, List, [], ◌∷◌, ◌++◌, length, nat_eq, Option, Some, None, option_map, Ok, Err, if◌then◌else◌, codes, refl, sym, subst, append_assoc, arith, inl, inr}
 use Rattle.std.specs.Prelude.{IfSome}
 use Rattle.std.proofs.lemmas.Bool.{cases_Bool}
@@ -18,9 +18,9 @@ use Rattle.dimse.specs.Detail.{cause_name, comment, comment_of, two_digits}
 use Rattle.dimse.specs.Command.{CommandElement, CommandRecord, AreRising, IsCommandElement, c_echo, c_store, command_of, command_value, field_element, is_uid_or_none, needed, no_data_set, status_element, store_command, two_bytes}
 use Rattle.dimse.specs.Reading.{set_of, command_in, command_in_set}
 use Rattle.dimse.specs.Reply.{element, tag_elements, detail_elements, detail_carried, instance_elements, reply_elements, reply_command, response}
-use Rattle.dimse.proofs.CommandLemmas.{set_again}
-use Rattle.dimse.proofs.LengthLemmas.{comment_is_short, elements_short, uid_length}
-use Rattle.dimse.proofs.ReadLemmas.{reads_uids, went}
+use Rattle.dimse.proofs.TextSpellsOneCommand.{set_again}
+use Rattle.dimse.proofs.RepliesStayShort.{comment_is_short, elements_short, uid_length}
+use Rattle.dimse.proofs.ReadCommandsNameUids.{reads_uids, went}
 
 is_one : (number : ℕ) (value : List ℕ) → number < 2 ^ 16 → length value % 2 ≡ 0 → length value ≤ 66 → IsCommandElement (element number value)
 is_one number value group even short = record { in_group = group; even = even; fits = omega (arith, short) }

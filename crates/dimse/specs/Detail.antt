@@ -2,9 +2,9 @@
 -- product's own profile).
 use Rattle.std.specs.Prelude.{ℕ, Bool, true, false, ◌+◌, ◌/◌, ◌%◌, List, [], ◌∷◌, ◌++◌, Option, Some, None, codes, nat_eq, option_map, if◌then◌else◌}
 use Rattle.element.specs.Padding.{padded}
-use Rattle.sequence.specs.declared.rule.Rule.{Rule}
-use Rattle.sequence.specs.declared.rule.Rule.TheVariants.{TooDeep, TooLong}
-use Rattle.sequence.specs.Names.{rule_of, text_of_rule}
+use Rattle.element.specs.declared.rule.Rule.{Rule}
+use Rattle.element.specs.declared.rule.Rule.TheVariants.{TooDeep, TooLong}
+use Rattle.element.specs.RuleNames.{rule_of, text_of_rule}
 
 -- the SOP Class UID of the data set is missing, invalid or other than the command's; the next one says so of the SOP
 -- Instance UID

@@ -1,10 +1,10 @@
 -- Reads a command from its bytes, front to back: the function that the definitions of Command.antt determine.
-use Rattle.std.specs.Prelude.{ℕ, zero, suc, ◌-◌, ◌%◌, Bool, ◌&&◌, List, [], ◌∷◌, length, take, drop, Option, Some, None, Result, Err, nat_eq, nat_le, nat_lt, if◌then◌else◌}
+use Rattle.std.specs.Prelude.{ℕ, zero, suc, ◌-◌, ◌%◌, Bool, ◌&&◌, List, [], ◌∷◌, length, take, drop, Option, Some, None, Result, Ok, Err, nat_eq, nat_le, nat_lt, if◌then◌else◌}
 use Rattle.byteorder.specs.Endian.{little_number}
 use Rattle.element.specs.Padding.{is_empty}
 use Rattle.dimse.specs.declared.fault.DimseFault.{DimseFault}
 use Rattle.dimse.specs.declared.fault.DimseFault.TheVariants.{BadCommand}
-use Rattle.dimse.specs.Command.{CommandElement, CommandRecord, command_of}
+use Rattle.dimse.specs.Command.{CommandElement, CommandRecord, command_of, command_value, field_element, needed, two_bytes}
 
 -- the bytes begin with an element of group 0000 and even length, all of it
 abbrev pub is_element : List ℕ → Bool
@@ -55,3 +55,16 @@ command_in_set (Some es) = command_of es
 -- the command of these bytes, or their fault
 unfoldable pub command_in : List ℕ → Result CommandRecord DimseFault
 command_in text = command_in_set (set_of text)
+
+abbrev pub if_read : Result ℕ DimseFault → Option ℕ
+if_read (Ok number) = Some number
+if_read (Err fault) = None
+
+-- the Command Field of a command set, which need not be that of a valid command; none if the bytes are no command set
+-- or have none
+abbrev pub field_in_set : Option (List CommandElement) → Option ℕ
+field_in_set None = None
+field_in_set (Some es) = if_read (needed two_bytes (command_value field_element es))
+
+unfoldable pub field_in : List ℕ → Option ℕ
+field_in text = field_in_set (set_of text)

@@ -3,8 +3,7 @@ ghost use Rattle.std.specs.Prelude.{◌≡◌, ◌≤◌, length, option_map, If
 ghost use Rattle.dimse.specs.Detail as spelling;
 
 use arrayvec::ArrayVec;
-use element::Tag;
-use sequence::Rule;
+use element::{Rule, Tag};
 
 /// The greatest size in bytes of an Error Comment (0000,0902): `fault`, a space, two digits, a space, a
 /// name of at most 16 bytes, and padding to an even length.
@@ -14,7 +13,7 @@ pub(crate) const COMMENT: usize = 26;
 /// Comment (0000,0902).
 #[derive(Clone, Copy, Debug, PartialEq, Eq)]
 pub struct Detail {
-    /// The number of the rule that the data set breaks (`sequence::Rule`), 10 to 17, 20 or 21; or
+    /// The number of the rule that the data set breaks ([`Rule`]), 10 to 17, 20 or 21; or
     /// [`CLASS_MISMATCH`] or [`INSTANCE_MISMATCH`].
     pub number: u8,
     /// The offending element; (0000,0000) if there is none.

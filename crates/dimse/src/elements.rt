@@ -8,7 +8,7 @@ use element::{Syntax, Tag, read_header};
 
 /// Returns the element number and the value of the first element, and the bytes after it. Returns
 /// `None` if the bytes do not begin with a whole element of group 0000 and of even length.
-#[tactic(auto, using(crate::proofs::ElementLemmas::whole_plain, crate::proofs::ElementLemmas::plain_parts), unfolding(crate::specs::Reading::element_at))]
+#[tactic(auto, using(crate::proofs::BytesSpellTheElement::whole_plain, crate::proofs::BytesSpellTheElement::plain_parts), unfolding(crate::specs::Reading::element_at))]
 pub fn element_at(bytes: &[u8]) -> Option<(u16, &[u8], &[u8])>
     ensures { option_map (λ x. (record { number = x.0; value = x.1.now }, x.2.now)) result ≡ spelling.element_at bytes.now }
 {

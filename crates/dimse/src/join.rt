@@ -157,6 +157,7 @@ impl<const C: usize> Join<C> {
     pub fn context(&self) -> u8
         ensures { InContext self.now.message result }
     {
+        // One arm for each line of the definition: the proof goes through them one by one.
         match self.stage {
             Stage::Between => self.context,
             Stage::Command => self.context,

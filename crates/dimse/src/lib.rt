@@ -23,6 +23,6 @@ pub use detail::{CLASS_MISMATCH, Detail, INSTANCE_MISMATCH, cause_name};
 pub use fault::DimseFault;
 pub use join::Join;
 pub use joined::Joined;
-pub use reading::read_command;
+pub use reading::{command_field, read_command};
 pub use response::write_response;
 pub use set::CommandSet;

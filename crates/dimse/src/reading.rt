@@ -1,7 +1,7 @@
 //! Reads the command set of a C-ECHO-RQ or C-STORE-RQ.
 ghost use Rattle.std.specs.Prelude.{◌≡◌, true, IfOk, IfErr};
 ghost use Rattle.dimse.specs.Command.{CommandFault, CommandRecord, CommandText, command_of, request_of, store_command};
-ghost use Rattle.dimse.specs.Reading.{command_in};
+ghost use Rattle.dimse.specs.Reading.{command_in, field_in};
 ghost use Rattle.element.specs.Uid.{is_uid};
 
 use crate::command::Command;
@@ -73,4 +73,19 @@ pub fn read_command(bytes: &[u8]) -> Result<Command, DimseFault>
     ensures fault { IfErr result (λ f. CommandFault f bytes.now) }
 {
     read_text(bytes)
+}
+
+/// Returns the Command Field (0000,0100) of a command set, which need not be that of a valid command,
+/// or `None` if the bytes are no command set or have no such field.
+#[tactic(auto, unfolding(crate::specs::Reading::field_in))]
+pub fn command_field(bytes: &[u8]) -> Option<u16>
+    ensures { result ≡ field_in bytes.now }
+{
+    match CommandSet::read(bytes) {
+        Some(set) => match set.number(FIELD) {
+            Ok(field) => Some(field),
+            Err(_) => None,
+        },
+        None => None,
+    }
 }

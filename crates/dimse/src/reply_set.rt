@@ -73,7 +73,7 @@ fn put_uid(set: &mut ArrayVec<u8, ELEMENTS>, number: u16, uid: &Uid)
     put_element(set, number, value.as_slice());
 }
 
-#[tactic(auto, using(crate::proofs::ReplyLemmas::one_element))]
+#[tactic(auto, using(crate::proofs::SetIsItsElements::one_element))]
 fn put_tag(set: &mut ArrayVec<u8, ELEMENTS>, tag: Tag)
     requires { array_vec_len set.old + 12 ≤ ELEMENTS }
     ensures items { set.new.items ≡ set.old.items ++ command_elements_bytes (tag_elements tag) }
@@ -87,7 +87,7 @@ fn put_tag(set: &mut ArrayVec<u8, ELEMENTS>, tag: Tag)
     }
 }
 
-#[tactic(auto, using(crate::proofs::ReplyLemmas::elements_then, crate::proofs::ReplyLemmas::one_element))]
+#[tactic(auto, using(crate::proofs::SetIsItsElements::elements_then, crate::proofs::SetIsItsElements::one_element))]
 fn put_detail(set: &mut ArrayVec<u8, ELEMENTS>, detail: Option<Detail>)
     requires { array_vec_len set.old + 46 ≤ ELEMENTS }
     ensures items { set.new.items ≡ set.old.items ++ command_elements_bytes (detail_elements detail) }
@@ -101,7 +101,7 @@ fn put_detail(set: &mut ArrayVec<u8, ELEMENTS>, detail: Option<Detail>)
     }
 }
 
-#[tactic(auto, using(crate::proofs::ReplyLemmas::one_element))]
+#[tactic(auto, using(crate::proofs::SetIsItsElements::one_element))]
 fn put_instance(set: &mut ArrayVec<u8, ELEMENTS>, instance: Option<&Uid>)
     requires room { array_vec_len set.old + 72 ≤ ELEMENTS }
     requires is_uid { is_uid_or_none (option_map (λ u. u.now) instance) ≡ true }
@@ -125,7 +125,7 @@ fn carried(field: u16, status: u16, detail: Option<Detail>) -> Option<Detail>
 }
 
 /// Returns the elements of a response's command set after Command Group Length (0000,0000).
-#[tactic(auto, using(crate::proofs::ReplyLemmas::put_together))]
+#[tactic(auto, using(crate::proofs::SetIsItsElements::put_together))]
 fn reply_set(command: &Command, status: u16, detail: Option<Detail>) -> ArrayVec<u8, ELEMENTS>
     ensures { result.items ≡ command_elements_bytes (reply_elements command.now status detail) }
 {

@@ -7,3 +7,4 @@ pub mod Uid
 pub mod Title
 pub mod Kinds
 pub mod Values
+pub mod RuleNames

@@ -1,33 +1,36 @@
 //! A counter for contracts alone; it has no size at run time.
-ghost use Rattle.std.specs.Prelude.{◌≡◌, ℕ, ◌+◌};
-ghost use Rattle.std.specs.Borrow.{ftrue};
+ghost use Rattle.std.specs.Prelude.{◌≡◌, ℕ, ◌+◌, length};
 
-use std::marker::{Model, PhantomData};
+use crate::history::History;
+use std::marker::Model;
 
 /// A counter of events, an unbounded natural number. It is a ghost value: contracts can name it, the
 /// program cannot read it.
 #[derive(Drop)]
 pub struct Count {
-    marker: PhantomData<u8>,
-    pub ghost total: { ℕ },
+    events: History<()>,
 }
 
 impl Model for Count {
-    ghost also_owns = { λ _. ftrue };
+    ghost Value = { ℕ };
+
+    ghost view = { λ c. length c.events };
 }
 
 impl Count {
     /// Creates a count of zero.
     pub fn new() -> Count
-        ensures { result.total ≡ 0 }
+        ensures { result ≡ 0 }
     {
         Count {
-            marker: PhantomData,
+            events: History::new(),
         }
     }
 
     /// Adds one.
     pub fn add_one(&mut self)
-        ensures { self.new.total ≡ self.old.total + 1 }
-    {}
+        ensures { self.new ≡ self.old + 1 }
+    {
+        self.events.push(&());
+    }
 }

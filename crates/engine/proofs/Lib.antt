@@ -15,6 +15,7 @@
 --   HeldBytes        what is held is exact, one number, and bounded
 --   StoresAreJudged  each store has one verdict, and no good image is refused
 --   OutputIsBounded  a piece has an association send few bytes
+--   PartsEnd         a portion ends with a part of a PDU, and nothing is decided before
 --   WorkedRuns       the associations on which the definitions are tried
 --   AssociationSize  an association has fewer than 2^63 bytes
 --   Public           what the crates above cite: the contracts of `engine::laws`
@@ -29,6 +30,7 @@ pub mod WholeRun
 pub mod HeldBytes
 pub mod StoresAreJudged
 pub mod OutputIsBounded
+pub mod PartsEnd
 pub mod WorkedRuns
 pub mod Public
 pub mod AssociationSize

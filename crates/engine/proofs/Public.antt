@@ -2,8 +2,10 @@
 -- the definitions alone.
 use Rattle.engine.specs.TurnLaws.{TurnsBegin, OneTurnMore, TurnsAreARun, EndedHasNoDraft}
 use Rattle.engine.specs.OutputLaws.{FewMarks, BoundedOutput, FewBytesButAnswers, AnswersAreShort, StoriesAnswerShortly, OutputOfAPiece, EntriesOfMore, SilentSendsNothing, AbortsShortly}
+use Rattle.engine.specs.Parts.{FewerKeepTheDecision}
 use Rattle.engine.proofs.OutputIsBounded.OutputOfAPiece as output
 use Rattle.engine.proofs.OutputIsBounded.OutputOfAPortion as portions
+use Rattle.engine.proofs.PartsEnd.FewerDecideNothing as fewer
 use Rattle.engine.proofs.WholeRun.OneTurnMore as ran
 
 pub turns_begin : TurnsBegin
@@ -44,3 +46,6 @@ silent_sends_nothing = portions.silent_sends_nothing
 
 pub aborts_shortly : AbortsShortly
 aborts_shortly = portions.aborts_shortly
+
+pub fewer_keep_the_decision : FewerKeepTheDecision
+fewer_keep_the_decision = fewer.fewer_keep_the_decision

@@ -7,6 +7,7 @@ use Rattle.negotiate.specs.Settings.{Settings}
 use Rattle.dimse.specs.Messages.{NoMessage}
 use Rattle.engine.specs.Inputs.{Bytes, Close}
 use Rattle.engine.specs.Timeline.{Entry, At, TimedOut, good, Happened, entries}
+use Rattle.decisions.specs.declared.decision.Decision.TheVariants.{Nothing}
 use Rattle.engine.specs.Progress.{Progress, at_start}
 use Rattle.engine.specs.Requested.{no_request}
 use Rattle.engine.specs.Run.{Rooms, progress_of, sent_of}
@@ -43,10 +44,10 @@ BytesThatAreNoPdu =
     × SentBy (entries [] (Bytes (codes "GET /") ∷ [])) [] Sta2
 
 abbrev pub established : Progress
-established = record { state = Sta6; request = no_request; refused = false; message = NoMessage; filing_failed = false }
+established = record { state = Sta6; request = no_request; refused = false; message = NoMessage; filing_failed = false; decided = Nothing }
 
 abbrev pub closing : Progress
-closing = record { state = Sta13; request = no_request; refused = false; message = NoMessage; filing_failed = false }
+closing = record { state = Sta13; request = no_request; refused = false; message = NoMessage; filing_failed = false; decided = Nothing }
 
 -- a P-DATA-TF one byte above the announced maximum length is answered with an A-ABORT at its head, one of that length
 -- is read

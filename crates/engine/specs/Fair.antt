@@ -60,7 +60,7 @@ abbrev pub AreFair : Rooms → Settings → Progress → List Happened → Type 
 AreFair rooms s p [] = Unit {0}
 AreFair rooms s p (h ∷ story) = IsFair rooms s p h × AreFair rooms s (gives rooms s p h).next story
 
--- A trace (story) of these inputs: the entries of their timeline, each with a possible outcome; and whether a call of
+-- A story of these inputs: the entries of their timeline, each with a possible outcome; and whether a call of
 -- the filing has failed in the unfinished message after the last entry.
 pub record IsStory (rooms : Rooms) (s : Settings) (inputs : List Received) (story : List Happened) (failed : Bool) : Type 0 where
   pub told : entries_of story ≡ entries [] inputs

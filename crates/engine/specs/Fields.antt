@@ -4,6 +4,7 @@ use Rattle.acceptor.specs.declared.state.State.{State}
 use Rattle.pdu.specs.Deframed.{position_of}
 use Rattle.pdu.specs.Deframing.{bytes_held}
 use Rattle.negotiate.specs.Settings.{Settings, settings_of}
+use Rattle.decisions.specs.declared.decision.Decision.{Decision}
 use Rattle.engine.specs.declared.association.Association.{Association}
 use Rattle.engine.specs.declared.running.Running.{Running}
 use Rattle.engine.specs.Kept.{kept_of, held_by}
@@ -25,6 +26,10 @@ state_of a = state_in a.provider.phase
 
 abbrev pub settings_in : {A C V D : ℕ} → Association A C V D → Settings
 settings_in a = settings_of a.provider.config
+
+-- what the association has as decided last
+abbrev pub decided_in : {A C V D : ℕ} → Association A C V D → Decision
+decided_in a = a.provider.decided
 
 -- whether the association has a draft in the filing
 abbrev pub drafting_of : {A C V D : ℕ} → Association A C V D → Bool

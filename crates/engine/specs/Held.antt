@@ -42,10 +42,13 @@ peer_size = title_size + 4
 abbrev pub row_size : ℕ
 row_size = 4
 
--- the greatest number of bytes held of heads and of an accepted request, which has at most 128 presentation contexts:
--- 544
+-- the greatest number of bytes held of an accepted request, which has at most 128 presentation contexts: 532
+abbrev pub request_most : ℕ
+request_most = peer_size + row_size * 128
+
+-- the greatest number of bytes held of heads and of an accepted request: 544
 abbrev pub accepted_most : ℕ
-accepted_most = heads_size + peer_size + row_size * 128
+accepted_most = heads_size + request_most
 
 -- ---- the parts
 

@@ -18,6 +18,7 @@ use Rattle.negotiate.specs.declared.config.Config.{Config}
 use Rattle.engine.specs.declared.phase.Phase.{Phase}
 use Rattle.engine.specs.declared.provider.Provider.{Provider}
 use Rattle.engine.specs.Phases.{state_in, caller_in, maximum_in, rows_in, request_in, joining_in, stored_in}
+use Rattle.decisions.specs.declared.decision.Decision.{Decision}
 use Rattle.engine.specs.Progress.{Progress, is_due, is_established}
 use Rattle.engine.specs.Held.{is_ended, peer_size, row_size}
 use Rattle.engine.specs.Reached.{takes_pdvs}
@@ -46,14 +47,29 @@ pub record Kept : Type 0 where
   pub join : Joining
   -- the state of the data set of a message
   pub storing : Stored
+  pub decided : Decision
 
 -- the values of the fields, with this configuration and in this phase
-abbrev pub kept_in : {A C V D : ℕ} → Config → Bool → Phase A C V D → Kept
-kept_in {A} {C} {V} {D} config refused phase =
-    record { room = C; depth = D; most = config.max_data; state = state_in phase; refused = refused; caller = caller_in phase; peer_max = maximum_in phase; table = rows_in phase; additional = (settings_of config).additional; body = request_in phase; join = joining_in phase; storing = stored_in phase }
+abbrev pub kept_in : {A C V D : ℕ} → Config → Bool → Decision → Phase A C V D → Kept
+kept_in {A} {C} {V} {D} config refused decided phase =
+    record {
+      room = C;
+      depth = D;
+      most = config.max_data;
+      state = state_in phase;
+      refused = refused;
+      caller = caller_in phase;
+      peer_max = maximum_in phase;
+      table = rows_in phase;
+      additional = (settings_of config).additional;
+      body = request_in phase;
+      join = joining_in phase;
+      storing = stored_in phase;
+      decided = decided;
+    }
 
 abbrev pub kept_of : {A C V D : ℕ} → Provider A C V D → Kept
-kept_of p = kept_in p.config p.refused p.phase
+kept_of p = kept_in p.config p.refused p.decided p.phase
 
 abbrev pub settings_in : {A C V D : ℕ} → Provider A C V D → Settings
 settings_in p = settings_of p.config
@@ -87,10 +103,11 @@ body_in kind body = if nat_eq kind associate_rq then body else []
 -- The fields and the draft are those of this state of the timeline and of the unfinished PDU, of which the bytes
 -- `body` of a request's body and `begun` of a presentation data value were received. Bytes that are ignored are not
 -- held. Of a request the values that are kept are there while it is accepted (Sta6), and only then. Once the
--- association has ended, nothing is said of `refused`.
+-- association has ended, nothing is said of `refused` and `decided`.
 pub record Pends (kept : Kept) (store : Store) (p : Progress) (body begun : List ℕ) : Type 0 where
   pub state_is : kept.state ≡ p.state
   pub refused_is : is_ended p.state ≡ false → kept.refused ≡ p.refused
+  pub decided_is : is_ended p.state ≡ false → kept.decided ≡ p.decided
   pub body_is : kept.body ≡ counted_body p body
   pub join_is : ShowsMessage kept.room kept.join p.message (counted_pdv p begun)
   pub agreed : p.state ≡ Sta6 → Agreed kept.caller kept.peer_max kept.table kept.additional (request_record p.request)

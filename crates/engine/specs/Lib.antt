@@ -23,6 +23,7 @@ pub mod Moves
 pub mod Fields
 pub mod Ran
 pub mod Turns
+pub mod Parts
 pub mod TurnLaws
 pub mod OutputLaws
 pub mod MovesOn

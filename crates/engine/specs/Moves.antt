@@ -18,7 +18,7 @@ StaysCharged false more failed_then = Unit {0}
 StaysCharged true [] failed_then = failed_then ≡ true
 StaysCharged true (h ∷ more) failed_then = h.1.filing ≡ true
 
--- The effect of one more input: some entries are appended to the trace, the association is in the state that the
+-- The effect of one more input: some entries are appended to the story, the association is in the state that the
 -- inputs determine, and the devices have changed by these entries.
 pub record Moved (rooms : Rooms) (s : Settings) (inputs : List Received) (story : List Happened) (failed : Bool) (input : Received) (seen_old seen_new : Fields) (old new : Devices) : Type 0 where
   pub more : List Happened

@@ -1,18 +1,21 @@
 -- What an association does with one more input, and what it holds: relations of an association, whatever came before.
-use Rattle.std.specs.Prelude.{◌≡◌, ℕ, Bool, List}
+use Rattle.std.specs.Prelude.{◌≡◌, ℕ, Bool, false, List}
 use Rattle.acceptor.specs.declared.state.State.TheVariants.{Sta1}
 use Rattle.part10.specs.Store.{Store}
+use Rattle.dimse.specs.Joining.{command_bytes}
 use Rattle.engine.specs.declared.association.Association.{Association}
+use Rattle.decisions.specs.declared.decision.Decision.{Decision}
 use Rattle.engine.specs.declared.running.Running.{Running}
 use Rattle.engine.specs.Devices.{Devices}
 use Rattle.engine.specs.Fields.{association_in, fields_of, settings_in, state_of}
-use Rattle.engine.specs.Held.{Held}
+use Rattle.engine.specs.Held.{Held, is_ended}
 use Rattle.engine.specs.Inputs.{Received, Supply}
 use Rattle.engine.specs.Timeline.{Happened}
 use Rattle.engine.specs.Run.{rooms_of}
 use Rattle.engine.specs.Moves.{Moved, StaysEnded}
 use Rattle.engine.specs.OutputLaws.{SendsFew}
-use Rattle.engine.specs.Reached.{reached}
+use Rattle.engine.specs.Parts.{DecidesNothingBefore, CompletesPart}
+use Rattle.engine.specs.Reached.{reached, message_so_far}
 use Rattle.engine.specs.Stands.{Stands}
 use Rattle.engine.specs.Turns.{TookInput}
 
@@ -32,11 +35,29 @@ HoldsBytes {A} {C} {V} {D} seen n = (inputs : List Received) (story : List Happe
     → Stands (rooms_of A C V D) (settings_in seen) inputs story failed (fields_of seen) store
     → Held (rooms_of A C V D) (settings_in seen) (reached (rooms_of A C V D) (settings_in seen) inputs story failed) n
 
+-- this was decided last, unless the association has ended
+abbrev pub HasDecided : {A C V D : ℕ} → Association A C V D → Decision → Type 0
+HasDecided {A} {C} {V} {D} seen decision = (inputs : List Received) (story : List Happened) (failed : Bool) (store : Store)
+    → Stands (rooms_of A C V D) (settings_in seen) inputs story failed (fields_of seen) store
+    → is_ended (state_of seen) ≡ false → decision ≡ (reached (rooms_of A C V D) (settings_in seen) inputs story failed).progress.decided
+
+-- the command set of the unfinished message has these bytes, so far
+abbrev pub HasCommand : {A C V D : ℕ} → Association A C V D → List ℕ → Type 0
+HasCommand {A} {C} {V} {D} seen bytes = (inputs : List Received) (story : List Happened) (failed : Bool) (store : Store)
+    → Stands (rooms_of A C V D) (settings_in seen) inputs story failed (fields_of seen) store
+    → bytes ≡ command_bytes (message_so_far (reached (rooms_of A C V D) (settings_in seen) inputs story failed))
+
 -- few bytes are sent for a piece of at most so many
 abbrev pub HasInputLimit : {A C V D : ℕ} → Association A C V D → ℕ → Type 0
 HasInputLimit {A} {C} {V} {D} seen most = (inputs : List Received) (story : List Happened) (failed : Bool) (store : Store)
     → Stands (rooms_of A C V D) (settings_in seen) inputs story failed (fields_of seen) store
     → SendsFew (rooms_of A C V D) (settings_in seen) inputs story most
+
+-- fewer bytes decide nothing, and so many complete a part of a PDU, unless the association has ended
+abbrev pub EndsWithPart : {A C V D : ℕ} → Association A C V D → ℕ → Type 0
+EndsWithPart {A} {C} {V} {D} seen most = (inputs : List Received) (story : List Happened) (failed : Bool) (store : Store)
+    → Stands (rooms_of A C V D) (settings_in seen) inputs story failed (fields_of seen) store
+    → DecidesNothingBefore (rooms_of A C V D) (settings_in seen) inputs story most × (is_ended (state_of seen) ≡ false → CompletesPart inputs most)
 
 -- ---- a run, which is the association inside it
 

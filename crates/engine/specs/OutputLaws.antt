@@ -102,4 +102,5 @@ SilentSendsNothing =
 
 -- an abort of the local user sends at most so many bytes
 abbrev pub AbortsShortly : Type 0
-AbortsShortly = (rooms : Rooms) (s : Settings) (p : Progress) (before : List ℕ) (more : List Happened) → entries_of more ≡ entries before (UserAbort ∷ []) → length (sent_of rooms s p more) ≤ most_beside_answers
+AbortsShortly = (rooms : Rooms) (s : Settings) (p : Progress) (before : List ℕ) (more : List Happened)
+    → entries_of more ≡ entries before (UserAbort ∷ []) → length (sent_of rooms s p more) ≤ most_beside_answers

@@ -8,24 +8,28 @@ use Rattle.acceptor.specs.Table.{table}
 use Rattle.acceptor.specs.Effect.{sending, bytes_sent}
 use Rattle.pdu.specs.Texts.{release_text, abort_text}
 use Rattle.dimse.specs.Messages.{Begun, NoMessage}
+use Rattle.decisions.specs.declared.decision.Decision.{Decision}
+use Rattle.decisions.specs.declared.decision.Decision.TheVariants.{Nothing}
 use Rattle.engine.specs.Requested.{Requested, no_request}
 
 -- The acceptor's state; the association request, until the association is left; whether the rest of the unfinished
--- PDU is ignored; the unfinished message, and whether a call of the filing failed in it.
+-- PDU is ignored; the unfinished message, and whether a call of the filing failed in it; what was decided last, since
+-- the head of the last PDU.
 pub record Progress : Type 0 where
   pub state : State
   pub request : Requested
   pub refused : Bool
   pub message : Begun
   pub filing_failed : Bool
+  pub decided : Decision
 
 -- the transport connection was just opened, and a request is awaited
 abbrev pub at_start : Progress
-at_start = record { state = Sta2; request = no_request; refused = false; message = NoMessage; filing_failed = false }
+at_start = record { state = Sta2; request = no_request; refused = false; message = NoMessage; filing_failed = false; decided = Nothing }
 
 -- the state after the association is left: its request and the unfinished message are dropped
 abbrev pub left : State → Progress → Progress
-left next p = record { state = next; request = no_request; refused = p.refused; message = NoMessage; filing_failed = false }
+left next p = record { state = next; request = no_request; refused = p.refused; message = NoMessage; filing_failed = false; decided = p.decided }
 
 abbrev pub moved : State → Progress → Progress
 moved Sta1 p = left Sta1 p
@@ -35,6 +39,10 @@ moved next p = record p { state = next }
 -- the state, where a call of the filing has failed in the unfinished message, if `failed`
 abbrev pub absorb : Bool → Progress → Progress
 absorb failed p = record p { filing_failed = failed || p.filing_failed }
+
+-- the state, where this was decided
+abbrev pub deciding : Decision → Progress → Progress
+deciding decision p = record p { decided = decision }
 
 abbrev pub is_due : State → Bool
 is_due Sta2 = true

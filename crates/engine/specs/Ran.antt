@@ -3,7 +3,8 @@ use Rattle.std.specs.Prelude.{◌≡◌, ◌≢◌, ℕ, zero, suc, ◌+◌, ◌
 use Rattle.acceptor.specs.declared.state.State.{State}
 use Rattle.acceptor.specs.declared.state.State.TheVariants.{Sta1, Sta6, Sta13}
 use Rattle.sequence.specs.Wanted.{level_size}
-use Rattle.negotiate.specs.Settings.{Settings}
+use Rattle.negotiate.specs.declared.config.Config.{Config}
+use Rattle.negotiate.specs.Settings.{Settings, settings_of}
 use Rattle.part10.specs.Store.{told_after}
 use Rattle.engine.specs.declared.report.Standing.{Standing}
 use Rattle.engine.specs.declared.report.Standing.TheVariants as standing
@@ -14,10 +15,10 @@ use Rattle.engine.specs.Held.{Held, accepted_most}
 use Rattle.engine.specs.Inputs.{Received, Supply, first_inputs, others_of, with_given}
 use Rattle.engine.specs.Progress.{at_start}
 use Rattle.engine.specs.Reached.{reached}
-use Rattle.engine.specs.Run.{Rooms, progress_of, sent_of, files_of, wire_failures, filing_failures}
+use Rattle.engine.specs.Run.{Rooms, rooms_of, progress_of, sent_of, files_of, wire_failures, filing_failures}
 use Rattle.engine.specs.Timeline.{Happened, entries}
 
--- The inputs, with this trace (the entries of their timeline with their outcomes), send these bytes, store these
+-- The inputs, with this story (the entries of their timeline with their outcomes), send these bytes, store these
 -- files, and lead to this state.
 pub record Run (rooms : Rooms) (s : Settings) (inputs : List Received) (story : List Happened) (failed : Bool) (sent : List ℕ) (files : List (List ℕ)) (state : State) : Type 0 where
   pub story_is : IsStory rooms s inputs story failed
@@ -30,7 +31,7 @@ abbrev pub inputs_after : ℕ → List Received → List Received
 inputs_after zero xs = xs
 inputs_after (suc n) xs = inputs_after n (others_of xs)
 
--- the part of the trace that the first n inputs cause
+-- the part of the story that the first n inputs cause
 abbrev pub story_after : ℕ → List Received → List Happened → List Happened
 story_after n inputs story = take (length (entries [] (take n inputs))) story
 
@@ -43,9 +44,9 @@ standing_of Sta1 = standing.Ended
 standing_of Sta13 = standing.Closing
 standing_of state = standing.Open
 
--- The effect of the inputs: a trace of them gives the bytes that were sent, the files that were stored, the state of
--- the association and the number of held bytes, which beside a message is at most 544 once a request is accepted; and
--- the number of failures of the wire and of the filing. No draft is left.
+-- The effect of the inputs: a story of them gives the bytes that were sent, the files that were stored, the state of
+-- the association and the number of held bytes, of which at most 544 are not of a message once a request is accepted;
+-- and the number of failures of the wire and of the filing. No draft is left.
 pub record Answered (rooms : Rooms) (s : Settings) (taken : List Received) (report : Report) (old new : Devices) : Type 0 where
   pub story : List Happened
   pub failed : Bool
@@ -77,3 +78,7 @@ pub record Ran (rooms : Rooms) (s : Settings) (turns : ℕ) (report : Report) (s
   pub given : source_new.given ≡ with_given taken source_old.given
   pub answered : Answered rooms s taken report old new
   pub no_draft : new.store.has_draft ≡ false
+
+-- an association with these limits (`Rooms`) and this configuration ran so
+abbrev pub RanWith : (A C V D : ℕ) → Config → ℕ → Report → Supply → Supply → Devices → Devices → Type 0
+RanWith A C V D config = Ran (rooms_of A C V D) (settings_of config)

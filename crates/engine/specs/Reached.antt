@@ -16,7 +16,7 @@ pub record Reached : Type 0 where
   pub progress : Progress
   pub rest : List ℕ
 
--- the state after these inputs, with this trace; `failed` says whether a call of the filing has failed after its last
+-- the state after these inputs, with this story; `failed` says whether a call of the filing has failed after its last
 -- entry
 abbrev pub reached : Rooms → Settings → List Received → List Happened → Bool → Reached
 reached rooms s inputs story failed = record { progress = absorb failed (progress_of rooms s at_start story); rest = rest_of (stream_of inputs) }

@@ -13,14 +13,21 @@ use Rattle.negotiate.specs.declared.proposals.Service.TheVariants.{Known, Additi
 use Rattle.negotiate.specs.Contexts.{context_of}
 use Rattle.dimse.specs.declared.fault.DimseFault.{DimseFault}
 use Rattle.dimse.specs.Command.{CommandRecord, c_store, c_echo}
-use Rattle.dimse.specs.Reading.{command_in}
-use Rattle.dimse.specs.Messages.{Pdv, Message, Begun, NoMessage, refusal, Goes, Ends, Refuses, brought}
+use Rattle.dimse.specs.Reading.{command_in, field_in}
+use Rattle.pdu.specs.declared.head.PdvHead.{PdvHead}
+use Rattle.pdu.specs.Heads.{is_command, is_last}
+use Rattle.dimse.specs.declared.joined.Joined.{Joined}
+use Rattle.dimse.specs.declared.joined.Joined.TheVariants as joined
+use Rattle.dimse.specs.Joining.{command_bytes, goes_on}
+use Rattle.dimse.specs.Messages.{Pdv, Message, Begun, NoMessage, refusal, Goes, Ends, Refuses, brought, with_fragment}
 use Rattle.dimse.specs.Reply.{reply_bytes}
 use Rattle.dimse.specs.Status.{success, class_not_supported}
 use Rattle.part10.specs.File.{File}
 use Rattle.part10.specs.Store.{or_nothing}
+use Rattle.decisions.specs.declared.decision.Decision.{Decision}
+use Rattle.decisions.specs.declared.decision.Decision.TheVariants as decision
 use Rattle.engine.specs.Timeline.{Finding}
-use Rattle.engine.specs.Progress.{Progress, Advance, nothing, done, refusing}
+use Rattle.engine.specs.Progress.{Progress, Advance, deciding, nothing, done, refusing}
 use Rattle.engine.specs.Heads.{invalid_parameter}
 
 abbrev pub invalid : Progress → Advance
@@ -29,16 +36,20 @@ invalid p = refusing (done [] invalid_parameter p event.Invalid)
 abbrev pub user_aborts : Progress → Advance
 user_aborts p = refusing (done [] 0 p event.UserAborts)
 
-abbrev pub aborted_if_refused : Option DimseFault → Progress → Advance
-aborted_if_refused None p = nothing p
-aborted_if_refused (Some fault) p = user_aborts p
+-- the head of a presentation data value with this length, context ID and control byte
+abbrev pub value_head : ℕ → ℕ → ℕ → PdvHead
+value_head n context control = record { length = n; context = context; command = is_command control; last = is_last control }
+
+abbrev pub aborted_if_refused : PdvHead → Option DimseFault → Progress → Advance
+aborted_if_refused head None p = nothing (deciding (decision.Fragment head) p)
+aborted_if_refused head (Some fault) p = user_aborts (deciding (decision.FragmentRefused head fault) p)
 
 -- the effect of the head of a presentation data value: with a presentation context that was not accepted it is
 -- invalid; one that does not continue the message leads to an abort of the local user
 abbrev pub at_pdv_head : ℕ → Progress → ℕ → ℕ → ℕ → Advance
 at_pdv_head room p n context control = elim (context_of (request_record p.request) context) [
-  | None ↦ invalid p
-  | Some accepted ↦ aborted_if_refused (refusal room p.message n context control) p
+  | None ↦ invalid (deciding (decision.ContextRefused (value_head n context control)) p)
+  | Some accepted ↦ aborted_if_refused (value_head n context control) (refusal room p.message n context control) p
 ]
 
 -- ---- replies
@@ -80,23 +91,33 @@ abbrev pub ended_message : Progress → Progress
 ended_message p = record p { message = NoMessage; filing_failed = false }
 
 abbrev pub replied : Progress → Finding → Message → Result CommandRecord DimseFault → Advance
-replied p finding m (Err fault) = nothing (ended_message p)
+replied p finding m (Err fault) = nothing (deciding decision.Nothing (ended_message p))
 replied p finding m (Ok command) =
     let r = request_record p.request in
     let f = finding_on (context_of r m.context) command finding in
     record {
-      next = ended_message p;
+      next = deciding (decision.Replied f.status f.detail) (ended_message p);
       sent = reply_bytes command f.status f.detail m.context r.maximum;
       files = file_put r m.context command m.set finding;
     }
 
+-- what is decided where a fragment ends and the message goes on: that a data set is due, or nothing else than at its
+-- head
+abbrev pub decided_on : Joined → Decision → Decision
+decided_on joined.DataDue before = decision.DataDue
+decided_on joined before = before
+
 abbrev pub going_on : Begun → Progress → Progress
-going_on begun p = record p { message = begun }
+going_on begun p = record p { message = begun; decided = decided_on (goes_on p.message begun) p.decided }
+
+-- a command set is refused, which is whole with this presentation data value
+abbrev pub command_refused : Progress → Pdv → DimseFault → Decision
+command_refused p pdv fault = decision.CommandRefused fault (field_in (command_bytes (with_fragment pdv.context pdv.fragment p.message)))
 
 -- the effect of the last byte of a presentation data value, with the finding on the C-STORE that it may end
 abbrev pub at_pdv : Progress → Finding → Pdv → Advance
 at_pdv p finding pdv = elim (brought p.message pdv) [
   | Goes begun ↦ nothing (going_on begun p)
   | Ends m ↦ replied p finding m (command_in m.command)
-  | Refuses fault ↦ user_aborts p
+  | Refuses fault ↦ user_aborts (deciding (command_refused p pdv fault) p)
 ]

@@ -12,7 +12,8 @@ use Rattle.negotiate.specs.Rejections.{service_provider_acse}
 use Rattle.negotiate.specs.Settings.{Settings}
 use Rattle.negotiate.specs.Answer.{judged}
 use Rattle.negotiate.specs.Accept.{accept_text}
-use Rattle.engine.specs.Progress.{Progress, Advance, followed_by, done}
+use Rattle.decisions.specs.declared.decision.Decision.TheVariants.{RequestInvalid, RequestJudged}
+use Rattle.engine.specs.Progress.{Progress, Advance, deciding, followed_by, done}
 use Rattle.engine.specs.Heads.{invalid_parameter}
 
 -- the state with this request
@@ -35,8 +36,12 @@ answered s r p (Reject result source reason) =
     if nat_eq source service_provider_acse then done (reject_text result source reason) 0 p event.UnacceptableRq
     else declined p (reject_text result source reason)
 
+-- the effect of a valid request that is answered so
+abbrev pub judged_so : Settings → List ℕ → Progress → Answer → Advance
+judged_so s body p answer = answered s (request_record body) (keeping s body (deciding (RequestJudged answer) p)) answer
+
 abbrev pub at_request : Settings → Progress → List ℕ → Advance
 at_request s p body = elim (request_fault body) [
-  | Some fault ↦ done [] invalid_parameter p event.Invalid
-  | None ↦ answered s (request_record body) (keeping s body p) (judged s (request_record body))
+  | Some fault ↦ done [] invalid_parameter (deciding (RequestInvalid fault) p) event.Invalid
+  | None ↦ judged_so s body p (judged s (request_record body))
 ]

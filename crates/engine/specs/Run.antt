@@ -9,7 +9,9 @@ use Rattle.pdu.specs.Texts.{reject_text}
 use Rattle.negotiate.specs.Rejections.{rejected_transient, service_provider_presentation, local_limit_exceeded}
 use Rattle.negotiate.specs.Settings.{Settings}
 use Rattle.engine.specs.Timeline.{Entry, At, Shut, TimedOut, Aborted, Finding, Happened}
-use Rattle.engine.specs.Progress.{Progress, absorb, left, is_due, is_established, Advance, nothing, followed_by, done, refusing}
+use Rattle.decisions.specs.declared.decision.Decision.TheVariants as decision
+use Rattle.decisions.specs.ValueEnds.{value_end}
+use Rattle.engine.specs.Progress.{Progress, absorb, left, deciding, is_due, is_established, Advance, nothing, followed_by, done, refusing}
 use Rattle.engine.specs.Heads.{NoEvent, AtOnce, TooLong, head_event}
 use Rattle.engine.specs.Requests.{at_request}
 use Rattle.engine.specs.Replies.{invalid, at_pdv_head, at_pdv}
@@ -34,8 +36,8 @@ heads_size = head_size + pdv_head_size
 abbrev pub at_head : Rooms → Settings → Progress → ℕ → ℕ → Advance
 at_head rooms s p kind n = elim (head_event (rooms.request - heads_size) s.max_pdu p.state kind n) [
   | NoEvent ↦ nothing p
-  | AtOnce e reason ↦ refusing (done [] reason p e)
-  | TooLong ↦ refusing (done (reject_text rejected_transient service_provider_presentation local_limit_exceeded) 0 p event.UnacceptableRq)
+  | AtOnce e reason ↦ refusing (done [] reason (deciding (decision.PduRefused (record { kind = kind; length = n })) p) e)
+  | TooLong ↦ refusing (done (reject_text rejected_transient service_provider_presentation local_limit_exceeded) 0 (deciding (decision.RequestTooLong n) p) event.UnacceptableRq)
 ]
 
 abbrev pub released : Progress → Advance
@@ -44,9 +46,9 @@ released p = followed_by (done [] 0 p event.ReleaseRq) (λ q. done [] 0 q event.
 -- the effect of the end of a PDU that was not answered at its head
 abbrev pub at_end : Settings → Progress → ℕ → List ℕ → Advance
 at_end s p kind body =
-    if nat_eq kind abort then done [] 0 p event.Abort
+    if nat_eq kind abort then done [] 0 (deciding decision.Aborted p) event.Abort
     else (if nat_eq kind associate_rq && is_due p.state then at_request s p body
-    else (if nat_eq kind release_rq && is_established p.state then released p
+    else (if nat_eq kind release_rq && is_established p.state then released (deciding decision.Released p)
     else nothing p))
 
 -- the effect of a mark of a PDU that was not answered before; presentation data values have one only in an
@@ -56,8 +58,8 @@ at_mark rooms s p finding (Head kind n) = at_head rooms s p kind n
 at_mark rooms s p finding (PdvHead n context control) = if is_established p.state then at_pdv_head rooms.command p n context control else nothing p
 at_mark rooms s p finding (Pdv context control fragment) =
     if is_established p.state then at_pdv p finding (record { context = context; control = control; fragment = fragment }) else nothing p
-at_mark rooms s p finding BadPdv = if is_established p.state then invalid p else nothing p
-at_mark rooms s p finding Leftover = if is_established p.state then invalid p else nothing p
+at_mark rooms s p finding BadPdv = if is_established p.state then invalid (deciding decision.ValueInvalid p) else nothing p
+at_mark rooms s p finding Leftover = if is_established p.state then invalid (deciding (decision.BytesLeft (value_end p.decided)) p) else nothing p
 at_mark rooms s p finding (End kind body) = at_end s p kind body
 
 -- whether a mark is the head of a PDU: the other marks of a PDU that was already answered have no effect
@@ -68,7 +70,7 @@ begins mark = false
 -- the effect of an entry, with the finding on the C-STORE that it may end
 abbrev pub at_entry : Rooms → Settings → Progress → Finding → Entry → Advance
 at_entry rooms s p finding (At mark) =
-    if begins mark then at_mark rooms s (record p { refused = false }) finding mark
+    if begins mark then at_mark rooms s (record p { refused = false; decided = decision.Nothing }) finding mark
     else (if p.refused then nothing p else at_mark rooms s p finding mark)
 at_entry rooms s p finding Shut = done [] 0 p event.Closed
 at_entry rooms s p finding TimedOut = done [] 0 p event.Expired

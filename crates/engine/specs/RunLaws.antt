@@ -20,7 +20,8 @@ use Rattle.engine.specs.StoreLaws.{EndsAt, IsGoodImage, IsCalm, file_of}
 
 -- In a run in which a good image ends and no device fails during its message, its file is stored between those of the
 -- entries before and after, and so is the response with success sent.
-pub record IsFiledBetween (rooms : Rooms) (s : Settings) (before : List Happened) (h : Happened) (after : List Happened) (m : Message) (command : CommandRecord) (context : Context) (sent : List ℕ) (files : List (List ℕ)) : Type 0 where
+pub record IsFiledBetween (rooms : Rooms) (s : Settings) (before : List Happened) (h : Happened) (after : List Happened)
+    (m : Message) (command : CommandRecord) (context : Context) (sent : List ℕ) (files : List (List ℕ)) : Type 0 where
   pub files_are : files ≡ files_of rooms s at_start before
       ++ file_of command context.syntax (request_record (progress_of rooms s at_start before).request).calling m.set
       ∷ files_of rooms s (gives rooms s (progress_of rooms s at_start before) h).next after
@@ -32,7 +33,8 @@ pub record IsFiledBetween (rooms : Rooms) (s : Settings) (before : List Happened
 -- with success, whatever else its association received.
 abbrev pub EveryGoodImageIsFiled : Type 0
 EveryGoodImageIsFiled =
-    (rooms : Rooms) (s : Settings) (inputs : List Received) (before after : List Happened) (h : Happened) (failed : Bool) (sent : List ℕ) (files : List (List ℕ)) (state : State) (m : Message) (command : CommandRecord) (context : Context)
+    (rooms : Rooms) (s : Settings) (inputs : List Received) (before after : List Happened) (h : Happened) (failed : Bool)
+    (sent : List ℕ) (files : List (List ℕ)) (state : State) (m : Message) (command : CommandRecord) (context : Context)
     → Run rooms s inputs (before ++ h ∷ after) failed sent files state
     → EndsAt (progress_of rooms s at_start before) h m command context → IsGoodImage rooms.depth s.max_data context command m.set → IsCalm (progress_of rooms s at_start before) h
     → IsFiledBetween rooms s before h after m command context sent files
@@ -59,7 +61,8 @@ pub record NoneFailed (old new : Devices) : Type 0 where
   pub filing : new.store.failures ≡ old.store.failures
 
 -- two runs with the same bytes sent, the same files, the same state and the same number of held bytes
-pub record SameOutcome (rooms : Rooms) (s : Settings) (a b : List Received) (one other : Report) (old new old2 new2 : Devices) (x : Answered rooms s a one old new) (y : Answered rooms s b other old2 new2) : Type 0 where
+pub record SameOutcome (rooms : Rooms) (s : Settings) (a b : List Received) (one other : Report) (old new old2 new2 : Devices)
+    (x : Answered rooms s a one old new) (y : Answered rooms s b other old2 new2) : Type 0 where
   pub sent : x.sent ≡ y.sent
   pub files : x.files ≡ y.files
   pub state : x.state ≡ y.state

@@ -7,6 +7,7 @@ use Rattle.pdu.specs.Marks.{Pdv}
 use Rattle.sequence.specs.Examples.{one_store}
 use Rattle.dimse.specs.Messages.{NoMessage, InSet}
 use Rattle.dimse.specs.Status.{out_of_resources}
+use Rattle.decisions.specs.declared.decision.Decision.TheVariants as decision
 use Rattle.engine.specs.Timeline.{Entry, At, Shut, Finding, good, Happened}
 use Rattle.engine.specs.Progress.{Progress}
 use Rattle.engine.specs.Reached.{Reached, message_so_far}
@@ -41,7 +42,7 @@ data_set = one_store
 
 -- the established association of this request
 abbrev pub accepted : Progress
-accepted = record { state = Sta6; request = record { additional = nothing_additional; body = request_body }; refused = false; message = NoMessage; filing_failed = false }
+accepted = record { state = Sta6; request = record { additional = nothing_additional; body = request_body }; refused = false; message = NoMessage; filing_failed = false; decided = decision.Nothing }
 
 -- an entry with its outcome: whether a call of the filing failed before it, the finding on the C-STORE that ends with
 -- it, and after how many bytes a send failed

@@ -27,7 +27,8 @@ use Rattle.engine.specs.Fair.{IsFair, message_at}
 
 -- every C-STORE has a verdict
 abbrev pub AVerdictIsThere : Type 0
-AVerdictIsThere = (depth most : ℕ) (context : Context) (command : CommandRecord) (data_set : List ℕ) (failed : Bool) → IsBytes data_set → (finding : Finding) × Verdict depth most context command data_set failed finding
+AVerdictIsThere = (depth most : ℕ) (context : Context) (command : CommandRecord) (data_set : List ℕ) (failed : Bool) → IsBytes data_set
+    → (finding : Finding) × Verdict depth most context command data_set failed finding
 
 -- no C-STORE has two verdicts
 abbrev pub AVerdictIsOne : Type 0

@@ -55,7 +55,7 @@ pub record TookInput (rooms : Rooms) (s : Settings) (source_old source_now : Sup
       → Moved rooms s inputs story failed (input_of kind bytes) seen_old seen_new old new
 
 -- the report of an association with these fields: its state, and the number of bytes that it holds by the definition,
--- which beside a message is at most 544 once a request is accepted
+-- of which at most 544 are not of a message once a request is accepted
 pub record Reports (rooms : Rooms) (s : Settings) (seen : Fields) (store : Store) (report : Report) : Type 0 where
   pub standing : report.standing ≡ standing_of seen.kept.state
   pub held : (inputs : List Received) (story : List Happened) (failed : Bool) → Stands rooms s inputs story failed seen store → Held rooms s (reached rooms s inputs story failed) report.held

@@ -9,6 +9,8 @@ use Rattle.negotiate.specs.declared.proposals.Context.{Context}
 use Rattle.negotiate.specs.declared.proposals.Service.TheVariants.{Known}
 use Rattle.dimse.specs.Command.{CommandRecord}
 use Rattle.part10.specs.Store.{Store}
+use Rattle.decisions.specs.declared.decision.Decision.TheVariants as decision
+use Rattle.negotiate.specs.declared.answer.Answer.TheVariants.{Accept}
 use Rattle.engine.specs.Inputs.{Received, Bytes, Close}
 use Rattle.engine.specs.Timeline.{Finding, Happened, entries}
 use Rattle.engine.specs.Ran.{Run}
@@ -56,14 +58,29 @@ TheRequestIsHeld =
 abbrev pub established : List ContextRow → Fields
 established table = record {
   position = position.Head (record { items = [] });
-  kept = record { room = 4096; depth = 64; most = 2 ^ 40; state = Sta6; refused = false; caller = codes "SCANNER1        "; peer_max = 16384; table = table; additional = nothing_additional; body = []; join = shown NoMessage []; storing = Nothing };
+  kept = record {
+    room = 4096;
+    depth = 64;
+    most = 2 ^ 40;
+    state = Sta6;
+    refused = false;
+    caller = codes "SCANNER1        ";
+    peer_max = 16384;
+    table = table;
+    additional = nothing_additional;
+    body = [];
+    join = shown NoMessage [];
+    storing = Nothing;
+    decided = decision.RequestJudged Accept;
+  };
 }
 
 -- after the A-ASSOCIATE-AC the association has these fields with the accepted presentation context, and not without
 -- it
 abbrev pub ItStandsEstablished : Type 0
 ItStandsEstablished =
-    ((store : Store) → Stands rooms settings request_inputs (calmly request_inputs) false (established (context_rows nothing_additional (request_record (record { additional = nothing_additional; body = drop 6 request })))) store)
+    ((store : Store) → Stands rooms settings request_inputs (calmly request_inputs) false
+    (established (context_rows nothing_additional (request_record (record { additional = nothing_additional; body = drop 6 request })))) store)
     × ((store : Store) → Stands rooms settings request_inputs (calmly request_inputs) false (established []) store → ⊥)
 
 abbrev pub ct_context : Context

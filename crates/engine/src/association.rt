@@ -14,6 +14,7 @@ use crate::phase::Phase;
 use crate::provider::Provider;
 use crate::sending::{Answering, Reaction};
 use acceptor::{Event, State};
+use decisions::Decision;
 use negotiate::Config;
 use part10::Filing;
 use pdu::{Deframer, Wire};
@@ -44,15 +45,15 @@ impl<const A: usize, const C: usize, const V: usize, const D: usize> Association
     ghost use Rattle.pdu.specs.Deframed.{IsAt};
     ghost use Rattle.engine.specs.Devices.{devices};
     ghost use Rattle.engine.specs.Drafts.{IsThere};
-    ghost use Rattle.engine.specs.Fields.{drafting_of, fields_of, held_in, settings_in, state_of};
+    ghost use Rattle.engine.specs.Fields.{decided_in, drafting_of, fields_of, held_in, settings_in, state_of};
     ghost use Rattle.engine.specs.Held as holding;
-    ghost use Rattle.engine.specs.Held.{Held};
+    ghost use Rattle.engine.specs.Held.{Held, accepted_most};
     ghost use Rattle.engine.specs.Inputs.{Received, Bytes, Close, Expiry, UserAbort};
     ghost use Rattle.engine.specs.OutputLaws.{SendsFew};
     ghost use Rattle.engine.specs.Reached.{reached};
     ghost use Rattle.engine.specs.Stands.{Stands};
     ghost use Rattle.engine.specs.Timeline.{Happened};
-    ghost use Rattle.engine.specs.MovesOn.{HasInputLimit, HoldsBytes, MovesOn, StaysOnceEnded};
+    ghost use Rattle.engine.specs.MovesOn.{EndsWithPart, HasCommand, HasDecided, HasInputLimit, HoldsBytes, MovesOn, StaysOnceEnded};
     ghost use Rattle.engine.specs.machine.PerformsReaction.{Stays};
     ghost use Rattle.engine.specs.machine.Events.{MovesOutside};
     ghost use Rattle.engine.specs.machine.Lent.{before, after};
@@ -100,6 +101,26 @@ impl<const A: usize, const C: usize, const V: usize, const D: usize> Association
         self.provider.drafting()
     }
 
+    /// Returns what the association decided last, since the head of the last PDU that it received.
+    ///
+    /// `decided`: it is what the timeline of its inputs gives, unless it has ended.
+    pub fn decision(&self) -> Decision
+        ensures kept { result ≡ decided_in self.now }
+        ensures decided { HasDecided self.now result }
+    {
+        self.provider.decided
+    }
+
+    /// Returns the bytes of the command set of the unfinished message, as far as they were received; all
+    /// of them from the decision that its data set is due until the message is answered.
+    ///
+    /// `command`: they are those of the unfinished message in the timeline of its inputs.
+    pub fn command(&self) -> &[u8]
+        ensures command { HasCommand self.now result.now }
+    {
+        self.provider.command()
+    }
+
     /// Returns how many received bytes the association holds in memory: those of an unfinished head and
     /// of the body of an A-ASSOCIATE-RQ; 20, and 4 for each presentation context, of an accepted one;
     /// those of an unfinished command set; and what [`Walker::held`](sequence::Walker::held) counts of
@@ -108,7 +129,7 @@ impl<const A: usize, const C: usize, const V: usize, const D: usize> Association
         ensures held { HoldsBytes self.now result }
         ensures sum { result ≡ held_in (fields_of self.now) }
         ensures room { result ≤ A + C + V + 16 * D }
-        ensures accepted_room { state_of self.now ≡ Sta6 → result ≤ 544 + C + V + 16 * D }
+        ensures accepted_room { state_of self.now ≡ Sta6 → result ≤ accepted_most + C + V + 16 * D }
     {
         self.deframer.held() + self.provider.held()
     }
@@ -116,9 +137,13 @@ impl<const A: usize, const C: usize, const V: usize, const D: usize> Association
     /// Returns how many bytes may be passed to `feed` at once so that it sends at most 18,600: those
     /// that are missing from the unfinished part of a PDU (its head, its body, the head of a
     /// presentation data value, a fragment, or a PDU that is skipped), and at least one.
+    ///
+    /// `ends`: so many bytes complete the part, unless the association has ended, and fewer decide
+    /// nothing.
     pub fn input_limit(&self) -> usize
         ensures some { 0 < result }
         ensures few { HasInputLimit self.now result }
+        ensures ends { EndsWithPart self.now result }
     {
         let due = self.deframer.due();
         if self.is_ended() || due == 0 {
@@ -145,7 +170,8 @@ impl<const A: usize, const C: usize, const V: usize, const D: usize> Association
         self.drop_heads();
     }
 
-    /// Handles the close of the transport connection by the peer. For `filing` see `feed`.
+    /// Handles the close of the transport connection by the peer. The filing has to be the one of every call
+    /// ([`feed`](Association::feed)).
     pub fn closed<W: Wire, F: Filing>(&mut self, wire: &mut W, filing: &mut F)
         requires draft { IsThere (drafting_of self.old) (F.store filing.old) }
         ensures draft { IsThere (drafting_of self.new) (F.store filing.new) }
@@ -156,7 +182,8 @@ impl<const A: usize, const C: usize, const V: usize, const D: usize> Association
         self.perform(Event::Closed, Devices { wire, filing });
     }
 
-    /// Handles the expiry of the ARTIM timer. For `filing` see `feed`.
+    /// Handles the expiry of the ARTIM timer. The filing has to be the one of every call
+    /// ([`feed`](Association::feed)).
     pub fn expired<W: Wire, F: Filing>(&mut self, wire: &mut W, filing: &mut F)
         requires draft { IsThere (drafting_of self.old) (F.store filing.old) }
         ensures draft { IsThere (drafting_of self.new) (F.store filing.new) }
@@ -167,7 +194,8 @@ impl<const A: usize, const C: usize, const V: usize, const D: usize> Association
         self.perform(Event::Expired, Devices { wire, filing });
     }
 
-    /// Aborts the association as its local user (A-ABORT request primitive). For `filing` see `feed`.
+    /// Aborts the association as its local user (A-ABORT request primitive). The filing has to be the one of every call
+    /// ([`feed`](Association::feed)).
     pub fn local_abort<W: Wire, F: Filing>(&mut self, wire: &mut W, filing: &mut F)
         requires draft { IsThere (drafting_of self.old) (F.store filing.old) }
         ensures draft { IsThere (drafting_of self.new) (F.store filing.new) }

@@ -3,6 +3,7 @@ ghost use Rattle.std.specs.Prelude.{◌≡◌, ◌-◌};
 
 use crate::devices::Devices;
 use crate::provider::Provider;
+use decisions::Decision;
 use part10::Filing;
 use pdu::{Event, Wire};
 
@@ -41,12 +42,11 @@ impl<const A: usize, const C: usize, const V: usize, const D: usize> Provider<A,
             Event::Fragment(part) => self.on_data(part, devices.filing),
             Event::PdvEnd => self.on_pdv(devices),
             Event::BadPdv => {
-                let due = self.on_invalid();
+                let due = self.on_invalid(Decision::ValueInvalid);
                 self.perform(due, devices);
             }
-            // As above: the proof answers each arm for itself.
             Event::Leftover => {
-                let due = self.on_invalid();
+                let due = self.on_invalid(Decision::BytesLeft(self.decided.value_end()));
                 self.perform(due, devices);
             }
             Event::PduEnd(kind) => {

@@ -8,7 +8,8 @@ ghost use Rattle.engine.specs.machine.HeadEvents.{brings};
 use crate::provider::Provider;
 use crate::sending::{Answering, Reaction};
 use acceptor::{Action, Event, State, act};
-use pdu::pdu_type;
+use decisions::Decision;
+use pdu::{PduHead, pdu_type};
 
 /// The reason unrecognized-PDU of an A-ABORT of the service provider (PS3.8 section 9.3.8).
 const UNRECOGNIZED: u8 = 1;
@@ -155,10 +156,17 @@ impl<const A: usize, const C: usize, const V: usize, const D: usize> Provider<A,
         match event {
             HeadEvent::Nothing => {
                 self.refused = false;
+                self.decided = Decision::Nothing;
                 Reaction::Nothing
             }
-            HeadEvent::AtOnce(event, reason) => Reaction::Perform(event, Answering::Abort(reason)),
-            HeadEvent::TooLong => Reaction::Perform(Event::UnacceptableRq, Answering::TooLong),
+            HeadEvent::AtOnce(event, reason) => {
+                self.decided = Decision::PduRefused(PduHead { kind, length });
+                Reaction::Perform(event, Answering::Abort(reason))
+            }
+            HeadEvent::TooLong => {
+                self.decided = Decision::RequestTooLong(length);
+                Reaction::Perform(Event::UnacceptableRq, Answering::TooLong)
+            }
         }
     }
 }

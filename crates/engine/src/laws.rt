@@ -2,8 +2,7 @@
 //! function with an empty body.
 //!
 //! The timeline of an association is the list of entries that its inputs cause: what each sends, does
-//! to the filing and to the state. A trace (`story`) is such a list with the outcome of each call of a
-//! device.
+//! to the filing and to the state. A story is such a list with the outcome of each call of a device.
 ghost use Rattle.engine.specs.WholeExamples.{TheEchoRuns, TheRequestIsHeld, ItStandsEstablished, VerdictsOnStores};
 ghost use Rattle.engine.specs.StoreExamples.{AStoreIsFiled, AFilingFailsOnce, ACutReply, ACloseInADataSet, HeldInADataSet};
 ghost use Rattle.engine.specs.StoreVerdicts.{VerdictsOnOneImage, TheFileOfAStore};
@@ -12,6 +11,7 @@ ghost use Rattle.engine.specs.StoreLaws.{AVerdictIsThere, AVerdictIsOne, NoGoodI
 ghost use Rattle.engine.specs.RunLaws.{EveryGoodImageIsFiled, OneRun, CutsGiveTheSame};
 ghost use Rattle.engine.specs.TurnLaws.{TurnsBegin, OneTurnMore, TurnsAreARun, EndedHasNoDraft};
 ghost use Rattle.engine.specs.OutputLaws.{AbortsShortly, AnswersAreShort, BoundedOutput, EntriesOfMore, FewBytesButAnswers, FewMarks, OutputOfAPiece, SilentSendsNothing, StoriesAnswerShortly};
+ghost use Rattle.engine.specs.Parts.{FewerKeepTheDecision};
 ghost use Rattle.engine.specs.Laws.{EntriesAppend, CutsDoNotShow, NothingAfterTheEnd};
 ghost use Rattle.engine.specs.HeldLaws.{HeldIsOne, HeldIsWithinRooms};
 ghost use Rattle.engine.specs.Examples.{ARequestAboveTheRoom, BytesThatAreNoPdu, DataAboveTheMaximum, AfterTheEnd, AnotherCalledTitle, RecordedEcho, HeldWhileTheEchoComes, AGoodPdvBeforeABadOne};
@@ -85,7 +85,7 @@ pub fn few_bytes_but_answers()
 {}
 
 /// An A-ASSOCIATE-AC has at most 4,620 bytes, and so have the PDUs of a response, at each entry of the
-/// timeline and in each trace. So an association sends at most 18,600 bytes for each received byte.
+/// timeline and in each story. So an association sends at most 18,600 bytes for each received byte.
 pub fn answers_are_short()
     ensures entry { AnswersAreShort }
     ensures story { StoriesAnswerShortly }
@@ -95,6 +95,12 @@ pub fn answers_are_short()
 /// The entries that one more input appends depend on it and on the bytes of the inputs before it.
 pub fn entries_of_one_more()
     ensures { EntriesOfMore }
+{}
+
+/// An association that takes fewer bytes than
+/// [`Running::input_limit`](crate::Running::input_limit) keeps what it decided last.
+pub fn fewer_bytes_keep_the_decision()
+    ensures { FewerKeepTheDecision }
 {}
 
 /// The close of the transport connection and the expiry of the ARTIM timer send nothing, and an abort

@@ -11,7 +11,8 @@ use crate::sending::{Answering, Reaction};
 use crate::status::echo_status;
 use crate::stores::{begin_store, is_of_context};
 use acceptor::{Event, State};
-use dimse::{Command, Joined, read_command, write_response};
+use decisions::Decision;
+use dimse::{Command, Joined, command_field, read_command, write_response};
 use element::AeTitle;
 use negotiate::Config;
 use part10::Filing;
@@ -61,36 +62,39 @@ impl<const C: usize, const V: usize, const D: usize> Message<C, V, D> {
         }
     }
 
-    /// Ends a whole message: judges its data set, and sends the response to its command.
+    /// Ends a whole message: judges its data set, and sends the response to its command. Returns what
+    /// was decided, and whether the send succeeded.
     fn reply<W: Wire, F: Filing>(
         &mut self,
         origin: Origin,
         devices: Devices<'_, W, F>,
-    ) -> Result<(), WireFailed>
+    ) -> (Decision, Result<(), WireFailed>)
         requires draft { IsThere (drafting_in (stored_of self.old.storing)) (F.store devices.filing.now) }
         ensures join { self.new.join ≡ self.old.join }
         ensures drafts { Drafts (drafting_in (stored_of self.old.storing)) (F.store devices.entry.filing.now) (drafting_in (stored_of self.new.storing)) (after W.line F.store devices.exit).store }
         ensures ended { EndsMessage C V D origin.entry self.old.join.command (stored_of self.old.storing) result (before W.line F.store devices.entry) (after W.line F.store devices.exit) }
     {
         let Ok(command) = read_command(self.join.command()) else {
-            return Ok(());
+            return (Decision::Nothing, Ok(()));
         };
         let context = origin.context;
         let max_length = origin.peer.max_length;
         if command.field() == Command::C_ECHO {
             let accepted = origin.peer.context(origin.config, context);
             let status = echo_status(accepted, &command);
-            return write_response(&command, status, None, context, max_length, devices.wire);
+            let sent = write_response(&command, status, None, context, max_length, devices.wire);
+            return (Decision::Replied(status, None), sent);
         }
         let ended = self.storing.end(&command, devices.filing);
-        write_response(
+        let sent = write_response(
             &command,
             ended.status,
             ended.detail,
             context,
             max_length,
             devices.wire,
-        )
+        );
+        (Decision::Replied(ended.status, ended.detail), sent)
     }
 }
 
@@ -123,12 +127,17 @@ impl<const A: usize, const C: usize, const V: usize, const D: usize> Provider<A,
         };
         let Some(_) = peer.context(&self.config, head.context) else {
             self.refused = true;
+            self.decided = Decision::ContextRefused(head);
             return Reaction::Perform(Event::Invalid, Answering::Abort(INVALID_PARAMETER));
         };
         match message.join.head(&head) {
-            Ok(()) => Reaction::Nothing,
-            Err(_) => {
+            Ok(()) => {
+                self.decided = Decision::Fragment(head);
+                Reaction::Nothing
+            }
+            Err(fault) => {
                 self.refused = true;
+                self.decided = Decision::FragmentRefused(head, fault);
                 Reaction::Perform(Event::UserAborts, Answering::Nothing)
             }
         }
@@ -174,13 +183,21 @@ impl<const A: usize, const C: usize, const V: usize, const D: usize> Provider<A,
                 Ok(Joined::More) => {}
                 Ok(Joined::Message) => {
                     let Devices { wire, filing } = devices;
-                    let sent = message.reply(origin, Devices { wire, filing });
+                    let (decided, sent) = message.reply(origin, Devices { wire, filing });
                     message.join.clear();
                     message.storing.leave(filing);
+                    self.decided = decided;
                     self.settle(State::Sta6, sent, filing);
                 }
-                Ok(Joined::DataDue) => message.begin(origin, devices.filing),
-                Err(_) => {
+                Ok(Joined::DataDue) => {
+                    self.decided = Decision::DataDue;
+                    message.begin(origin, devices.filing);
+                }
+                Err(fault) => {
+                    self.decided = Decision::CommandRefused(
+                        fault,
+                        command_field(message.join.command()),
+                    );
                     self.perform(
                         Reaction::Perform(Event::UserAborts, Answering::Nothing),
                         devices,

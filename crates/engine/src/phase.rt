@@ -65,6 +65,7 @@ impl<const A: usize, const C: usize, const V: usize, const D: usize> Phase<A, C,
 }
 
 impl Peer {
+    ghost use Rattle.engine.specs.Held.{peer_size, request_most, row_size};
     ghost use Rattle.negotiate.specs.ContextRows.{context_in};
     ghost use Rattle.negotiate.specs.Settings.{settings_of};
 
@@ -78,8 +79,8 @@ impl Peer {
     /// Returns how many bytes count as held of the request: 20, and 4 for each accepted presentation
     /// context.
     pub(crate) fn held(&self) -> usize
-        ensures value { result ≡ 20 + 4 * length self.now.contexts.items }
-        ensures bound { result ≤ 532 }
+        ensures value { result ≡ peer_size + row_size * length self.now.contexts.items }
+        ensures bound { result ≤ request_most }
     {
         20 + 4 * self.contexts.len()
     }

@@ -11,6 +11,7 @@ use crate::phase::Phase;
 use crate::sending::{Answering, Reaction, state_after, step};
 use acceptor::{Event, State, act};
 use arrayvec::ArrayVec;
+use decisions::Decision;
 use negotiate::Config;
 use part10::Filing;
 use pdu::{Deframer, Wire, WireFailed};
@@ -22,6 +23,8 @@ pub(crate) struct Provider<const A: usize, const C: usize, const V: usize, const
     pub(crate) config: Config,
     /// Whether the rest of the unfinished PDU is ignored, as it was already answered.
     pub(crate) refused: bool,
+    /// What was decided last, since the head of the last PDU.
+    pub(crate) decided: Decision,
     /// The phase, with the data of the request, the peer or the message.
     pub(crate) phase: Phase<A, C, V, D>,
     ghost least: { 256 ≤ A },
@@ -40,15 +43,14 @@ impl<const A: usize, const C: usize, const V: usize, const D: usize> Provider<A,
     ghost use Rattle.engine.specs.machine.Answers.{due_at};
     ghost use Rattle.negotiate.specs.Settings.{settings_of};
     ghost use Rattle.part10.specs.Store.{Store};
+    ghost use Rattle.engine.specs.Held.{request_most};
     ghost use Rattle.engine.specs.Kept.{Pends, held_by, takes_pdvs_in, kept_of, settings_in};
     ghost use Rattle.pdu.specs.Deframed.{position_of};
     ghost use Rattle.pdu.specs.Steps.{events_due};
     ghost use Rattle.engine.specs.machine.Skips.{passed};
     ghost use Rattle.engine.specs.machine.PerformsReaction.{ComesTo, is_left};
-    ghost use Rattle.engine.specs.machine.Judged.{StaysThen, Judges};
-    ghost use Rattle.engine.specs.Timeline.{At};
+    ghost use Rattle.engine.specs.machine.Judged.{StaysThen, JudgesInvalid};
     ghost use Rattle.engine.specs.Run.{rooms_of};
-    ghost use Rattle.pdu.specs.Marks.{BadPdv};
     ghost use Rattle.engine.specs.machine.Tries.{TriesDue};
     ghost use Rattle.engine.specs.machine.Messages.{with_body, with_storing};
     ghost use Rattle.engine.specs.machine.Storing.{Drops};
@@ -71,9 +73,20 @@ impl<const A: usize, const C: usize, const V: usize, const D: usize> Provider<A,
         Provider {
             config: config.copied(),
             refused: false,
+            decided: Decision::Nothing,
             phase: Phase::AwaitingRequest {
                 body: ArrayVec::new(),
             },
+        }
+    }
+
+    /// Returns the bytes of the command set of the unfinished message, so far.
+    pub(crate) fn command(&self) -> &[u8]
+        ensures { result.now ≡ (kept_of self.now).join.command }
+    {
+        match &self.phase {
+            Phase::Established { peer: _, message } => message.join.command(),
+            _ => &[],
         }
     }
 
@@ -116,7 +129,7 @@ impl<const A: usize, const C: usize, const V: usize, const D: usize> Provider<A,
     pub(crate) fn held(&self) -> usize
         ensures value { result ≡ held_by (kept_of self.now) }
         ensures room { result + 12 ≤ A + C + V + 16 * D }
-        ensures accepted_room { (kept_of self.now).state ≡ Sta6 → result ≤ 532 + C + V + 16 * D }
+        ensures accepted_room { (kept_of self.now).state ≡ Sta6 → result ≤ request_most + C + V + 16 * D }
     {
         match &self.phase {
             Phase::AwaitingRequest { body } => body.len(),
@@ -200,17 +213,18 @@ impl<const A: usize, const C: usize, const V: usize, const D: usize> Provider<A,
     }
 
     /// Returns the reaction to an invalid head of a presentation data value, or to bytes left over
-    /// after one: an A-ABORT, if presentation data values are handled.
-    pub(crate) fn on_invalid(&mut self) -> Reaction
+    /// after one: an A-ABORT, if presentation data values are handled; then this is decided.
+    pub(crate) fn on_invalid(&mut self, decided: Decision) -> Reaction
         ensures settings { settings_in self.new ≡ settings_in self.old }
         ensures storing { (kept_of self.new).storing ≡ (kept_of self.old).storing }
         ensures stays { StaysThen (kept_of self.new).state result }
-        ensures due { (store : Store) → Judges (rooms_of A C V D) (settings_in self.old) (kept_of self.old) (kept_of self.new) (At BadPdv) result store }
+        ensures due { (store : Store) → JudgesInvalid decided (kept_of self.old) (kept_of self.new) result store }
     {
         if !self.takes_pdvs() {
             return Reaction::Nothing;
         }
         self.refused = true;
+        self.decided = decided;
         Reaction::Perform(Event::Invalid, Answering::Abort(INVALID_PARAMETER))
     }
 }

@@ -20,6 +20,7 @@ use crate::sending::{Answering, Reaction, step};
 use crate::stores::Storing;
 use acceptor::{Event, State, act};
 use arrayvec::ArrayVec;
+use decisions::Decision;
 use dimse::Join;
 use negotiate::{Answer, Config, compact, judge, rejection};
 use part10::Filing;
@@ -63,25 +64,26 @@ fn peer_of(config: &Config, request: &Request) -> Peer
 }
 
 /// Reads the body of an A-ASSOCIATE-RQ, judges it, and sends the answer: A-ASSOCIATE-AC,
-/// A-ASSOCIATE-RJ, or A-ABORT if it is invalid. Returns the peer if it is accepted, the next state, and
-/// whether the send succeeded.
+/// A-ASSOCIATE-RJ, or A-ABORT if it is invalid. Returns the peer if it is accepted, the next state,
+/// whether the send succeeded, and what was decided.
 fn answer_request<W: Wire>(
     config: &Config,
     body: &[u8],
     wire: &mut W,
-) -> (Option<Peer>, State, Result<(), WireFailed>)
+) -> (Option<Peer>, State, Result<(), WireFailed>, Decision)
     ensures state { result.1 ≡ (at_request (settings_of config.now) at_start body.now).next.state }
     ensures sends { Sends (at_request (settings_of config.now) at_start body.now).sent result.2 (W.line wire.old) (W.line wire.new) }
     ensures due { OnErr result.2 (0 < length (at_request (settings_of config.now) at_start body.now).sent) }
     ensures accepted { IfSome result.0 (λ peer. (result.1 ≡ Sta6) × IsPeerOf peer (settings_of config.now).additional (offered (settings_of config.now).additional (request_record body.now))) }
+    ensures decided { result.3 ≡ (at_request (settings_of config.now) at_start body.now).next.decided }
     ensures room { IfSome result.0 (λ peer. 20 + 4 * array_vec_len peer.contexts ≤ length body.now) }
     ensures rejected { IfNone result.0 (is_left result.1 ≡ true) }
 {
     match read_request(body) {
-        Err(_) => {
+        Err(fault) => {
             let answering = Answering::Abort(INVALID_PARAMETER);
             let (next, sent) = step(State::Sta2, Event::Invalid, answering, wire);
-            (None, next, sent)
+            (None, next, sent, Decision::RequestInvalid(fault))
         }
         Ok(request) => match judge(config, &request) {
             Answer::Accept => {
@@ -89,11 +91,13 @@ fn answer_request<W: Wire>(
                 let (_, asked) = act(State::Sta2, Event::AcceptableRq);
                 let answering = Answering::Request(config, &request);
                 let (next, sent) = step(asked, Event::UserAccepts, answering, wire);
-                (Some(peer), next, sent)
+                let decided = Decision::RequestJudged(Answer::Accept);
+                (Some(peer), next, sent, decided)
             }
-            Answer::Reject(_, source, _) => {
+            Answer::Reject(result, source, reason) => {
                 let (next, sent) = reject(config, &request, source, wire);
-                (None, next, sent)
+                let decided = Decision::RequestJudged(Answer::Reject(result, source, reason));
+                (None, next, sent, decided)
             }
         },
     }
@@ -147,7 +151,12 @@ impl<const A: usize, const C: usize, const V: usize, const D: usize> Provider<A,
         let Phase::AwaitingRequest { body } = &self.phase else {
             return;
         };
-        let (peer, next, sent) = answer_request(&self.config, body.as_slice(), devices.wire);
+        let (peer, next, sent, decided) = answer_request(
+            &self.config,
+            body.as_slice(),
+            devices.wire,
+        );
+        self.decided = decided;
         match peer {
             Some(peer) => {
                 let message = Message {
@@ -164,10 +173,12 @@ impl<const A: usize, const C: usize, const V: usize, const D: usize> Provider<A,
     /// Returns the reaction to the end of a PDU of this type whose body is not buffered: that to an
     /// A-ABORT, or to an A-RELEASE-RQ of an established association. Other PDUs have none, nor has one
     /// that was already answered.
-    pub(crate) fn on_end(&self, kind: u8) -> Reaction
-        requires unkept { takes_body_in (kept_of self.now) kind ≡ false }
-        ensures stays { StaysThen (kept_of self.now).state result }
-        ensures due { (store : Store) → JudgesEnd (rooms_of A C V D) (settings_in self.now) (kept_of self.now) kind result store }
+    pub(crate) fn on_end(&mut self, kind: u8) -> Reaction
+        requires unkept { takes_body_in (kept_of self.old) kind ≡ false }
+        ensures settings { settings_in self.new ≡ settings_in self.old }
+        ensures storing { (kept_of self.new).storing ≡ (kept_of self.old).storing }
+        ensures stays { StaysThen (kept_of self.new).state result }
+        ensures due { (store : Store) → JudgesEnd (rooms_of A C V D) (settings_in self.old) (kept_of self.old) (kept_of self.new) kind result store }
     {
         if let Phase::Ended = &self.phase {
             return Reaction::Nothing;
@@ -176,9 +187,15 @@ impl<const A: usize, const C: usize, const V: usize, const D: usize> Provider<A,
             return Reaction::Nothing;
         }
         match kind {
-            pdu_type::A_ABORT => Reaction::Perform(Event::Abort, Answering::Nothing),
+            pdu_type::A_ABORT => {
+                self.decided = Decision::Aborted;
+                Reaction::Perform(Event::Abort, Answering::Nothing)
+            }
             pdu_type::A_RELEASE_RQ => match &self.phase {
-                Phase::Established { .. } => Reaction::Release,
+                Phase::Established { .. } => {
+                    self.decided = Decision::Released;
+                    Reaction::Release
+                }
                 _ => Reaction::Nothing,
             },
             _ => Reaction::Nothing,

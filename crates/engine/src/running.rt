@@ -3,12 +3,13 @@ ghost use Rattle.std.specs.Prelude.{◌≡◌, ◌≤◌, ◌<◌, ◌^◌, ◌+
 ghost use Rattle.negotiate.specs.Settings.{settings_of};
 ghost use Rattle.engine.specs.Devices.{devices};
 ghost use Rattle.engine.specs.Run.{rooms_of};
-ghost use Rattle.engine.specs.Ran.{Ran};
+ghost use Rattle.engine.specs.Ran.{RanWith};
 
 use crate::association::Association;
 use crate::report::{Report, Standing};
 use crate::source::{Input, Source};
 use acceptor::State;
+use decisions::Decision;
 use negotiate::Config;
 use part10::Filing;
 use pdu::Wire;
@@ -28,10 +29,10 @@ impl<const A: usize, const C: usize, const V: usize, const D: usize> Running<A, 
     ghost use Rattle.acceptor.specs.declared.state.State.TheVariants.{Sta1};
     ghost use Rattle.part10.specs.Store.{Store};
     ghost use Rattle.engine.specs.Drafts.{IsThere};
-    ghost use Rattle.engine.specs.Fields.{association_in, drafting_of, fields_of, settings_in, state_of};
+    ghost use Rattle.engine.specs.Fields.{association_in, decided_in, drafting_of, fields_of, settings_in, state_of};
     ghost use Rattle.engine.specs.Held as holding;
     ghost use Rattle.engine.specs.Inputs.{Received, input_of, shown_after};
-    ghost use Rattle.engine.specs.MovesOn.{HasInputLimit, RunsOn, StaysOnceOver, TakesNext};
+    ghost use Rattle.engine.specs.MovesOn.{EndsWithPart, HasCommand, HasDecided, HasInputLimit, RunsOn, StaysOnceOver, TakesNext};
     ghost use Rattle.engine.specs.OutputLaws.{SendsFew};
     ghost use Rattle.engine.specs.Stands.{Stands};
     ghost use Rattle.engine.specs.Timeline.{Happened};
@@ -71,12 +72,36 @@ impl<const A: usize, const C: usize, const V: usize, const D: usize> Running<A, 
         self.association.is_ended()
     }
 
+    /// Returns what the association decided last, since the head of the last PDU that it received.
+    ///
+    /// `decided`: it is what the timeline of its inputs gives, unless it has ended.
+    pub fn decision(&self) -> Decision
+        ensures kept { result ≡ decided_in (association_in self.now) }
+        ensures decided { HasDecided (association_in self.now) result }
+    {
+        self.association.decision()
+    }
+
+    /// Returns the bytes of the command set of the unfinished message, as far as they were received; all
+    /// of them from the decision that its data set is due until the message is answered.
+    ///
+    /// `command`: they are those of the unfinished message in the timeline of its inputs.
+    pub fn command(&self) -> &[u8]
+        ensures command { HasCommand (association_in self.now) result.now }
+    {
+        self.association.command()
+    }
+
     /// Returns how many bytes a piece may have so that at most 18,600 are sent for it: those that are
     /// missing from the unfinished part of a PDU (its head, its body, the head of a presentation data
     /// value, a fragment, or a PDU that is skipped), and at least one.
+    ///
+    /// `ends`: so many bytes complete the part, unless the association has ended, and fewer decide
+    /// nothing.
     pub fn input_limit(&self) -> usize
         ensures some { 0 < result }
         ensures few { HasInputLimit (association_in self.now) result }
+        ensures ends { EndsWithPart (association_in self.now) result }
     {
         self.association.input_limit()
     }
@@ -168,7 +193,7 @@ pub fn run<
     requires greatest_kept { V ≤ 2 ^ 24 }
     requires least_levels { 2 ≤ D }
     requires greatest_levels { D ≤ 2 ^ 24 }
-    ensures ran { Ran (rooms_of A C V D) (settings_of config.now) turns result (S.supply source.old) (S.supply source.new)
+    ensures ran { RanWith A C V D config.now turns result (S.supply source.old) (S.supply source.new)
         (devices (W.line wire.old) (F.store filing.old)) (devices (W.line wire.new) (F.store filing.new)) }
     ensures room { result.held ≤ A + C + V + 16 * D }
 {

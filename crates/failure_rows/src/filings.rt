@@ -50,7 +50,7 @@ impl<F: Filing + Drop> FailingFiling<F> {
     /// A call fails, and the filing beneath loses its draft.
     fn fail(&mut self)
         ensures draft { (F.store self.new.kept).has_draft ≡ false }
-        ensures counted { self.new.failures.total ≡ self.old.failures.total + 1 }
+        ensures counted { self.new.failures ≡ self.old.failures + 1 }
     {
         self.kept.discard();
         self.failed_draft = self.begins;
@@ -59,7 +59,7 @@ impl<F: Filing + Drop> FailingFiling<F> {
 }
 
 impl<F: Filing + Drop> Filing for FailingFiling<F> {
-    ghost store = { λ f. record { told = None; has_draft = (F.store f.kept).has_draft; failures = f.failures.total } };
+    ghost store = { λ f. record { told = None; has_draft = (F.store f.kept).has_draft; failures = f.failures } };
 
     fn begin(&mut self) -> Result<(), FilingFailed> {
         let fails = self.calls() == self.at;

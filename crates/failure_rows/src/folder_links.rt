@@ -4,7 +4,7 @@ use crate::links::Refusing;
 use crate::runtimes::Diverted;
 use fixtures::folders::{fresh, put};
 use fixtures::play;
-use part10::FolderFiling;
+use folder_filing::FolderFiling;
 use std::cell::Cell;
 use std::test::Fail;
 use std::{fs, io};

@@ -4,7 +4,7 @@ use crate::two_stores::TwoStores;
 use fixtures::bytes::{back, front, joined};
 use fixtures::folders::{count, fresh, holds, is_filed};
 use fixtures::{Step, over_memory};
-use part10::FolderFiling;
+use folder_filing::FolderFiling;
 use pdu::{MemoryWire, Wire};
 use std::alloc::{AllocError, Global};
 use std::fs;

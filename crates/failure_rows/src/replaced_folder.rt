@@ -7,7 +7,7 @@ use fixtures::bytes::joined;
 use fixtures::folders::{count, fresh};
 use fixtures::stores::{ACCEPT, INSTANCE, OTHER, reply};
 use fixtures::{Step, drive, play};
-use part10::FolderFiling;
+use folder_filing::FolderFiling;
 use pdu::MemoryWire;
 use std::alloc::{AllocError, Global};
 use std::test::Fail;

@@ -28,7 +28,7 @@ impl StillWire {
 }
 
 impl Wire for StillWire {
-    ghost line = { λ w. record { sent = None; failures = w.failures.total } };
+    ghost line = { λ w. record { sent = None; failures = w.failures } };
 
     fn send(&mut self, bytes: &[u8]) -> Result<(), WireFailed> {
         if self.sent.try_extend_from_slice(bytes).is_err() {

@@ -47,7 +47,7 @@ impl FailingWire {
 }
 
 impl Wire for FailingWire {
-    ghost line = { λ w. record { sent = None; failures = w.failures.total } };
+    ghost line = { λ w. record { sent = None; failures = w.failures } };
 
     fn send(&mut self, bytes: &[u8]) -> Result<(), WireFailed> {
         let fails = self.sends == self.at;

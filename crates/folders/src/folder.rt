@@ -1,7 +1,8 @@
 //! Opens the folder that received files go to.
 use arguments::{Layout, QuarantineOption};
 use failures::{Failure, ProgramError};
-use part10::{Filing, FolderFiling, FolderWriter, QuarantineFound};
+use folder_filing::{FolderFiling, FolderWriter, QuarantineFound};
+use part10::Filing;
 use std::fs::File;
 use std::io::{Error, ErrorKind};
 use std::rt::Files;

@@ -3,7 +3,7 @@
 use checkdir_command::PathText;
 use dicomdir::FileId;
 use failures::ProgramError;
-use part10::EntryKind;
+use folder_filing::EntryKind;
 use std::alloc::{AllocError, Allocator};
 use std::fs::DirEntry;
 use std::io::ErrorKind;

@@ -1,1 +1,1 @@
-mod OriginLemmas
+mod FrontHeaderIsWhole

@@ -27,6 +27,7 @@ pub enum Judgement {
 impl Judgement {
     /// Returns the tag of a note, or of the fault of a data set.
     pub(crate) fn tag(&self) -> Option<Tag> {
+        // One arm for each variant that has a tag.
         match *self {
             Judgement::Note(_, tag, _, _) => Some(tag),
             Judgement::FormNote(_, tag, _, _) => Some(tag),

@@ -186,8 +186,8 @@ fn first_rule(file: &[u8]) -> Option<MetaRule> {
     }
 }
 
-/// Returns the rule of the file meta information that a file breaks whose header is `BadMeta`. The bytes are the
-/// beginning of the file as `FileFront` keeps it; where they end before the rule is broken, it is not known.
+/// Returns the rule of the File Meta Information that a file breaks whose header is refused as `BadMeta`. `file` is its
+/// beginning, as `FileFront` keeps it; `None` if the rule is broken after that, or the header is not `BadMeta`.
 pub fn broken_rule_of(file: &[u8]) -> Option<MetaRule> {
     let mut input = file;
     match read_any_meta(&mut input) {

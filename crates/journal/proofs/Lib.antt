@@ -1,3 +1,1 @@
-mod TextLemmas
-mod AnswerLemmas
-mod ReplyLemmas
+mod ShownTextIsPrintable

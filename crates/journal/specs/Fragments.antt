@@ -1,9 +1,11 @@
--- What has come of a message, and why a fragment does not go on with it, as the messages of PS3.7 have it (PS3.7 section 6.3,
--- PS3.8 annex E).
-use Rattle.std.specs.Prelude.{[]}
+-- What a log keeps of a message by what was decided of it, and why a fragment does not continue it (PS3.7 section 6.3, PS3.8
+-- annex E).
+use Rattle.std.specs.Prelude.{ℕ, ◌+◌, ◌-◌, ◌^◌, Bool, true, false, min, nat_lt}
+use Rattle.decisions.specs.declared.decision.Decision.{Decision}
+use Rattle.decisions.specs.declared.decision.Decision.TheVariants as decision
 use Rattle.dimse.specs.declared.fault.DimseFault.{DimseFault}
 use Rattle.dimse.specs.declared.fault.DimseFault.TheVariants as faults
-use Rattle.dimse.specs.Messages.{Begun, NoMessage, InCommand, InSet}
+use Rattle.pdu.specs.declared.head.PdvHead.{PdvHead}
 use Rattle.journal.specs.declared.message.Message.{Message}
 use Rattle.journal.specs.declared.message.Misplaced.{Misplaced}
 use Rattle.journal.specs.declared.message.Misplaced.TheVariants.{TooLong, DataFirst, DataInside, TwoCommands, OtherContext}
@@ -18,11 +20,32 @@ fault_of DataInside = faults.WrongKind
 fault_of TwoCommands = faults.WrongKind
 fault_of (OtherContext id own) = faults.OtherContext
 
-abbrev pub message_at : Stage → Message → Begun
-message_at Between m = NoMessage
-message_at Command m = InCommand m.context m.command.items
-message_at Data m = InSet m.context m.command.items []
+-- so many bytes more, up to the greatest number of the type
+abbrev pub more : ℕ → ℕ → ℕ
+more n size = min (n + size) (2 ^ 64 - 1)
 
--- what has come of a message, but for the bytes of its data set
-abbrev pub message_in : Message → Begun
-message_in m = message_at m.stage m
+-- a fragment of a new message is of its command set, in the context of the message
+abbrev pub opened : Stage → PdvHead → Message → Message
+opened Between head m = record m { stage = Command; context = head.context; command_size = 0; is_store = false }
+opened Command head m = m
+opened Data head m = m
+
+-- the bytes of a fragment, all of which are due
+abbrev pub sized : Bool → ℕ → Message → Message
+sized true size m = record m { command_size = more m.command_size size; is_fragment_due = nat_lt 0 size }
+sized false size m = record m { data_size = more m.data_size size; is_fragment_due = nat_lt 0 size }
+
+abbrev pub begun : PdvHead → Message → Message
+begun head m = sized head.command (head.length - 2) (opened m.stage head m)
+
+-- What is kept once a part of a PDU is complete, by what was decided last: with that part, unless it is a fragment after which
+-- the message goes on, and which its head had continued.
+abbrev pub decided : Bool → Decision → Message → Message
+decided true (decision.Fragment head) m = m
+decided false (decision.Fragment head) m = begun head m
+decided after decision.DataDue m = record m { stage = Data; is_store = true; data_size = 0 }
+decided after (decision.Replied status detail) m = record m { stage = Between }
+decided after other m = m
+
+abbrev pub heard : Decision → Message → Message
+heard d m = decided m.is_fragment_due d (record m { is_fragment_due = false })

@@ -2,4 +2,4 @@ pub mod Printable
 pub mod Outcomes
 pub mod Fragments
 pub mod Ends
-pub mod Answers
+pub mod Told

@@ -1,11 +1,12 @@
 //! What the lines of the log tell of an association: that it was rejected or aborted, or ended.
+use crate::asked::Value;
 use crate::end::{End, Rejection};
 use crate::entry::{Entry, Event, Fields, Name};
 use crate::entry_fields::{CALLING, CLASS, END, REASON, Words, end_words, give_calling};
 use crate::outcome::Counts;
 use crate::refused::RefusedClasses;
-use crate::reply::Value;
-use crate::state::{State, Title};
+use crate::request::Title;
+use crate::state::State;
 use crate::text::Text;
 use crate::words::context_words;
 use log::Level;

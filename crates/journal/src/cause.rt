@@ -1,10 +1,30 @@
 //! Why the box aborted an association.
+ghost use Rattle.std.specs.Prelude.{◌≡◌};
+
+use crate::end::Abort;
 use crate::fields::field_name;
+use crate::limits::Limits;
 use crate::message::Misplaced;
 use connection::COMMAND;
 use dimse::DimseFault;
-use pdu::PduFault;
+use pdu::pdu_type::{A_ABORT, A_ASSOCIATE_RJ, A_ASSOCIATE_RQ, A_RELEASE_RQ, P_DATA_TF};
+use pdu::{PduFault, PduHead};
 use std::fmt;
+
+/// The bytes of an association request's body before its items.
+const BEFORE_ITEMS: u32 = 68;
+
+/// The bytes of the head of a presentation data value.
+const VALUE_HEAD: u32 = 6;
+
+/// The reason unrecognized-PDU of an A-ABORT of the service provider (PS3.8 Table 9-26).
+const UNRECOGNIZED: u8 = 1;
+
+/// Its reason unexpected-PDU.
+const UNEXPECTED: u8 = 2;
+
+/// Its reason invalid-PDU-parameter-value.
+const INVALID_PARAMETER: u8 = 6;
 
 /// What the peer sent that an A-ABORT answers.
 #[derive(Clone, Copy, Debug, PartialEq, Eq)]
@@ -25,10 +45,47 @@ pub(crate) enum Cause {
     Leftover,
     /// A presentation data value of this context, which is not accepted.
     Context(u8),
-    /// A fragment that does not go on with its message.
+    /// A fragment that does not continue its message.
     Fragment(Misplaced),
     /// A command set with this fault, and its command field, if it could be read.
     Command(DimseFault, Option<u16>),
+}
+
+/// Returns why the head of a PDU has an association aborted that is established or not (PS3.8
+/// section 9.2).
+pub(crate) fn head_cause(head: PduHead, is_established: bool, limits: Limits) -> Cause {
+    let PduHead { kind, length } = head;
+    match kind {
+        A_ASSOCIATE_RJ | A_RELEASE_RQ..=A_ABORT if length != 4 => Cause::Length(kind, length),
+        A_ASSOCIATE_RQ if !is_established && length < BEFORE_ITEMS => {
+            Cause::Request(PduFault::BadLength)
+        }
+        P_DATA_TF if is_established && length > limits.max_pdu => {
+            Cause::LongData(length, limits.max_pdu)
+        }
+        P_DATA_TF if is_established && length < VALUE_HEAD => Cause::ShortData(length),
+        _ => Cause::Pdu(kind),
+    }
+}
+
+impl Cause {
+    ghost use Rattle.journal.specs.Ends.{abort_for};
+
+    /// Returns the A-ABORT that answers it. Where no association is established, that is the
+    /// service user's (AA-1 of PS3.8 Table 9-9).
+    pub(crate) fn abort(self, is_established: bool) -> Abort
+        ensures { result ≡ abort_for is_established self }
+    {
+        if !is_established {
+            return Abort::of_user();
+        }
+        match self {
+            Cause::Fragment(_) | Cause::Command(_, _) => Abort::of_user(),
+            Cause::Pdu(A_ASSOCIATE_RQ..=A_ABORT) => Abort::of_provider(UNEXPECTED),
+            Cause::Pdu(_) => Abort::of_provider(UNRECOGNIZED),
+            _ => Abort::of_provider(INVALID_PARAMETER),
+        }
+    }
 }
 
 impl fmt::Display for Misplaced {

@@ -56,6 +56,27 @@ pub(crate) struct Abort {
     pub reason: u8,
 }
 
+impl Abort {
+    ghost use Rattle.journal.specs.Ends.{provider, user};
+
+    /// Returns that of the service user.
+    pub(crate) fn of_user() -> Abort
+        ensures { result ≡ user }
+    {
+        Abort {
+            source: 0,
+            reason: 0,
+        }
+    }
+
+    /// Returns that of the service provider, with this reason.
+    pub(crate) fn of_provider(reason: u8) -> Abort
+        ensures { result ≡ provider reason }
+    {
+        Abort { source: 2, reason }
+    }
+}
+
 /// Which side's user or provider aborted, and why, where the provider says so.
 impl fmt::Display for Abort {
     fn fmt<W: fmt::Write>(&self, f: &mut fmt::Formatter<W>) -> fmt::Result {
@@ -80,7 +101,7 @@ pub(crate) enum End {
     /// The peer aborted it.
     AbortedByPeer(Abort),
     /// The box aborted it, for what the peer had sent.
-    Aborted(Abort, Option<Cause>),
+    Aborted(Abort, Cause),
     /// Nothing more was read.
     Read(ReadEnd),
     /// A send failed.
@@ -124,8 +145,7 @@ impl fmt::Display for End {
                     "aborted by the peer, {abort} (source {source} reason {reason})"
                 )
             }
-            End::Aborted(abort, None) => write!(f, "aborted by dcmbox, {abort}"),
-            End::Aborted(abort, Some(cause)) => write!(f, "aborted by dcmbox, {abort} ({cause})"),
+            End::Aborted(abort, cause) => write!(f, "aborted by dcmbox, {abort} ({cause})"),
             End::Read(ReadEnd::Closed) => f.write_str("closed by the peer"),
             End::Read(ReadEnd::Timer) => f.write_str("ARTIM timer expired"),
             End::Read(ReadEnd::Idle) => f.write_str("aborted: the peer was idle"),

@@ -1,9 +1,10 @@
 //! Fields that several lines of the log have.
+use crate::asked::Reply;
 use crate::end::End;
 use crate::entry::{Fields, Name};
-use crate::reply::Reply;
-use crate::state::Title;
+use crate::request::Title;
 use crate::text::Text;
+use dimse::{Detail, cause_name};
 use std::fmt::Write;
 use std::io;
 
@@ -81,15 +82,26 @@ pub(crate) fn give_calling<F: Fields>(calling: &Title, out: &mut F) {
     }
 }
 
-/// Gives the status of a reply in hexadecimal, and its cause.
-pub(crate) fn give_status<F: Fields>(reply: &Reply, out: &mut F) {
+/// Gives the status of a reply in hexadecimal, and the cause that it reports.
+pub(crate) fn give_status<F: Fields>(reply: Reply, out: &mut F) {
     let mut status = Text::<4>::new();
     let _ = write!(status, "{:04X}", reply.status);
     out.text(STATUS, status.as_str());
-    if reply.comment.len() > 0 {
-        out.text(FAULT, reply.comment.as_str());
+    if let Some(detail) = reply.detail {
+        give_detail(detail, out);
     }
-    if let Some(tag) = reply.tag {
+}
+
+/// Gives the cause of a failure, as the response's Error Comment and Offending Element name it.
+fn give_detail<F: Fields>(detail: Detail, out: &mut F) {
+    let Some(name) = cause_name(detail.number) else {
+        return;
+    };
+    let mut fault = Text::<26>::new();
+    let _ = write!(fault, "fault {:02} {name}", detail.number);
+    out.text(FAULT, fault.as_str());
+    let tag = detail.tag;
+    if tag.0 != 0 || tag.1 != 0 {
         let mut text = Text::<9>::new();
         let _ = write!(text, "{:04x},{:04x}", tag.0, tag.1);
         out.text(TAG, text.as_str());

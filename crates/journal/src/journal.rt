@@ -1,29 +1,28 @@
 //! Is shown what goes over one connection, and writes the lines that tell of it.
 use crate::accepted::Results;
-use crate::answer::Answer;
+use crate::asked::Reply;
 use crate::association_entries::{
     Aborted, ClassesRefused, ContextRefused, Ended, Rejected, Served,
 };
-use crate::end::{Abort, End};
+use crate::end::End;
 use crate::entry::Entry;
-use crate::incoming::Taken;
 use crate::limits::Limits;
 use crate::logger::Logger;
 use crate::outcome::Outcome;
 use crate::refusal::{Reason, loss_words, resources_words};
 use crate::refused::{RefusedClasses, shown_class};
-use crate::reply::{Reply, Value, status_of};
 use crate::server_entries::NumbersLow;
 use crate::sheet::sheet_of;
 use crate::state::{Phase, State};
 use crate::store_entries::{Answered, FilingFailed, NotConfirmed, NotStored, Unanswered};
 use crate::text::Text;
-use connection::{Observer, ReadEnd};
-use dimse::{read_command, status};
+use connection::{Observer, ReadEnd, Taken};
+use decisions::{Decision, ValueEnd};
+use dimse::status;
+use folder_filing::{DraftNotes, Location, StoredFile};
 use keywords::syntax_keyword;
 use log::{Level, Log};
-use metrics::CountedStatus;
-use part10::{DraftNotes, Location, StoredFile};
+use negotiate::{Answer, Config};
 use pdu::{Proposal, Request, read_request};
 use std::alloc::{AllocError, Global};
 use std::cell::RefCell;
@@ -43,28 +42,9 @@ where
     pub(crate) logger: Logger<'a, R>,
     /// What became of the drafts of its filing.
     pub(crate) notes: Rc<DraftNotes<S>, S::A>,
-    pub(crate) limits: Limits,
+    config: &'a Config,
     state: RefCell<State>,
     alloc: Global,
-}
-
-/// The class and the instance of a store, as they are shown.
-#[derive(Drop)]
-struct Asked {
-    class: Value,
-    instance: Value,
-}
-
-/// Returns the class and the instance of the last command, or `None` if it is not of a store.
-fn asked_in(state: &State) -> Option<Asked> {
-    let command = read_command(state.incoming.message.command()).ok()?;
-    let uid = command.instance()?;
-    let mut instance = Value::new();
-    instance.add(uid.as_bytes());
-    Some(Asked {
-        class: shown_class(command.class().as_bytes()),
-        instance,
-    })
 }
 
 /// Returns the transfer syntaxes of a proposed context by their keywords, where they have one, else
@@ -87,24 +67,29 @@ impl<'a, R: Log + Clock, S: Files + Alloc + Clone + Drop> Journal<'a, R, S>
 where
     S::File: StoredFile,
 {
-    /// Returns the journal of a new connection that is held to these limits, whose files become what these
-    /// notes say.
+    /// Returns the journal of a new connection that is held to this configuration, whose files
+    /// become what these notes say.
     ///
-    /// It takes memory for the peer's request, which it gives up once that is answered. Without memory
-    /// it knows neither titles nor contexts.
+    /// It takes memory for the peer's request, which it gives up once that is answered. Without
+    /// memory it knows neither titles nor contexts.
     pub fn new(
         alloc: Global,
         logger: Logger<'a, R>,
         notes: Rc<DraftNotes<S>, S::A>,
-        limits: Limits,
+        config: &'a Config,
     ) -> Journal<'a, R, S> {
         Journal {
             logger,
             notes,
-            limits,
+            config,
             state: RefCell::new(State::new(alloc)),
             alloc,
         }
+    }
+
+    /// Returns what the connection is held to.
+    pub(crate) fn limits(&self) -> Limits {
+        Limits::of(self.config)
     }
 
     /// Returns the text of an entry about this connection. Fails if memory runs out.
@@ -141,16 +126,14 @@ where
         if count == 0 && state.unconfirmed.is_none() {
             return;
         }
-        let Some(asked) = asked_in(state) else {
-            return;
-        };
+        let class = state.asked.class();
         let calling = &state.calling;
         if let Some(place) = state.unconfirmed {
             self.logger.tell(&NotConfirmed {
                 end: state.end,
                 place,
-                class: &asked.class,
-                instance: &asked.instance,
+                class: &class,
+                instance: &state.asked.instance,
                 calling,
             });
         } else {
@@ -162,8 +145,8 @@ where
                 end: state.end,
                 lost: lost.as_ref(),
                 count,
-                class: &asked.class,
-                instance: &asked.instance,
+                class: &class,
+                instance: &state.asked.instance,
                 calling,
             });
         }
@@ -178,18 +161,32 @@ where
         }
     }
 
-    /// Takes note of what the association sends for what was heard last, and writes its lines.
-    fn tell(&self, state: &mut State, taken: Taken, answer: Answer, ahead: &[u8]) {
-        match answer {
-            Answer::Nothing => {}
-            Answer::Accepted(body) => {
-                state.phase = Phase::Established;
-                state.results = Results::of(body);
-                state.accepted = self.tell_contexts(state);
-                state.incoming.give_up_request();
+    /// Takes note of what the association decided, and writes its lines.
+    fn tell(&self, state: &mut State, decision: Decision, taken: &Taken<'_>) {
+        if let Decision::RequestJudged(answer) = decision {
+            self.judge(state, answer);
+        }
+        match decision.value_end() {
+            ValueEnd::Replied(status, detail) if state.message.is_store => {
+                let reply = Reply { status, detail };
+                if taken.is_held {
+                    state.held = Some(reply);
+                } else {
+                    self.tell_reply(state, reply);
+                }
             }
-            Answer::Rejected(source, reason) => {
-                let rejection = state.reject(source, reason, taken);
+            _ => {}
+        }
+        if let Some(end) = state.end_by(decision, self.limits()) {
+            state.end(end);
+            self.tell_end(state, end, taken.ahead);
+        }
+    }
+
+    /// Writes that the association was rejected or aborted with what it decided.
+    fn tell_end(&self, state: &mut State, end: End, ahead: &[u8]) {
+        match end {
+            End::Rejected(rejection) => {
                 state.take_titles(ahead);
                 self.logger.tell(&Rejected {
                     rejection,
@@ -197,18 +194,8 @@ where
                     calling: &state.calling,
                 });
             }
-            Answer::Replied(reply) => {
-                state.incoming.message.end();
-                if taken == Taken::Data {
-                    self.tell_reply(state, reply.as_slice());
-                }
-            }
-            Answer::Released => state.end(End::Released),
-            Answer::Aborted(source, reason) => {
-                let cause = state.cause(taken, self.limits);
-                state.end(End::Aborted(Abort { source, reason }, cause));
-                self.tell_abort(state);
-            }
+            End::Aborted(..) => self.tell_abort(state),
+            _ => {}
         }
     }
 
@@ -219,37 +206,55 @@ where
         });
     }
 
-    /// Returns how many contexts were accepted, and writes of the other ones.
-    fn tell_contexts(&self, state: &State) -> u64 {
-        let Some(body) = state.incoming.request() else {
-            return 0;
+    /// Takes note of the answer to the request, and of its contexts.
+    fn judge(&self, state: &mut State, answer: Answer) {
+        let (proposed, accepted) = self.tell_contexts(state, answer);
+        state.proposed = proposed;
+        state.accepted = accepted;
+        if answer == Answer::Accept {
+            state.phase = Phase::Established;
+            state.request.give_up();
+        }
+    }
+
+    /// Returns how many contexts were proposed and how many of them accepted. Writes of the other
+    /// ones, if the request was accepted.
+    fn tell_contexts(&self, state: &State, answer: Answer) -> (u64, u64) {
+        let Some(body) = state.request.body() else {
+            return (0, 0);
         };
         let Ok(request) = read_request(body) else {
-            return 0;
+            return (0, 0);
         };
+        let results = Results::of(self.config, &request);
+        let mut proposed: u64 = 0;
         let mut accepted: u64 = 0;
         for proposal in request.contexts() {
-            if state.results.is_accepted(proposal.id()) {
+            proposed = proposed.saturating_add(1);
+            if results.is_accepted(proposal.id()) {
                 accepted = accepted.saturating_add(1);
             }
         }
-        if accepted < state.proposed {
-            self.tell_refused(state, &request);
+        if answer != Answer::Accept {
+            return (proposed, 0);
         }
-        accepted
+        if accepted < proposed {
+            self.tell_refused(state, &request, &results);
+        }
+        (proposed, accepted)
     }
 
     /// Writes of the contexts that were not accepted.
-    fn tell_refused(&self, state: &State, request: &Request) {
+    fn tell_refused(&self, state: &State, request: &Request, results: &Results) {
         if self.logger.tells(Level::Trace) {
             for proposal in request.contexts() {
-                match state.results.result(proposal.id()) {
+                match results.result(proposal.id()) {
                     None | Some(0) => {}
                     Some(answer) => self.tell_context(&proposal, answer),
                 }
             }
         }
-        let refused = RefusedClasses::of(request, &state.results);
+        let refused = RefusedClasses::of(request, results);
         if !refused.is_empty() {
             self.logger.tell(&ClassesRefused {
                 refused: &refused,
@@ -268,22 +273,18 @@ where
     }
 
     /// Counts a store that is answered, and writes its lines.
-    fn tell_reply(&self, state: &mut State, reply: &[u8]) {
-        let Some(status) = status_of(reply) else {
-            return;
-        };
-        let counted = CountedStatus::of(status);
-        let outcome = Outcome::counted(counted);
-        state.counts.answer(outcome);
+    fn tell_reply(&self, state: &mut State, reply: Reply) {
+        let counted = state.count(reply.status);
         if let Some(metrics) = self.logger.metrics() {
             metrics.count_answer(counted);
         }
         self.settle_aside(state, reply);
         let place = self.notes.take_place();
-        if outcome == Outcome::Stored {
+        let is_stored = Outcome::counted(counted) == Outcome::Stored;
+        if is_stored {
             state.unconfirmed = Some(place);
         }
-        if outcome != Outcome::Stored || self.logger.tells(Level::Debug) {
+        if !is_stored || self.logger.tells(Level::Debug) {
             self.tell_store(state, reply, place);
         }
         if let Some(place) = self.notes.take_low() {
@@ -291,30 +292,33 @@ where
         }
     }
 
+    /// Returns what the status of a reply does not tell, if anything.
+    pub(crate) fn reason(&self, state: &State, reply: Reply) -> Reason {
+        if reply.status == status::OUT_OF_RESOURCES {
+            resources_words(&state.folder_error, state.message.data_size, self.limits())
+        } else {
+            Reason::new()
+        }
+    }
+
     /// Writes the lines of a store that is answered.
-    fn tell_store(&self, state: &State, reply: &[u8], place: Option<Location>) {
-        let Some(reply) = Reply::read(reply) else {
-            return;
-        };
-        let class = shown_class(reply.class.as_str().as_bytes());
-        let bytes = state.incoming.message.data;
+    fn tell_store(&self, state: &State, reply: Reply, place: Option<Location>) {
+        let class = state.asked.class();
         if Outcome::of(reply.status) != Outcome::Stored {
-            let reason = if reply.status == status::OUT_OF_RESOURCES {
-                resources_words(&state.folder_error, bytes, self.limits)
-            } else {
-                Reason::new()
-            };
+            let reason = self.reason(state, reply);
             self.logger.tell(&NotStored {
-                reply: &reply,
+                reply,
                 class: &class,
+                instance: &state.asked.instance,
                 reason: &reason,
                 calling: &state.calling,
             });
         }
         self.logger.tell(&Answered {
-            reply: &reply,
+            reply,
             class: &class,
-            bytes,
+            instance: &state.asked.instance,
+            bytes: state.message.data_size,
             place,
         });
     }
@@ -324,27 +328,13 @@ impl<R: Log + Clock, S: Files + Alloc + Clone + Drop> Observer for Journal<'_, R
 where
     S::File: StoredFile,
 {
-    fn took(&self, bytes: &[u8], ahead: &[u8], answer: &[u8], is_held: bool) {
+    fn took(&self, taken: &Taken<'_>) {
         let Ok(mut state) = self.state.try_borrow_mut() else {
             return;
         };
-        let was_over = state.phase == Phase::Over;
-        let taken = state.take(bytes);
-        if taken == Taken::Command && answer.is_empty() {
-            state.ask();
-        }
+        let decision = state.take(taken);
         self.tell_filing(&mut state);
-        state.answer(answer.len());
-        if was_over {
-            return;
-        }
-        if taken == Taken::Abort {
-            state.end_by_peer();
-        }
-        match Answer::read(answer) {
-            Answer::Replied(reply) if is_held => state.hold(reply),
-            answer => self.tell(&mut state, taken, answer, ahead),
-        }
+        self.tell(&mut state, decision, taken);
     }
 
     fn settled(&self, is_kept: bool) {
@@ -356,7 +346,7 @@ where
         if !is_kept {
             state.end(End::FileLost);
         } else if let Some(reply) = held {
-            self.tell_reply(&mut state, reply.as_slice());
+            self.tell_reply(&mut state, reply);
         }
     }
 
@@ -366,14 +356,14 @@ where
         }
     }
 
-    fn read_ended(&self, why: ReadEnd, abort: &[u8]) {
+    fn read_ended(&self, why: ReadEnd, abort: usize) {
         let Ok(mut state) = self.state.try_borrow_mut() else {
             return;
         };
         self.tell_filing(&mut state);
-        state.answer(abort.len());
+        state.answer(abort);
         state.end(End::Read(why));
-        if !abort.is_empty() {
+        if abort > 0 {
             self.tell_abort(&state);
         }
     }

@@ -1,9 +1,9 @@
-//! The log of served associations: what each takes and what it sends for that, read as it passes by, and the
-//! lines that tell of it. Nothing here can change what is received, sent or filed: it is lent the bytes.
+//! The log of served associations: what each decides, as it is told, and the lines that tell of it.
+//! Nothing here can change what is received, sent or filed: it is lent the bytes.
 #![tactic(auto)]
 
 mod accepted;
-mod answer;
+mod asked;
 mod association_entries;
 mod cause;
 mod end;
@@ -11,7 +11,6 @@ mod entry;
 mod entry_fields;
 mod fields;
 mod form;
-mod incoming;
 mod journal;
 mod limits;
 mod line;
@@ -23,7 +22,7 @@ mod quarantine;
 mod quarantine_entries;
 mod refusal;
 mod refused;
-mod reply;
+mod request;
 mod server_entries;
 mod sheet;
 mod state;

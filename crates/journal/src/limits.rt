@@ -1,4 +1,5 @@
 //! What a connection is held to, as far as its log names it.
+use negotiate::Config;
 
 /// What a connection is held to, as far as its log names it.
 #[derive(Clone, Copy, Debug)]
@@ -7,4 +8,14 @@ pub struct Limits {
     pub max_pdu: u32,
     /// The longest data set that is taken, in bytes.
     pub max_data: u64,
+}
+
+impl Limits {
+    /// Returns those of a configuration.
+    pub fn of(config: &Config) -> Limits {
+        Limits {
+            max_pdu: config.max_pdu,
+            max_data: config.max_data,
+        }
+    }
 }

@@ -1,12 +1,8 @@
-//! What has come of a message.
-ghost use Rattle.std.specs.Prelude.{◌≡◌, IfNone, IfSome, IsOk, option_map};
-ghost use Rattle.dimse.specs.Command.{CommandFault};
-ghost use Rattle.dimse.specs.Messages.{head_refusal};
-ghost use Rattle.dimse.specs.Reading.{command_in};
+//! What an association has decided of a message.
+ghost use Rattle.std.specs.Prelude.{◌≡◌, IfSome};
 
-use arrayvec::ArrayVec;
-use connection::COMMAND;
-use dimse::{CommandSet, DimseFault, element_numbers, read_command};
+use decisions::Decision;
+use dimse::DimseFault;
 use pdu::PdvHead;
 
 /// What is due of a message.
@@ -20,7 +16,7 @@ pub(crate) enum Stage {
     Data,
 }
 
-/// Why a fragment does not go on with its message.
+/// Why a fragment does not continue its message.
 #[derive(Clone, Copy, Debug, PartialEq, Eq)]
 pub(crate) enum Misplaced {
     /// The command set would have so many bytes, and more than are taken.
@@ -52,102 +48,101 @@ impl Misplaced {
     }
 }
 
-/// What has come of a message. Takes no memory.
-#[derive(Drop)]
+/// What an association has decided of a message: the numbers of its fragments, and none of their
+/// bytes.
+#[derive(Clone, Copy, Debug, PartialEq, Eq)]
 pub(crate) struct Message {
     pub stage: Stage,
     /// The context of its first fragment.
     context: u8,
-    /// Its command set, or that of the last message.
-    command: ArrayVec<u8, COMMAND>,
-    /// How many bytes of its data set have come.
-    pub data: u64,
+    /// How many bytes the fragments of its command set have.
+    command_size: u64,
+    /// Whether it is a store, and its data set was due.
+    pub is_store: bool,
+    /// How many bytes the fragments of its data set have.
+    pub data_size: u64,
+    /// Whether the last fragment has bytes, which are due.
+    is_fragment_due: bool,
 }
 
 impl Message {
-    ghost use Rattle.journal.specs.Fragments.{fault_of, message_in};
+    ghost use Rattle.journal.specs.Fragments.{begun, fault_of, heard};
 
-    /// Returns a message of which nothing has come.
+    /// Returns a message of which nothing was decided.
     pub(crate) fn new() -> Message {
         Message {
             stage: Stage::Between,
             context: 0,
-            command: ArrayVec::new(),
-            data: 0,
+            command_size: 0,
+            is_store: false,
+            data_size: 0,
+            is_fragment_due: false,
         }
     }
 
-    /// Returns why the fragment after this head does not go on with the message, if it does not
-    /// (PS3.7 section 6.3, PS3.8 annex E): its fault is the one that the message has by it.
-    pub(crate) fn misplaced(&self, head: &PdvHead) -> Option<Misplaced>
-        ensures { option_map fault_of result ≡ head_refusal 1024 (message_in self.now) head.now }
+    /// Takes note of the fragment after this head, which continues the message.
+    fn begin(&mut self, head: PdvHead)
+        ensures { self.new ≡ begun head self.old }
     {
-        let size = head.length.saturating_sub(2) as usize;
-        match (self.stage, head.command) {
-            (Stage::Command | Stage::Data, _) if head.context != self.context => {
+        match self.stage {
+            Stage::Between => {
+                self.stage = Stage::Command;
+                self.context = head.context;
+                self.command_size = 0;
+                self.is_store = false;
+            }
+            Stage::Command | Stage::Data => {}
+        }
+        let size = u64::from(head.length).saturating_sub(2);
+        if head.command {
+            self.command_size = self.command_size.saturating_add(size);
+        } else {
+            self.data_size = self.data_size.saturating_add(size);
+        }
+        self.is_fragment_due = size > 0;
+    }
+
+    /// Takes note of what was decided last, where a part of a PDU is complete: it was decided with
+    /// that part, unless the part is a fragment after which the message goes on.
+    pub(crate) fn hear(&mut self, decision: Decision)
+        ensures { self.new ≡ heard decision self.old }
+    {
+        let is_after_fragment = self.is_fragment_due;
+        self.is_fragment_due = false;
+        match decision {
+            Decision::Fragment(head) => {
+                if !is_after_fragment {
+                    self.begin(head);
+                }
+            }
+            Decision::DataDue => {
+                self.stage = Stage::Data;
+                self.is_store = true;
+                self.data_size = 0;
+            }
+            Decision::Replied(_, _) => self.stage = Stage::Between,
+            _ => {}
+        }
+    }
+
+    /// Returns why the fragment after this head does not continue the message, by the fault that
+    /// was decided of it (PS3.7 section 6.3, PS3.8 annex E), or `None` if no fragment has such a
+    /// fault.
+    pub(crate) fn misplaced(&self, head: PdvHead, fault: DimseFault) -> Option<Misplaced>
+        ensures { IfSome result (λ m. fault_of m ≡ fault) }
+    {
+        match (fault, self.stage) {
+            (DimseFault::CommandTooLong, _) => {
+                let size = u64::from(head.length).saturating_sub(2);
+                Some(Misplaced::TooLong(self.command_size.saturating_add(size)))
+            }
+            (DimseFault::WrongKind, Stage::Between) => Some(Misplaced::DataFirst),
+            (DimseFault::WrongKind, Stage::Command) => Some(Misplaced::DataInside),
+            (DimseFault::WrongKind, Stage::Data) => Some(Misplaced::TwoCommands),
+            (DimseFault::OtherContext, _) => {
                 Some(Misplaced::OtherContext(head.context, self.context))
             }
-            (Stage::Between, false) => Some(Misplaced::DataFirst),
-            (Stage::Command, false) => Some(Misplaced::DataInside),
-            (Stage::Data, true) => Some(Misplaced::TwoCommands),
-            (Stage::Between, true) if size > COMMAND => Some(Misplaced::TooLong(size as u64)),
-            (Stage::Command, true) if size > COMMAND - self.command.len() => {
-                Some(Misplaced::TooLong(self.command.len() as u64 + size as u64))
-            }
-            _ => None,
+            (DimseFault::BadCommand | DimseFault::UnknownField, _) => None,
         }
-    }
-
-    /// Begins the fragment after this head, which goes on with the message.
-    pub(crate) fn begin(&mut self, head: &PdvHead) {
-        if self.stage == Stage::Between {
-            self.command.clear();
-            self.context = head.context;
-            self.stage = Stage::Command;
-        }
-    }
-
-    /// Takes note of a part of a fragment.
-    pub(crate) fn keep(&mut self, bytes: &[u8]) {
-        match self.stage {
-            Stage::Data => self.data = self.data.saturating_add(bytes.len() as u64),
-            _ => {
-                let count = self.command.remaining_capacity().min(bytes.len());
-                let _ = self.command.try_extend_from_slice(&bytes[..count]);
-            }
-        }
-    }
-
-    /// The command set is whole, and a data set is due.
-    pub(crate) fn expect_data(&mut self) {
-        self.stage = Stage::Data;
-        self.data = 0;
-    }
-
-    /// The message is whole.
-    pub(crate) fn end(&mut self) {
-        self.stage = Stage::Between;
-    }
-
-    /// Returns the bytes of its command set, or of that of the last message.
-    pub(crate) fn command(&self) -> &[u8] {
-        self.command.as_slice()
-    }
-
-    /// Returns the fault of the command set, if it has one, and its command field, if it can be read.
-    pub(crate) fn fault(&self) -> Option<(DimseFault, Option<u16>)>
-        ensures fault { IfSome result (λ f. CommandFault f.0 self.now.command.items) }
-        ensures none { IfNone result (IsOk (command_in self.now.command.items)) }
-    {
-        match read_command(self.command.as_slice()) {
-            Ok(_) => None,
-            Err(fault) => Some((fault, self.field())),
-        }
-    }
-
-    /// Returns the command field, or `None` if the bytes are no command set or have none.
-    fn field(&self) -> Option<u16> {
-        let set = CommandSet::read(self.command.as_slice())?;
-        set.number(element_numbers::FIELD).ok()
     }
 }

@@ -2,15 +2,13 @@
 ghost use Rattle.std.specs.Prelude.{◌≡◌};
 ghost use Rattle.journal.specs.Outcomes as spelling;
 
+use crate::asked::Reply;
 use crate::journal::Journal;
 use crate::quarantine_entries::{NotQuarantined, QuarantineFull, QuarantineSheet, Quarantined};
-use crate::refusal::{Reason, resources_words};
-use crate::refused::shown_class;
-use crate::reply::Reply;
 use crate::state::State;
 use dimse::status;
+use folder_filing::{SetAside, StoredFile};
 use log::Log;
-use part10::{SetAside, StoredFile};
 use std::io;
 use std::io::{Error, ErrorKind};
 use std::rt::Files;
@@ -55,37 +53,33 @@ where
     }
 
     /// Keeps the draft that was moved to the quarantine, or removes it, by the reply to its store.
-    pub(crate) fn settle_aside(&self, state: &State, reply: &[u8]) {
+    pub(crate) fn settle_aside(&self, state: &State, reply: Reply) {
         self.tell_not_aside();
         let Some(aside) = self.notes.take_aside() else {
             return;
         };
         let has_filing_failed = state.folder_error.len() > 0;
-        match Reply::read(reply) {
-            Some(reply) if is_quarantined(reply.status, has_filing_failed) => {
-                let done = self.keep(state, &reply, aside);
-                self.tell_failed(done);
-            }
-            _ => self.tell_failed(aside.remove()),
-        }
+        let done = if is_quarantined(reply.status, has_filing_failed) {
+            self.keep(state, reply, aside)
+        } else {
+            aside.remove()
+        };
+        self.tell_failed(done);
     }
 
     /// Keeps a draft in the quarantine, and writes of it.
-    fn keep(&self, state: &State, reply: &Reply, aside: SetAside<S>) -> io::Result<()> {
-        let received = state.incoming.message.data;
-        let reason = if reply.status == status::OUT_OF_RESOURCES {
-            resources_words(&state.folder_error, received, self.limits)
-        } else {
-            Reason::new()
-        };
+    fn keep(&self, state: &State, reply: Reply, aside: SetAside<S>) -> io::Result<()> {
+        let class = state.asked.class();
+        let reason = self.reason(state, reply);
         let kept = aside.data();
         let text = self.sheet(&QuarantineSheet {
             reply,
-            class: &shown_class(reply.class.as_str().as_bytes()),
+            class: &class,
+            instance: &state.asked.instance,
             reason: &reason,
             called: &state.called,
             calling: &state.calling,
-            received,
+            received: state.message.data_size,
             kept,
         });
         let Ok(text) = text else {

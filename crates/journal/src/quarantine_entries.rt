@@ -1,9 +1,9 @@
 //! What the log tells of data sets that are kept in a quarantine, and what the texts beside them tell.
+use crate::asked::{Reply, Value};
 use crate::entry::{Entry, Event, Fields, Name};
 use crate::entry_fields::{Words, give_calling, give_error, give_status};
 use crate::refusal::Reason;
-use crate::reply::{Reply, Value};
-use crate::state::Title;
+use crate::request::Title;
 use log::Level;
 use std::fmt::Write;
 use std::io;
@@ -17,8 +17,9 @@ const FILE: Name = Name {
 /// A data set that is kept: what the text beside it tells.
 #[derive(Clone, Copy)]
 pub(crate) struct QuarantineSheet<'a> {
-    pub reply: &'a Reply,
+    pub reply: Reply,
     pub class: &'a Value,
+    pub instance: &'a Value,
     /// What its status does not tell, if anything.
     pub reason: &'a Reason,
     pub called: &'a Title,
@@ -49,7 +50,7 @@ impl Entry for QuarantineSheet<'_> {
             out.text(Name::new("reason", " "), self.reason.as_str());
         }
         out.text(Name::new("class", " "), self.class.as_str());
-        out.text(Name::new("instance", " "), self.reply.instance.as_str());
+        out.text(Name::new("instance", " "), self.instance.as_str());
         out.number(Name::new("received", " "), self.received);
         out.number(Name::new("kept", " "), self.kept);
         let is_whole = if self.kept == self.received {

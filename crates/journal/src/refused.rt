@@ -1,6 +1,6 @@
 //! The classes of a request of which no context was accepted.
 use crate::accepted::Results;
-use crate::reply::Value;
+use crate::asked::Value;
 use crate::text::Text;
 use dictionary::{Transfer, storage_class, syntax_of};
 use element::Uid;

@@ -2,8 +2,8 @@
 use crate::entry::{Entry, Event, Fields, Name};
 use crate::entry_fields::{Words, give_error};
 use crate::limits::Limits;
+use folder_filing::Location;
 use log::Level;
-use part10::Location;
 use std::fmt::Write;
 use std::io;
 use std::net::SocketAddr;

@@ -1,35 +1,32 @@
 //! What a log knows of an association.
-ghost use Rattle.std.specs.Prelude.{◌≡◌, ◌+◌, ◌≤◌, length};
+ghost use Rattle.std.specs.Prelude.{◌≡◌};
 
-use crate::accepted::Results;
-use crate::answer::ReplyBytes;
-use crate::cause::Cause;
+use crate::asked::{Asked, Reply};
+use crate::cause::{Cause, head_cause};
 use crate::end::{Abort, About, End, Rejection};
-use crate::incoming::{Incoming, Taken};
 use crate::limits::Limits;
-use crate::outcome::Counts;
+use crate::message::Message;
+use crate::outcome::{Counts, Outcome};
+use crate::request::{RequestCopy, Title};
 use crate::text::Text;
-use arrayvec::ArrayVec;
-use element::AeTitle;
-use metrics::CountedEnd;
-use part10::Location;
+use connection::Taken;
+use decisions::{Decision, ValueEnd};
+use folder_filing::Location;
+use metrics::{CountedEnd, CountedStatus};
+use negotiate::{Answer, rejection};
 use pdu::read_request;
 use std::alloc::Global;
-
-/// An AE title, as it is shown.
-pub(crate) type Title = Text<16>;
 
 /// Why a file could not be written, as it is shown.
 pub(crate) type FolderError = Text<100>;
 
-/// The bytes of a request's body up to the end of its titles.
-const TITLES: usize = 36;
-
 /// How far an association has come.
 #[derive(Clone, Copy, Debug, PartialEq, Eq)]
 pub(crate) enum Phase {
-    /// A request is due.
+    /// The head of a request's PDU is due.
     Awaited,
+    /// The body of a request is due.
+    InRequest,
     Established,
     /// It was rejected, released or aborted.
     Over,
@@ -38,10 +35,11 @@ pub(crate) enum Phase {
 /// What a log knows of an association.
 #[derive(Drop)]
 pub(crate) struct State {
-    pub incoming: Incoming,
     pub phase: Phase,
-    /// The results of its presentation contexts.
-    pub results: Results,
+    pub request: RequestCopy,
+    pub message: Message,
+    /// What was asked for in the last store.
+    pub asked: Asked,
     pub counts: Counts,
     pub called: Title,
     pub calling: Title,
@@ -51,39 +49,31 @@ pub(crate) struct State {
     /// Why a file could not be written, since a store was asked for last; empty where none failed.
     pub folder_error: FolderError,
     /// The reply to a store whose file waits to be settled.
-    pub held: Option<ReplyBytes>,
+    pub held: Option<Reply>,
     /// Where the file stands of a store whose reply was not all sent.
     pub unconfirmed: Option<Option<Location>>,
+    /// The last two bytes that were taken: in an A-ABORT its source and reason.
+    last: (u8, u8),
     /// How many bytes it was to send.
     answered: u64,
     /// How many of them were sent.
     sent: u64,
 }
 
-/// Returns the title at this place of a request's body, without leading and trailing spaces.
-/// Quotation marks are put round it in a line: one of its own is shown as what does not print.
-fn title_at(body: &[u8], place: usize) -> Title
-    requires { place + 16 ≤ length body.now }
-{
-    let mut bytes = [b' '; 16];
-    bytes.copy_from_slice(&body[place..place + 16]);
-    let mut title = Title::new();
-    for byte in AeTitle(bytes).trimmed() {
-        let shown = if *byte == b'"' { b'?' } else { *byte };
-        title.add(&[shown]);
-    }
-    title
-}
-
 impl State {
-    ghost use Rattle.journal.specs.Ends.{counted_where};
+    ghost use Rattle.journal.specs.Ends.{counted_as, counted_by, counted_where};
+    ghost use Rattle.journal.specs.Outcomes.{counted, outcome_of};
+    ghost use Rattle.journal.specs.Told.{asked_by, asked_more, told_by};
+    ghost use Rattle.metrics.specs.Statuses.{status_of};
+    ghost use Rattle.metrics.specs.declared.ends.CountedEnd.TheVariants.{AbortedByBox};
 
     /// Returns what is known before anything has come.
     pub(crate) fn new(alloc: Global) -> State {
         State {
-            incoming: Incoming::new(alloc),
             phase: Phase::Awaited,
-            results: Results::new(),
+            request: RequestCopy::new(alloc),
+            message: Message::new(),
+            asked: Asked::nothing(),
             counts: Counts::default(),
             called: Title::new(),
             calling: Title::new(),
@@ -93,63 +83,78 @@ impl State {
             folder_error: Text::new(),
             held: None,
             unconfirmed: None,
+            last: (0, 0),
             answered: 0,
             sent: 0,
         }
     }
 
-    /// Takes note of bytes that the association took, and returns the last thing in them which it may
-    /// answer. Once it is over, nothing counts but the titles of its request.
-    pub(crate) fn take(&mut self, bytes: &[u8]) -> Taken {
-        if self.phase == Phase::Over {
-            if self.incoming.request().is_some() {
-                self.incoming.take(bytes);
-                self.take_titles(&[]);
-            }
-            return Taken::Nothing;
+    /// Takes note of what the association took and is to send, and returns what it decided, if that
+    /// is told. Once it is over, nothing counts but the titles of its request.
+    pub(crate) fn take(&mut self, taken: &Taken<'_>) -> Decision
+        ensures told { result ≡ told_by taken.now.is_complete self.old.phase taken.now.decision }
+        ensures asked { self.new.counts ≡ asked_by result self.old.counts }
+    {
+        self.answer(taken.answered);
+        self.keep(taken.bytes);
+        if !taken.is_complete {
+            return Decision::Nothing;
         }
-        let taken = self.incoming.take(bytes);
-        if taken == Taken::Request {
-            self.take_request();
+        match self.phase {
+            Phase::Awaited => self.phase = Phase::InRequest,
+            Phase::InRequest => self.take_titles(&[]),
+            Phase::Established => {}
+            Phase::Over => return Decision::Nothing,
         }
-        taken
+        self.message.hear(taken.decision);
+        if let ValueEnd::DataDue = taken.decision.value_end() {
+            self.ask(taken.command);
+        }
+        taken.decision
     }
 
-    /// Takes the titles of the request, and counts its contexts.
-    fn take_request(&mut self) {
-        self.take_titles(&[]);
-        let Some(body) = self.incoming.request() else {
-            return;
+    /// Keeps bytes of the request's body, and the last two.
+    fn keep(&mut self, bytes: &[u8])
+        ensures phase { self.new.phase ≡ self.old.phase }
+        ensures counts { self.new.counts ≡ self.old.counts }
+    {
+        self.last = match bytes {
+            [.., source, reason] => (*source, *reason),
+            [reason] => (self.last.1, *reason),
+            [] => self.last,
         };
-        if let Ok(request) = read_request(body) {
-            for _context in request.contexts() {
-                self.proposed = self.proposed.saturating_add(1);
+        match self.phase {
+            Phase::Awaited | Phase::Established => {}
+            Phase::InRequest => self.request.keep(bytes),
+            Phase::Over => {
+                if self.request.body().is_some() {
+                    self.request.keep(bytes);
+                    self.take_titles(&[]);
+                }
             }
         }
     }
 
-    /// Takes the titles of the request, as far as they have come: what was taken, and what is read ahead of
-    /// that. The body of a request that is over is given up then.
-    pub(crate) fn take_titles(&mut self, ahead: &[u8]) {
-        let mut front = ArrayVec::<u8, TITLES>::new();
-        if let Some(body) = self.incoming.request() {
-            let count = body.len().min(TITLES);
-            let _ = front.try_extend_from_slice(&body[..count]);
-        }
-        let count = front.remaining_capacity().min(ahead.len());
-        let _ = front.try_extend_from_slice(&ahead[..count]);
-        let body = front.as_slice();
-        if body.len() == TITLES {
-            self.called = title_at(body, 4);
-            self.calling = title_at(body, 20);
+    /// Takes the titles of the request, as far as they have come: what was taken, and what is read
+    /// ahead of that. The body of a request that is over is given up then.
+    pub(crate) fn take_titles(&mut self, ahead: &[u8])
+        ensures phase { self.new.phase ≡ self.old.phase }
+        ensures counts { self.new.counts ≡ self.old.counts }
+    {
+        if let Some(titles) = self.request.titles(ahead) {
+            self.called = titles.called;
+            self.calling = titles.calling;
             if self.phase == Phase::Over {
-                self.incoming.give_up_request();
+                self.request.give_up();
             }
         }
     }
 
     /// Takes note that the association is to send so many bytes.
-    pub(crate) fn answer(&mut self, count: usize) {
+    pub(crate) fn answer(&mut self, count: usize)
+        ensures phase { self.new.phase ≡ self.old.phase }
+        ensures counts { self.new.counts ≡ self.old.counts }
+    {
         self.answered = self.answered.saturating_add(count as u64);
     }
 
@@ -161,28 +166,34 @@ impl State {
         }
     }
 
-    /// A store was asked for.
-    pub(crate) fn ask(&mut self) {
+    /// A store was asked for, by this command set; of no bytes where the association has ended with it.
+    fn ask(&mut self, command: &[u8])
+        ensures { self.new.counts ≡ asked_more self.old.counts }
+    {
         self.counts.ask();
         self.folder_error = Text::new();
-        self.incoming.message.expect_data();
+        self.asked = Asked::read(command);
     }
 
-    /// Keeps the reply to a store, which is held until its file is settled.
-    pub(crate) fn hold(&mut self, reply: ReplyBytes) {
-        self.incoming.message.end();
-        self.held = Some(reply);
+    /// Counts the reply to a store, by its status. Returns as what the status is counted.
+    pub(crate) fn count(&mut self, status: u16) -> CountedStatus
+        ensures status { result ≡ status_of status }
+        ensures counts { self.new.counts ≡ counted (outcome_of status) self.old.counts }
+    {
+        let status = CountedStatus::of(status);
+        self.counts.answer(Outcome::counted(status));
+        status
     }
 
-    /// The association ended so, unless it had before. Only the titles of a request that was rejected may
-    /// come yet.
+    /// The association ended so, unless it had before. Only the titles of a request that was
+    /// rejected may come yet.
     pub(crate) fn end(&mut self, end: End) {
         self.phase = Phase::Over;
         if self.end.is_none() {
             self.end = Some(end);
         }
         if !matches!(self.end, Some(End::Rejected(_))) {
-            self.incoming.give_up_request();
+            self.request.give_up();
         }
     }
 
@@ -196,48 +207,79 @@ impl State {
         }
     }
 
-    /// The request was rejected with this source and reason.
-    pub(crate) fn reject(&mut self, source: u8, reason: u8, taken: Taken) -> Rejection {
-        let about = match (taken, source, reason) {
-            (Taken::Head, _, _) => About::Length(self.incoming.length()),
-            (_, 1, 1) => self.maximum(),
-            _ => About::Nothing,
+    /// Returns how the association ended with what it decided, or `None` if it goes on.
+    pub(crate) fn end_by(&self, decision: Decision, limits: Limits) -> Option<End>
+        ensures { counted_where result ≡ counted_by decision }
+    {
+        match decision {
+            Decision::Nothing
+            | Decision::Fragment(_)
+            | Decision::DataDue
+            | Decision::Replied(_, _)
+            | Decision::RequestJudged(Answer::Accept) => None,
+            Decision::RequestTooLong(length) => Some(End::Rejected(Rejection {
+                source: rejection::SERVICE_PROVIDER_PRESENTATION,
+                reason: rejection::LOCAL_LIMIT_EXCEEDED,
+                about: About::Length(length),
+            })),
+            Decision::RequestJudged(Answer::Reject(_, source, reason)) => {
+                Some(End::Rejected(self.rejection(source, reason)))
+            }
+            Decision::Released => Some(End::Released),
+            Decision::Aborted => {
+                let (source, reason) = self.last;
+                Some(End::AbortedByPeer(Abort { source, reason }))
+            }
+            Decision::PduRefused(head) => {
+                let cause = head_cause(head, self.phase == Phase::Established, limits);
+                Some(self.abort(cause))
+            }
+            Decision::RequestInvalid(fault) => Some(self.abort(Cause::Request(fault))),
+            Decision::ContextRefused(head) => Some(self.abort(Cause::Context(head.context))),
+            Decision::FragmentRefused(head, fault) => {
+                Some(self.abort(match self.message.misplaced(head, fault) {
+                    Some(misplaced) => Cause::Fragment(misplaced),
+                    None => Cause::Command(fault, None),
+                }))
+            }
+            Decision::ValueInvalid => Some(self.abort(Cause::Value)),
+            Decision::BytesLeft(_) => Some(self.abort(Cause::Leftover)),
+            Decision::CommandRefused(fault, field) => {
+                Some(self.abort(Cause::Command(fault, field)))
+            }
+        }
+    }
+
+    /// Returns the end of an association that the box aborted for this cause.
+    fn abort(&self, cause: Cause) -> End
+        ensures { counted_as result ≡ AbortedByBox }
+    {
+        End::Aborted(cause.abort(self.phase == Phase::Established), cause)
+    }
+
+    /// Returns the rejection with this source and reason.
+    fn rejection(&self, source: u8, reason: u8) -> Rejection {
+        let is_of_user = source == rejection::SERVICE_USER;
+        let about = if is_of_user && reason == rejection::NO_REASON_GIVEN {
+            self.maximum()
+        } else {
+            About::Nothing
         };
-        let rejection = Rejection {
+        Rejection {
             source,
             reason,
             about,
-        };
-        self.end(End::Rejected(rejection));
-        rejection
+        }
     }
 
     /// Returns the maximum length that the request names.
     fn maximum(&self) -> About {
-        let Some(body) = self.incoming.request() else {
+        let Some(body) = self.request.body() else {
             return About::Nothing;
         };
         match read_request(body) {
             Ok(request) => About::Maximum(request.maximum()),
             Err(_) => About::Nothing,
         }
-    }
-
-    /// Returns why what was heard last has the association aborted.
-    pub(crate) fn cause(&self, taken: Taken, limits: Limits) -> Option<Cause> {
-        let is_established = self.phase == Phase::Established;
-        match taken {
-            // The context is judged before the message.
-            Taken::Value(_) if !self.results.is_accepted(self.incoming.context()) => {
-                Some(Cause::Context(self.incoming.context()))
-            }
-            _ => self.incoming.cause(taken, is_established, limits),
-        }
-    }
-
-    /// The peer aborted the association.
-    pub(crate) fn end_by_peer(&mut self) {
-        let (source, reason) = self.incoming.abort();
-        self.end(End::AbortedByPeer(Abort { source, reason }));
     }
 }

@@ -1,13 +1,13 @@
 //! What the lines of the log tell of a store.
+use crate::asked::{Reply, Value};
 use crate::end::End;
 use crate::entry::{Entry, Event, Fields, Name};
 use crate::entry_fields::{CLASS, END, REASON, end_words, give_calling, give_error, give_status};
 use crate::refusal::Reason;
-use crate::reply::{Reply, Value};
-use crate::state::Title;
+use crate::request::Title;
 use crate::text::Text;
+use folder_filing::Location;
 use log::Level;
-use part10::Location;
 use std::fmt::Write;
 use std::io;
 
@@ -62,8 +62,9 @@ fn give_place<F: Fields>(place: Option<Location>, out: &mut F) {
 /// A store was answered.
 #[derive(Clone, Copy)]
 pub(crate) struct Answered<'a> {
-    pub reply: &'a Reply,
+    pub reply: Reply,
     pub class: &'a Value,
+    pub instance: &'a Value,
     /// How many bytes its data set has.
     pub bytes: u64,
     pub place: Option<Location>,
@@ -83,7 +84,7 @@ impl Entry for Answered<'_> {
 
     fn fields<F: Fields>(&self, out: &mut F) {
         out.text(CLASS, self.class.as_str());
-        out.text(INSTANCE, self.reply.instance.as_str());
+        out.text(INSTANCE, self.instance.as_str());
         out.number(BYTES, self.bytes);
         give_status(self.reply, out);
         give_place(self.place, out);
@@ -93,8 +94,9 @@ impl Entry for Answered<'_> {
 /// A store was answered, and not with success.
 #[derive(Clone, Copy)]
 pub(crate) struct NotStored<'a> {
-    pub reply: &'a Reply,
+    pub reply: Reply,
     pub class: &'a Value,
+    pub instance: &'a Value,
     /// What its status does not tell, if anything.
     pub reason: &'a Reason,
     pub calling: &'a Title,
@@ -118,12 +120,12 @@ impl Entry for NotStored<'_> {
             out.text(Name::new("reason", " "), self.reason.as_str());
         }
         out.text(CLASS, self.class.as_str());
-        out.text(INSTANCE, self.reply.instance.as_str());
+        out.text(INSTANCE, self.instance.as_str());
         give_calling(self.calling, out);
     }
 }
 
-/// The association ended before stores were answered: the last one that was asked for.
+/// The association ended before stores were answered: the last one that was asked for, where it is known.
 #[derive(Clone, Copy)]
 pub(crate) struct Unanswered<'a> {
     pub end: Option<End>,
@@ -152,8 +154,10 @@ impl Entry for Unanswered<'_> {
         if let Some(reason) = self.lost {
             out.text(REASON, reason.as_str());
         }
-        out.text(CLASS, self.class.as_str());
-        out.text(INSTANCE, self.instance.as_str());
+        if self.class.len() > 0 {
+            out.text(CLASS, self.class.as_str());
+            out.text(INSTANCE, self.instance.as_str());
+        }
         out.number(Name::new("stores", " stores "), self.count);
         give_calling(self.calling, out);
     }

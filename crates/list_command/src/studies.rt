@@ -24,7 +24,7 @@ pub(crate) struct Series<A: Allocator> {
     pub repertoire: Repertoire,
     /// The number of its files.
     pub images: u64,
-    /// Its files, if files are listed; else empty.
+    /// The files of the series, where `list` lists files; else empty.
     pub instances: Vec<Instance<A>, A>,
 }
 

@@ -37,4 +37,17 @@ count_at_end Unknown c = c.unknown
 
 -- no association
 abbrev pub no_ends : EndCounts
-no_ends = record { released = 0; rejected = 0; aborted_by_peer = 0; aborted_by_box = 0; closed = 0; timer_expired = 0; idle = 0; too_long = 0; stopping = 0; connection_failed = 0; file_lost = 0; unknown = 0 }
+no_ends = record {
+  released = 0;
+  rejected = 0;
+  aborted_by_peer = 0;
+  aborted_by_box = 0;
+  closed = 0;
+  timer_expired = 0;
+  idle = 0;
+  too_long = 0;
+  stopping = 0;
+  connection_failed = 0;
+  file_lost = 0;
+  unknown = 0;
+}

@@ -22,7 +22,7 @@ pub struct Pace {
 impl Pace {
     ghost use Rattle.metrics.specs.Due.{pacing_of, time_left};
 
-    /// Returns that of a file that was not written yet.
+    /// Creates the pace of a file that was not written yet.
     pub fn new() -> Pace
         ensures { pacing_of result ≡ record { tried = None; behind = true } }
     {
@@ -32,14 +32,14 @@ impl Pace {
         }
     }
 
-    /// A number has changed.
+    /// Notes that a number has changed since the last write.
     pub fn change(&mut self)
         ensures { pacing_of self.new ≡ record (pacing_of self.old) { behind = true } }
     {
         self.is_behind = true;
     }
 
-    /// The file was to be written at this instant, and was, or not.
+    /// Notes that a write was tried at this instant, and whether it succeeded.
     pub fn tried(&mut self, now: Instant, is_written: bool)
         ensures { pacing_of self.new ≡ record { tried = Some (instant_nanos now); behind = not is_written } }
     {
@@ -47,7 +47,7 @@ impl Pace {
         self.is_behind = !is_written;
     }
 
-    /// Returns how long the file may be left as it is.
+    /// Returns how long it is from `now` until the metrics file is due to be written; zero if it is due.
     pub fn left(&self, now: Instant) -> Duration
         ensures { as_nanos result ≡ time_left (pacing_of self.now) (instant_nanos now) }
     {

@@ -1,9 +1,9 @@
 -- the lemmas that the crates above cite, and no others
 pub mod Public
-pub mod AnswerLemmas
-pub mod AcceptLemmas
-pub mod ServiceLemmas
-pub mod TransferLemmas
-pub mod PlaceLemmas
-pub mod TableLemmas
-pub mod LengthLemmas
+pub mod AcceptedPeersTakeFragments
+pub mod FrontIsItsParts
+pub mod DictionaryDecidesByDefault
+pub mod NativeSyntaxesArePreferred
+pub mod FurtherClassIsFound
+pub mod TableHasAcceptedContexts
+pub mod AcceptancesAreShort

@@ -8,17 +8,17 @@ use Rattle.pdu.specs.Record.{Proposal, RequestRecord, ids}
 use Rattle.pdu.specs.Items.{request_record}
 use Rattle.pdu.specs.Refusal.{request_fault}
 use Rattle.negotiate.specs.Accept.{accept_text, longest_accept}
+use Rattle.negotiate.specs.ContextLaws.{accepted_by_default}
 use Rattle.negotiate.specs.ContextRows.{context_in, context_rows}
 use Rattle.negotiate.specs.Settings.{Settings}
 use Rattle.negotiate.specs.Taken.{Taken, nothing_additional}
-use Rattle.negotiate.proofs.LengthLemmas as length_of
+use Rattle.negotiate.proofs.AcceptancesAreShort as length_of
 use Rattle.negotiate.specs.Contexts.{accepted, accepted_by, agreed, carried, carried_by, chosen, context_of, offered, result_by, result_of, seen, service_of, taken_syntax}
 use Rattle.dictionary.specs.Classes.{class_of}
 use Rattle.dictionary.specs.Transfers.{native}
-use Rattle.negotiate.specs.declared.proposals.Service.TheVariants.{Known}
-use Rattle.negotiate.proofs.ServiceLemmas as services
-use Rattle.negotiate.proofs.TableLemmas as table
-use Rattle.negotiate.proofs.TransferLemmas as transfers
+use Rattle.negotiate.proofs.DictionaryDecidesByDefault as services
+use Rattle.negotiate.proofs.TableHasAcceptedContexts as table
+use Rattle.negotiate.proofs.NativeSyntaxesArePreferred as transfers
 
 pub context_in-context_rows : (additional : Taken) (r : RequestRecord) → IsDistinct eqb (ids r.contexts) → (id : ℕ) →
     context_in additional (context_rows additional (offered additional r)) id ≡ context_of (offered additional r) id
@@ -30,9 +30,7 @@ accepts_short = length_of.accepts_short
 pub default_result : (p : Proposal) → result_of (seen nothing_additional p) ≡ result_by (class_of p.abstract_syntax) (chosen p.transfer_syntaxes)
 default_result = services.default_result
 
-pub default_context : (r : RequestRecord) (id : ℕ) →
-    context_of (offered nothing_additional r) id
-    ≡ option_and_then (λ p. accepted_by (option_map Known (class_of p.abstract_syntax)) (option_map native (chosen p.transfer_syntaxes))) (find (λ p. nat_eq p.id id) r.contexts)
+pub default_context : (r : RequestRecord) (id : ℕ) → context_of (offered nothing_additional r) id ≡ option_and_then accepted_by_default (find (λ p. nat_eq p.id id) r.contexts)
 default_context = services.default_context
 
 pub native_result : (additional : Taken) (p : Proposal) → additional.transfers ≡ [] →

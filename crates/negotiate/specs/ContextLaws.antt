@@ -1,8 +1,12 @@
 -- What laws say of the contexts of a request.
-use Rattle.std.specs.Prelude.{◌≡◌, ℕ, Option}
+use Rattle.std.specs.Prelude.{◌≡◌, ℕ, Option, option_map}
+use Rattle.dictionary.specs.Classes.{class_of}
+use Rattle.dictionary.specs.Transfers.{native}
 use Rattle.pdu.specs.Record.{RequestRecord, Proposal}
+use Rattle.negotiate.specs.declared.proposals.Context.{Context}
 use Rattle.negotiate.specs.declared.proposals.Service.{Service}
-use Rattle.negotiate.specs.Contexts.{context_of, offered, service_of, taken_syntax}
+use Rattle.negotiate.specs.declared.proposals.Service.TheVariants.{Known}
+use Rattle.negotiate.specs.Contexts.{accepted_by, chosen, context_of, offered, service_of, taken_syntax}
 use Rattle.negotiate.specs.ContextRows.{context_in, context_rows}
 use Rattle.negotiate.specs.Taken.{Taken}
 
@@ -13,3 +17,7 @@ TableIsOffered additional r = (id : ℕ) → context_in additional (context_rows
 -- the service that a proposed context names, if it is taken
 abbrev pub service_taken : Taken → Proposal → Option Service
 service_taken additional p = service_of (taken_syntax additional.classes p.abstract_syntax)
+
+-- the context as which a proposal is accepted by the dictionary's classes and the native transfer syntaxes alone
+abbrev pub accepted_by_default : Proposal → Option Context
+accepted_by_default p = accepted_by (option_map Known (class_of p.abstract_syntax)) (option_map native (chosen p.transfer_syntaxes))

@@ -19,7 +19,13 @@ registered true = map (λ row. row.uid) storage_classes
 registered false = []
 
 abbrev pub settings_of : Config → Settings
-settings_of c = record { ae = c.ae.0; callers = map (λ t. t.0) c.callers.items; max_pdu = c.max_pdu; max_data = c.max_data; additional = record { classes = map (λ t. t.items) c.named.items ++ registered c.all_storage; transfers = c.transfers.items } }
+settings_of c = record {
+  ae = c.ae.0;
+  callers = map (λ t. t.0) c.callers.items;
+  max_pdu = c.max_pdu;
+  max_data = c.max_data;
+  additional = record { classes = map (λ t. t.items) c.named.items ++ registered c.all_storage; transfers = c.transfers.items };
+}
 
 -- the defaults
 abbrev pub default_max_pdu : ℕ

@@ -11,13 +11,13 @@ use element::{AeTitle, Uid};
 /// How many calling titles can be named that are accepted.
 pub const MOST_CALLERS: usize = 64;
 
-/// How many further storage classes can be named that are taken.
+/// How many additional storage classes can be named that are taken.
 pub const MOST_NAMED: usize = 64;
 
-/// How many further storage classes can be taken: those that are named, and the 177 of the standard.
+/// How many additional storage classes can be taken: those that are named, and the 177 of the standard.
 const MOST_FURTHER: usize = MOST_NAMED + 177;
 
-/// How many further transfer syntaxes can be taken: those of the dictionary in which Pixel Data is encapsulated.
+/// How many additional transfer syntaxes can be taken: those of the dictionary in which Pixel Data is encapsulated.
 const MOST_TRANSFERS: usize = 24;
 
 /// The settings of the receiver: who may associate with it, and how much it accepts.
@@ -35,9 +35,9 @@ pub struct Config {
     /// Whether every storage class of the standard is taken (PS3.4 Table B.5-1), those that are retired (PS3.6
     /// annex A) among them, and not the dictionary's own alone.
     pub all_storage: bool,
-    /// Further storage classes that are taken, by the text of their unique identifiers.
+    /// Additional storage classes that are taken, by the text of their unique identifiers.
     pub named: ArrayVec<ArrayVec<u8, 64>, MOST_NAMED>,
-    /// Further transfer syntaxes that are taken, beside Explicit and Implicit VR Little Endian.
+    /// Additional transfer syntaxes that are taken, beside Explicit and Implicit VR Little Endian.
     pub transfers: ArrayVec<Transfer, MOST_TRANSFERS>,
     pub ghost least_pdu: { 1024 ≤ max_pdu },
     pub ghost least_data: { 1024 ≤ max_data },
@@ -194,7 +194,7 @@ impl Config {
         !transfer.is_encapsulated() || is_among(self.transfers.as_slice(), transfer)
     }
 
-    /// Returns the text of the further storage class of this place, first those that are named.
+    /// Returns the text of the additional storage class of this place, first those that are named.
     pub(crate) fn additional(&self, place: usize) -> Option<&[u8]>
         ensures { option_map (λ u. u.now) result ≡ slice_get (settings_of self.now).additional.classes place }
     {
@@ -211,7 +211,7 @@ impl Config {
         }
     }
 
-    /// Returns the place of a further storage class that is taken.
+    /// Returns the place of an additional storage class that is taken.
     pub(crate) fn place(&self, uid: &Uid) -> Option<u8>
         ensures { result ≡ place_of (settings_of self.now).additional.classes uid.now }
     {

@@ -9,7 +9,7 @@ ghost use Rattle.pdu.specs.Items.{request_record};
 ghost use Rattle.pdu.specs.Record.{Proposal, RequestRecord, ids};
 ghost use Rattle.pdu.specs.Refusal.{request_fault};
 ghost use Rattle.negotiate.specs.Accept.{accept_text, longest_accept};
-ghost use Rattle.negotiate.specs.ContextLaws.{TableIsOffered, service_taken};
+ghost use Rattle.negotiate.specs.ContextLaws.{TableIsOffered, accepted_by_default, service_taken};
 ghost use Rattle.negotiate.specs.ContextRows.{accepted_count, context_rows};
 ghost use Rattle.negotiate.specs.Contexts.{accepted, accepted_by, agreed, carried, carried_by, chosen, context_of, offered, result_by, result_of, seen};
 ghost use Rattle.negotiate.specs.Rejections as spelling;
@@ -17,7 +17,6 @@ ghost use Rattle.negotiate.specs.Taken.{Taken, nothing_additional};
 ghost use Rattle.negotiate.specs.Settings.{Settings, default_max_data, default_max_pdu};
 ghost use Rattle.negotiate.specs.Answer.{judged};
 ghost use Rattle.negotiate.specs.declared.answer.Answer.TheVariants.{Accept};
-ghost use Rattle.negotiate.specs.declared.proposals.Service.TheVariants.{Known};
 
 use crate::config::Config;
 use crate::rejection::{
@@ -34,17 +33,16 @@ pub fn table_has_the_accepted_contexts()
     ensures count { (additional : Taken) (r : RequestRecord) → length (context_rows additional r) ≡ accepted_count r }
 {}
 
-/// Where nothing further is taken, the dictionary's classes alone decide: on the result of each
+/// Where nothing additional is taken, the dictionary's classes alone decide: on the result of each
 /// proposed context, and on the context that is accepted under an ID.
 pub fn by_default_the_dictionary_decides()
     ensures result { (p : Proposal) → result_of (seen nothing_additional p) ≡ result_by (class_of p.abstract_syntax) (chosen p.transfer_syntaxes) }
     ensures context { (r : RequestRecord) (id : ℕ) →
-        context_of (offered nothing_additional r) id
-        ≡ option_and_then (λ p. accepted_by (option_map Known (class_of p.abstract_syntax)) (option_map native (chosen p.transfer_syntaxes))) (find (λ p. nat_eq p.id id) r.contexts) }
+        context_of (offered nothing_additional r) id ≡ option_and_then accepted_by_default (find (λ p. nat_eq p.id id) r.contexts) }
 {}
 
-/// Where no further transfer syntax is taken, the two native ones alone decide, whatever a request proposes: on the result
-/// of each context, on the context that is accepted, and on the transfer syntax that the answer carries.
+/// Where no additional transfer syntax is taken, the two native ones alone decide, whatever a request proposes: on the
+/// result of each context, on the context that is accepted, and on the transfer syntax that the answer carries.
 pub fn by_default_the_native_syntaxes_decide()
     ensures result { (additional : Taken) (p : Proposal) → additional.transfers ≡ [] → result_of (seen additional p) ≡ result_by (service_taken additional p) (chosen p.transfer_syntaxes) }
     ensures context { (additional : Taken) (p : Proposal) → additional.transfers ≡ [] →
@@ -53,7 +51,7 @@ pub fn by_default_the_native_syntaxes_decide()
         carried (seen additional p) ≡ carried_by (service_taken additional p) (option_map native (chosen p.transfer_syntaxes)) }
 {}
 
-/// Where a context proposes a native transfer syntax, none of the further ones is chosen, whatever is taken.
+/// Where a context proposes a native transfer syntax, none of the additional ones is chosen, whatever is taken.
 pub fn native_syntaxes_are_preferred()
     ensures { (additional : Taken) (p : Proposal) (s : Syntax) → chosen p.transfer_syntaxes ≡ Some s → agreed (seen additional p).transfer_syntaxes ≡ Some (native s) }
 {}

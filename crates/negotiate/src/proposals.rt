@@ -13,7 +13,7 @@ use pdu::Proposal;
 pub enum Service {
     /// A class of the dictionary: Verification, or one of eleven storage classes.
     Known(Class),
-    /// A further storage class, which the settings take.
+    /// An additional storage class, which the settings take.
     Additional(Uid),
 }
 
@@ -109,8 +109,8 @@ pub(crate) fn accepted(config: &Config, proposal: &Proposal) -> Option<Context>
     }
 }
 
-/// Returns the result of a proposed context.
-pub(crate) fn result_of(config: &Config, proposal: &Proposal) -> u8
+/// Returns the result of a proposed context (PS3.8 Table 9-18).
+pub fn result_of(config: &Config, proposal: &Proposal) -> u8
     ensures { result ≡ spelling.result_of (spelling.seen (settings_of config.now).additional proposal.now) }
 {
     match (

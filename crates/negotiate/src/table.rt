@@ -18,7 +18,7 @@ use pdu::Request;
 pub enum RowClass {
     /// A class of the dictionary.
     Known(Class),
-    /// A further storage class, by its place among those that the settings take.
+    /// An additional storage class, by its place among those that the settings take.
     Additional(u8),
 }
 

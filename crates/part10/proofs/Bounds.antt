@@ -1,4 +1,5 @@
--- How long the texts in a file header can be.
+-- The texts in a file header are short: that of an AE title is no longer than its bytes (`title_text_short`), and that
+-- of a transfer syntax has at most 64 bytes (`transfer_uid_short`). Stands on the laws of `dictionary`.
 use Rattle.std.proofs.Common.{ℕ, suc, ◌≤◌, Bool, true, false, ◌&&◌, List, [], ◌∷◌, length, arith, if◌then◌else◌}
 use Rattle.dictionary.specs.declared.transfer.Transfer.{Transfer}
 use Rattle.element.specs.Padding.{is_space, is_empty, without_trailing, without_leading}

@@ -1,4 +1,5 @@
--- The files by which the definitions are tried.
+-- The files by which the definitions are tried: one CT store (`one_ct_store`), files without a file header
+-- (`no_headers`), and files of another transfer syntax (`other_syntax_is_a_fault`). Stands on WrittenHeaderReadsBack.
 use Rattle.std.proofs.Common.{◌≡◌, ◌≢◌, ℕ, ◌+◌, ◌≤◌, ◌<◌, true, List, [], ◌∷◌, ◌++◌, length, take, drop, replicate, refl, ap, subst, ◌^◌, get_or, arith, length-append, codes}
 use Rattle.std.proofs.lemmas.List.{append-nil}
 use Rattle.element.specs.declared.syntax.Syntax.{Syntax}
@@ -11,7 +12,7 @@ use Rattle.element.specs.Padding.{padded}
 use Rattle.part10.specs.File.{uid_element, length_element, identity_elements, implementation_elements, title_element}
 use Rattle.part10.specs.MetaText.{MetaValues, SpellsMeta, HasMeta, MetaElement, MetaElements, no_more, MetaFaultOf}
 use Rattle.part10.specs.Examples.{OneCtStore, NoHeaders, SyntaxIsSaid, least_group, least_header, least_said}
-use Rattle.part10.proofs.MetaLemmas.{uid_back, uid_then}
+use Rattle.part10.proofs.WrittenHeaderReadsBack.{uid_back, uid_then}
 
 pub one_ct_store : OneCtStore
 unfolding identity_elements implementation_elements title_element is_short

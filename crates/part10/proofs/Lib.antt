@@ -1,18 +1,15 @@
 -- the lemmas that the crates above cite, and no others
 pub mod Public
 pub mod Bounds
-pub mod NumberLemmas
-pub mod MetaLemmas
+pub mod WrittenHeaderReadsBack
 pub mod OneHeader
 pub mod Examples
-pub mod FaultLemmas
-pub mod HeaderLemmas
-pub mod ValueLemmas
-pub mod PrefixLemmas
-pub mod ElementLemmas
-pub mod GroupLemmas
-pub mod WholeLemmas
-pub mod NativeLemmas
+pub mod PartFailsTheWhole
+pub mod EightBytesGiveSize
+pub mod UidIsInFront
+pub mod PrefixIsSpelled
+pub mod NoElementFollows
+pub mod GroupIsItsElements
+pub mod HeaderTakenOrRefused
+pub mod EncapsulatedSyntaxesFail
 pub mod Verdicts
-pub mod NamingLemmas
-pub mod SettlingLemmas

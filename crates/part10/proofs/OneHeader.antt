@@ -1,4 +1,5 @@
--- No file has two file headers.
+-- No file has two file headers (`one_header`): a text spells one list of elements (`one_elements`). Stands on the laws
+-- of `element`.
 use Rattle.std.proofs.Common.{◌≡◌, ℕ, ◌+◌, ◌^◌, ◌<◌, List, [], ◌∷◌, ◌++◌, length, take, drop, Some, refl, sym, ap, ◌∙◌, arith, append_assoc, length-append, codes}
 use Rattle.std.proofs.Math.Seq.{take-append_seam, drop-append_seam}
 use Rattle.element.specs.declared.syntax.Syntax.TheVariants.{Explicit}

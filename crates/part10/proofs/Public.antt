@@ -5,12 +5,9 @@ use Rattle.element.specs.Uid.{is_uid}
 use Rattle.part10.specs.declared.meta.Meta.{Meta}
 use Rattle.part10.specs.File.{head, meta_group}
 use Rattle.part10.specs.MetaText.{OneHeader, OneVerdict, SpellsMeta, meta_values_of}
-use Rattle.part10.specs.declared.location.Location.{Location}
-use Rattle.part10.specs.Naming.{AreApart, Rises}
-use Rattle.part10.specs.Examples.{NoHeaders, SyntaxIsSaid, WorkedNames, least_group, least_header, least_said}
-use Rattle.part10.proofs.MetaLemmas as written
+use Rattle.part10.specs.Examples.{NoHeaders, SyntaxIsSaid, least_group, least_header, least_said}
+use Rattle.part10.proofs.WrittenHeaderReadsBack as written
 use Rattle.part10.proofs.Examples as examples
-use Rattle.part10.proofs.NamingLemmas as names
 use Rattle.part10.proofs.OneHeader as headers
 use Rattle.part10.proofs.Verdicts as verdicts
 
@@ -32,9 +29,3 @@ one_header = headers.one_header
 
 pub one_verdict : OneVerdict
 one_verdict = verdicts.one_verdict
-
-pub places_that_rise_differ : (places : List Location) → Rises places → AreApart places
-places_that_rise_differ = names.are_apart
-
-pub worked_names : WorkedNames
-worked_names = names.worked_names

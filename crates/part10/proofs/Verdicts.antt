@@ -1,4 +1,6 @@
--- Every file has a file header that is taken, or a fault.
+-- Every file has a file header that is taken, or a fault (`taken_or_faulty`), and one of these alone (`one_verdict`).
+-- Stands on EightBytesGiveSize, GroupIsItsElements, HeaderTakenOrRefused, NoElementFollows, OneHeader, PrefixIsSpelled
+-- and the laws of `element`.
 use Rattle.std.proofs.Common.{◌≡◌, ◌≢◌, ℕ, zero, suc, ◌+◌, ◌%◌, ◌^◌, ◌<◌, ◌≤◌, Bool, true, false, ◌&&◌, List, [], ◌∷◌, ◌++◌, length, take, drop, Option, Some, None, Err, inl, inr, ◌⊎◌, refl, sym, ap, subst, ◌∙◌, arith, append_assoc, append-nil, length-append, length-take, length-drop, take-append-drop, eqb-true, ltb-true, nat_eq, nat_lt, lit<, codes}
 use Rattle.std.proofs.lemmas.Bool.{and_parts, cases_lt}
 use Rattle.std.proofs.lemmas.List.{get_or-drop, get_or_append_left, get_or_past, drop_at}
@@ -20,11 +22,11 @@ use Rattle.part10.specs.declared.reading.Found.{Found}
 use Rattle.part10.specs.File.{length_element}
 use Rattle.part10.specs.MetaText.{MetaValues, HasMeta, HasLetters, MetaFaultOf, IsTaken, MetaElement, meta_element_of, MetaElements, no_more, element_then, uid_at, TakenOrFaulty, OneVerdict}
 use Rattle.part10.specs.machine.Reading.{NoSize, NoHeader, NoElement, is_next}
-use Rattle.part10.proofs.HeaderLemmas.{whole_at, need_bounds}
-use Rattle.part10.proofs.PrefixLemmas.{short_file, other_size, short_size, number_back, size_is}
-use Rattle.part10.proofs.ElementLemmas.{not_next, short_value, no_header}
-use Rattle.part10.proofs.GroupLemmas.{one_element, rest_elements, no_first}
-use Rattle.part10.proofs.WholeLemmas.{Whole, no_size, no_group_at, spells_whole, meta_refused}
+use Rattle.part10.proofs.EightBytesGiveSize.{whole_at, need_bounds}
+use Rattle.part10.proofs.PrefixIsSpelled.{short_file, other_size, short_size, number_back, size_is}
+use Rattle.part10.proofs.NoElementFollows.{not_next, short_value, no_header}
+use Rattle.part10.proofs.GroupIsItsElements.{one_element, rest_elements, no_first}
+use Rattle.part10.proofs.HeaderTakenOrRefused.{Whole, no_size, no_group_at, spells_whole, meta_refused}
 use Rattle.part10.proofs.OneHeader.{same_front, parted, one_header}
 
 bytes_after : (n : ℕ) (b : List ℕ) → IsBytes b → IsBytes (drop n b)

@@ -1,15 +1,11 @@
 -- Example files for the definitions of File Meta Information (PS3.10 section 7.1).
-use Rattle.std.specs.Prelude.{◌≡◌, ℕ, List, [], ◌∷◌, ◌++◌, length, take, drop, replicate, codes}
+use Rattle.std.specs.Prelude.{◌≡◌, ℕ, List, [], ◌++◌, length, take, drop, replicate, codes}
 use Rattle.dictionary.specs.declared.transfer.Transfer.TheVariants.{Explicit}
 use Rattle.element.specs.Numbers.{le}
 use Rattle.part10.specs.declared.meta.Meta.{Meta}
 use Rattle.part10.specs.File.{meta_element, uid_element, length_element, head, File}
 use Rattle.part10.specs.declared.meta_fault.MetaFault.TheVariants.{NotPart10, BadMeta, OtherSyntax}
 use Rattle.part10.specs.MetaText.{MetaValues, SpellsMeta, MetaFaultOf}
-use Rattle.part10.specs.Naming.{LosesNone, Rises, refusals, standing}
-use Rattle.part10.specs.declared.call.Call.{Call}
-use Rattle.part10.specs.declared.call.Call.TheVariants.{Created, Linked, SeenFree, Renamed, Removed, Refused}
-use Rattle.part10.specs.declared.location.Location.{Location}
 
 -- a CT image from SCANNER1
 abbrev pub ct_meta : Meta
@@ -56,25 +52,3 @@ abbrev pub SyntaxIsSaid : Type 0
 SyntaxIsSaid =
     SpellsMeta (least_said (codes "1.2.840.10008.1.2.1")) (least_header (codes "1.2.840.10008.1.2.1"))
     × MetaFaultOf (least_header (codes "1.2.840.10008.1.2.4.50") ++ replicate 20 0) OtherSyntax
-
--- a place in a folder without subfolders
-abbrev pub flat : ℕ → Location
-flat number = record { folder = 0; file = number }
-
--- the system calls, newest first: a file was linked and another one renamed; a third one was linked, syncing its
--- folder failed, and it was removed
-abbrev pub worked_calls : List Call
-worked_calls = Removed (flat 3) ∷ Refused ∷ Linked (flat 3) ∷ Created ∷ Renamed (flat 2) ∷ SeenFree (flat 2) ∷ Created ∷ Linked (flat 1) ∷ Created ∷ []
-
--- After these calls two files have names, one call failed, and no file was lost. A file could be lost by a rename
--- without the check right before it, and by the removal of a file that is not the last one. Places with the same
--- number twice are not strictly ascending.
-pub record WorkedNames : Type 0 where
-  pub names : standing worked_calls ≡ flat 2 ∷ flat 1 ∷ []
-  pub count : refusals worked_calls ≡ 1
-  pub loses : LosesNone worked_calls
-  pub rises : Rises (standing worked_calls)
-  pub unseen : ¬ (LosesNone (Renamed (flat 2) ∷ Created ∷ SeenFree (flat 2) ∷ []))
-  pub other : ¬ (LosesNone (Renamed (flat 2) ∷ SeenFree (flat 1) ∷ []))
-  pub earlier : ¬ (LosesNone (Removed (flat 1) ∷ Linked (flat 2) ∷ Linked (flat 1) ∷ []))
-  pub twice : ¬ (Rises (flat 1 ∷ flat 2 ∷ flat 1 ∷ []))

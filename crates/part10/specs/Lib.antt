@@ -1,9 +1,4 @@
-pub mod Locations
-pub mod Numbers
-pub mod Naming
-pub mod Settling
 pub mod Store
-pub mod EntryNames
 pub mod File
 pub mod MetaText
 pub mod Examples

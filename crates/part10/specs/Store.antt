@@ -1,8 +1,6 @@
 -- The state of a filing (storage for received files) as contracts see it, and the state after each of its calls. This
 -- product's own profile.
 use Rattle.std.specs.Prelude.{◌≡◌, ℕ, ◌+◌, Bool, false, List, [], ◌∷◌, ◌++◌, Option, Some, None, Result, Ok, Err, is_some}
-use Rattle.part10.specs.declared.pending.Pending.{Pending}
-use Rattle.part10.specs.Naming.{Naming}
 
 -- the contents of a filing: its files, oldest first, and the draft's bytes, which are empty if there is no draft
 pub record Shelf : Type 0 where
@@ -62,15 +60,3 @@ store_of kept = record { told = Some (record { files = kept.files; draft = or_no
 -- a new filing: no file, no draft, no failed call
 abbrev pub nothing_filed : MemoryState
 nothing_filed = record { files = []; draft = None; failures = 0 }
-
--- the state of a filing over a folder, as contracts see it: the number of its draft, the files that it has committed
--- itself, the names that it has given, and what has become of its last commit
-pub record FolderState : Type 0 where
-  pub number : ℕ
-  pub contents : MemoryState
-  pub names : Naming
-  pub pending : Pending
-
--- the state of the writer of a folder, as contracts see it: how many filings it has made
-pub record WriterState : Type 0 where
-  pub filings : ℕ

@@ -5,9 +5,7 @@ ghost use Rattle.element.specs.Uid.{is_uid};
 ghost use Rattle.part10.specs.declared.meta.Meta as meta;
 ghost use Rattle.part10.specs.File.{head, meta_group};
 ghost use Rattle.part10.specs.MetaText.{OneHeader, OneVerdict, SpellsMeta, TakenOrFaulty, meta_values_of};
-ghost use Rattle.part10.specs.declared.location.Location as place;
-ghost use Rattle.part10.specs.Naming.{AreApart, Rises};
-ghost use Rattle.part10.specs.Examples.{OneCtStore, NoHeaders, WorkedNames, SyntaxIsSaid, least_group, least_header, least_said};
+ghost use Rattle.part10.specs.Examples.{OneCtStore, NoHeaders, SyntaxIsSaid, least_group, least_header, least_said};
 
 /// Example: the file of a CT image has the lengths that the layout of the standard gives it.
 pub fn one_ct_store()
@@ -52,14 +50,4 @@ pub fn taken_or_faulty()
 /// No file with a fault is accepted, and no file has two faults.
 pub fn one_verdict()
     ensures { OneVerdict }
-{}
-
-/// In a list of places in strictly ascending order no place occurs twice: no number is given twice.
-pub fn places_that_rise_differ()
-    ensures { (places : List place.Location) → Rises places → AreApart places }
-{}
-
-/// Examples: the system calls that name three files, and lists of calls that would lose a file.
-pub fn worked_names()
-    ensures { WorkedNames }
 {}

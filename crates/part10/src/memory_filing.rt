@@ -23,7 +23,7 @@ impl<A: Allocator + Copy> Model for MemoryFiling<A> {
 
     ghost Value = { MemoryState };
 
-    ghost view = { λ f. record { files = map (λ v. v.items) f.files.items; draft = option_map (λ v. v.items) f.draft; failures = f.failures.total } };
+    ghost view = { λ f. record { files = map (λ v. v.items) f.files.items; draft = option_map (λ v. v.items) f.draft; failures = f.failures } };
 }
 
 impl<A: Allocator + Copy> MemoryFiling<A> {

@@ -113,7 +113,7 @@ fn joined(front: &[u8; 8], back: &[u8]) -> ArrayVec<u8, 12>
 
 /// Reads the header of an element in Explicit VR, and returns it with its size in bytes. Fails with
 /// `BadMeta` if it is invalid or longer than `left` bytes, or with `ReadFailed`.
-#[tactic(auto, using(crate::proofs::HeaderLemmas::need_bounds, crate::proofs::HeaderLemmas::whole_at))]
+#[tactic(auto, using(crate::proofs::EightBytesGiveSize::need_bounds, crate::proofs::EightBytesGiveSize::whole_at))]
 fn read_short_header<R: Read>(input: &mut R, left: u32) -> Result<(Header, u32), MetaFault>
     ensures read { IfOk result (λ r. part.HeaderRead left r.0 r.1 (R.remaining input.old) (R.remaining input.new)) }
     ensures none { IfErr result (λ fault. part.Breaks fault (R.remaining input.old) (part.NoHeader left)) }

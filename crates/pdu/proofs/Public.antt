@@ -20,15 +20,15 @@ use Rattle.pdu.specs.Steps.{skip_of}
 use Rattle.pdu.specs.Marks.{Mark, Head, BadPdv, pdv_size, head_mark, pdv_mark, frame_kind, frame_length, new_marks}
 use Rattle.pdu.specs.Spot.{Opening, Plain, InPdv, spot, room_left}
 use Rattle.pdu.specs.Parts.{SameFrame, SameHead, IsInData, IsUnfinishedPdv, GoesOn, Comes, leftover_marks, leftover_spot, body_spot}
-use Rattle.pdu.proofs.SentLemmas as sending
-use Rattle.pdu.proofs.RequestLemmas as requests
-use Rattle.pdu.proofs.IdLemmas as ids
-use Rattle.pdu.proofs.PdvLemmas as values
-use Rattle.pdu.proofs.FrameLemmas as frames
-use Rattle.pdu.proofs.BegunLemmas as parts
-use Rattle.pdu.proofs.WithinLemmas as within
-use Rattle.pdu.proofs.CallLemmas as calls
-use Rattle.pdu.proofs.StepLemmas as steps
+use Rattle.pdu.proofs.SendsAllOrFront as sending
+use Rattle.pdu.proofs.BodySpellsOneRequest as requests
+use Rattle.pdu.proofs.ContextIdsAreFew as ids
+use Rattle.pdu.proofs.DataMarksAreComputed as values
+use Rattle.pdu.proofs.FramesAreUnique as frames
+use Rattle.pdu.proofs.EachPartIsMarked as parts
+use Rattle.pdu.proofs.MarksWithinAPdu as within
+use Rattle.pdu.proofs.CallFollowsTheMarks as calls
+use Rattle.pdu.proofs.CallReportsNewMarks as steps
 
 -- ---- wires: one text after another
 

@@ -138,7 +138,8 @@ pub record MarksWithin (r c : List ℕ) : Type 0 where
 -- end alone stays due; any other PDU is skipped. The marks that are no longer due are marks inside the PDU.
 pub data Skip (new : Position) (r : List ℕ) (due : List Mark) : Type 0 where
   no_frame : length r < head_size → due ≡ [] → At new r [] → Skip new r due
-  end_alone : (before : List Mark) (kind : ℕ) (body : List ℕ) → AreInner before → (0 < length before → kind ≡ p_data_tf) → due ≡ before ++ End kind body ∷ [] → At new r (End kind body ∷ []) → Skip new r due
+  end_alone : (before : List Mark) (kind : ℕ) (body : List ℕ)
+      → AreInner before → (0 < length before → kind ≡ p_data_tf) → due ≡ before ++ End kind body ∷ [] → At new r (End kind body ∷ []) → Skip new r due
   skipped : AreInner due → SkipsAt new r → Skip new r due
 
 -- ---- how many bytes are held: those of an unfinished head

@@ -33,8 +33,8 @@ impl ItemsSoFar {
         }
     }
 
-    /// Checks the next item and records it. The error is the fault of the smallest number that the item
-    /// has. Items of other types are ignored.
+    /// Checks the next item and records it. Of several faults the one with the smallest number is returned. Items other
+    /// than application context, proposed context and user information are ignored.
     #[tactic(auto, unfolding(crate::specs::Refusal::item_fault))]
     pub fn check_item(&mut self, item: Item<'_>) -> Result<(), PduFault>
         ensures fault { (before : List (List ℕ)) → Knows self.old before → result ≡ as_result (item_fault before item.entry.bytes.now) }

@@ -72,7 +72,7 @@ impl<'a> Items<'a> {
 
 /// Returns the first item and the bytes after it, or `None` if the bytes do not begin with a whole
 /// item.
-#[tactic(auto, using(crate::proofs::ItemLemmas::begins_short, crate::proofs::ItemLemmas::begins_begun, crate::proofs::ItemLemmas::begins_cut))]
+#[tactic(auto, using(crate::proofs::FirstItemIsUnique::begins_short, crate::proofs::FirstItemIsUnique::begins_begun, crate::proofs::FirstItemIsUnique::begins_cut))]
 pub fn first_item<'a>(text: &'a [u8]) -> Option<(Item<'a>, &'a [u8])>
     ensures { MatchOption result (BeginsNone text.now) (λ p. Begins text.now p.0.bytes.now p.1.now) }
 {

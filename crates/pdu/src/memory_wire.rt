@@ -22,9 +22,9 @@ impl<A: Allocator> Model for MemoryWire<A> {
 
     ghost Value = { Memory };
 
-    ghost view = { λ w. record { sent = w.bytes.items; failures = w.failures.total } };
+    ghost view = { λ w. record { sent = w.bytes.items; failures = w.failures } };
 
-    ghost invariant = { λ w. IsTrue w.has_failed ↔ (0 < w.failures.total) };
+    ghost invariant = { λ w. IsTrue w.has_failed ↔ (0 < w.failures) };
 }
 
 impl<A: Allocator> MemoryWire<A> {

@@ -278,7 +278,7 @@ fn take_skipped<'p>(
 
 /// Reads the first bytes of a piece. Returns how many, and the event with the position after it. If
 /// there is no event, the new position is in `place` instead.
-#[tactic(auto, using(crate::proofs::CallLemmas::leftover_told, crate::proofs::LongestLemmas::longest_head, crate::proofs::LongestLemmas::longest_body, crate::proofs::LongestLemmas::longest_pdv_head, crate::proofs::LongestLemmas::longest_fragment, crate::proofs::LongestLemmas::longest_leftover, crate::proofs::LongestLemmas::longest_over))]
+#[tactic(auto, using(crate::proofs::CallFollowsTheMarks::leftover_told, crate::proofs::CallTakesTheLongest::longest_head, crate::proofs::CallTakesTheLongest::longest_body, crate::proofs::CallTakesTheLongest::longest_pdv_head, crate::proofs::CallTakesTheLongest::longest_fragment, crate::proofs::CallTakesTheLongest::longest_leftover, crate::proofs::CallTakesTheLongest::longest_over))]
 pub(crate) fn find<'p>(
     place: &mut Position,
     piece: &'p [u8],

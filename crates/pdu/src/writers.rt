@@ -73,7 +73,7 @@ fn control(command: bool, last: bool) -> u8
 
 /// Sends two byte strings, with one call of `Wire::send` if together they have at most `ONE_SEND`
 /// bytes, else with two. If the first call fails, the second is not made.
-#[tactic(auto, using(crate::proofs::SentLemmas::sends_then, crate::proofs::SentLemmas::sends_part))]
+#[tactic(auto, using(crate::proofs::SendsAllOrFront::sends_then, crate::proofs::SendsAllOrFront::sends_part))]
 fn send_both<W: Wire>(front: &[u8], back: &[u8], wire: &mut W) -> Result<(), WireFailed>
     ensures sends { Sends (front.now ++ back.now) result (W.line wire.old) (W.line wire.new) }
 {

@@ -17,7 +17,15 @@ near_of (e ∷ path) = if is_some e.left then e.left else near_of path
 -- the context of a header that follows a text of `place` bytes with these open levels and last tag
 abbrev pub spot_behind : Coding → List PathEntry → ℕ → ℕ → Spot
 spot_behind s [] last place = record { syntax = s; in_sequence = false; open_ended = false; near = None; last = last; depth = 0; place = place }
-spot_behind s (e ∷ path) last place = record { syntax = e.syntax; in_sequence = e.in_sequence; open_ended = is_none e.left; near = near_of (e ∷ path); last = e.last; depth = length (e ∷ path); place = place }
+spot_behind s (e ∷ path) last place = record {
+  syntax = e.syntax;
+  in_sequence = e.in_sequence;
+  open_ended = is_none e.left;
+  near = near_of (e ∷ path);
+  last = e.last;
+  depth = length (e ∷ path);
+  place = place;
+}
 
 -- a header follows the text p, and its first bytes u break this rule
 pub record Breaks (s : Coding) (lim : Limits) (p u : List ℕ) (rule : ℕ) (tag : Tag) : Type 0 where

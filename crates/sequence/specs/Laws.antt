@@ -63,7 +63,8 @@ WholeHasOpenInside =
 
 -- a text has one first fault at most
 abbrev pub OneFault : Type 0
-OneFault = (s : Coding) (lim : Limits) (b p p2 u u2 : List ℕ) (rule rule2 : ℕ) (tag tag2 : Tag) → FirstFault s lim b p u rule tag → FirstFault s lim b p2 u2 rule2 tag2 → (p ≡ p2) × (u ≡ u2) × (rule ≡ rule2) × (tag ≡ tag2)
+OneFault = (s : Coding) (lim : Limits) (b p p2 u u2 : List ℕ) (rule rule2 : ℕ) (tag tag2 : Tag)
+    → FirstFault s lim b p u rule tag → FirstFault s lim b p2 u2 rule2 tag2 → (p ≡ p2) × (u ≡ u2) × (rule ≡ rule2) × (tag ≡ tag2)
 
 -- a text determines what a walker reports after it
 abbrev pub OneTelling : Type 0

@@ -4,7 +4,6 @@ pub mod Shape
 pub mod Tree
 pub mod Open
 pub mod Wanted
-pub mod Names
 pub mod Rules
 pub mod FirstFault
 pub mod Within

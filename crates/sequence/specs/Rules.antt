@@ -13,8 +13,8 @@ use Rattle.sequence.specs.declared.shape.Shape.{Shape}
 use Rattle.sequence.specs.declared.shape.Shape.TheVariants.{Value, Sequence, NotAllowed}
 use Rattle.sequence.specs.Shape.{is_undefined, shape}
 use Rattle.sequence.specs.Wanted.{room_of}
-use Rattle.sequence.specs.Names.{rule_number}
-use Rattle.sequence.specs.declared.rule.Rule.TheVariants as rules
+use Rattle.element.specs.RuleNames.{rule_number}
+use Rattle.element.specs.declared.rule.Rule.TheVariants as rules
 
 -- the limits of a data set: the wanted tags with the greatest sizes of their values, the greatest number of open
 -- levels, and the greatest size in bytes

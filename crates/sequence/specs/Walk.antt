@@ -30,4 +30,10 @@ pub data Tells (s : Coding) (lim : Limits) (b : List ℕ) : Told → Type 0 wher
   -- p ++ u is the shortest front of b that breaks a rule: the report has this fault, and else describes p
   refused : {p u : List ℕ} {rule : ℕ} {tag : Tag} {es : Elements} {path : List PathEntry} {last : ℕ}
       → FirstFault s lim b p u rule tag → Open s p es path last (in_header [])
-      → Tells s lim b (record { fault = Some (record { number = rule; place = length p; tag = tag }); levels = length path; place = length (p ++ u); held = held_of lim.wanted es path (in_header []); kept = kept_of lim.wanted es })
+      → Tells s lim b (record {
+        fault = Some (record { number = rule; place = length p; tag = tag });
+        levels = length path;
+        place = length (p ++ u);
+        held = held_of lim.wanted es path (in_header []);
+        kept = kept_of lim.wanted es;
+      })

@@ -12,6 +12,7 @@ use element::{Header, Tag};
 pub fn header_step<'p>(stage: Stage, made: Option<Header>) -> Step<'p>
     ensures { result ≡ header_told stage made }
 {
+    // One arm for each line of the definition: the proof goes through them one by one.
     match stage {
         Stage::Stopped(fault) => Step::Refused(fault),
         Stage::Heading => made_step(made),
@@ -42,6 +43,7 @@ fn made_step<'p>(made: Option<Header>) -> Step<'p>
 pub fn value_step<'p>(stage: Stage, run: &'p [u8]) -> Step<'p>
     ensures { value_told stage run.now result }
 {
+    // One arm for each line of the definition: the proof goes through them one by one.
     match stage {
         Stage::Stopped(fault) => Step::Refused(fault),
         Stage::Heading => Step::Run(run),

@@ -9,11 +9,10 @@ ghost use Rattle.sequence.specs.machine.Heading.{broken_whole};
 ghost use Rattle.sequence.specs.machine.Judging.{limits_by, numbered, broken_at_tag, broken_at_vr, broken_at_end};
 
 use crate::reading::{Front, is_plain, is_whole};
-use crate::rule::Rule;
 use crate::shape::{Shape, UNDEFINED, shape_of};
 use crate::spot::{Bounds, Spot};
 use crate::wanted::Wanted;
-use element::{Header, Need, Tag, need, read_header, read_tag};
+use element::{Header, Need, Rule, Tag, need, read_header, read_tag};
 
 /// Returns whether two tags are the same.
 pub fn same_tag(a: Tag, b: Tag) -> bool

@@ -34,6 +34,7 @@ impl Coding {
     pub fn layout(self) -> Syntax
         ensures { result ≡ codings.layout self }
     {
+        // One arm for each line of the definition: the proof goes through them one by one.
         match self {
             Coding::Implicit => Syntax::Implicit,
             Coding::Explicit => Syntax::Explicit,
@@ -46,6 +47,7 @@ impl Coding {
     pub fn has_fragments(self) -> bool
         ensures { result ≡ codings.has_fragments self }
     {
+        // One arm for each line of the definition: the proof goes through them one by one.
         match self {
             Coding::Implicit => false,
             Coding::Explicit => false,

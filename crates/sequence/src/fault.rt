@@ -1,9 +1,8 @@
 //! The fault of a data set.
 ghost use Rattle.std.specs.Prelude.{◌≡◌};
-ghost use Rattle.sequence.specs.Names.{rule_name, rule_number, rule_of};
+ghost use Rattle.element.specs.RuleNames.{rule_name, rule_number, rule_of};
 
-use crate::rule::Rule;
-use element::Tag;
+use element::{Rule, Tag};
 use std::fmt;
 
 /// The first rule that a data set breaks, with position and tag. A [`Walker`](crate::Walker) that found

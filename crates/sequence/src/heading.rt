@@ -6,12 +6,11 @@ ghost use Rattle.sequence.specs.machine.Heading.{IsExamined, IsQuiet, IsEnd, is_
 
 use crate::broken::{broken, is_unbroken};
 use crate::reading::{Front, is_whole, read_front};
-use crate::rule::Rule;
 use crate::shape::{Shape, shape_of};
 use crate::spot::{Bounds, Spot};
 use crate::wanted::Wanted;
 use arrayvec::ArrayVec;
-use element::{Header, Need, Tag, need, read_header};
+use element::{Header, Need, Rule, Tag, need, read_header};
 
 /// The end of a header in some bytes.
 #[derive(Clone, Copy)]

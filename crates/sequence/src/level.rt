@@ -26,7 +26,8 @@ pub struct Level {
     pub last: u32,
     /// 1 if it is a sequence, 0 if it is an item.
     pub kind: u8,
-    /// The [`Coding`] as a number: 0 `Explicit`, 1 `Implicit`, 2 `Encapsulated`, 3 `Fragments`.
+    /// The [`Coding`] as a number, which its name tells of but one: 0 `Explicit`, 1 `Implicit`, 2 `Encapsulated`,
+    /// 3 `Fragments`.
     pub implicit: u8,
 }
 

@@ -12,7 +12,6 @@ pub mod laws;
 mod level;
 mod levels;
 mod reading;
-mod rule;
 mod shape;
 mod spot;
 mod stage;
@@ -22,9 +21,9 @@ mod walker;
 mod wanted;
 
 pub use coding::Coding;
+pub use element::Rule;
 pub use fault::Fault;
 pub use level::Level;
-pub use rule::Rule;
 pub use shape::{Shape, shape_of};
 pub use step::Step;
 pub use walker::Walker;

@@ -26,6 +26,7 @@ pub fn is_plain(syntax: Syntax, tag: Tag) -> bool
 pub fn is_whole(syntax: Syntax, bytes: &[u8]) -> bool
     ensures { result ≡ spelling.is_whole syntax bytes.now }
 {
+    // One arm for each line of the definition: the proof goes through them one by one.
     match need(syntax, bytes) {
         Need::Size(size) => size <= bytes.len(),
         Need::More => false,

@@ -98,6 +98,7 @@ pub fn shape_of(coding: Coding, header: &Header) -> Shape
 pub fn plain_shape(coding: Coding, tag: Tag, length: u32) -> Shape
     ensures { result ≡ shapes.shape_by coding tag None (known.vr_of tag) (shapes.is_undefined length) }
 {
+    // One arm for each line of the definition: the proof goes through them one by one.
     match coding {
         Coding::Implicit => implicit_shape(vr_of(tag), length == UNDEFINED),
         Coding::Explicit => Shape::NotAllowed,

@@ -4,8 +4,7 @@ ghost use Rattle.sequence.specs.machine.Judging.{numbered};
 ghost use Rattle.sequence.specs.machine.Spare.{stage_by};
 
 use crate::fault::Fault;
-use crate::rule::Rule;
-use element::Tag;
+use element::{Rule, Tag};
 
 /// What a walker reads next: a header, a value, or nothing after a fault.
 #[derive(Clone, Copy)]

@@ -20,14 +20,13 @@ use crate::heading::{End, header_end};
 use crate::keep::Keep;
 use crate::level::{Level, Scope};
 use crate::levels::{item_scope, leave_ended, sequence_scope, set_last, spot_at, top_scope};
-use crate::rule::Rule;
 use crate::shape::Shape;
 use crate::spot::Bounds;
 use crate::stage::{Stage, stage_at};
 use crate::step::Step;
 use crate::wanted::Wanted;
 use arrayvec::ArrayVec;
-use element::{Header, Syntax, Tag, read_tag};
+use element::{Header, Rule, Syntax, Tag, read_tag};
 
 mod fields;
 mod told;

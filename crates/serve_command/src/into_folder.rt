@@ -2,10 +2,10 @@
 use crate::serve::{form_of, serve};
 use arguments::{Serve, VERSION};
 use failures::{ProgramError, WordsError};
+use folder_filing::QuarantineFound;
 use folders::{numbered, open_writer, quarantined, try_draft};
 use journal::{Limits, Logger, Output, QuarantineCleared, QuarantineFull, Started};
 use log::{Log, Logged};
-use part10::QuarantineFound;
 use std::time::Clock;
 use std::{env, fs};
 
@@ -92,10 +92,7 @@ pub fn serve_into(rt: &HostRuntime, settings: &Serve) -> Result<(), ProgramError
         version: VERSION,
         title: config.ae.trimmed(),
         folder: settings.out,
-        limits: Limits {
-            max_pdu: config.max_pdu,
-            max_data: config.max_data,
-        },
+        limits: Limits::of(config),
         at_once: settings.at_once.associations as u64,
         drafts,
     });

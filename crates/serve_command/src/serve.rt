@@ -4,15 +4,16 @@ ghost use Rattle.arguments.specs.declared.options.LogForm.TheVariants as asked;
 ghost use Rattle.journal.specs.declared.form.Form.TheVariants as form;
 ghost use Rattle.negotiate.specs.Settings.{settings_of};
 ghost use Rattle.server.specs.Alone.{IsServedAlone};
+ghost use Rattle.server.specs.FolderStore.{folder_store};
 
 use arguments::{LogForm, Serve, VERSION};
 use connection::Timeouts;
 use core::mem::replace_with;
 use failures::{Failure, ProgramError};
+use folder_filing::{FolderFiling, FolderWriter};
 use journal::Form;
 use log::Log;
 use metrics::MetricsFile;
-use part10::{Filing, FolderFiling, FolderWriter};
 use server::{ServedAlone, ServerTerms, serve_alone, serve_many};
 use std::alloc::{AllocError, Global};
 use std::fs::File;
@@ -70,7 +71,7 @@ fn serve_accepted<
     filing: FolderFiling<S>,
     accepted: (&R, (TcpStream, SocketAddr), ServerTerms<'_>),
 ) -> (FolderFiling<S>, ServedAlone)
-    ensures came { IsServedAlone (settings_of accepted.entry.2.config.now) result.1 (⟦<FolderFiling<S> as Filing>⟧.store filing) (⟦<FolderFiling<S> as Filing>⟧.store result.0) }
+    ensures came { IsServedAlone (settings_of accepted.entry.2.config.now) result.1 (folder_store filing) (folder_store result.0) }
 {
     let (rt, connection, terms) = accepted;
     serve_alone(rt, connection, terms, filing)
@@ -95,8 +96,8 @@ pub fn serve_one<
     settings: &Serve,
     filing: &mut FolderFiling<S>,
 ) -> io::Result<ServedAlone>
-    ensures came { IfOk result (λ e. IsServedAlone (settings_of settings.now.config) e (⟦<FolderFiling<S> as Filing>⟧.store filing.old) (⟦<FolderFiling<S> as Filing>⟧.store filing.new)) }
-    ensures failed { OnErr result (⟦<FolderFiling<S> as Filing>⟧.store filing.new ≡ ⟦<FolderFiling<S> as Filing>⟧.store filing.old) }
+    ensures came { IfOk result (λ e. IsServedAlone (settings_of settings.now.config) e (folder_store filing.old) (folder_store filing.new)) }
+    ensures failed { OnErr result (folder_store filing.new ≡ folder_store filing.old) }
 {
     let accepted = (rt, listener.accept()?, terms_of(rt.alloc(), settings, None));
     Ok(replace_with(filing, accepted, serve_accepted))
@@ -128,7 +129,7 @@ fn listen<R: Net<Listener = TcpListener, Stream = TcpStream>>(
 
 /// Listens on the port, and serves as many associations at once as the settings say until the program is
 /// to end, or only one where that was asked for. Logs where it listens, and that it has stopped. The
-/// first place files by the filing that is handed in, each other one by one of the folder. Where several
+/// first slot files by the filing that is handed in, each other one by one of the folder. Where several
 /// are served at once, files that end together are settled together.
 ///
 /// Fails if the address or the port can't be listened on, if memory runs out at the start, or if the system fails to

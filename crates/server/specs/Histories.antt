@@ -19,11 +19,11 @@ LeftBy store s e = ∥ IsServed s e.exchange (store e.opened.value) (store e.fil
 
 -- the filings over which connections were opened in a slot, one after the other
 abbrev pub opened_in : {F : Type 0} → SlotHistory F → List F
-opened_in slot = slot.opened.all
+opened_in slot = slot.opened
 
 -- what the connections left that have ended in a slot, one after the other
 abbrev pub ended_in : {F : Type 0} → SlotHistory F → List (ConnectionEnd Socket F)
-ended_in slot = slot.ended.all
+ended_in slot = slot.ended
 
 -- each connection that was opened in a slot has ended, in this order, and left what these settings give
 pub record AllEnded {F : Type 0} (store : F → Store) (s : Settings) (slot : SlotHistory F) : Type 0 where
@@ -32,4 +32,4 @@ pub record AllEnded {F : Type 0} (store : F → Store) (s : Settings) (slot : Sl
 
 -- the slots of a server
 abbrev pub slots_in : {F : Type 0} → ServerHistory F → List (SlotHistory F)
-slots_in history = history.slots.all
+slots_in history = history.slots

@@ -1,3 +1,4 @@
+pub mod FolderStore
 pub mod Histories
 pub mod Alone
 pub mod machine

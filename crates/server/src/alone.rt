@@ -2,15 +2,16 @@
 ghost use Rattle.std.specs.Prelude.{◌≡◌};
 ghost use Rattle.negotiate.specs.Settings.{settings_of};
 ghost use Rattle.server.specs.Alone.{IsServedAlone};
+ghost use Rattle.server.specs.FolderStore.{folder_store};
 
 use crate::occupant::Occupant;
 use crate::policy::Policy;
 use crate::served_alone::ServedAlone;
 use crate::terms::ServerTerms;
 use crate::watch::WatchedConnection;
+use folder_filing::FolderFiling;
 use journal::{ConnectionFailed, Journal, Logger};
 use log::Log;
-use part10::{Filing, FolderFiling};
 use std::alloc::Global;
 use std::fs::File;
 use std::marker::Brand;
@@ -34,7 +35,7 @@ fn serve_watched<
     filing: FolderFiling<S>,
 ) -> (FolderFiling<S>, ServedAlone)
     requires { settings_of terms.config.now ≡ P.settings }
-    ensures came { IsServedAlone (settings_of terms.entry.config.now) result.1 (⟦<FolderFiling<S> as Filing>⟧.store filing) (⟦<FolderFiling<S> as Filing>⟧.store result.0) }
+    ensures came { IsServedAlone (settings_of terms.entry.config.now) result.1 (folder_store filing) (folder_store result.0) }
 {
     let WatchedConnection {
         socket,
@@ -44,7 +45,7 @@ fn serve_watched<
         now,
     } = watched;
     let mut watch = watch;
-    let journal = Journal::new(rt.alloc(), logger, notes, terms.limits());
+    let journal = Journal::new(rt.alloc(), logger, notes, terms.config);
     let mut occupant = Occupant::<R, S, P>::open((socket, filing, journal), memory, terms, now);
     match occupant.run(rt, &mut watch, now) {
         Ok(ended) => {
@@ -59,8 +60,8 @@ fn serve_watched<
     }
 }
 
-/// Serves the association of a connection that was accepted, alone, until it has ended, and logs what
-/// happened on it and what it came to. Returns the filing, and how that ended.
+/// Serves the association of a connection that was accepted, alone, until it has ended; logs its events and
+/// its end. Returns the filing, and how the association ended.
 ///
 /// `came`: of the bytes that were read the definitions give the bytes that were sent and the files
 /// that were committed; and the association has ended, unless the system failed, whose error is returned
@@ -75,7 +76,7 @@ pub fn serve_alone<
     terms: ServerTerms<'a>,
     filing: FolderFiling<S>,
 ) -> (FolderFiling<S>, ServedAlone)
-    ensures came { IsServedAlone (settings_of terms.entry.config.now) result.1 (⟦<FolderFiling<S> as Filing>⟧.store filing) (⟦<FolderFiling<S> as Filing>⟧.store result.0) }
+    ensures came { IsServedAlone (settings_of terms.entry.config.now) result.1 (folder_store filing) (folder_store result.0) }
 {
     let (stream, peer) = accepted;
     let logger = Logger::new(rt, terms.form)

@@ -7,7 +7,7 @@ use std::time::{Clock, Duration, Instant};
 /// How many connections are kept of which it is known when they came.
 const MOST_KEPT: usize = 64;
 
-/// A connection that waited so long for the one place is told of, in seconds.
+/// A connection that waited so long for the one slot is told of, in seconds.
 const LONG_SECONDS: u64 = 10;
 
 /// When the connections came that were not accepted yet, the first one first, at the latest.
@@ -74,7 +74,7 @@ impl Arrivals {
     }
 }
 
-/// Writes that a connection waited long for the one place, if it did.
+/// Writes that a connection waited long for the one slot, if it did.
 pub(crate) fn note_waiting<R: Log + Clock>(logger: Logger<'_, R>, waited: Duration) {
     let seconds = waited.as_secs();
     if seconds > LONG_SECONDS {

@@ -1,4 +1,4 @@
-//! The server of associations in one thread: it accepts connections, gives their peers places, and each
+//! The server of associations in one thread: it accepts connections, gives their peers slots, and each
 //! association its turns, as its socket has something to read or takes something.
 #![tactic(auto)]
 

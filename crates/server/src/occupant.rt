@@ -13,9 +13,10 @@ use crate::terms::ServerTerms;
 use acceptor::State;
 use connection::ReadEnd;
 use engine::Standing;
+use folder_filing::FolderFiling;
 use journal::{Journal, Served};
 use log::Log;
-use part10::{Filing, FolderFiling, Settling};
+use part10::Settling;
 use serving::{Connection, ConnectionEnd, ConnectionMemory, ConnectionTerms, Turn, Wait};
 use std::alloc::Global;
 use std::fs::File;
@@ -68,8 +69,10 @@ impl<
     S: Files<File = File> + Alloc<A = Global> + Clone + Drop,
     P: Policy,
 > Occupant<'a, R, S, P> {
+    ghost use Rattle.folder_filing.specs.Settling.{is_waiting};
     ghost use Rattle.serving.specs.Connections.{drafting_at, filing_of, state_at};
     ghost use Rattle.serving.specs.Served.{IsServed};
+    ghost use Rattle.server.specs.FolderStore.{folder_store};
 
     /// Opens an association, in this memory, over a connection that was accepted at this instant, which the
     /// journal is shown.
@@ -199,7 +202,7 @@ impl<
     pub(crate) fn settle(&mut self, are_named: bool, now: Instant)
         ensures terms { self.new.terms ≡ self.old.terms }
         ensures opening { opening_of self.new.connection ≡ opening_of self.old.connection }
-        ensures lost { ⟦<FolderFiling<S> as Settling>⟧.waits (filing_of self.new.connection) ≡ true → self.new.is_over ≡ true }
+        ensures lost { is_waiting (filing_of self.new.connection).pending ≡ true → self.new.is_over ≡ true }
     {
         self.is_ready = true;
         if self.connection.settle(are_named, &self.journal).is_ok() {
@@ -277,7 +280,7 @@ impl<
     /// `ended`: where the association has ended, the report says so.
     pub fn end(self, now: Instant) -> ConnectionEnd<Socket, FolderFiling<S>>
         ensures left { ∥ IsServed (settings_of self.entry.terms.config.now) result.exchange
-            (⟦<FolderFiling<S> as Filing>⟧.store (opening_of self.entry.connection)) (⟦<FolderFiling<S> as Filing>⟧.store result.filing) ∥₁ }
+            (folder_store (opening_of self.entry.connection)) (folder_store result.filing) ∥₁ }
         ensures opened { result.opened.value ≡ opening_of self.entry.connection }
         ensures ended { is_ended (state_at self.entry.connection) ≡ true → result.exchange.report.standing ≡ standing.Ended }
     {

@@ -18,6 +18,7 @@ use crate::stopping::is_asked;
 use crate::terms::ServerTerms;
 use accepting::PAUSE_MILLISECONDS;
 use admitting::{Notice, Queue, Slots};
+use folder_filing::{FolderFiling, FolderWriter};
 use group::Group;
 pub(crate) use group::Waiting;
 use journal::{ConnectionFailed, Journal, Logger, Stopping};
@@ -26,7 +27,7 @@ use mio::net::TcpListener;
 use mio::{Events, Poll, Token};
 use opening::{ClosedSlots, close_all};
 pub use opening::{ServerHistory, SlotHistory, serve_many};
-use part10::{Filing, FolderFiling, FolderWriter, Settling};
+use part10::Settling;
 use std::alloc::{AllocError, Global};
 use std::fs::File;
 use std::io;
@@ -34,7 +35,7 @@ use std::net::SocketAddr;
 use std::rt::Files;
 use std::time::{Clock, Duration, Instant};
 
-/// The token of the listener. Those of connections are their places.
+/// The token of the listener. Those of connections are the indices of their slots.
 const LISTENER: usize = usize::MAX;
 
 /// The longest wait of one poll, in seconds.
@@ -58,13 +59,12 @@ where
     listener: TcpListener,
     terms: ServerTerms<'a>,
     folder: FolderWriter<S>,
-    /// The filings of places that are free: of those that have had a connection, and of the first.
-    filings: Vec<Option<FolderFiling<S>>>,
-    places: Slots<Global>,
-    /// The memory of places that have had a connection, and of the first, with the connection that each
-    /// has. So the first place takes no memory once the server has begun.
+    /// Which slots are occupied, and by which peers.
+    occupancy: Slots<Global>,
+    /// Those that have had a connection keep its memory and its filing for the next one, and the first has
+    /// both from the start. So it takes no memory once the server has begun.
     slots: Vec<Slot<'a, R, S, P>>,
-    /// Those whose peers have as many places as one may have.
+    /// Those whose peers have as many slots as one may have.
     queue: Queue<AcceptedStream, Global>,
     /// Whether connections are accepted yet.
     is_open: bool,
@@ -81,12 +81,12 @@ where
     looked: Option<Instant>,
     /// When the server was asked to end.
     asked: Option<Instant>,
-    places_told: Notice,
+    slots_told: Notice,
     peer_told: Notice,
     accept_told: Notice,
     /// All connections are held to these terms.
     ghost policed: { settings_of terms.config.now ≡ P.settings },
-    /// There is a slot for each place.
+    /// There is a slot for each connection that there can be at once.
     ghost all: { vec_len slots ≡ P.at_once },
 }
 
@@ -96,18 +96,18 @@ impl<
     S: Files<File = File> + Alloc<A = Global> + Clone + Drop,
     P: Policy,
 > Server<'a, R, S, P> {
-    /// Takes the memory of a place, unless it has it.
-    fn make_slot(&mut self, place: usize) -> Result<(), AllocError> {
+    /// Takes the memory of a slot, unless it has it.
+    fn make_slot(&mut self, index: usize) -> Result<(), AllocError> {
         let alloc = *self.slots.allocator();
-        match self.slots.get_mut(place) {
+        match self.slots.get_mut(index) {
             Some(slot) => slot.make(alloc, self.terms.config, self.now),
             None => Ok(()),
         }
     }
 
-    /// Returns whether a place has a connection.
-    fn is_taken(&self, place: usize) -> bool {
-        match self.slots.get(place) {
+    /// Returns whether a slot has a connection.
+    fn is_taken(&self, index: usize) -> bool {
+        match self.slots.get(index) {
             Some(slot) => slot.is_taken(),
             None => false,
         }
@@ -122,20 +122,20 @@ impl<
     fn wake(&mut self, events: &Events) {
         self.group.polled(!events.is_empty());
         for event in events.iter() {
-            let Token(place) = event.token();
-            if place == LISTENER {
+            let Token(index) = event.token();
+            if index == LISTENER {
                 self.may_accept = true;
                 self.arrivals.come();
-            } else if let Some(slot) = self.slots.get_mut(place) {
+            } else if let Some(slot) = self.slots.get_mut(index) {
                 slot.wake();
             }
         }
     }
 
-    /// Returns the filing of a place: that of its last connection, or a new one.
-    fn filing(&mut self, place: usize) -> io::Result<FolderFiling<S>> {
-        if let Some(filing) = self.filings.get_mut(place) {
-            if let Some(filing) = filing.take() {
+    /// Returns the filing of a slot: that of its last connection, or a new one.
+    fn filing(&mut self, index: usize) -> io::Result<FolderFiling<S>> {
+        if let Some(slot) = self.slots.get_mut(index) {
+            if let Some(filing) = slot.take_filing() {
                 return Ok(filing);
             }
         }
@@ -150,62 +150,62 @@ impl<
     ) -> Result<Journal<'a, R, S>, AllocError> {
         let notes = filing.notes()?;
         let logger = self.logger().about(peer).counting(self.terms.metrics);
-        Ok(Journal::new(*self.slots.allocator(), logger, notes, self.terms.limits()))
+        Ok(Journal::new(*self.slots.allocator(), logger, notes, self.terms.config))
     }
 
-    /// Opens an association over a connection, in a place that its peer got.
+    /// Opens an association over a connection, in a slot that its peer got.
     #[inline(never)]
-    fn occupy(&mut self, accepted: AcceptedStream, place: usize, now: Instant) -> io::Result<()> {
+    fn occupy(&mut self, accepted: AcceptedStream, index: usize, now: Instant) -> io::Result<()> {
         let AcceptedStream { stream, peer } = accepted;
-        let socket = watched(&self.poll, stream, place)?;
-        self.make_slot(place)?;
-        let filing = self.filing(place)?;
+        let socket = watched(&self.poll, stream, index)?;
+        self.make_slot(index)?;
+        let filing = self.filing(index)?;
         let journal = self.journal(peer, &filing)?;
-        if let Some(slot) = self.slots.get_mut(place) {
+        if let Some(slot) = self.slots.get_mut(index) {
             slot.open((socket, filing, journal), self.terms, now);
         }
         Ok(())
     }
 
-    /// Opens an association, or logs why there is none, and frees the place.
-    fn occupy_or_tell(&mut self, accepted: AcceptedStream, place: usize, now: Instant) {
+    /// Opens an association, or logs why there is none, and frees the slot.
+    fn occupy_or_tell(&mut self, accepted: AcceptedStream, index: usize, now: Instant) {
         let peer = accepted.peer;
-        if let Err(failure) = self.occupy(accepted, place, now) {
+        if let Err(failure) = self.occupy(accepted, index, now) {
             self.logger().about(peer).tell(&ConnectionFailed(&failure));
-            self.leave(place);
+            self.leave(index);
         }
     }
 
-    /// Frees a place.
-    fn leave(&mut self, place: usize) {
-        if place < self.places.len() {
-            self.places.leave(place);
+    /// Frees a slot.
+    fn leave(&mut self, index: usize) {
+        if index < self.occupancy.len() {
+            self.occupancy.leave(index);
         }
     }
 
-    /// Returns whether a place is free.
+    /// Returns whether a slot is free.
     fn has_vacancy(&self) -> bool {
-        for place in 0..self.slots.len() {
-            if !self.is_taken(place) {
+        for index in 0..self.slots.len() {
+            if !self.is_taken(index) {
                 return true;
             }
         }
         false
     }
 
-    /// Returns whether each place is free.
+    /// Returns whether each slot is free.
     fn is_vacant(&self) -> bool {
-        for place in 0..self.slots.len() {
-            if self.is_taken(place) {
+        for index in 0..self.slots.len() {
+            if self.is_taken(index) {
                 return false;
             }
         }
         true
     }
 
-    /// Gives the connection of a place its turn, if it has one, and returns whether its association has ended.
-    fn turn(&mut self, place: usize, now: Instant) -> bool {
-        match self.slots.get_mut(place) {
+    /// Gives the connection of a slot its turn, if it has one, and returns whether its association has ended.
+    fn turn(&mut self, index: usize, now: Instant) -> bool {
+        match self.slots.get_mut(index) {
             Some(slot) => slot.turn(self.asked, now),
             None => false,
         }
@@ -213,28 +213,19 @@ impl<
 
     /// Gives each connection its turn, and lets those go whose association has ended.
     fn turn_each(&mut self, now: Instant) {
-        for place in 0..self.slots.len() {
-            if self.turn(place, now) {
-                self.end(place, now);
+        for index in 0..self.slots.len() {
+            if self.turn(index, now) {
+                self.end(index, now);
             }
         }
     }
 
-    /// Lets the connection of a place go, if it has one, and returns its filing.
-    fn left_filing(&mut self, place: usize, now: Instant) -> Option<FolderFiling<S>> {
-        self.slots.get_mut(place)?.leave(now)
-    }
-
-    /// Lets the connection of a place go. Its filing serves the next one, unless a file of it was lost.
-    fn end(&mut self, place: usize, now: Instant) {
-        if let Some(filing) = self.left_filing(place, now) {
-            if let Some(empty) = self.filings.get_mut(place) {
-                if !filing.waits() {
-                    *empty = Some(filing);
-                }
-            }
+    /// Lets the connection of a slot go, if it has one, and frees the slot.
+    fn end(&mut self, index: usize, now: Instant) {
+        if let Some(slot) = self.slots.get_mut(index) {
+            slot.leave(now);
         }
-        self.leave(place);
+        self.leave(index);
     }
 
     /// Returns how long the next poll may wait.
@@ -294,7 +285,7 @@ impl<
             self.look(files, now);
             self.turn_each(now);
             self.settle_due(now);
-            // A place that was freed is given on before the poll, which may wait long.
+            // A slot that was freed is given on before the poll, which may wait long.
             self.admit_all(now);
             self.measure(files, now);
             if self.is_done() {
@@ -321,8 +312,7 @@ impl<
             listener: _listener,
             terms: _terms,
             folder: _folder,
-            filings: _filings,
-            places: _places,
+            occupancy: _occupancy,
             slots,
             queue: _queue,
             is_open: _is_open,
@@ -333,7 +323,7 @@ impl<
             paused: _paused,
             looked: _looked,
             asked: _asked,
-            places_told: _places_told,
+            slots_told: _slots_told,
             peer_told: _peer_told,
             accept_told: _accept_told,
         } = server;

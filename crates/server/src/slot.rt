@@ -1,8 +1,9 @@
-//! A slot: the memory for one connection, the connection that it has, and what those left that it had.
+//! A slot: the memory and the filing for one connection, the connection that it has, and what those left that had it.
 ghost use Rattle.std.specs.Prelude.{◌≡◌, [], ◌++◌, map, None};
 ghost use Rattle.std.specs.List.{All};
 ghost use Rattle.negotiate.specs.Settings.{settings_of};
 ghost use Rattle.serving.specs.Connections.{opening_of};
+ghost use Rattle.server.specs.FolderStore.{folder_store};
 ghost use Rattle.server.specs.Histories.{AllEnded, LeftBy, ended_in, opened_in, opened_over};
 ghost use Rattle.server.specs.machine.Slots.{HaveEnded, seen_in, seen_of};
 
@@ -10,9 +11,10 @@ use crate::occupant::{Occupant, OccupantParts, turned};
 use crate::policy::Policy;
 use crate::server::{SlotHistory, Waiting};
 use crate::terms::ServerTerms;
+use folder_filing::FolderFiling;
 use log::Log;
 use negotiate::Config;
-use part10::{Filing, FolderFiling, Settling};
+use part10::Settling;
 use serving::ConnectionMemory;
 use std::alloc::{AllocError, AllocFailed, Global};
 use std::fs::File;
@@ -34,8 +36,10 @@ where
     occupant: Option<Box<Option<Occupant<'a, R, S, P>>>>,
     /// The memory of its next connection, once it was taken, while it has none.
     memory: Option<ConnectionMemory>,
+    /// The filing of its next connection, if it has one already, while it has none.
+    filing: Option<FolderFiling<S>>,
     history: SlotHistory<FolderFiling<S>>,
-    ghost left: { ∥ All (LeftBy ⟦<FolderFiling<S> as Filing>⟧.store P.settings) (ended_in history) ∥₁ },
+    ghost left: { ∥ All (LeftBy folder_store P.settings) (ended_in history) ∥₁ },
     /// Each connection that was opened has ended, except the one that it has.
     ghost none_missing: { opened_in history ≡ map opened_over (ended_in history) ++ seen_in occupant (λ s. opening_of s.connection) },
 }
@@ -46,11 +50,12 @@ impl<'a, R: Log + Clock, S: Files<File = File> + Alloc<A = Global> + Clone + Dro
     S,
     P,
 > {
-    /// Creates a slot without memory.
-    pub(crate) fn new() -> Slot<'a, R, S, P> {
+    /// Creates a slot without memory. Its first connection files by this filing, if there is one.
+    pub(crate) fn new(filing: Option<FolderFiling<S>>) -> Slot<'a, R, S, P> {
         Slot {
             occupant: None,
             memory: None,
+            filing,
             history: SlotHistory::new(),
         }
     }
@@ -77,6 +82,11 @@ impl<'a, R: Log + Clock, S: Files<File = File> + Alloc<A = Global> + Clone + Dro
         make(alloc, &mut self.occupant, &mut self.history, now)?;
         self.memory = Some(memory);
         Ok(())
+    }
+
+    /// Returns the filing of its next connection, if there is one already.
+    pub(crate) fn take_filing(&mut self) -> Option<FolderFiling<S>> {
+        self.filing.take()
     }
 
     /// Opens an association over a connection that was accepted at this instant, if it has its memory.
@@ -190,20 +200,30 @@ impl<'a, R: Log + Clock, S: Files<File = File> + Alloc<A = Global> + Clone + Dro
 
     /// Lets its connection go, if it has one, and returns its filing.
     #[inline(never)]
-    pub(crate) fn leave(&mut self, now: Instant) -> Option<FolderFiling<S>> {
+    fn vacate(&mut self, now: Instant) -> Option<FolderFiling<S>> {
         match &mut self.occupant {
             Some(occupant) => left_by(occupant.take(), &mut self.memory, &mut self.history, now),
             None => None,
         }
     }
 
+    /// Lets its connection go, if it has one. Its filing serves the next one, unless a file of it was lost.
+    pub(crate) fn leave(&mut self, now: Instant) {
+        if let Some(filing) = self.vacate(now) {
+            if !filing.waits() {
+                self.filing = Some(filing);
+            }
+        }
+    }
+
     /// Lets its connection go, if it has one, and its memory. Returns what its connections left.
     pub(crate) fn close(self, now: Instant) -> SlotHistory<FolderFiling<S>>
-        ensures { AllEnded ⟦<FolderFiling<S> as Filing>⟧.store P.settings result }
+        ensures { AllEnded folder_store P.settings result }
     {
         let Slot {
             occupant,
             memory: _memory,
+            filing: _filing,
             history,
         } = self;
         let mut history = history;
@@ -219,7 +239,7 @@ fn left_by<R: Log + Clock, S: Files<File = File> + Alloc<A = Global> + Clone + D
     history: &mut SlotHistory<FolderFiling<S>>,
     now: Instant,
 ) -> Option<FolderFiling<S>>
-    ensures { HaveEnded ⟦<FolderFiling<S> as Filing>⟧.store P.settings (seen_of occupant.entry (λ s. opening_of s.connection)) history.old history.new }
+    ensures { HaveEnded folder_store P.settings (seen_of occupant.entry (λ s. opening_of s.connection)) history.old history.new }
 {
     match occupant {
         Some(occupant) => {
@@ -239,7 +259,7 @@ fn end<R: Log + Clock, S: Files<File = File> + Alloc<A = Global> + Clone + Drop,
     history: &mut SlotHistory<FolderFiling<S>>,
     now: Instant,
 )
-    ensures { HaveEnded ⟦<FolderFiling<S> as Filing>⟧.store P.settings (seen_of occupant.entry (λ s. opening_of s.connection)) history.old history.new }
+    ensures { HaveEnded folder_store P.settings (seen_of occupant.entry (λ s. opening_of s.connection)) history.old history.new }
 {
     if let Some(occupant) = occupant {
         let left = occupant.end(now);
@@ -254,7 +274,7 @@ fn let_go<R: Log + Clock, S: Files<File = File> + Alloc<A = Global> + Clone + Dr
     history: &mut SlotHistory<FolderFiling<S>>,
     now: Instant,
 )
-    ensures { HaveEnded ⟦<FolderFiling<S> as Filing>⟧.store P.settings (seen_in occupant.entry (λ s. opening_of s.connection)) history.old history.new }
+    ensures { HaveEnded folder_store P.settings (seen_in occupant.entry (λ s. opening_of s.connection)) history.old history.new }
 {
     if let Some(occupant) = occupant {
         end(Box::into_inner(occupant), history, now);
@@ -270,7 +290,7 @@ fn make<'a, R: Log + Clock, S: Files<File = File> + Alloc<A = Global> + Clone + 
     now: Instant,
 ) -> Result<(), AllocError>
     requires { occupant.old ≡ None }
-    ensures ended { HaveEnded ⟦<FolderFiling<S> as Filing>⟧.store P.settings [] history.old history.new }
+    ensures ended { HaveEnded folder_store P.settings [] history.old history.new }
     ensures empty { seen_in occupant.new (λ s. opening_of s.connection) ≡ [] }
 {
     match Box::new(alloc, None) {

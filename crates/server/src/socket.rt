@@ -43,11 +43,11 @@ impl Write for Socket {
     }
 }
 
-/// Watches the stream of a connection that has this place, and returns its socket.
-pub(crate) fn watched(poll: &Poll, stream: TcpStream, place: usize) -> io::Result<Socket> {
+/// Watches the stream of a connection that has the slot with this index, and returns its socket.
+pub(crate) fn watched(poll: &Poll, stream: TcpStream, index: usize) -> io::Result<Socket> {
     stream.set_nodelay(true)?;
     let mut socket = Socket(stream);
     let both = Interest::READABLE | Interest::WRITABLE;
-    poll.registry().register(&mut socket.0, Token(place), both)?;
+    poll.registry().register(&mut socket.0, Token(index), both)?;
     Ok(socket)
 }

@@ -1,6 +1,6 @@
 //! What a server is held to.
 use connection::Timeouts;
-use journal::{Form, Limits};
+use journal::Form;
 use metrics::MetricsFile;
 use negotiate::Config;
 use std::time::Duration;
@@ -25,7 +25,7 @@ pub struct ServerTerms<'a> {
     pub stop_file: Option<&'a str>,
     /// How long stores that have begun may go on once it has appeared.
     pub grace: Duration,
-    /// Whether it is told when connections wait since no place is free.
+    /// Whether it is told when connections wait since no slot is free.
     pub tells_full: bool,
     /// Whether the server ends after one association.
     pub once: bool,
@@ -33,14 +33,4 @@ pub struct ServerTerms<'a> {
     pub form: Form,
     /// The file that counts what the log tells, if there is one.
     pub metrics: Option<&'a MetricsFile>,
-}
-
-impl ServerTerms<'_> {
-    /// Returns what each connection is held to, as far as its log names it.
-    pub(crate) fn limits(&self) -> Limits {
-        Limits {
-            max_pdu: self.config.max_pdu,
-            max_data: self.config.max_data,
-        }
-    }
 }

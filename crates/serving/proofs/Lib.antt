@@ -1,6 +1,7 @@
-pub mod WireLemmas
-pub mod GivenLemmas
-pub mod CloseLemmas
-pub mod TakenLemmas
-pub mod InboxLemmas
-pub mod SettledLemmas
+pub mod SocketTakesTheFront
+pub mod InputsAddTheirPieces
+pub mod ClosesWithItsSocket
+pub mod TakenInputsAreARun
+pub mod InboxLosesNothing
+pub mod SentIsSettledFirst
+pub mod EachPieceIsTold

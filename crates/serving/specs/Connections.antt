@@ -48,7 +48,7 @@ IsClosedAt c = IsClosed c.link
 
 -- how many writes took nothing since its socket last took a byte
 abbrev pub refusals_at : {S F : Type 0} {G : Settling.Ghosts F} {H : Filing.Ghosts F} → Connection S F G H → ℕ
-refusals_at c = c.link.stream.refusals.total
+refusals_at c = c.link.stream.refusals
 
 -- the times by which its peer is waited for
 abbrev pub times_at : {S F : Type 0} {G : Settling.Ghosts F} {H : Filing.Ghosts F} → Connection S F G H → Waits

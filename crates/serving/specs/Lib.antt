@@ -4,6 +4,7 @@ pub mod Wires
 pub mod Rooms
 pub mod Capacities
 pub mod Taken
+pub mod Told
 pub mod Connections
 pub mod Served
 pub mod Settled

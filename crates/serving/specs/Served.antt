@@ -39,5 +39,5 @@ pub record ExchangedSoFar (s : Settings) (report : Report) (read untaken : List 
 -- a connection leaves this
 abbrev pub IsServed : {S : Type 0} → Settings → Exchange S → Store → Store → Type 0
 IsServed s exchange old new =
-    ExchangedSoFar s exchange.report exchange.read.trace.bytes (untaken_in exchange.untaken) exchange.read.stops.total
-    exchange.sent.trace.bytes (pending_in exchange.unsent) exchange.sent.stops.total old new
+    ExchangedSoFar s exchange.report exchange.read.trace.bytes (untaken_in exchange.untaken) exchange.read.stops
+    exchange.sent.trace.bytes (pending_in exchange.unsent) exchange.sent.stops old new

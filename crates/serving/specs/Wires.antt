@@ -15,7 +15,7 @@ pending_in outbox = outbox.bytes.items
 
 -- an outbox as a wire
 abbrev pub line_of : Outbox → Line
-line_of outbox = record { sent = Some (pending_in outbox); failures = outbox.failures.total }
+line_of outbox = record { sent = Some (pending_in outbox); failures = outbox.failures }
 
 -- what an association has sent: what its socket took, and what waits
 abbrev pub sent_over : {S : Type 0} → Link S → List ℕ
@@ -31,11 +31,11 @@ IsTakenOf taken link = taken ++ untaken_in link.inbox ≡ link.stream.traced.rea
 
 -- its socket has closed
 abbrev pub IsClosed : {S : Type 0} → Link S → Type 0
-IsClosed link = HasClosed (untaken_in link.inbox) link.stream.ends.total (pending_in link.outbox) link.stream.refusals.total
+IsClosed link = HasClosed (untaken_in link.inbox) link.stream.ends (pending_in link.outbox) link.stream.refusals
 
 -- where the last of the inputs is the transport's close, its socket has closed
 abbrev pub ClosesWith : {S : Type 0} → List Received → Link S → Type 0
-ClosesWith inputs link = ClosesWithSocket inputs (untaken_in link.inbox) link.stream.ends.total (pending_in link.outbox) link.stream.refusals.total
+ClosesWith inputs link = ClosesWithSocket inputs (untaken_in link.inbox) link.stream.ends (pending_in link.outbox) link.stream.refusals
 
 -- so the bytes that were read grow, and those that wait by the same
 abbrev pub ReadsMore : Arrival → List ℕ → List ℕ → List ℕ → List ℕ → Type 0

@@ -24,8 +24,8 @@ impl<S> CountedStream<S> {
     pub(crate) fn new(socket: S) -> CountedStream<S>
         ensures nothing_read { result.traced.read.bytes ≡ [] }
         ensures nothing_written { result.traced.written.bytes ≡ [] }
-        ensures no_end { result.ends.total ≡ 0 }
-        ensures no_refusal { result.refusals.total ≡ 0 }
+        ensures no_end { result.ends ≡ 0 }
+        ensures no_refusal { result.refusals ≡ 0 }
     {
         CountedStream {
             traced: TracedStream::new(socket),
@@ -52,10 +52,10 @@ impl<S: Read> CountedStream<S> {
         ensures bound { ReadsAtMost result room.new }
         ensures traced { IfOk result (λ n. self.new.traced.read.bytes ≡ self.old.traced.read.bytes ++ take n room.new) }
         ensures failed { OnErr result (self.new.traced.read ≡ self.old.traced.read) }
-        ensures more { IfOk result (λ n. 0 < n → self.new.ends.total ≡ 0) }
-        ensures closed { IfOk result (λ n. n ≡ 0 → self.new.ends.total ≡ self.old.ends.total + 1) }
+        ensures more { IfOk result (λ n. 0 < n → self.new.ends ≡ 0) }
+        ensures closed { IfOk result (λ n. n ≡ 0 → self.new.ends ≡ self.old.ends + 1) }
         ensures not_yet { IfErr result (λ e. error_kind e ≡ ErrorKind.WouldBlock → self.new.ends ≡ self.old.ends) }
-        ensures broken { IfErr result (λ e. error_kind e ≢ ErrorKind.WouldBlock → self.new.ends.total ≡ self.old.ends.total + 1) }
+        ensures broken { IfErr result (λ e. error_kind e ≢ ErrorKind.WouldBlock → self.new.ends ≡ self.old.ends + 1) }
         ensures same_written { self.new.traced.written ≡ self.old.traced.written }
         ensures same_refusals { self.new.refusals ≡ self.old.refusals }
     {
@@ -86,9 +86,9 @@ impl<S: Write> CountedStream<S> {
         ensures bound { WritesAtMost result bytes.now }
         ensures traced { IfOk result (λ n. self.new.traced.written.bytes ≡ self.old.traced.written.bytes ++ take n bytes.now) }
         ensures failed { OnErr result (self.new.traced.written ≡ self.old.traced.written) }
-        ensures took { IfOk result (λ n. 0 < n → self.new.refusals.total ≡ 0) }
-        ensures refused { IfOk result (λ n. n ≡ 0 → self.new.refusals.total ≡ self.old.refusals.total + 1) }
-        ensures failing { OnErr result (self.new.refusals.total ≡ self.old.refusals.total + 1) }
+        ensures took { IfOk result (λ n. 0 < n → self.new.refusals ≡ 0) }
+        ensures refused { IfOk result (λ n. n ≡ 0 → self.new.refusals ≡ self.old.refusals + 1) }
+        ensures failing { OnErr result (self.new.refusals ≡ self.old.refusals + 1) }
         ensures same_read { self.new.traced.read ≡ self.old.traced.read }
         ensures same_ends { self.new.ends ≡ self.old.ends }
     {

@@ -95,7 +95,7 @@ impl Inbox {
     pub(crate) fn fill<S: Read>(&mut self, stream: &mut CountedStream<S>) -> Arrival
         requires room { length (untaken_in self.old) < inbox_size }
         ensures reads { ReadsMore result (untaken_in self.old) (untaken_in self.new) stream.old.traced.read.bytes stream.new.traced.read.bytes }
-        ensures ends { CountsEnd result stream.old.ends.total stream.new.ends.total }
+        ensures ends { CountsEnd result stream.old.ends stream.new.ends }
         ensures same_written { stream.new.traced.written ≡ stream.old.traced.written }
         ensures same_refusals { stream.new.refusals ≡ stream.old.refusals }
     {

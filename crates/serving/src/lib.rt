@@ -9,6 +9,7 @@ mod link;
 mod memory;
 mod open_connection;
 mod outbox;
+mod told;
 mod traces;
 mod waiting;
 
@@ -17,5 +18,6 @@ pub use inbox::{INBOX, Inbox};
 pub use memory::ConnectionMemory;
 pub use open_connection::{Connection, ConnectionEnd, ConnectionTerms, Turn};
 pub use outbox::{OUTBOX, Outbox};
+pub use told::ToldPortions;
 pub use traces::SocketTrace;
 pub use waiting::{Wait, Waiting};

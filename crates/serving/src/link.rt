@@ -1,16 +1,18 @@
 //! The socket of a connection. It does not block: it is read and written as far as it goes.
-ghost use Rattle.std.specs.Prelude.{◌≡◌, ◌≢◌, ◌≤◌, ◌<◌, [], length, OnErr, true, false};
+ghost use Rattle.std.specs.Prelude.{◌≡◌, ◌≢◌, ◌≤◌, ◌<◌, [], ◌∷◌, ◌++◌, length, take, drop, OnErr, true, false};
 
 use crate::counted_stream::CountedStream;
 use crate::inbox::{Arrival, Inbox};
+use crate::memory::ServedAssociation;
 use crate::outbox::Outbox;
+use crate::told::ToldPortions;
 use crate::traces::SocketTraces;
-use connection::{Observer, ReadEnd};
+use connection::{Observer, ReadEnd, Taken};
 use std::io::{Error, ErrorKind, Read, Write};
 
-/// A socket, what was read from it, and what it is to send. What it took, followed by what waits in the
-/// outbox, is what the association has sent; what the association has taken, followed by what waits in
-/// the inbox, is what was read.
+/// A socket, what was read from it, and what it is to send. What it took, followed by what waits in
+/// the outbox, is what the association has sent; what the association has taken, followed by what
+/// waits in the inbox, is what was read.
 #[derive(Drop)]
 pub struct Link<S> {
     pub(crate) stream: CountedStream<S>,
@@ -18,7 +20,21 @@ pub struct Link<S> {
     pub(crate) outbox: Outbox,
 }
 
+/// A portion of the bytes that wait to be taken, which the association has just taken.
+#[derive(Clone, Copy)]
+pub(crate) struct Portion {
+    /// The number of its bytes.
+    pub len: usize,
+    /// Whether a part of a PDU is complete with it.
+    pub is_complete: bool,
+    /// Whether what is sent for it is held until a file is settled.
+    pub is_held: bool,
+}
+
 impl<S> Link<S> {
+    ghost use Rattle.engine.specs.Fields.{association_in, decided_in};
+    ghost use Rattle.engine.specs.MovesOn.{HasCommand, HasDecided};
+    ghost use Rattle.serving.specs.Told.{portions_in};
     ghost use Rattle.serving.specs.Wires.{pending_in, untaken_in};
 
     /// Traces this socket from now on. What is read waits in this inbox, of no bytes yet.
@@ -28,7 +44,7 @@ impl<S> Link<S> {
         ensures nothing_sent { result.stream.traced.written.bytes ≡ [] }
         ensures nothing_untaken { untaken_in result.inbox ≡ [] }
         ensures nothing_waits { pending_in result.outbox ≡ [] }
-        ensures never { result.outbox.failures.total ≡ 0 }
+        ensures never { result.outbox.failures ≡ 0 }
     {
         Link {
             stream: CountedStream::new(socket),
@@ -37,19 +53,49 @@ impl<S> Link<S> {
         }
     }
 
-    /// Shows the observer the first of the bytes that wait to be taken, which the association has just taken,
-    /// those after them, and its answer, which is all that waits to be sent, and whether that is held.
-    pub(crate) fn show_taken<B: Observer>(&self, taken: usize, is_held: bool, observer: &B) {
-        let pending = self.inbox.pending();
-        let (bytes, ahead) = pending.split_at(taken.min(pending.len()));
-        observer.took(bytes, ahead, self.outbox.pending(), is_held);
+    /// Returns what the association took and decided: the first of the bytes that wait to be taken,
+    /// which it has just taken, and those after them. All that waits to be sent is its answer.
+    fn taken<'a>(&'a self, portion: Portion, running: &'a ServedAssociation) -> Taken<'a>
+        requires within { portion.len ≤ length (untaken_in self.now.inbox) }
+        ensures bytes { result.bytes.now ≡ take portion.len (untaken_in self.now.inbox) }
+        ensures ahead { result.ahead.now ≡ drop portion.len (untaken_in self.now.inbox) }
+        ensures complete { result.is_complete ≡ portion.is_complete }
+        ensures held { result.is_held ≡ portion.is_held }
+        ensures kept { result.decision ≡ decided_in (association_in running.now) }
+        ensures decided { HasDecided (association_in running.now) result.decision }
+        ensures command { HasCommand (association_in running.now) result.command.now }
+        ensures answered { result.answered ≡ length (pending_in self.now.outbox) }
+    {
+        let (bytes, ahead) = self.inbox.pending().split_at(portion.len);
+        Taken {
+            bytes,
+            ahead,
+            is_complete: portion.is_complete,
+            decision: running.decision(),
+            command: running.command(),
+            answered: self.outbox.pending().len(),
+            is_held: portion.is_held,
+        }
     }
 
-    /// Shows the observer that nothing more is read, and what waits to be sent after so many bytes: the
-    /// abort that was written for it.
+    /// Tells the observer of the portion that the association has just taken, and of what came of it.
+    pub(crate) fn show_taken<B: Observer>(
+        &self,
+        portion: Portion,
+        running: &Box<ServedAssociation>,
+        told: &mut ToldPortions,
+        observer: &B,
+    )
+        requires within { portion.len ≤ length (untaken_in self.now.inbox) }
+        ensures { portions_in told.new ≡ portions_in told.old ++ take portion.len (untaken_in self.now.inbox) ∷ [] }
+    {
+        told.tell(&self.taken(portion, running), observer);
+    }
+
+    /// Shows the observer that nothing more is read, and the size of what waits to be sent after so
+    /// many bytes: the abort that was written for it.
     pub(crate) fn show_end<B: Observer>(&self, why: ReadEnd, before: usize, observer: &B) {
-        let pending = self.outbox.pending();
-        let (_, abort) = pending.split_at(before.min(pending.len()));
+        let abort = self.outbox.pending().len().saturating_sub(before);
         observer.read_ended(why, abort);
     }
 }
@@ -57,12 +103,12 @@ impl<S> Link<S> {
 impl<S: Read> Link<S> {
     ghost use Rattle.serving.specs.Wires.{Arrives, CountsEnd};
 
-    /// Returns how many of the bytes in the inbox the association is to take, at most so many: of those that
-    /// wait, and of what has come.
+    /// Returns how many of the bytes in the inbox the association is to take, at most so many: of
+    /// those that wait, and of what has come.
     pub(crate) fn receive(&mut self, most: usize) -> Arrival
         requires some { 0 < most }
         ensures arrives { Arrives most result self.old self.new }
-        ensures ends { CountsEnd result self.old.stream.ends.total self.new.stream.ends.total }
+        ensures ends { CountsEnd result self.old.stream.ends self.new.stream.ends }
         ensures same_written { self.new.stream.traced.written ≡ self.old.stream.traced.written }
         ensures same_refusals { self.new.stream.refusals ≡ self.old.stream.refusals }
         ensures same_outbox { self.new.outbox ≡ self.old.outbox }
@@ -82,21 +128,21 @@ impl<S: Read> Link<S> {
 impl<S: Write> Link<S> {
     ghost use Rattle.serving.specs.Wires.{pending_in, sent_over};
 
-    /// Writes what waits, as much as the socket takes, which the observer is shown. Returns whether it
-    /// took all.
+    /// Writes what waits, as much as the socket takes, which the observer is shown. Returns whether
+    /// it took all.
     ///
     /// Fails if the socket does.
-    #[tactic(auto, using(crate::proofs::WireLemmas::took_front, crate::proofs::WireLemmas::fewer_wait))]
+    #[tactic(auto, using(crate::proofs::SocketTakesTheFront::took_front, crate::proofs::SocketTakesTheFront::fewer_wait))]
     pub(crate) fn flush<B: Observer>(&mut self, observer: &B) -> Result<bool, Error>
-        requires never { self.old.outbox.failures.total ≡ 0 }
+        requires never { self.old.outbox.failures ≡ 0 }
         ensures same_sent { sent_over self.new ≡ sent_over self.old }
         ensures all { result ≡ Ok true → pending_in self.new.outbox ≡ [] }
         ensures fewer { length (pending_in self.new.outbox) ≤ length (pending_in self.old.outbox) }
         ensures same_failures { self.new.outbox.failures ≡ self.old.outbox.failures }
         ensures some { result ≡ Ok false → pending_in self.new.outbox ≢ [] }
-        ensures blocked { result ≡ Ok false → 0 < self.new.stream.refusals.total }
+        ensures blocked { result ≡ Ok false → 0 < self.new.stream.refusals }
         ensures some_left { OnErr result (pending_in self.new.outbox ≢ []) }
-        ensures refused { OnErr result (0 < self.new.stream.refusals.total) }
+        ensures refused { OnErr result (0 < self.new.stream.refusals) }
         ensures same_read { self.new.stream.traced.read ≡ self.old.stream.traced.read }
         ensures same_ends { self.new.stream.ends ≡ self.old.stream.ends }
         ensures same_inbox { self.new.inbox ≡ self.old.inbox }
@@ -121,7 +167,8 @@ impl<S: Write> Link<S> {
 }
 
 impl<S: Drop> Link<S> {
-    /// Gives up the socket. Returns what contracts see of the bytes that went over it, and what waited.
+    /// Gives up the socket. Returns what contracts see of the bytes that went over it, and what
+    /// waited.
     pub(crate) fn end(self) -> (SocketTraces<S>, Inbox, Outbox)
         ensures read { result.0.read.trace ≡ self.stream.traced.read }
         ensures ends { result.0.read.stops ≡ self.stream.ends }

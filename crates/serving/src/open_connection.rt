@@ -6,9 +6,11 @@ ghost use Rattle.engine.specs.Fields.{association_in, drafting_of, fields_of, se
 ghost use Rattle.engine.specs.Inputs.{inputs_of, stream_of};
 ghost use Rattle.engine.specs.Turns.{Reports};
 ghost use Rattle.part10.specs.Store.{Store};
+ghost use Rattle.serving.specs.Capacities.{outbox_size};
 ghost use Rattle.serving.specs.Rooms.{served_rooms};
 ghost use Rattle.serving.specs.Settled.{SentAfter};
 ghost use Rattle.serving.specs.Taken.{HasTaken};
+ghost use Rattle.serving.specs.Told.{pieces_of, portions_in};
 ghost use Rattle.serving.specs.Wires.{ClosesWith, IsTakenOf};
 
 mod settled;
@@ -17,6 +19,7 @@ mod turns;
 use crate::exchange::Exchange;
 use crate::link::Link;
 use crate::memory::{ConnectionMemory, ServedAssociation};
+use crate::told::ToldPortions;
 use crate::waiting::{Wait, Waiting};
 use acceptor::State;
 use connection::Timeouts;
@@ -50,16 +53,20 @@ pub struct Connection<S, F: Settling> {
     settled: Snapshot<F>,
     /// What contracts see of the inputs that were taken.
     given: Given,
+    /// The portions that its observer was told of.
+    told: ToldPortions,
     ghost there: { IsThere (drafting_of (association_in running.value)) (F.store filing) },
     /// No send has failed.
-    ghost never: { link.outbox.failures.total ≡ 0 },
-    ghost fits: { length link.outbox.bytes.items < 18631 },
+    ghost never: { link.outbox.failures ≡ 0 },
+    ghost fits: { length link.outbox.bytes.items < outbox_size },
     ghost bytes: { IsBytes (stream_of (inputs_of given.named)) },
     /// The ARTIM timer follows the state of the association.
     ghost followed: { waiting.state ≡ state_of (association_in running.value) },
     /// The pieces that were taken, followed by what waits to be taken, are what was read: no byte is dropped
     /// and none taken twice.
     ghost whole: { IsTakenOf (stream_of (inputs_of given.named)) link },
+    /// The observer was told of each piece that was taken, once and in their order, and of nothing else.
+    ghost heard: { portions_in told ≡ pieces_of (inputs_of given.named) },
     /// What the socket took and what waits, and the files, are what came of the inputs.
     ghost taken: { ∥ HasTaken (settings_in (association_in running.value)) given.named (fields_of (association_in running.value))
         (link.stream.traced.written.bytes ++ link.outbox.bytes.items) (F.store opened.value) (F.store filing) ∥₁ },
@@ -137,6 +144,7 @@ impl<S, F: Settling> Connection<S, F> {
             opened,
             settled,
             given: Given::new(),
+            told: ToldPortions::new(),
         }
     }
 
@@ -186,7 +194,9 @@ impl<S: Drop, F: Settling> Connection<S, F> {
     ghost use Rattle.engine.specs.Held.{is_ended};
     ghost use Rattle.engine.specs.declared.report.Standing.TheVariants as standing;
     ghost use Rattle.serving.specs.Connections.{settings_at, opening_of, state_at};
+    ghost use Rattle.pdu.specs.Pieces.{joined};
     ghost use Rattle.serving.specs.Served.{IsServed};
+    ghost use Rattle.serving.specs.Wires.{untaken_in};
     ghost use Rattle.serving.specs.Settled.{SettlesFirst, sent_by};
 
     /// Closes the connection, wherever its association stands, and drops the draft that may be there.
@@ -197,12 +207,16 @@ impl<S: Drop, F: Settling> Connection<S, F> {
     ///
     /// `ended`: where the association has ended, the report says so.
     ///
+    /// `told`: the portions that the observer was told of, put together and followed by what the association
+    /// did not take any more, are the bytes that were read: none of them is told twice or left out.
+    ///
     /// `sent`, `rested`: the bytes that the socket took are the first of what the definitions give for the
     /// first of the same inputs, and the filing had their files, and waited for none to be settled, when
     /// the last of these bytes were written.
     pub fn end(self) -> ConnectionEnd<S, F>
         ensures left { ∥ IsServed (settings_at self) result.exchange (F.store (opening_of self)) (F.store result.filing) ∥₁ }
         ensures opened { result.opened.value ≡ opening_of self }
+        ensures told { joined (portions_in result.exchange.told) ++ untaken_in result.exchange.untaken ≡ result.exchange.read.trace.bytes }
         ensures ended { is_ended (state_at self) ≡ true → result.exchange.report.standing ≡ standing.Ended }
         ensures sent { ∥ SettlesFirst (settings_at self) result.exchange (F.store (opening_of self)) (F.store result.settled.value) (F.store result.filing) ∥₁ }
         ensures rested { sent_by result.exchange ≢ [] → F.waits result.settled.value ≡ false }
@@ -218,6 +232,7 @@ impl<S: Drop, F: Settling> Connection<S, F> {
                 received,
                 read: traces.read,
                 sent: traces.sent,
+                told: self.told,
                 untaken,
                 unsent,
             },

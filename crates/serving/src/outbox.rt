@@ -9,7 +9,7 @@ use pdu::{Wire, WireFailed};
 
 /// The most bytes that an event has an association send beside an A-ASSOCIATE-AC or a reply, an A-ABORT among
 /// them.
-const MOST_BESIDE_ANSWERS: usize = 30;
+pub(crate) const MOST_BESIDE_ANSWERS: usize = 30;
 
 /// The longest A-ASSOCIATE-AC, which is longer than any reply.
 const LONGEST_ACCEPT: usize = 140 + 35 * 128;
@@ -29,7 +29,7 @@ pub const OUTBOX: usize = MOST_SENT + MOST_BESIDE_ANSWERS + 1;
 pub struct Outbox {
     bytes: ArrayVec<u8, OUTBOX>,
     failures: Count,
-    ghost full: { 0 < failures.total → array_vec_len bytes ≡ outbox_size },
+    ghost full: { 0 < failures → array_vec_len bytes ≡ outbox_size },
 }
 
 impl Outbox {
@@ -38,7 +38,7 @@ impl Outbox {
     /// Creates an outbox of no bytes.
     pub fn new() -> Outbox
         ensures nothing { pending_in result ≡ [] }
-        ensures never { result.failures.total ≡ 0 }
+        ensures never { result.failures ≡ 0 }
     {
         Outbox {
             bytes: ArrayVec::new(),
@@ -63,7 +63,7 @@ impl Outbox {
     /// Removes the first of the bytes that wait, which the socket took.
     pub(crate) fn drop_front(&mut self, count: usize)
         requires within { count ≤ length (pending_in self.old) }
-        requires never { self.old.failures.total ≡ 0 }
+        requires never { self.old.failures ≡ 0 }
         ensures rest { pending_in self.new ≡ drop count (pending_in self.old) }
         ensures same { self.new.failures ≡ self.old.failures }
     {

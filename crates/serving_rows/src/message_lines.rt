@@ -1,6 +1,6 @@
 //! The lines of messages that have an association aborted.
 use crate::shown::{Log, Step, are, lines_of};
-use fixtures::bytes::joined;
+use fixtures::bytes::{back, joined, within};
 use fixtures::echo;
 use fixtures::stores::{INSTANCE, store};
 use journal::Form;
@@ -78,6 +78,39 @@ fn a_fragment_is_why(rt: HostRuntime) -> Result<(), Fail> {
     let inside = [part.as_slice(), more.as_slice()];
     let early = "its user (command: 43 WrongKind, data before its end)";
     aborts(&rt, dir, joined(rt.alloc(), &inside)?.as_slice(), early)
+}
+
+#[test]
+fn another_context_is_why(rt: HostRuntime) -> Result<(), Fail> {
+    let alloc = rt.alloc();
+    // The recorded request, whose only context stands twice, as 1 and as 3, 50 bytes longer.
+    let context = within(echo::REQUEST, 99, 149);
+    let mut second = Vec::from_slice(alloc, context)?;
+    if let Some(id) = second.get_mut(4) {
+        *id = 3;
+    }
+    let request = joined(
+        alloc,
+        &[
+            &[1, 0, 0, 0, 0, 214],
+            within(echo::REQUEST, 6, 149),
+            second.as_slice(),
+            back(echo::REQUEST, 149),
+        ],
+    )?;
+    let (part, other) = (zeros(&rt, 1, 1, 200)?, zeros(&rt, 3, 1, 200)?);
+    let bytes = joined(
+        alloc,
+        &[request.as_slice(), part.as_slice(), other.as_slice()],
+    )?;
+    let steps = [Step::Peer(bytes.as_slice()), Step::Closes];
+    let log = Log(Level::Warn, Form::Text);
+    let lines = lines_of(&rt, "another_context", log, &steps)?;
+    let why = "command: 44 OtherContext, context 3 inside a message of context 1";
+    let warned = format!(in alloc;
+        "[WARN  aborted by dcmbox, its user ({why}) calling \"SCANNER1\""
+    )?;
+    are(&rt, lines.as_slice(), &[warned.as_str()])
 }
 
 #[test]

@@ -2,7 +2,7 @@
 ghost use Rattle.std.specs.Prelude.{◌≤◌, length};
 
 use crate::chance::Chance;
-use connection::{Observer, ReadEnd};
+use connection::{Observer, ReadEnd, Taken};
 use std::alloc::Global;
 use std::cell::{Cell, RefCell};
 use std::io;
@@ -79,8 +79,8 @@ pub struct Audience {
     pub received: RefCell<Vec<u8>>,
     /// The most bytes that waited to be taken after those that were.
     pub most_ahead: Cell<usize>,
-    /// What the association was shown to send.
-    pub answers: RefCell<Vec<u8>>,
+    /// How many bytes the association was shown to send.
+    pub answered: Cell<usize>,
     pub sent: RefCell<Vec<u8>>,
     pub end: Cell<Option<ReadEnd>>,
     /// How many writes failed.
@@ -98,7 +98,7 @@ impl Audience {
         Audience {
             received: RefCell::new(Vec::new(alloc)),
             most_ahead: Cell::new(0),
-            answers: RefCell::new(Vec::new(alloc)),
+            answered: Cell::new(0),
             sent: RefCell::new(Vec::new(alloc)),
             end: Cell::new(None),
             failures: Cell::new(0),
@@ -106,6 +106,11 @@ impl Audience {
             kept: Cell::new(0),
             lost: Cell::new(0),
         }
+    }
+
+    /// Counts bytes that are to be sent.
+    fn answer(&self, count: usize) {
+        self.answered.set(self.answered.get().saturating_add(count));
     }
 }
 
@@ -116,11 +121,12 @@ fn keep(kept: &RefCell<Vec<u8>>, bytes: &[u8]) {
 }
 
 impl Observer for Audience {
-    fn took(&self, bytes: &[u8], ahead: &[u8], answer: &[u8], is_held: bool) {
-        keep(&self.received, bytes);
-        keep(&self.answers, answer);
-        self.most_ahead.set(self.most_ahead.get().max(ahead.len()));
-        self.is_held.set(is_held);
+    fn took(&self, taken: &Taken<'_>) {
+        keep(&self.received, taken.bytes);
+        self.answer(taken.answered);
+        let ahead = taken.ahead.len();
+        self.most_ahead.set(self.most_ahead.get().max(ahead));
+        self.is_held.set(taken.is_held);
     }
 
     fn settled(&self, is_kept: bool) {
@@ -132,9 +138,9 @@ impl Observer for Audience {
         keep(&self.sent, bytes);
     }
 
-    fn read_ended(&self, why: ReadEnd, abort: &[u8]) {
+    fn read_ended(&self, why: ReadEnd, abort: usize) {
         self.end.set(Some(why));
-        keep(&self.answers, abort);
+        self.answer(abort);
     }
 
     fn send_failed(&self, _error: &io::Error) {

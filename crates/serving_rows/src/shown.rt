@@ -3,11 +3,11 @@ use crate::scripted::{Script, ScriptedSocket, after, over};
 use connection::ReadEnd;
 use fixtures::config;
 use fixtures::folders::fresh;
-use journal::{Form, Journal, Limits, Logger, Served};
+use folder_filing::FolderFiling;
+use journal::{Form, Journal, Logger, Served};
 use log::sink::Memory;
 use log::{Level, Logged};
 use metrics::{CountedEnd, Counters, MetricsFile};
-use part10::FolderFiling;
 use std::alloc::Global;
 use std::fs;
 use std::net::{IpAddr, Ipv4Addr, SocketAddr};
@@ -44,15 +44,6 @@ fn served() -> Served {
     }
 }
 
-/// The limits of the configuration of the tests.
-pub fn limits() -> Limits {
-    let config = config();
-    Limits {
-        max_pdu: config.max_pdu,
-        max_data: config.max_data,
-    }
-}
-
 /// Runs a connection by these steps, of a box that files into a new folder of this name. Returns what was counted.
 fn run(
     rt: &HostRuntime,
@@ -71,7 +62,8 @@ fn run(
     let logger = Logger::new(&logged, form)
         .about(peer)
         .counting(Some(&metrics));
-    let journal = Journal::new(rt.alloc(), logger, notes, limits());
+    let config = config();
+    let journal = Journal::new(rt.alloc(), logger, notes, &config);
     let script = Script::new(rt.alloc());
     let mut now = Instant::now(rt)?;
     let mut one = over(rt.alloc(), ScriptedSocket(&script), filing, now)?;

@@ -1,13 +1,16 @@
 //! The lines of stores: what became of each, and how many there were.
 use crate::shown::{Log, Step, are, lines_of};
-use fixtures::bytes::{front, joined};
+use fixtures::bytes::{back, front, joined, within};
 use fixtures::echo;
-use fixtures::stores::{CT_SET, EXPLICIT, INSTANCE, OTHER, request, whole_store};
+use fixtures::stores::{CT_SET, EXPLICIT, INSTANCE, OTHER, data, request, store, whole_store};
 use journal::Form;
 use log::Level;
 use std::test::Fail;
 
 const TITLES: &str = "calling \"SCANNER1\" called \"DCMBOX\"";
+
+const BYTES_LEFT: &str = "aborted by dcmbox, its provider: invalid PDU parameter value \
+    (bytes after the last presentation data value)";
 
 const STORE: &str = "class CTImageStorage instance 1.2.3";
 
@@ -48,6 +51,128 @@ fn each_store_has_a_line(rt: HostRuntime) -> Result<(), Fail> {
             last.as_str(),
         ],
     )
+}
+
+/// A stored image and a faulty one, in fragments of which some have the same head and some are empty.
+fn fragmented_stores(rt: &HostRuntime) -> Result<Vec<u8>, Fail> {
+    let alloc = rt.alloc();
+    let (one, other) = (store(alloc, INSTANCE)?, store(alloc, OTHER)?);
+    Ok(joined(
+        alloc,
+        &[
+            request(alloc, EXPLICIT)?.as_slice(),
+            data(alloc, 1, front(one.as_slice(), 40))?.as_slice(),
+            data(alloc, 1, &[])?.as_slice(),
+            data(alloc, 3, back(one.as_slice(), 40))?.as_slice(),
+            data(alloc, 0, front(&CT_SET, 16))?.as_slice(),
+            data(alloc, 0, within(&CT_SET, 16, 32))?.as_slice(),
+            data(alloc, 2, back(&CT_SET, 32))?.as_slice(),
+            echo::ECHO,
+            data(alloc, 3, other.as_slice())?.as_slice(),
+            data(alloc, 0, front(&CT_SET, 40))?.as_slice(),
+            data(alloc, 2, &[])?.as_slice(),
+            echo::RELEASE,
+        ],
+    )?)
+}
+
+#[test]
+fn pieces_of_any_size_have_the_same_lines(rt: HostRuntime) -> Result<(), Fail> {
+    let asked = fragmented_stores(&rt)?;
+    let how = "released contexts 1 of 1 stored 1 refused 0 failed 1";
+    let last = ended(&rt, 1, how)?;
+    let cause = "status C000 fault 20 Truncated tag 0008,0018";
+    let warned = format!(in rt.alloc();
+        "[WARN  not stored: {cause} class CTImageStorage instance 1.2.4 calling \"SCANNER1\""
+    )?;
+    let failed = format!(in rt.alloc();
+        "[DEBUG store class CTImageStorage instance 1.2.4 bytes 40 {cause}"
+    )?;
+    let stored =
+        "[DEBUG store class CTImageStorage instance 1.2.3 bytes 48 status 0000 file I0000001";
+    let wanted = [stored, warned.as_str(), failed.as_str(), last.as_str()];
+    for size in [1, 3, 7, 4096] {
+        let mut steps = Vec::new(rt.alloc());
+        for piece in asked.as_slice().chunks(size) {
+            steps.push(Step::Peer(piece))?;
+        }
+        steps.push(Step::Closes)?;
+        let log = Log(Level::Debug, Form::Text);
+        let lines = lines_of(&rt, "pieces", log, steps.as_slice())?;
+        are(&rt, lines.as_slice(), &wanted)?;
+    }
+    Ok(())
+}
+
+/// This P-DATA-TF PDU with three bytes more, which are no head of a presentation data value.
+fn with_bytes_left(rt: &HostRuntime, pdu: &[u8]) -> Result<Vec<u8>, Fail> {
+    let mut longer = joined(rt.alloc(), &[pdu, &[0, 0, 0]])?;
+    if let Some(length) = longer.get_mut(5) {
+        *length = length.saturating_add(3);
+    }
+    Ok(longer)
+}
+
+/// Fails where the association is not aborted for bytes that are left at the end, with these lines between
+/// the warning of that and its own, which says `counts`.
+fn ends_with_bytes_left(
+    rt: &HostRuntime,
+    steps: &[Step],
+    first: &[&str],
+    later: &[&str],
+    counts: (u64, &str),
+) -> Result<(), Fail> {
+    let log = Log(Level::Debug, Form::Text);
+    let lines = lines_of(rt, "bytes_left", log, steps)?;
+    let (dropped, stores) = counts;
+    let last = ended(rt, dropped, stores)?;
+    let warned = format!(in rt.alloc(); "[WARN  {BYTES_LEFT} calling \"SCANNER1\"")?;
+    let mut wanted = Vec::new(rt.alloc());
+    for line in first {
+        wanted.push(*line)?;
+    }
+    wanted.push(warned.as_str())?;
+    for line in later {
+        wanted.push(*line)?;
+    }
+    wanted.push(last.as_str())?;
+    are(rt, lines.as_slice(), wanted.as_slice())
+}
+
+#[test]
+fn a_store_before_bytes_that_are_left_is_told_of(rt: HostRuntime) -> Result<(), Fail> {
+    let alloc = rt.alloc();
+    let asked = request(alloc, EXPLICIT)?;
+    let command = data(alloc, 3, store(alloc, INSTANCE)?.as_slice())?;
+    let set = with_bytes_left(&rt, data(alloc, 2, &CT_SET)?.as_slice())?;
+    let steps = [
+        Step::Peer(asked.as_slice()),
+        Step::Peer(command.as_slice()),
+        Step::Peer(set.as_slice()),
+        Step::Closes,
+    ];
+    let how = format!(in alloc; "{BYTES_LEFT} contexts 1 of 1 stored 1 refused 0 failed 0")?;
+    let stored =
+        "[DEBUG store class CTImageStorage instance 1.2.3 bytes 48 status 0000 file I0000001";
+    ends_with_bytes_left(&rt, &steps, &[stored], &[], (0, how.as_str()))
+}
+
+#[test]
+fn a_command_before_bytes_that_are_left_has_no_reply(rt: HostRuntime) -> Result<(), Fail> {
+    let alloc = rt.alloc();
+    let asked = request(alloc, EXPLICIT)?;
+    let command = data(alloc, 3, store(alloc, INSTANCE)?.as_slice())?;
+    let command = with_bytes_left(&rt, command.as_slice())?;
+    let steps = [
+        Step::Peer(asked.as_slice()),
+        Step::Peer(command.as_slice()),
+        Step::Closes,
+    ];
+    let how = format!(in alloc; "{BYTES_LEFT} contexts 1 of 1 stored 0 refused 0 failed 0")?;
+    let dropped = format!(in alloc;
+        "[WARN  not stored: no reply, {BYTES_LEFT} stores 1 calling \"SCANNER1\""
+    )?;
+    ends_with_bytes_left(&rt, &steps, &[], &[dropped.as_str()], (1, how.as_str()))
 }
 
 /// The bytes of a request and of a store up to this many.

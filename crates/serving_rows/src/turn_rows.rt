@@ -33,9 +33,7 @@ fn an_echo_is_answered_in_a_turn(rt: HostRuntime) -> Result<(), Fail> {
     assert!(rt; one.received() == 250 && !one.is_over());
     let received = joined(rt.alloc(), &[echo::REQUEST, echo::ECHO])?;
     assert!(rt; holds(&shown.received, received.as_slice()));
-    assert!(rt;
-        holds(&shown.answers, answers.as_slice()) && holds(&shown.sent, answers.as_slice())
-    );
+    assert!(rt; shown.answered.get() == answers.len() && holds(&shown.sent, answers.as_slice()));
     // The head of the request is taken first, of all that was read.
     assert!(rt; shown.most_ahead.get() == 244);
     script.is_closed.set(true);

@@ -84,7 +84,7 @@ pub fn has_date(text: &[u8]) -> bool
     begins_with_date(local_part(text))
 }
 
-/// Returns whether a date time has a time of day that exists, or none.
+/// Returns whether the time of day of a date time (DT) exists; true where it has none.
 pub fn has_time(text: &[u8]) -> bool
     ensures { result ≡ moment.has_time text.now }
 {

@@ -29,11 +29,15 @@ use Rattle.dimse.specs.Messages as messages
 use Rattle.dimse.specs.Messages.{Message, Begun, NoMessage, InCommand, InSet, Brought, Goes, Ends, Refuses, refusal, with_command, completed, with_fragment, message_by, brought}
 use Rattle.engine.specs.Inputs.{Received}
 use Rattle.engine.specs.Timeline.{Entry, At, Shut, TimedOut, Aborted, Finding, Outcome, Happened, entries, entries_of}
-use Rattle.engine.specs.Progress.{Progress, Advance, at_start, absorb, left, moved, done, refusing, nothing, is_due, is_established}
+use Rattle.decisions.specs.declared.decision.Decision.{Decision}
+use Rattle.decisions.specs.declared.decision.Decision.TheVariants as decision
+use Rattle.decisions.specs.ValueEnds.{value_end}
+use Rattle.pdu.specs.declared.head.PdvHead as declared
+use Rattle.engine.specs.Progress.{Progress, Advance, at_start, deciding, absorb, left, moved, done, refusing, nothing, is_due, is_established}
 use Rattle.engine.specs.Heads.{HeadEvent, NoEvent, AtOnce, TooLong, head_event}
 use Rattle.engine.specs.Requested.{Requested, request_record}
-use Rattle.engine.specs.Requests.{answered, keeping, at_request}
-use Rattle.engine.specs.Replies.{invalid, user_aborts, aborted_if_refused, at_pdv_head, at_pdv, replied, going_on}
+use Rattle.engine.specs.Requests.{answered, keeping, judged_so, at_request}
+use Rattle.engine.specs.Replies.{invalid, user_aborts, value_head, aborted_if_refused, command_refused, at_pdv_head, at_pdv, replied, going_on}
 use Rattle.engine.specs.Run.{Rooms, at_entry, at_end, cut, gives, released}
 use Rattle.engine.specs.Fair.{message_at}
 use Rattle.engine.specs.Reached.{takes_pdvs}
@@ -71,6 +75,12 @@ quiet_sound p e = record { message = subst (MessageKnown p.request) (sym e) tt; 
 
 without_head : (p : Progress) (o : Opened) → Sound p o → Sound p Between
 without_head p o h = record { message = h.message; quiet = h.quiet; head = tt }
+
+-- what is decided does not count
+decided_sound : (d : Decision) (p : Progress) (o : Opened) → Sound p o → Sound (deciding d p) o
+decided_sound d p Between h = record { message = h.message; quiet = h.quiet; head = tt }
+decided_sound d p (OfPdu kind n) h = record { message = h.message; quiet = h.quiet; head = tt }
+decided_sound d p (OfPdv n id control) h = record { message = h.message; quiet = h.quiet; head = h.head }
 
 -- where the values of the PDU don't count
 uncounted_head : (p : Progress) (o : Opened) → takes_pdvs p ≡ false → HeadKnown p o
@@ -132,50 +142,60 @@ replied_quiet p finding m r = grind (arith, common_steps)
 
 -- ---- one entry
 
-abbrev pub by_value : Progress → Finding → Brought → Advance
-by_value p finding r = elim r [
+abbrev pub by_value : Progress → Finding → messages.Pdv → Brought → Advance
+by_value p finding pdv r = elim r [
   | Goes begun ↦ nothing (going_on begun p)
   | Ends m ↦ replied p finding m (command_in m.command)
-  | Refuses fault ↦ user_aborts p
+  | Refuses fault ↦ user_aborts (deciding (command_refused p pdv fault) p)
 ]
 
-abbrev pub by_context : Progress → Option DimseFault → Option Context → Advance
-by_context p refused accepted = elim accepted [
-  | None ↦ invalid p
-  | Some context ↦ aborted_if_refused refused p
+abbrev pub by_context : Progress → declared.PdvHead → Option DimseFault → Option Context → Advance
+by_context p head refused accepted = elim accepted [
+  | None ↦ invalid (deciding (decision.ContextRefused head) p)
+  | Some context ↦ aborted_if_refused head refused p
 ]
 
-abbrev pub by_head : Progress → HeadEvent → Advance
-by_head p e = elim e [
+abbrev pub by_head : Progress → (kind n : ℕ) → HeadEvent → Advance
+by_head p kind n e = elim e [
   | NoEvent ↦ nothing p
-  | AtOnce ev reason ↦ refusing (done [] reason p ev)
-  | TooLong ↦ refusing (done (reject_text 2 3 2) 0 p event.UnacceptableRq)
+  | AtOnce ev reason ↦ refusing (done [] reason (deciding (decision.PduRefused (record { kind = kind; length = n })) p) ev)
+  | TooLong ↦ refusing (done (reject_text 2 3 2) 0 (deciding (decision.RequestTooLong n) p) event.UnacceptableRq)
 ]
 
 module _ (p : Progress) (finding : Finding) (context control : ℕ) (fragment : List ℕ) where
   pdv_sound : (o : Opened) (r : Brought) → Sound p o → is_established p.state ≡ true → BroughtKnown p.request r
-      → Sound (by_value p finding r).next Between
+      → Sound (by_value p finding (record { context = context; control = control; fragment = fragment }) r).next Between
   pdv_sound o (Goes later) h e k = record { message = k; quiet = λ d. absurd (not_due p.state e d); head = tt }
   pdv_sound o (Ends m) h e k = quiet_sound (replied p finding m (command_in m.command)).next (replied_quiet p finding m (command_in m.command))
-  pdv_sound o (Refuses fault) h e k = refused_sound (done [] 0 p event.UserAborts).next Between Between (event_sound p Between event.UserAborts (stays_aborts p.state) (without_head p o h))
+  pdv_sound o (Refuses fault) h e k =
+      let q = deciding (command_refused p (record { context = context; control = control; fragment = fragment }) fault) p in
+      refused_sound (done [] 0 q event.UserAborts).next Between Between (event_sound q Between event.UserAborts (stays_aborts p.state) (decided_sound q.decided p Between (without_head p o h)))
 
 pdv_head_sound : (p : Progress) (o : Opened) (n id control : ℕ) (accepted : Option Context) (refused : Option DimseFault) → context_of (request_record p.request) id ≡ accepted → Sound p o
-    → Sound (by_context p refused accepted).next (OfPdv n id control)
-pdv_head_sound p o n id control None refused e h = refused_sound (done [] 6 p event.Invalid).next Between _ (event_sound p Between event.Invalid (stays_invalid p.state) (without_head p o h))
+    → Sound (by_context p (value_head n id control) refused accepted).next (OfPdv n id control)
+pdv_head_sound p o n id control None refused e h =
+    let q = deciding (decision.ContextRefused (value_head n id control)) p in
+    refused_sound (done [] 6 q event.Invalid).next Between _ (event_sound q Between event.Invalid (stays_invalid p.state) (decided_sound q.decided p Between (without_head p o h)))
 pdv_head_sound p o n id control (Some context) None e h = record { message = h.message; quiet = h.quiet; head = λ t. (context, e) }
-pdv_head_sound p o n id control (Some context) (Some fault) e h = refused_sound (done [] 0 p event.UserAborts).next Between _ (event_sound p Between event.UserAborts (stays_aborts p.state) (without_head p o h))
+pdv_head_sound p o n id control (Some context) (Some fault) e h =
+    let q = deciding (decision.FragmentRefused (value_head n id control) fault) p in
+    refused_sound (done [] 0 q event.UserAborts).next Between _ (event_sound q Between event.UserAborts (stays_aborts p.state) (decided_sound q.decided p Between (without_head p o h)))
 
-invalid_sound : (p : Progress) (o : Opened) → Sound p o → Sound (invalid p).next Between
-invalid_sound p o h = refused_sound (done [] 6 p event.Invalid).next Between Between (event_sound p Between event.Invalid (stays_invalid p.state) (without_head p o h))
+invalid_sound : (d : Decision) (p : Progress) (o : Opened) → Sound p o → Sound (invalid (deciding d p)).next Between
+invalid_sound d p o h =
+    let q = deciding d p in refused_sound (done [] 6 q event.Invalid).next Between Between (event_sound q Between event.Invalid (stays_invalid p.state) (decided_sound d p Between (without_head p o h)))
 
 -- the head of a PDU
 head_sound : (room most : ℕ) (p : Progress) (kind n : ℕ) (e : HeadEvent) → head_event room most p.state kind n ≡ e → Sound p Between
-    → Sound (by_head p e).next (OfPdu kind n)
+    → Sound (by_head p kind n e).next (OfPdu kind n)
 head_sound room most p kind n NoEvent e h = record { message = h.message; quiet = h.quiet; head = tt }
-head_sound room most p kind n (AtOnce ev reason) e h = refused_sound (done [] reason p ev).next Between _ (event_sound p Between ev (head_stays room most p.state kind n ev reason e) h)
+head_sound room most p kind n (AtOnce ev reason) e h =
+    let q = deciding (decision.PduRefused (record { kind = kind; length = n })) p in
+    refused_sound (done [] reason q ev).next Between _ (event_sound q Between ev (head_stays room most p.state kind n ev reason e) (decided_sound q.decided p Between h))
 head_sound room most p kind n TooLong e h =
     let stays : Stays p.state event.UnacceptableRq = subst (λ (st : State). Stays st event.UnacceptableRq) (sym (head_too_long room most p.state kind n e)) (λ l. absurd cc) in
-    refused_sound (done (reject_text 2 3 2) 0 p event.UnacceptableRq).next Between _ (event_sound p Between event.UnacceptableRq stays h)
+    let q = deciding (decision.RequestTooLong n) p in
+    refused_sound (done (reject_text 2 3 2) 0 q event.UnacceptableRq).next Between _ (event_sound q Between event.UnacceptableRq stays (decided_sound q.decided p Between h))
 
 -- ---- a whole PDU
 
@@ -199,32 +219,33 @@ answered_quiet s r p (Reject result source reason) q = rejected_quiet (nat_eq so
 
 abbrev pub by_fault : Settings → Progress → List ℕ → Option PduFault → Advance
 by_fault s p body fault = elim fault [
-  | Some f ↦ done [] 6 p event.Invalid
-  | None ↦ answered s (items.request_record body) (keeping s body p) (judged s (items.request_record body))
+  | Some f ↦ done [] 6 (deciding (decision.RequestInvalid f) p) event.Invalid
+  | None ↦ judged_so s body p (judged s (items.request_record body))
 ]
 
 request_quiet : (s : Settings) (p : Progress) (body : List ℕ) → p.message ≡ NoMessage → (at_request s p body).next.message ≡ NoMessage
 request_quiet s p body q = by (request_fault body)
   where
     by : (fault : Option PduFault) → (by_fault s p body fault).next.message ≡ NoMessage
-    by None = answered_quiet s (items.request_record body) (keeping s body p) (judged s (items.request_record body)) q
-    by (Some f) = done_quiet [] 6 p event.Invalid q
+    by None = answered_quiet s (items.request_record body) (keeping s body (deciding (decision.RequestJudged (judged s (items.request_record body))) p)) (judged s (items.request_record body)) q
+    by (Some f) = done_quiet [] 6 (deciding (decision.RequestInvalid f) p) event.Invalid q
 
 released_quiet : (p : Progress) → is_established p.state ≡ true → (released p).next.message ≡ NoMessage
 released_quiet p e =
     subst (λ (st : State). (moved (table (moved (table st event.ReleaseRq).1 p).state event.UserReleases).1 (moved (table st event.ReleaseRq).1 p)).message ≡ NoMessage) (established_is p.state e) refl
 
 end_sound : (s : Settings) (p : Progress) (o : Opened) (body : List ℕ) (aborts request release : Bool) → Sound p o
-    → Sound (if aborts then done [] 0 p event.Abort else (if request && is_due p.state then at_request s p body else (if release && is_established p.state then released p else nothing p))).next Between
-end_sound s p o body true request release h = event_sound p Between event.Abort (stays_abort p.state) (without_head p o h)
+    → Sound (if aborts then done [] 0 (deciding decision.Aborted p) event.Abort
+    else (if request && is_due p.state then at_request s p body else (if release && is_established p.state then released (deciding decision.Released p) else nothing p))).next Between
+end_sound s p o body true request release h = event_sound (deciding decision.Aborted p) Between event.Abort (stays_abort p.state) (decided_sound decision.Aborted p Between (without_head p o h))
 end_sound s p o body false request release h = by (request && is_due p.state) (release && is_established p.state) refl refl
   where
     second : (a b : Bool) → a && b ≡ true → b ≡ true
     second a b h = grind (arith, common_steps)
 
-    by : (a b : Bool) → request && is_due p.state ≡ a → release && is_established p.state ≡ b → Sound (if a then at_request s p body else (if b then released p else nothing p)).next Between
+    by : (a b : Bool) → request && is_due p.state ≡ a → release && is_established p.state ≡ b → Sound (if a then at_request s p body else (if b then released (deciding decision.Released p) else nothing p)).next Between
     by true b e f = quiet_sound (at_request s p body).next (request_quiet s p body (h.quiet (second request (is_due p.state) e)))
-    by false true e f = quiet_sound (released p).next (released_quiet p (second release (is_established p.state) f))
+    by false true e f = quiet_sound (released (deciding decision.Released p)).next (released_quiet (deciding decision.Released p) (second release (is_established p.state) f))
     by false false e f = without_head p o h
 
 -- ---- any entry
@@ -256,7 +277,7 @@ AreAccepted rooms s p (h ∷ story) = IsAccepted p h × AreAccepted rooms s (giv
 module _ (rooms : Rooms) (s : Settings) where
   entry_sound : (p : Progress) (finding : Finding) (o : Opened) (x : Entry) → Sound p o → IsHeadedAt Any o x → Sound (at_entry rooms s p finding x).next (opens_at o x)
   entry_sound p finding o (At (Head kind n)) h k =
-      let fresh : Progress = record p { refused = false } in
+      let fresh : Progress = record p { refused = false; decided = decision.Nothing } in
       head_sound (rooms.request - 12) s.max_pdu fresh kind n (head_event (rooms.request - 12) s.max_pdu fresh.state kind n) refl (record { message = h.message; quiet = h.quiet; head = tt })
   entry_sound p finding o (At (PdvHead n context control)) h k =
       counts p o (OfPdv n context control) p.refused (is_established p.state) (at_pdv_head rooms.command p n context control) refl refl h
@@ -265,8 +286,8 @@ module _ (rooms : Rooms) (s : Settings) where
       let pdv : messages.Pdv = record { context = context; control = control; fragment = fragment } in
       counts p o Between p.refused (is_established p.state) (at_pdv p finding pdv) refl refl h
       (λ e r. pdv_sound p finding context control fragment o (brought p.message pdv) h e (row_known p.request _ (is_last control) (come_known p.request p.message context fragment h.message (head_is_known p o (length fragment + 2) context control h.head k.0 e r))))
-  entry_sound p finding o (At BadPdv) h k = counts p o Between p.refused (is_established p.state) (invalid p) refl refl h (λ e r. invalid_sound p o h)
-  entry_sound p finding o (At Leftover) h k = counts p o Between p.refused (is_established p.state) (invalid p) refl refl h (λ e r. invalid_sound p o h)
+  entry_sound p finding o (At BadPdv) h k = counts p o Between p.refused (is_established p.state) (invalid (deciding decision.ValueInvalid p)) refl refl h (λ e r. invalid_sound decision.ValueInvalid p o h)
+  entry_sound p finding o (At Leftover) h k = counts p o Between p.refused (is_established p.state) (invalid (deciding (decision.BytesLeft (value_end p.decided)) p)) refl refl h (λ e r. invalid_sound (decision.BytesLeft (value_end p.decided)) p o h)
   entry_sound p finding o (At (End kind body)) h k = by p.refused
     where
       by : (refused : Bool) → Sound (if refused then nothing p else at_end s p kind body).next Between

@@ -14,6 +14,8 @@ use Rattle.negotiate.specs.Settings.{Settings}
 use Rattle.dimse.specs.Messages.{Begun, NoMessage}
 use Rattle.engine.specs.Requested.{Requested, no_request}
 use Rattle.engine.specs.Timeline.{Entry, At, Shut, TimedOut, Aborted, Happened, entries_of, Finding, good, Outcome}
+use Rattle.decisions.specs.declared.decision.Decision.{Decision}
+use Rattle.decisions.specs.declared.decision.Decision.TheVariants as decision
 use Rattle.engine.specs.Progress.{Progress, Advance, nothing, done}
 use Rattle.engine.specs.Heads.{HeadEvent, NoEvent, AtOnce, event_of, is_known, has_four_bytes, is_abort, request_length, data_length}
 use Rattle.engine.specs.Requests.{at_request}
@@ -23,8 +25,8 @@ use Rattle.engine.specs.Fair.{IsFair, AreFair, message_at}
 use Rattle.engine.proofs.AlongTimelines.ContextsAreAccepted.{by_head}
 
 -- in Sta1, with all else as it may be
-abbrev at_end_with : Requested → Begun → Bool → Bool → Progress
-at_end_with rq m f b = record { state = Sta1; request = rq; refused = b; message = m; filing_failed = f }
+abbrev at_end_with : Requested → Begun → Bool → Decision → Bool → Progress
+at_end_with rq m f d b = record { state = Sta1; request = rq; refused = b; message = m; filing_failed = f; decided = d }
 
 -- nothing is done, and a message that had begun stays or is dropped
 pub record IsStill (p : Progress) (g : Advance) : Type 0 where
@@ -51,47 +53,47 @@ idle_head false true c d r1 r2 other h = at_once 6
 idle_head false false c d r1 r2 other h = h
 
 module _ (rq : Requested) (m : Begun) (f : Bool) where
-  head_still : (b : Bool) {h : HeadEvent} → BringsNothing h → IsStill (at_end_with rq m f b) (by_head (at_end_with rq m f false) h)
-  head_still b no_event = record { next = at_end_with rq m f false; is = refl; state = refl; message = inl refl }
-  head_still b (at_once reason) = record { next = at_end_with no_request NoMessage false true; is = refl; state = refl; message = inr refl }
+  head_still : (d : Decision) (b : Bool) (kind n : ℕ) {h : HeadEvent} → BringsNothing h → IsStill (at_end_with rq m f d b) (by_head (at_end_with rq m f decision.Nothing false) kind n h)
+  head_still d b kind n no_event = record { next = at_end_with rq m f decision.Nothing false; is = refl; state = refl; message = inl refl }
+  head_still d b kind n (at_once reason) = record { next = at_end_with no_request NoMessage false (decision.PduRefused (record { kind = kind; length = n })) true; is = refl; state = refl; message = inr refl }
 
-  kept_still : (b : Bool) → IsStill (at_end_with rq m f b) (nothing (at_end_with rq m f b))
-  kept_still b = record { next = at_end_with rq m f b; is = refl; state = refl; message = inl refl }
+  kept_still : (d : Decision) (b : Bool) → IsStill (at_end_with rq m f d b) (nothing (at_end_with rq m f d b))
+  kept_still d b = record { next = at_end_with rq m f d b; is = refl; state = refl; message = inl refl }
 
-  end_still : (s : Settings) (a b c : Bool) (body : List ℕ) → IsStill (at_end_with rq m f false)
-      (if a then done [] 0 (at_end_with rq m f false) event.Abort else (if b && false then at_request s (at_end_with rq m f false) body else (if c && false then released (at_end_with rq m f false) else nothing (at_end_with rq m f false))))
-  end_still s true b c body = record { next = at_end_with no_request NoMessage false false; is = refl; state = refl; message = inr refl }
-  end_still s false true true body = kept_still false
-  end_still s false true false body = kept_still false
-  end_still s false false true body = kept_still false
-  end_still s false false false body = kept_still false
+  end_still : (s : Settings) (d : Decision) (a b c : Bool) (body : List ℕ) → IsStill (at_end_with rq m f d false)
+      (if a then done [] 0 (at_end_with rq m f decision.Aborted false) event.Abort else (if b && false then at_request s (at_end_with rq m f d false) body else (if c && false then released (at_end_with rq m f decision.Released false) else nothing (at_end_with rq m f d false))))
+  end_still s d true b c body = record { next = at_end_with no_request NoMessage false decision.Aborted false; is = refl; state = refl; message = inr refl }
+  end_still s d false true true body = kept_still d false
+  end_still s d false true false body = kept_still d false
+  end_still s d false false true body = kept_still d false
+  end_still s d false false false body = kept_still d false
 
-  mark_still : (rooms : Rooms) (s : Settings) (v : Finding) (b : Bool) (x : Mark) → IsStill (at_end_with rq m f b) (at_entry rooms s (at_end_with rq m f b) v (At x))
-  mark_still rooms s v b (Head kind n) =
-      head_still b (idle_head (not (is_known kind)) (has_four_bytes kind && not (nat_eq n 4)) (nat_eq kind 1) (nat_eq kind 4) (request_length (rooms.request - 12) n) (data_length s.max_pdu n) _
+  mark_still : (rooms : Rooms) (s : Settings) (v : Finding) (d : Decision) (b : Bool) (x : Mark) → IsStill (at_end_with rq m f d b) (at_entry rooms s (at_end_with rq m f d b) v (At x))
+  mark_still rooms s v d b (Head kind n) =
+      head_still d b kind n (idle_head (not (is_known kind)) (has_four_bytes kind && not (nat_eq n 4)) (nat_eq kind 1) (nat_eq kind 4) (request_length (rooms.request - 12) n) (data_length s.max_pdu n) _
       (idle_place _ (event_of kind) (ap (λ (step : Action × State). step.0) (idle_event (nat_eq kind 1) (nat_eq kind 2) (nat_eq kind 3) (nat_eq kind 4) (nat_eq kind 5) (nat_eq kind 6) (nat_eq kind 7)))))
-  mark_still rooms s v true (PdvHead n context control) = kept_still true
-  mark_still rooms s v true (Pdv context control fragment) = kept_still true
-  mark_still rooms s v true BadPdv = kept_still true
-  mark_still rooms s v true Leftover = kept_still true
-  mark_still rooms s v true (End kind body) = kept_still true
-  mark_still rooms s v false (PdvHead n context control) = kept_still false
-  mark_still rooms s v false (Pdv context control fragment) = kept_still false
-  mark_still rooms s v false BadPdv = kept_still false
-  mark_still rooms s v false Leftover = kept_still false
-  mark_still rooms s v false (End kind body) = end_still s (nat_eq kind 7) (nat_eq kind 1) (nat_eq kind 5) body
+  mark_still rooms s v d true (PdvHead n context control) = kept_still d true
+  mark_still rooms s v d true (Pdv context control fragment) = kept_still d true
+  mark_still rooms s v d true BadPdv = kept_still d true
+  mark_still rooms s v d true Leftover = kept_still d true
+  mark_still rooms s v d true (End kind body) = kept_still d true
+  mark_still rooms s v d false (PdvHead n context control) = kept_still d false
+  mark_still rooms s v d false (Pdv context control fragment) = kept_still d false
+  mark_still rooms s v d false BadPdv = kept_still d false
+  mark_still rooms s v d false Leftover = kept_still d false
+  mark_still rooms s v d false (End kind body) = end_still s d (nat_eq kind 7) (nat_eq kind 1) (nat_eq kind 5) body
 
-  other_still : (b : Bool) (e : Event) → table Sta1 e ≡ (action.Nothing, Sta1) → IsStill (at_end_with rq m f b) (done [] 0 (at_end_with rq m f b) e)
-  other_still b e is = record { next = at_end_with no_request NoMessage false b; is = rw is refl; state = refl; message = inr refl }
+  other_still : (d : Decision) (b : Bool) (e : Event) → table Sta1 e ≡ (action.Nothing, Sta1) → IsStill (at_end_with rq m f d b) (done [] 0 (at_end_with rq m f d b) e)
+  other_still d b e is = record { next = at_end_with no_request NoMessage false d b; is = rw is refl; state = refl; message = inr refl }
 
-  entry_still : (rooms : Rooms) (s : Settings) (v : Finding) (b : Bool) (x : Entry) → IsStill (at_end_with rq m f b) (at_entry rooms s (at_end_with rq m f b) v x)
-  entry_still rooms s v b (At x) = mark_still rooms s v b x
-  entry_still rooms s v b Shut = other_still b event.Closed refl
-  entry_still rooms s v b TimedOut = other_still b event.Expired refl
-  entry_still rooms s v b Aborted = other_still b event.UserAborts refl
+  entry_still : (rooms : Rooms) (s : Settings) (v : Finding) (d : Decision) (b : Bool) (x : Entry) → IsStill (at_end_with rq m f d b) (at_entry rooms s (at_end_with rq m f d b) v x)
+  entry_still rooms s v d b (At x) = mark_still rooms s v d b x
+  entry_still rooms s v d b Shut = other_still d b event.Closed refl
+  entry_still rooms s v d b TimedOut = other_still d b event.Expired refl
+  entry_still rooms s v d b Aborted = other_still d b event.UserAborts refl
 
-  no_message : (b : Bool) (x : Entry) → message_at (at_end_with rq m f b) x ≡ None
-  no_message b x = grind (arith, common_steps)
+  no_message : (d : Decision) (b : Bool) (x : Entry) → message_at (at_end_with rq m f d b) x ≡ None
+  no_message d b x = grind (arith, common_steps)
 
 -- nothing failed
 abbrev pub calmly : Outcome
@@ -99,9 +101,9 @@ calmly = record { wire = None; filing = false; finding = good }
 
 pub one_still : (rooms : Rooms) (s : Settings) (p : Progress) (x : Entry) → p.state ≡ Sta1 → IsStill p (gives rooms s p (x, calmly)) × IsFair rooms s p (x, calmly)
 one_still rooms s p x e =
-    let same : p ≡ at_end_with p.request p.message p.filing_failed p.refused = ap (λ (q : State). record { state = q; request = p.request; refused = p.refused; message = p.message; filing_failed = p.filing_failed }) e in
-    let still : IsStill p (at_entry rooms s p good x) = subst (λ (q : Progress). IsStill q (at_entry rooms s q good x)) (sym same) (entry_still p.request p.message p.filing_failed rooms s good p.refused x) in
-    let none : message_at p x ≡ None = subst (λ (q : Progress). message_at q x ≡ None) (sym same) (no_message p.request p.message p.filing_failed p.refused x) in (
+    let same : p ≡ at_end_with p.request p.message p.filing_failed p.decided p.refused = ap (λ (q : State). record { state = q; request = p.request; refused = p.refused; message = p.message; filing_failed = p.filing_failed; decided = p.decided }) e in
+    let still : IsStill p (at_entry rooms s p good x) = subst (λ (q : Progress). IsStill q (at_entry rooms s q good x)) (sym same) (entry_still p.request p.message p.filing_failed rooms s good p.decided p.refused x) in
+    let none : message_at p x ≡ None = subst (λ (q : Progress). message_at q x ≡ None) (sym same) (no_message p.request p.message p.filing_failed p.decided p.refused x) in (
       still,
       record { verdict = rw none tt; wire = tt; filing = λ wrong. absurd cc },
     )
@@ -147,6 +149,6 @@ stays rooms s p (x ∷ ms) e =
 
 pub nothing_after_the_end : NothingAfterTheEnd
 nothing_after_the_end rooms s p e finding x =
-    let same : p ≡ at_end_with p.request p.message p.filing_failed p.refused = ap (λ (q : State). record { state = q; request = p.request; refused = p.refused; message = p.message; filing_failed = p.filing_failed }) e in
-    let still : IsStill p (at_entry rooms s p finding x) = subst (λ (q : Progress). IsStill q (at_entry rooms s q finding x)) (sym same) (entry_still p.request p.message p.filing_failed rooms s finding p.refused x) in
+    let same : p ≡ at_end_with p.request p.message p.filing_failed p.decided p.refused = ap (λ (q : State). record { state = q; request = p.request; refused = p.refused; message = p.message; filing_failed = p.filing_failed; decided = p.decided }) e in
+    let still : IsStill p (at_entry rooms s p finding x) = subst (λ (q : Progress). IsStill q (at_entry rooms s q finding x)) (sym same) (entry_still p.request p.message p.filing_failed rooms s finding p.decided p.refused x) in
     record { sent = ap (λ (g : Advance). g.sent) still.is; files = ap (λ (g : Advance). g.files) still.is; ended = ap (λ (g : Advance). g.next.state) still.is ∙ still.state }

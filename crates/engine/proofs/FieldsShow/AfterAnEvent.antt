@@ -17,7 +17,9 @@ use Rattle.part10.specs.Store.{Store}
 use Rattle.dimse.specs.Messages.{NoMessage}
 use Rattle.dimse.specs.Joining.{ShowsMessage, with_pdv}
 use Rattle.engine.specs.Reached.{takes_pdvs}
-use Rattle.engine.specs.Progress.{Progress, Advance, at_start, left, moved, done, is_due, is_established}
+use Rattle.decisions.specs.declared.decision.Decision.{Decision}
+use Rattle.decisions.specs.declared.decision.Decision.TheVariants as decision
+use Rattle.engine.specs.Progress.{Progress, Advance, at_start, left, moved, deciding, done, is_due, is_established}
 use Rattle.engine.specs.Run.{cut}
 use Rattle.engine.specs.Devices.{Devices, devices, line_after, IsFront}
 use Rattle.engine.specs.Drafts.{IsDraft}
@@ -35,13 +37,13 @@ use Rattle.engine.proofs.FieldsShow.ByState.{by_left}
 left_carried : (k : Kept) (store : Store) → IsLeft k → Carried k.depth k.most k.storing store no_request NoMessage false
 left_carried k store h = none_carried k.depth k.most k.storing store no_request NoMessage false h.storing (no_store no_request NoMessage refl)
 
-pub pends_left : (st : State) (p : Progress) (k : Kept) (store : Store) (body begun : List ℕ) → is_left st ≡ true → k.state ≡ st → k.refused ≡ p.refused → IsLeft k → Pends k store (left st p) body begun
-pends_left Sta1 p k store body begun l e r h = let c = left_carried k store h in record { state_is = e; refused_is = λ n. absurd cc; body_is = h.body; join_is = h.join; agreed = λ six. absurd cc; none_left = λ e. refl; unagreed = λ _. h.unagreed; walks = c.0; draft = c.1; failed_in = λ n e. absurd cc }
-pends_left Sta13 p k store body begun l e r h = let c = left_carried k store h in record { state_is = e; refused_is = λ n. r; body_is = h.body; join_is = h.join; agreed = λ six. absurd cc; none_left = λ e. refl; unagreed = λ _. h.unagreed; walks = c.0; draft = c.1; failed_in = λ n e. absurd cc }
-pends_left Sta2 p k store body begun l e r h = absurd cc
-pends_left Sta3 p k store body begun l e r h = absurd cc
-pends_left Sta6 p k store body begun l e r h = absurd cc
-pends_left Sta8 p k store body begun l e r h = absurd cc
+pub pends_left : (st : State) (p : Progress) (k : Kept) (store : Store) (body begun : List ℕ) → is_left st ≡ true → k.state ≡ st → k.refused ≡ p.refused → k.decided ≡ p.decided → IsLeft k → Pends k store (left st p) body begun
+pends_left Sta1 p k store body begun l e r d h = let c = left_carried k store h in record { state_is = e; refused_is = λ n. absurd cc; decided_is = λ n. absurd cc; body_is = h.body; join_is = h.join; agreed = λ six. absurd cc; none_left = λ e. refl; unagreed = λ _. h.unagreed; walks = c.0; draft = c.1; failed_in = λ n e. absurd cc }
+pends_left Sta13 p k store body begun l e r d h = let c = left_carried k store h in record { state_is = e; refused_is = λ n. r; decided_is = λ n. d; body_is = h.body; join_is = h.join; agreed = λ six. absurd cc; none_left = λ e. refl; unagreed = λ _. h.unagreed; walks = c.0; draft = c.1; failed_in = λ n e. absurd cc }
+pends_left Sta2 p k store body begun l e r d h = absurd cc
+pends_left Sta3 p k store body begun l e r d h = absurd cc
+pends_left Sta6 p k store body begun l e r d h = absurd cc
+pends_left Sta8 p k store body begun l e r d h = absurd cc
 
 pub moved_left : (st : State) (p : Progress) → is_left st ≡ true → moved st p ≡ left st p
 moved_left st p l = by_left (λ (x : State). moved x p ≡ left x p) refl refl st l
@@ -76,7 +78,7 @@ pub settled_failed : (p : Progress) (st : State) (f : WireFailed) (old new : Kep
 settled_failed p st f old new so sn body begun h =
     let l = h.left (ap is_left h.state_is) in
     let c = left_carried new sn l in
-    record { state_is = h.state_is; refused_is = λ n. absurd cc; body_is = l.body; join_is = l.join; agreed = λ six. absurd cc; none_left = λ e. refl; unagreed = λ _. l.unagreed; walks = c.0; draft = c.1; failed_in = λ n e. absurd cc }
+    record { state_is = h.state_is; refused_is = λ n. absurd cc; decided_is = λ n. absurd cc; body_is = l.body; join_is = l.join; agreed = λ six. absurd cc; none_left = λ e. refl; unagreed = λ _. l.unagreed; walks = c.0; draft = c.1; failed_in = λ n e. absurd cc }
 
 -- the event leaves the association
 pub settled_left : (p : Progress) (st : State) (old new : Kept) (so sn : Store) (body begun : List ℕ) → Pends old so p body begun → is_left st ≡ true
@@ -84,7 +86,7 @@ pub settled_left : (p : Progress) (st : State) (old new : Kept) (so sn : Store) 
 settled_left p st old new so sn body begun h l n s =
     let gone = s.left (ap is_left s.state_is ∙ l) in
     let c = none_carried new.depth new.most new.storing sn no_request (so_far (left st p) begun) false gone.storing (no_store no_request (so_far (left st p) begun) (quiet_left st p begun l)) in
-    record { state_is = s.state_is; refused_is = λ m. s.refused ∙ h.refused_is (n m); body_is = counted_left st p new body l gone; join_is = joined_left st p new begun l gone; agreed = λ six. let x : is_left Sta6 ≡ true = subst (λ (x : State). is_left x ≡ true) six l in absurd cc; none_left = λ e. refl; unagreed = λ _. gone.unagreed; walks = c.0; draft = c.1; failed_in = λ n e. absurd cc }
+    record { state_is = s.state_is; refused_is = λ m. s.refused ∙ h.refused_is (n m); decided_is = λ m. s.decided ∙ h.decided_is (n m); body_is = counted_left st p new body l gone; join_is = joined_left st p new begun l gone; agreed = λ six. let x : is_left Sta6 ≡ true = subst (λ (x : State). is_left x ≡ true) six l in absurd cc; none_left = λ e. refl; unagreed = λ _. gone.unagreed; walks = c.0; draft = c.1; failed_in = λ n e. absurd cc }
 
 -- or keeps the state
 pub settled_stays : (p : Progress) (st : State) (old new : Kept) (so sn : Store) (body begun : List ℕ) → Pends old so p body begun → is_left st ≡ false → st ≡ p.state
@@ -95,10 +97,10 @@ settled_stays p st old new so sn body begun h l e s =
     subst (λ (x : Store). Pends new x p body begun) (sym (s.store_same (ap is_left s.state_is ∙ l))) (subst (λ (k : Kept). Pends k so p body begun) (sym (same ∙ back)) h)
 
 -- a connection is open, and nothing has come
-pub opened : (k : Kept) (store : Store) → k.state ≡ Sta2 → k.refused ≡ false → k.body ≡ [] → ShowsMessage k.room k.join NoMessage [] → k.storing ≡ Nothing → IsUnagreed k.caller k.peer_max k.table → Pends k store at_start [] []
-opened k store state refused body join none unagreed =
+pub opened : (k : Kept) (store : Store) → k.state ≡ Sta2 → k.refused ≡ false → k.decided ≡ decision.Nothing → k.body ≡ [] → ShowsMessage k.room k.join NoMessage [] → k.storing ≡ Nothing → IsUnagreed k.caller k.peer_max k.table → Pends k store at_start [] []
+opened k store state refused decided body join none unagreed =
     let c = none_carried k.depth k.most k.storing store no_request NoMessage false none (no_store no_request NoMessage refl) in
-    record { state_is = state; refused_is = λ n. refused; body_is = body; join_is = join; agreed = λ six. absurd cc; none_left = λ e. refl; unagreed = λ _. unagreed; walks = c.0; draft = c.1; failed_in = λ n e. absurd cc }
+    record { state_is = state; refused_is = λ n. refused; decided_is = λ n. decided; body_is = body; join_is = join; agreed = λ six. absurd cc; none_left = λ e. refl; unagreed = λ _. unagreed; walks = c.0; draft = c.1; failed_in = λ n e. absurd cc }
 
 -- ---- one event
 
@@ -202,12 +204,29 @@ module _ (old new : Kept) (same : is_left new.state ≡ false → new ≡ old) w
 if_nothing : (t : Bool) → ◌≡◌ {A = List ℕ} [] (if t then [] else [])
 if_nothing t = grind (arith, common_steps)
 
+-- what is decided does not count for anything else
+pub pends_decided : (d : Decision) (k : Kept) (store : Store) (p : Progress) (body begun : List ℕ) → Pends k store p body begun → Pends (record k { decided = d }) store (deciding d p) body begun
+pends_decided d k store p body begun h = record {
+  state_is = h.state_is;
+  refused_is = h.refused_is;
+  decided_is = λ n. refl;
+  body_is = h.body_is;
+  join_is = h.join_is;
+  agreed = h.agreed;
+  none_left = h.none_left;
+  unagreed = h.unagreed;
+  walks = h.walks;
+  draft = h.draft;
+  failed_in = h.failed_in;
+}
+
 pub pends_begins : (k : Kept) (store : Store) (p : Progress) → Pends k store p [] [] → Pends (record k { refused = false; body = [] }) store (record p { refused = false }) [] []
 pends_begins k store p h =
     let same : counted_pdv p [] ≡ counted_pdv (record p { refused = false }) [] = sym (if_nothing (takes_pdvs p)) ∙ if_nothing (is_established p.state && true) in
     record {
       state_is = h.state_is;
       refused_is = λ n. refl;
+      decided_is = h.decided_is;
       body_is = if_nothing (is_due p.state && true);
       join_is = subst (λ (xs : List ℕ). ShowsMessage k.room k.join p.message xs) same h.join_is;
       agreed = h.agreed;
@@ -221,7 +240,7 @@ pends_begins k store p h =
 -- after the end in whose place it was is not seen
 ended_from : (k : Kept) (store : Store) (p q : Progress) (body begun : List ℕ) → Pends k store (left Sta1 q) body begun → Pends k store (left Sta1 p) body begun
 ended_from k store p q body begun h =
-    record { state_is = h.state_is; refused_is = λ n. absurd cc; body_is = h.body_is; join_is = h.join_is; agreed = λ six. absurd cc; none_left = λ e. refl; unagreed = h.unagreed; walks = h.walks; draft = h.draft; failed_in = λ n. absurd cc }
+    record { state_is = h.state_is; refused_is = λ n. absurd cc; decided_is = λ n. absurd cc; body_is = h.body_is; join_is = h.join_is; agreed = λ six. absurd cc; none_left = λ e. refl; unagreed = h.unagreed; walks = h.walks; draft = h.draft; failed_in = λ n. absurd cc }
 
 pub tries_from : (p q : Progress) (g : Advance) (k : Kept) (body begun : List ℕ) (old new : Devices) → PerformsReaction q g k body begun old new → PerformsReaction p g k body begun old new
 tries_from p q g k body begun old new t = by t.wire refl where

@@ -65,6 +65,7 @@ pends_ended k store other p q body begun body2 begun2 e same m h =
     record {
       state_is = h.state_is ∙ sym same;
       refused_is = λ n. let x : true ≡ false = sym end ∙ n in absurd cc;
+      decided_is = λ n. let x : true ≡ false = sym end ∙ n in absurd cc;
       body_is = h.body_is ∙ ended_body p.state p.refused body e ∙ sym (ended_body q.state q.refused body2 end);
       join_is = subst (λ (m : Begun). ShowsMessage k.room k.join m (counted_pdv q begun2)) (h.none_left (ended_unestablished p.state e) ∙ sym none)
           (subst (λ (xs : List ℕ). ShowsMessage k.room k.join p.message xs) (ended_pdv p.state p.refused begun e ∙ sym (ended_pdv q.state q.refused begun2 end)) h.join_is);
@@ -104,6 +105,7 @@ pends_short k store p body b c l m h =
     record {
       state_is = h.state_is;
       refused_is = h.refused_is;
+      decided_is = h.decided_is;
       body_is = h.body_is;
       join_is = shows_short k.room k.join p.message (counted_pdv p b) (counted_pdv p c) first second h.join_is;
       agreed = h.agreed;

@@ -6,14 +6,17 @@ use Rattle.std.specs.Io.KnownBytes.{append_known}
 use Rattle.acceptor.specs.declared.state.State.{State}
 use Rattle.acceptor.specs.declared.state.State.TheVariants.{Sta1}
 use Rattle.acceptor.specs.declared.event.Event.TheVariants as event
-use Rattle.pdu.specs.Marks.{BadPdv}
 use Rattle.negotiate.specs.Settings.{Settings}
 use Rattle.pdu.specs.Sent.{Line}
 use Rattle.part10.specs.Store.{Store}
 use Rattle.dimse.specs.Joining.{ShowsMessage, with_pdv}
 use Rattle.engine.specs.Devices.{Devices, line_after, line_with, IsFront, files_in, with_files}
 use Rattle.engine.specs.Timeline.{Entry, At, good}
-use Rattle.engine.specs.Progress.{Progress, Advance, nothing, left, refusing, is_due, is_established}
+use Rattle.decisions.specs.declared.decision.Decision.{Decision}
+use Rattle.decisions.specs.declared.decision.Decision.TheVariants as decision
+use Rattle.decisions.specs.ValueEnds.{value_end}
+use Rattle.pdu.specs.Marks.{BadPdv, Leftover}
+use Rattle.engine.specs.Progress.{Progress, Advance, deciding, nothing, left, refusing, is_due, is_established}
 use Rattle.engine.specs.Reached.{takes_pdvs}
 use Rattle.engine.specs.Replies.{invalid}
 use Rattle.engine.specs.Run.{Rooms, at_entry, cut, fails}
@@ -79,6 +82,7 @@ pends_refused q mid store body begun body2 begun2 b d h =
     record {
       state_is = h.state_is;
       refused_is = λ n. refl;
+      decided_is = h.decided_is;
       body_is = h.body_is ∙ b ∙ not_counted (is_due q.state) body2;
       join_is = subst (λ (xs : List ℕ). ShowsMessage mid.room mid.join q.message xs) same h.join_is;
       agreed = h.agreed;
@@ -91,7 +95,7 @@ pends_refused q mid store body begun body2 begun2 b d h =
 
 ended_refused : (p : Progress) (mid : Kept) (store : Store) (body begun body2 begun2 : List ℕ) → Pends mid store (left Sta1 p) body begun → Pends (record mid { refused = true }) store (left Sta1 p) body2 begun2
 ended_refused p mid store body begun body2 begun2 h =
-    record { state_is = h.state_is; refused_is = λ n. absurd cc; body_is = h.body_is; join_is = h.join_is; agreed = λ six. absurd cc; none_left = λ e. refl; unagreed = h.unagreed; walks = h.walks; draft = h.draft; failed_in = λ n. absurd cc }
+    record { state_is = h.state_is; refused_is = λ n. absurd cc; decided_is = λ n. absurd cc; body_is = h.body_is; join_is = h.join_is; agreed = λ six. absurd cc; none_left = λ e. refl; unagreed = h.unagreed; walks = h.walks; draft = h.draft; failed_in = λ n. absurd cc }
 
 pub refused_by : (p : Progress) (g : Advance) (mid : Kept) (body begun body2 begun2 : List ℕ) (old new : Devices) → counted_body g.next body ≡ [] → counted_pdv g.next begun ≡ []
     → PerformsReaction p g mid body begun old new → PerformsReaction p (refusing g) (record mid { refused = true }) body2 begun2 old new
@@ -126,9 +130,21 @@ none_counted_pdv q = if_nothing (takes_pdvs q)
 pub taken_when : (e r : Bool) (a b : Advance) → (if r then b else (if e then a else b)) ≡ (if e && not r then a else b)
 taken_when e r a b = grind arith
 
--- a PDV that is bad or leaves bytes over
-pub at_invalid : (rooms : Rooms) (s : Settings) (p : Progress) (t : Bool) → takes_pdvs p ≡ t → at_entry rooms s p good (At BadPdv) ≡ (if t then invalid p else nothing p)
-at_invalid rooms s p t e = taken_when (is_established p.state) p.refused (invalid p) (nothing p) ∙ ap (λ (x : Bool). if x then invalid p else nothing p) e
+-- a PDV that is bad, and bytes that are left over
+pub at_bad : (rooms : Rooms) (s : Settings) (p : Progress) → at_entry rooms s p good (At BadPdv) ≡ (if takes_pdvs p then invalid (deciding decision.ValueInvalid p) else nothing p)
+at_bad rooms s p = taken_when (is_established p.state) p.refused (invalid (deciding decision.ValueInvalid p)) (nothing p)
+
+pub at_leftover : (rooms : Rooms) (s : Settings) (p : Progress) → at_entry rooms s p good (At Leftover) ≡ (if takes_pdvs p then invalid (deciding (decision.BytesLeft (value_end p.decided)) p) else nothing p)
+at_leftover rooms s p = taken_when (is_established p.state) p.refused (invalid (deciding (decision.BytesLeft (value_end p.decided)) p)) (nothing p)
+
+-- where the fields show what was decided before
+pub left_after : (p : Progress) (d : Decision) → (takes_pdvs p ≡ true → d ≡ p.decided)
+    → (if takes_pdvs p then invalid (deciding (decision.BytesLeft (value_end p.decided)) p) else nothing p) ≡ (if takes_pdvs p then invalid (deciding (decision.BytesLeft (value_end d)) p) else nothing p)
+left_after p d h = by (takes_pdvs p) h where
+  by : (t : Bool) → (t ≡ true → d ≡ p.decided)
+      → (if t then invalid (deciding (decision.BytesLeft (value_end p.decided)) p) else nothing p) ≡ (if t then invalid (deciding (decision.BytesLeft (value_end d)) p) else nothing p)
+  by true k = ap (λ (x : Decision). invalid (deciding (decision.BytesLeft (value_end x)) p)) (sym (k refl))
+  by false k = refl
 
 -- ---- events that leave the association or keep its state
 

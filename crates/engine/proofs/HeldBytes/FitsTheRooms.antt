@@ -35,9 +35,12 @@ use Rattle.dimse.specs.Reading.{command_in}
 use Rattle.sequence.proofs.Public.{both_bytes}
 use Rattle.engine.specs.Heads.{HeadEvent, NoEvent, AtOnce, TooLong, head_event}
 use Rattle.engine.specs.Held.{of_command}
-use Rattle.engine.specs.Progress.{Progress, Advance, absorb, left, moved, done, nothing, is_due, is_established}
+use Rattle.decisions.specs.declared.decision.Decision.{Decision}
+use Rattle.decisions.specs.declared.decision.Decision.TheVariants as decision
+use Rattle.decisions.specs.ValueEnds.{value_end}
+use Rattle.engine.specs.Progress.{Progress, Advance, deciding, absorb, left, moved, done, nothing, is_due, is_established}
 use Rattle.engine.specs.Reached.{takes_pdvs}
-use Rattle.engine.specs.Replies.{invalid, at_pdv_head, at_pdv, replied}
+use Rattle.engine.specs.Replies.{invalid, value_head, command_refused, at_pdv_head, at_pdv, replied}
 use Rattle.engine.specs.Requested.{request_record}
 use Rattle.engine.specs.Requests.{declined, answered, at_request, keeping}
 use Rattle.engine.specs.Run.{Rooms, at_end, at_entry, cut, gives, progress_of, released}
@@ -174,6 +177,12 @@ module _ (rooms : Rooms) where
   with_nothing : (p : Progress) (o : Opened) → Fits rooms p o → Fits rooms p Between
   with_nothing p o h = record { command = h.command; bytes = h.bytes; agreed = h.agreed; room = tt }
 
+  -- what is decided takes no room
+  decided_fits : (d : Decision) (p : Progress) (o : Opened) → Fits rooms p o → Fits rooms (deciding d p) o
+  decided_fits d p Between h = record { command = h.command; bytes = h.bytes; agreed = h.agreed; room = tt }
+  decided_fits d p (OfPdu kind n) h = record { command = h.command; bytes = h.bytes; agreed = h.agreed; room = h.room }
+  decided_fits d p (OfPdv n context control) h = record { command = h.command; bytes = h.bytes; agreed = h.agreed; room = h.room }
+
   -- an event that leaves the association or keeps its state
   event_fits : (p : Progress) (o : Opened) (e : Event) → Stays p.state e → Fits rooms p o → Fits rooms (moved (table p.state e).1 p) o
   event_fits p o e stays h = by (is_left (table p.state e).1) refl
@@ -196,66 +205,77 @@ module _ (rooms : Rooms) where
   replied_fits p finding m (Err fault) o h = record { command = omega arith; bytes = no_bytes; agreed = h.agreed; room = tt }
   replied_fits p finding m (Ok command) o h = record { command = omega arith; bytes = no_bytes; agreed = h.agreed; room = tt }
 
-  value_fits : (p : Progress) (finding : Finding) (o : Opened) (r : Brought) → Fits rooms p o → BroughtFits rooms r → Fits rooms (by_value p finding r).next Between
-  value_fits p finding o (Goes later) h k = record { command = k.0; bytes = k.1; agreed = h.agreed; room = tt }
-  value_fits p finding o (Ends m) h k = replied_fits p finding m (command_in m.command) o h
-  value_fits p finding o (Refuses fault) h k = refused_fits (done [] 0 p event.UserAborts).next Between Between (event_fits p Between event.UserAborts (stays_aborts p.state) (with_nothing p o h))
+  value_fits : (p : Progress) (finding : Finding) (o : Opened) (pdv : messages.Pdv) (r : Brought) → Fits rooms p o → BroughtFits rooms r → Fits rooms (by_value p finding pdv r).next Between
+  value_fits p finding o pdv (Goes later) h k = record { command = k.0; bytes = k.1; agreed = h.agreed; room = tt }
+  value_fits p finding o pdv (Ends m) h k = replied_fits p finding m (command_in m.command) o h
+  value_fits p finding o pdv (Refuses fault) h k =
+      let q = deciding (command_refused p pdv fault) p in
+      refused_fits (done [] 0 q event.UserAborts).next Between Between (event_fits q Between event.UserAborts (stays_aborts p.state) (decided_fits q.decided p Between (with_nothing p o h)))
 
   pdv_fits : (p : Progress) (finding : Finding) (o : Opened) (context control : ℕ) (fragment : List ℕ) → Fits rooms p o → o ≡ OfPdv (length fragment + 2) context control → IsBytes fragment → takes_pdvs p ≡ true
       → Fits rooms (at_pdv p finding (record { context = context; control = control; fragment = fragment })).next Between
   pdv_fits p finding o context control fragment h is bytes takes =
       let room : HasRoom rooms p (OfPdv (length fragment + 2) context control) = subst (HasRoom rooms p) is h.room in
       let pdv : messages.Pdv = record { context = context; control = control; fragment = fragment } in
-      value_fits p finding o (brought p.message pdv) h
+      value_fits p finding o pdv (brought p.message pdv) h
       (row_fits rooms (with_fragment context fragment p.message) (is_last control) (fragment_within rooms p.message (length fragment) context control fragment (room takes) (omega arith) bytes (h.command, h.bytes)))
 
   -- ---- heads
 
   pdv_head_fits : (p : Progress) (o : Opened) (n id control : ℕ) (accepted : Option Context) (refused : Option DimseFault) → refusal rooms.command p.message n id control ≡ refused → Fits rooms p o
-      → Fits rooms (by_context p refused accepted).next (OfPdv n id control)
-  pdv_head_fits p o n id control None refused e h = refused_fits (done [] 6 p event.Invalid).next Between _ (event_fits p Between event.Invalid (stays_invalid p.state) (with_nothing p o h))
+      → Fits rooms (by_context p (value_head n id control) refused accepted).next (OfPdv n id control)
+  pdv_head_fits p o n id control None refused e h =
+      let q = deciding (decision.ContextRefused (value_head n id control)) p in
+      refused_fits (done [] 6 q event.Invalid).next Between _ (event_fits q Between event.Invalid (stays_invalid p.state) (decided_fits q.decided p Between (with_nothing p o h)))
   pdv_head_fits p o n id control (Some context) None e h = record { command = h.command; bytes = h.bytes; agreed = h.agreed; room = λ takes. e }
-  pdv_head_fits p o n id control (Some context) (Some fault) e h = refused_fits (done [] 0 p event.UserAborts).next Between _ (event_fits p Between event.UserAborts (stays_aborts p.state) (with_nothing p o h))
+  pdv_head_fits p o n id control (Some context) (Some fault) e h =
+      let q = deciding (decision.FragmentRefused (value_head n id control) fault) p in
+      refused_fits (done [] 0 q event.UserAborts).next Between _ (event_fits q Between event.UserAborts (stays_aborts p.state) (decided_fits q.decided p Between (with_nothing p o h)))
 
-  invalid_fits : (p : Progress) (o : Opened) → Fits rooms p o → Fits rooms (invalid p).next Between
-  invalid_fits p o h = refused_fits (done [] 6 p event.Invalid).next Between Between (event_fits p Between event.Invalid (stays_invalid p.state) (with_nothing p o h))
+  invalid_fits : (d : Decision) (p : Progress) (o : Opened) → Fits rooms p o → Fits rooms (invalid (deciding d p)).next Between
+  invalid_fits d p o h =
+      let q = deciding d p in refused_fits (done [] 6 q event.Invalid).next Between Between (event_fits q Between event.Invalid (stays_invalid p.state) (decided_fits d p Between (with_nothing p o h)))
 
-  pdu_head_fits : (most : ℕ) (p : Progress) (kind n : ℕ) (e : HeadEvent) → head_event (rooms.request - 12) most p.state kind n ≡ e → Fits rooms p Between → Fits rooms (by_head p e).next (OfPdu kind n)
+  pdu_head_fits : (most : ℕ) (p : Progress) (kind n : ℕ) (e : HeadEvent) → head_event (rooms.request - 12) most p.state kind n ≡ e → Fits rooms p Between → Fits rooms (by_head p kind n e).next (OfPdu kind n)
   pdu_head_fits most p kind n NoEvent e h = record { command = h.command; bytes = h.bytes; agreed = h.agreed; room = λ due r one. head_fits (rooms.request - 12) most p.state kind n e due one }
-  pdu_head_fits most p kind n (AtOnce ev reason) e h = refused_fits (done [] reason p ev).next Between _ (event_fits p Between ev (head_stays (rooms.request - 12) most p.state kind n ev reason e) h)
+  pdu_head_fits most p kind n (AtOnce ev reason) e h =
+      let q = deciding (decision.PduRefused (record { kind = kind; length = n })) p in
+      refused_fits (done [] reason q ev).next Between _ (event_fits q Between ev (head_stays (rooms.request - 12) most p.state kind n ev reason e) (decided_fits q.decided p Between h))
   pdu_head_fits most p kind n TooLong e h =
       let stays : Stays p.state event.UnacceptableRq = subst (λ (st : State). Stays st event.UnacceptableRq) (sym (head_too_long (rooms.request - 12) most p.state kind n e)) (λ l. absurd cc) in
-      refused_fits (done (reject_text 2 3 2) 0 p event.UnacceptableRq).next Between _ (event_fits p Between event.UnacceptableRq stays h)
+      let q = deciding (decision.RequestTooLong n) p in
+      refused_fits (done (reject_text 2 3 2) 0 q event.UnacceptableRq).next Between _ (event_fits q Between event.UnacceptableRq stays (decided_fits q.decided p Between h))
 
   -- ---- a whole PDU
 
   module _ (s : Settings) (p : Progress) (o : Opened) (h : Fits rooms p o) where
-    abbrev asking : State → List ℕ → Progress
-    asking st body = record (keeping s body p) { state = st }
+    abbrev asking : State → List ℕ → Answer → Progress
+    asking st body a = record (keeping s body (deciding (decision.RequestJudged a) p)) { state = st }
 
     answered_fits : (body : List ℕ) (a : Answer) → IsSmall rooms (offered s.additional (items.request_record body))
-        → Fits rooms (answered s (items.request_record body) (asking Sta2 body) a).next Between
+        → Fits rooms (answered s (items.request_record body) (asking Sta2 body a) a).next Between
     answered_fits body Accept small = record { command = h.command; bytes = h.bytes; agreed = λ e. small; room = tt }
     answered_fits body (Reject result source reason) small = by (nat_eq source 2)
       where
         text : List ℕ
         text = reject_text result source reason
 
-        by : (b : Bool) → Fits rooms (if b then done text 0 (asking Sta2 body) event.UnacceptableRq else declined (asking Sta2 body) text).next Between
-        by true = left_fits Sta13 (asking Sta2 body) Between refl
-        by false = left_fits Sta13 (record (asking Sta2 body) { state = Sta3 }) Between refl
+        by : (b : Bool) → Fits rooms (if b then done text 0 (asking Sta2 body (Reject result source reason)) event.UnacceptableRq else declined (asking Sta2 body (Reject result source reason)) text).next Between
+        by true = left_fits Sta13 (asking Sta2 body (Reject result source reason)) Between refl
+        by false = left_fits Sta13 (record (asking Sta2 body (Reject result source reason)) { state = Sta3 }) Between refl
 
     request_fits : (body : List ℕ) → is_due p.state ≡ true → IsBytes body → length body ≤ rooms.request - 12 → Fits rooms (at_request s p body).next Between
     request_fits body due bytes le = by (request_fault body) refl
       where
         by : (fault : Option PduFault) → request_fault body ≡ fault → Fits rooms (by_fault s p body fault).next Between
         by None e =
-            subst (λ (st : State). Fits rooms (answered s (items.request_record body) (asking st body) (judged s (items.request_record body))).next Between) (sym (due_is p.state due))
+            subst (λ (st : State). Fits rooms (answered s (items.request_record body) (asking st body (judged s (items.request_record body))) (judged s (items.request_record body))).next Between) (sym (due_is p.state due))
             (answered_fits body (judged s (items.request_record body)) (small_request rooms s.additional body bytes e le))
-        by (Some f) e = event_fits p Between event.Invalid (stays_invalid p.state) (with_nothing p o h)
+        by (Some f) e = event_fits (deciding (decision.RequestInvalid f) p) Between event.Invalid (stays_invalid p.state) (decided_fits (decision.RequestInvalid f) p Between (with_nothing p o h))
 
-    released_fits : is_established p.state ≡ true → Fits rooms (released p).next Between
-    released_fits e = subst (λ (st : State). Fits rooms (released (record p { state = st })).next Between) (established_is p.state e) (left_fits Sta13 (record p { state = Sta8 }) Between refl)
+    released_fits : is_established p.state ≡ true → Fits rooms (released (deciding decision.Released p)).next Between
+    released_fits e =
+        subst (λ (st : State). Fits rooms (released (record (deciding decision.Released p) { state = st })).next Between) (established_is p.state e) (left_fits Sta13 (record (deciding decision.Released p) { state = Sta8 }) Between refl)
 
     both_of : (a b : Bool) → a && b ≡ true → (a ≡ true) × (b ≡ true)
     both_of a b h = grind (arith, common_steps)
@@ -264,8 +284,8 @@ module _ (rooms : Rooms) where
     end_fits kind body r is bytes = by (nat_eq kind abort) (nat_eq kind associate_rq && is_due p.state) (nat_eq kind release_rq && is_established p.state) refl refl
       where
         by : (a b c : Bool) → nat_eq kind associate_rq && is_due p.state ≡ b → nat_eq kind release_rq && is_established p.state ≡ c
-            → Fits rooms (if a then done [] 0 p event.Abort else (if b then at_request s p body else (if c then released p else nothing p))).next Between
-        by true b c e f = event_fits p Between event.Abort (stays_abort p.state) (with_nothing p o h)
+            → Fits rooms (if a then done [] 0 (deciding decision.Aborted p) event.Abort else (if b then at_request s p body else (if c then released (deciding decision.Released p) else nothing p))).next Between
+        by true b c e f = event_fits (deciding decision.Aborted p) Between event.Abort (stays_abort p.state) (decided_fits decision.Aborted p Between (with_nothing p o h))
         by false true c e f =
             let one = both_of (nat_eq kind associate_rq) (is_due p.state) e in
             let room : HasRoom rooms p (OfPdu kind (length body)) = subst (HasRoom rooms p) (is one.0) h.room in
@@ -287,7 +307,7 @@ module _ (rooms : Rooms) where
 
   entry_fits : (s : Settings) (p : Progress) (finding : Finding) (o : Opened) (x : Entry) → Fits rooms p o → IsHeadedAt IsBytes o x → Fits rooms (at_entry rooms s p finding x).next (opens_at o x)
   entry_fits s p finding o (At (Head kind n)) h k =
-      let fresh : Progress = record p { refused = false } in
+      let fresh : Progress = record p { refused = false; decided = decision.Nothing } in
       pdu_head_fits s.max_pdu fresh kind n (head_event (rooms.request - 12) s.max_pdu fresh.state kind n) refl (record { command = h.command; bytes = h.bytes; agreed = h.agreed; room = tt })
   entry_fits s p finding o (At (PdvHead n context control)) h k =
       counted_fits p o (OfPdv n context control) p.refused (is_established p.state) (at_pdv_head rooms.command p n context control) refl refl h (not_taken p n context control)
@@ -295,8 +315,10 @@ module _ (rooms : Rooms) where
   entry_fits s p finding o (At (Pdv context control fragment)) h k =
       counted_fits p o Between p.refused (is_established p.state) (at_pdv p finding (record { context = context; control = control; fragment = fragment })) refl refl h (λ t. tt)
       (λ takes. pdv_fits p finding o context control fragment h k.0 k.1 takes)
-  entry_fits s p finding o (At BadPdv) h k = counted_fits p o Between p.refused (is_established p.state) (invalid p) refl refl h (λ t. tt) (λ takes. invalid_fits p o h)
-  entry_fits s p finding o (At Leftover) h k = counted_fits p o Between p.refused (is_established p.state) (invalid p) refl refl h (λ t. tt) (λ takes. invalid_fits p o h)
+  entry_fits s p finding o (At BadPdv) h k =
+      counted_fits p o Between p.refused (is_established p.state) (invalid (deciding decision.ValueInvalid p)) refl refl h (λ t. tt) (λ takes. invalid_fits decision.ValueInvalid p o h)
+  entry_fits s p finding o (At Leftover) h k =
+      counted_fits p o Between p.refused (is_established p.state) (invalid (deciding (decision.BytesLeft (value_end p.decided)) p)) refl refl h (λ t. tt) (λ takes. invalid_fits (decision.BytesLeft (value_end p.decided)) p o h)
   entry_fits s p finding o (At (End kind body)) h k = by p.refused refl
     where
       by : (refused : Bool) → p.refused ≡ refused → Fits rooms (if refused then nothing p else at_end s p kind body).next Between

@@ -40,6 +40,7 @@ pends_taken k store p kind body part held taken more h =
     record {
       state_is = h.state_is;
       refused_is = h.refused_is;
+      decided_is = h.decided_is;
       body_is = more ∙ counted_more p.state k.refused p.refused (nat_eq kind 1) k.body body part h.refused_is t h.body_is;
       join_is = h.join_is;
       agreed = h.agreed;
@@ -57,6 +58,7 @@ pends_untaken k store p kind body part dropped h =
     record {
       state_is = h.state_is;
       refused_is = h.refused_is;
+      decided_is = h.decided_is;
       body_is = counted_same p.state k.refused p.refused (nat_eq kind 1) k.body body part h.refused_is t h.body_is;
       join_is = h.join_is;
       agreed = h.agreed;

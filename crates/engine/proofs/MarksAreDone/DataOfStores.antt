@@ -23,7 +23,11 @@ use Rattle.engine.specs.Devices.{Devices, devices, files_in, with_files, line_wi
 use Rattle.engine.specs.Drafts.{IsDraft, HasDraft, TellsDraft, draft_due, none_due}
 use Rattle.engine.specs.Progress.{Progress, Advance, nothing, absorb, is_established}
 use Rattle.engine.specs.Reached.{takes_pdvs}
-use Rattle.engine.specs.Replies.{going_on}
+use Rattle.decisions.specs.declared.decision.Decision.TheVariants as decision
+use Rattle.dimse.specs.declared.joined.Joined.{Joined}
+use Rattle.dimse.specs.declared.joined.Joined.TheVariants as joined
+use Rattle.dimse.specs.Joining.{goes_on}
+use Rattle.engine.specs.Replies.{going_on, decided_on}
 use Rattle.engine.specs.Stores.{IsOfContext, limits}
 use Rattle.engine.specs.Run.{Rooms, at_entry}
 use Rattle.engine.specs.Fair.{InStore}
@@ -120,9 +124,10 @@ either_failed : (f g : Bool) → (f || g) ≡ true → (f ≡ true) ⊎ (g ≡ t
 either_failed f g h = grind (arith, common_steps)
 
 pub does_due : (rooms : Rooms) (s : Settings) (p : Progress) (begun : List ℕ) (room : ℕ) (k : Kept) (j : Joining) (z : Stored) (l : Line) (so sn : Store) (later : Begun) → Pends k so p [] begun → takes_pdvs p ≡ true
-    → brought p.message (pdv_of begun) ≡ Goes later → ShowsMessage k.room j later [] → IsDataDue room p.message (pdv_head_of begun) (drop 6 begun) later → Proceeds k.depth k.most p.request later false z so sn
-    → Does rooms s p (At (entry_of begun)) (record k { join = j; storing = z }) [] [] (devices l so) (devices l sn)
-does_due rooms s p begun room k j z l so sn later h taken goes shows due x =
+    → brought p.message (pdv_of begun) ≡ Goes later → ShowsMessage k.room j later [] → IsDataDue room p.message (pdv_head_of begun) (drop 6 begun) later → joined.DataDue ≡ goes_on p.message later
+    → Proceeds k.depth k.most p.request later false z so sn
+    → Does rooms s p (At (entry_of begun)) (record k { join = j; storing = z; decided = decision.DataDue }) [] [] (devices l so) (devices l sn)
+does_due rooms s p begun room k j z l so sn later h taken goes shows due announced x =
     let q = absorb x.failed p in
     let six = taken_state p taken in
     let unended : is_ended p.state ≡ false = ap is_ended six in
@@ -133,9 +138,10 @@ does_due rooms s p begun room k j z l so sn later h taken goes shows due x =
     let now : so_far (going_on later q) [] ≡ later = ap (λ (xs : List ℕ). with_pdv xs later) nil in
     let draft : IsDraft p.request later (x.failed || p.filing_failed) sn (drafting_in z) = subst (λ (b : Bool). IsDraft p.request later (x.failed || b) sn (drafting_in z)) (sym unfailed) x.draft in
     let c = subst (λ (m : Begun). Carried k.depth k.most z sn p.request m (x.failed || p.filing_failed)) (sym now) (x.walks, draft) in
-    let pends : Pends (record k { join = j; storing = z }) sn (going_on later q) [] [] = record {
+    let pends : Pends (record k { join = j; storing = z; decided = decision.DataDue }) sn (going_on later q) [] [] = record {
       state_is = h.state_is;
       refused_is = h.refused_is;
+      decided_is = λ n. ap (λ (y : Joined). decided_on y p.decided) announced;
       body_is = h.body_is;
       join_is = subst (λ (xs : List ℕ). ShowsMessage k.room j later xs) (sym nil) shows;
       agreed = h.agreed;
@@ -152,7 +158,7 @@ does_due rooms s p begun room k j z l so sn later h taken goes shows due x =
         wire = tt;
         filing = λ y. subst (λ (g : Advance). MayFail p g.next) (sym plain) (unfailed, inr (x.may y).1);
       };
-      pends = subst (λ (g : Advance). Pends (record k { join = j; storing = z }) sn g.next [] []) (sym is) pends;
+      pends = subst (λ (g : Advance). Pends (record k { join = j; storing = z; decided = decision.DataDue }) sn g.next [] []) (sym is) pends;
       line = line_same l ∙ line_gained None p (nothing (going_on later q)) l ∙ ap (λ (g : Advance). line_with g.sent 0 l) (sym is);
       files = x.files ∙ filed_nothing (files_in so) ∙ ap (λ (g : Advance). with_files g.files (files_in so)) (sym is);
       count = x.count;

@@ -26,8 +26,10 @@ use Rattle.dimse.specs.Reply.{reply_bytes, reply_command, fragment_size, command
 use Rattle.engine.specs.Timeline.{At, Finding, good}
 use Rattle.engine.specs.Devices.{Devices, devices, files_in, with_files, line_with, IsFront}
 use Rattle.engine.specs.Drafts.{IsDraft, TellsDraft}
-use Rattle.engine.specs.Progress.{Progress, Advance, absorb}
+use Rattle.engine.specs.Progress.{Progress, Advance, absorb, deciding}
 use Rattle.engine.specs.Reached.{takes_pdvs}
+use Rattle.decisions.specs.declared.decision.Decision.{Decision}
+use Rattle.decisions.specs.declared.decision.Decision.TheVariants as decision
 use Rattle.engine.specs.Replies.{replied, ended_message, finding_on, echo_status, file_in, file_put}
 use Rattle.engine.specs.Stores.{IsOfContext, Submitted, Check, OfContext, WholeSet, OwnClass, OwnInstance, Filed, Passes, FailsWith, FirstFinding, Verdict}
 use Rattle.engine.specs.Run.{Rooms, at_entry, fails, counted}
@@ -42,7 +44,7 @@ use Rattle.engine.specs.machine.Verdicts.{EndsAs}
 use Rattle.engine.specs.machine.PerformsReaction.{ComesTo, Unfiled, is_left}
 use Rattle.engine.specs.machine.Does.{Does}
 use Rattle.engine.proofs.StoresAreKept.DraftAndWalk.{none_carried, meta_by, file_due, undrafted, drafted, drops_unfiled, files_kept}
-use Rattle.engine.proofs.FieldsShow.AfterAnEvent.{settled_failed}
+use Rattle.engine.proofs.FieldsShow.AfterAnEvent.{settled_failed, pends_decided}
 use Rattle.engine.proofs.FieldsShow.TriedIsDone.{if_nothing, line_same, line_gained, files_cut, filed_nothing}
 use Rattle.engine.proofs.MarksAreDone.PdvJoined.{entry_of, pdv_taken, pdv_comes, verdict_by}
 use Rattle.engine.proofs.FieldsShow.NothingCounts.{no_store}
@@ -78,8 +80,15 @@ replied_sent p f m c id maximum accepted e a i x =
     ∙ ap (λ (n : ℕ). reply_bytes c (finding_on (context_of (request_record p.request) m.context) c f).status (finding_on (context_of (request_record p.request) m.context) c f).detail m.context n) x
     ∙ ap (λ (r : Result CommandRecord DimseFault). (replied p f m r).sent) (sym e)
 
-replied_next : (p : Progress) (f : Finding) (m : Message) (r : Result CommandRecord DimseFault) → (replied p f m r).next ≡ ended_message p
-replied_next p f m r = grind (arith, common_steps)
+replied_next : (p : Progress) (f : Finding) (m : Message) (r : Result CommandRecord DimseFault) → (replied p f m r).next ≡ deciding (replied p f m r).next.decided (ended_message p)
+replied_next p f m (Ok c) = refl
+replied_next p f m (Err fault) = refl
+
+-- and so is what is decided
+replied_decided : (p : Progress) (f : Finding) (m : Message) (c : CommandRecord) (accepted : Option Context) → command_in m.command ≡ Ok c → accepted ≡ context_of (request_record p.request) m.context
+    → decision.Replied (finding_on accepted c f).status (finding_on accepted c f).detail ≡ (replied p f m (command_in m.command)).next.decided
+replied_decided p f m c accepted e a =
+    ap (λ (o : Option Context). decision.Replied (finding_on o c f).status (finding_on o c f).detail) a ∙ ap (λ (r : Result CommandRecord DimseFault). (replied p f m r).next.decided) (sym e)
 
 replied_absorbed : (p : Progress) (b : Bool) (f : Finding) (m : Message) (r : Result CommandRecord DimseFault) → replied (absorb b p) f m r ≡ replied p f m r
 replied_absorbed p b f m r = grind (arith, common_steps)
@@ -87,9 +96,10 @@ replied_absorbed p b f m r = grind (arith, common_steps)
 -- ---- a command that does not read, and an echo
 
 module _ (rooms : Rooms) (s : Settings) (p : Progress) (m : Message) (come : Begun) (store : Store) where
-  pub unread_ended : (l : Line) (f : DimseFault) → command_in m.command ≡ Err f → Ended rooms s p m come (Ok tt) (devices l store) (devices l store)
+  pub unread_ended : (l : Line) (f : DimseFault) → command_in m.command ≡ Err f → Ended rooms s p m come decision.Nothing (Ok tt) (devices l store) (devices l store)
   unread_ended l f e = record {
     finding = good;
+    decided_is = ap (λ (r : Result CommandRecord DimseFault). (replied p good m r).next.decided) (sym e);
     failed = false;
     may = λ x. absurd cc;
     verdict = λ c context is field. let wrong : ◌≡◌ {A = Result CommandRecord DimseFault} (Ok c) (Err f) = sym is ∙ e in absurd cc;
@@ -105,13 +115,14 @@ module _ (rooms : Rooms) (s : Settings) (p : Progress) (m : Message) (come : Beg
 
   pub echo_ended : (r : Result (Unit {0}) WireFailed) (lo ln : Line) (c : CommandRecord) (status id maximum : ℕ) (accepted : Option Context) → command_in m.command ≡ Ok c → c.field ≡ 0x0030
       → status ≡ echo_status accepted c → accepted ≡ context_of (request_record p.request) m.context → id ≡ m.context → maximum ≡ (request_record p.request).maximum
-      → Sends (reply_bytes c status None id maximum) r lo ln → Ended rooms s p m come r (devices lo store) (devices ln store)
+      → Sends (reply_bytes c status None id maximum) r lo ln → Ended rooms s p m come (decision.Replied status None) r (devices lo store) (devices ln store)
   echo_ended r lo ln c status id maximum accepted e field st a i x sends =
       let is : finding_on accepted c good ≡ record { status = echo_status accepted c; detail = None } = ap (λ (n : ℕ). if nat_eq n 0x0030 then record { status = echo_status accepted c; detail = None } else good) field in
       let text : reply_bytes c status None id maximum ≡ (replied p good m (command_in m.command)).sent =
       ap (λ (n : ℕ). reply_bytes c n None id maximum) st ∙ ap (λ (f : Finding). reply_bytes c f.status f.detail id maximum) (sym is) ∙ replied_sent p good m c id maximum accepted e a i x in
       record {
         finding = good;
+        decided_is = ap (λ (n : ℕ). decision.Replied n None) st ∙ ap (λ (f : Finding). decision.Replied f.status f.detail) (sym is) ∙ replied_decided p good m c accepted e a;
         failed = false;
         may = λ y. absurd cc;
         verdict = λ d context is other. let same : ◌≡◌ {A = Result CommandRecord DimseFault} (Ok d) (Ok c) = sym is ∙ e in let one : d ≡ c = cc in
@@ -248,7 +259,7 @@ module _ (depth most : ℕ) (request : Requested) (m : Message) (come : Begun) (
 -- the store is answered
 pub store_ended : (rooms : Rooms) (s : Settings) (p : Progress) (m : Message) (come : Begun) (c : CommandRecord) (f : Finding) (old new : Store) (r : Result (Unit {0}) WireFailed) (lo ln : Line) (id maximum : ℕ)
     → command_in m.command ≡ Ok c → c.field ≡ 0x0001 → id ≡ m.context → maximum ≡ (request_record p.request).maximum → StoreEnds rooms.depth s.max_data p.request m come c p.filing_failed f old new
-    → Sends (reply_bytes c f.status f.detail id maximum) r lo ln → Ended rooms s p m come r (devices lo old) (devices ln new)
+    → Sends (reply_bytes c f.status f.detail id maximum) r lo ln → Ended rooms s p m come (decision.Replied f.status f.detail) r (devices lo old) (devices ln new)
 store_ended rooms s p m come c f old new r lo ln id maximum e field i x ends sends =
     let accepted = context_of (request_record p.request) m.context in
     let is : finding_on accepted c f ≡ f = ap (λ (n : ℕ). if nat_eq n 0x0030 then record { status = echo_status accepted c; detail = None } else f) field in
@@ -257,6 +268,7 @@ store_ended rooms s p m come c f old new r lo ln id maximum e field i x ends sen
     let files : (replied p f m (command_in m.command)).files ≡ file_put (request_record p.request) m.context c m.set f = ap (λ (q : Result CommandRecord DimseFault). (replied p f m q).files) e in
     record {
       finding = f;
+      decided_is = ap (λ (g : Finding). decision.Replied g.status g.detail) (sym is) ∙ replied_decided p f m c accepted e refl;
       failed = ends.failed_then;
       may = ends.may;
       verdict = λ d context is one accepted. let same : ◌≡◌ {A = Result CommandRecord DimseFault} (Ok c) (Ok d) = sym e ∙ is in let eq : c ≡ d = cc in
@@ -306,6 +318,7 @@ ended_pends p old j z store h six quiet none =
     record {
       state_is = sym six ∙ h.state_is;
       refused_is = h.refused_is;
+      decided_is = h.decided_is;
       body_is = h.body_is;
       join_is = subst (λ (xs : List ℕ). ShowsMessage old.room j NoMessage xs) (sym nil) quiet;
       agreed = h.agreed;
@@ -316,31 +329,31 @@ ended_pends p old j z store h six quiet none =
       failed_in = λ n e. absurd cc;
     }
 
-pub concludes : (rooms : Rooms) (s : Settings) (p : Progress) (m : Message) (come : Begun) (r : Result (Unit {0}) WireFailed) (old new : Kept) (j : Joining) (z : Stored) (lo ln : Line) (so sm sl sn : Store)
-    → Aside old p → old.state ≡ Sta6 → ShowsMessage old.room j NoMessage [] → z ≡ Nothing → Ended rooms s p m come r (devices lo so) (devices ln sm) → Unfiled sm sl
-    → ComesTo Sta6 r (record old { join = j; storing = z }) new sl sn → Concludes rooms s p m come new (devices lo so) (devices ln sn)
-concludes rooms s p m come (Ok u) old new j z lo ln so sm sl sn h six quiet none e left settles = record {
+pub concludes : (rooms : Rooms) (s : Settings) (p : Progress) (m : Message) (come : Begun) (d : Decision) (r : Result (Unit {0}) WireFailed) (old new : Kept) (j : Joining) (z : Stored) (lo ln : Line) (so sm sl sn : Store)
+    → Aside old p → old.state ≡ Sta6 → ShowsMessage old.room j NoMessage [] → z ≡ Nothing → Ended rooms s p m come d r (devices lo so) (devices ln sm) → Unfiled sm sl
+    → ComesTo Sta6 r (record old { join = j; storing = z; decided = d }) new sl sn → Concludes rooms s p m come new (devices lo so) (devices ln sn)
+concludes rooms s p m come d (Ok u) old new j z lo ln so sm sl sn h six quiet none e left settles = record {
   finding = e.finding;
   failed = e.failed;
   wire = None;
   may = e.may;
   verdict = e.verdict;
   fair = tt;
-  pends = subst (λ (q : Progress). Pends new sn q [] []) (sym (replied_next p e.finding m (command_in m.command)))
-      (subst (λ (k : Kept). Pends k sn (ended_message p) [] []) (sym (settles.same (ap is_left settles.state_is) ∙ ap (λ (st : State). record old { join = j; storing = z; state = st }) settles.state_is))
-      (ended_pends p old j z sn h six quiet none));
+  pends = subst (λ (q : Progress). Pends new sn q [] []) (ap (λ (x : Decision). deciding x (ended_message p)) e.decided_is ∙ sym (replied_next p e.finding m (command_in m.command)))
+      (subst (λ (k : Kept). Pends k sn (deciding d (ended_message p)) [] []) (sym (settles.same (ap is_left settles.state_is) ∙ ap (λ (st : State). record old { join = j; storing = z; decided = d; state = st }) settles.state_is))
+      (pends_decided d (record old { join = j; storing = z; state = Sta6 }) sn (ended_message p) [] [] (ended_pends p old j z sn h six quiet none)));
   line = e.sends;
   files = settles.unfiled.files ∙ left.files ∙ e.files;
   count = settles.unfiled.count ∙ left.count ∙ e.count;
 }
-concludes rooms s p m come (Err x) old new j z lo ln so sm sl sn h six quiet none e left settles = record {
+concludes rooms s p m come d (Err x) old new j z lo ln so sm sl sn h six quiet none e left settles = record {
   finding = e.finding;
   failed = e.failed;
   wire = Some e.sends.count;
   may = e.may;
   verdict = e.verdict;
   fair = (e.due, e.sends.few);
-  pends = settled_failed p Sta6 x (record old { join = j; storing = z }) new sl sn [] [] settles;
+  pends = settled_failed p Sta6 x (record old { join = j; storing = z; decided = d }) new sl sn [] [] settles;
   line = e.sends.line;
   files = settles.unfiled.files ∙ left.files ∙ e.files;
   count = settles.unfiled.count ∙ left.count ∙ e.count;

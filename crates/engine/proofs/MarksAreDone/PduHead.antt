@@ -12,7 +12,9 @@ use Rattle.pdu.specs.Texts.{reject_text}
 use Rattle.negotiate.specs.Settings.{Settings}
 use Rattle.engine.specs.Timeline.{At, good}
 use Rattle.engine.specs.Run.{Rooms, at_entry}
-use Rattle.engine.specs.Progress.{Progress, nothing, done, refusing, is_due, is_established}
+use Rattle.decisions.specs.declared.decision.Decision.{Decision}
+use Rattle.decisions.specs.declared.decision.Decision.TheVariants as decision
+use Rattle.engine.specs.Progress.{Progress, Advance, nothing, done, refusing, is_due, is_established}
 use Rattle.engine.specs.Heads.{HeadEvent, NoEvent, AtOnce, TooLong, event_of, is_known, has_four_bytes, is_abort, out_of_place, request_length, data_length, head_event}
 use Rattle.engine.specs.machine.PerformsReaction.{is_left, Stays}
 use Rattle.engine.proofs.FieldsShow.TriedIsDone.{stays_invalid}
@@ -64,13 +66,24 @@ head_too_long room most st kind n =
 -- ---- what a judged head gives
 
 module _ (rooms : Rooms) (s : Settings) (p : Progress) (kind n : ℕ) where
-  pub head_nothing : head_event (rooms.request - 12) s.max_pdu p.state kind n ≡ NoEvent → at_entry rooms s p good (At (Head kind n)) ≡ nothing (record p { refused = false })
-  head_nothing e = ap (λ (h : HeadEvent). elim h [ NoEvent ↦ nothing (record p { refused = false }) | AtOnce event reason ↦ refusing (done [] reason (record p { refused = false }) event) | TooLong ↦ refusing (done (reject_text 2 3 2) 0 (record p { refused = false }) UnacceptableRq) ]) e
+  -- the progress at the head, where this is decided
+  abbrev pub headed : Decision → Progress
+  headed d = record p { refused = false; decided = d }
+
+  abbrev by_event : HeadEvent → Advance
+  by_event h = elim h [
+    | NoEvent ↦ nothing (headed decision.Nothing)
+    | AtOnce event reason ↦ refusing (done [] reason (headed (decision.PduRefused (record { kind = kind; length = n }))) event)
+    | TooLong ↦ refusing (done (reject_text 2 3 2) 0 (headed (decision.RequestTooLong n)) UnacceptableRq)
+  ]
+
+  pub head_nothing : head_event (rooms.request - 12) s.max_pdu p.state kind n ≡ NoEvent → at_entry rooms s p good (At (Head kind n)) ≡ nothing (headed decision.Nothing)
+  head_nothing e = ap by_event e
 
   pub head_at_once : (e : Event) (r : ℕ) → head_event (rooms.request - 12) s.max_pdu p.state kind n ≡ AtOnce e r
-      → at_entry rooms s p good (At (Head kind n)) ≡ refusing (done [] r (record p { refused = false }) e)
-  head_at_once e r h = ap (λ (h : HeadEvent). elim h [ NoEvent ↦ nothing (record p { refused = false }) | AtOnce event reason ↦ refusing (done [] reason (record p { refused = false }) event) | TooLong ↦ refusing (done (reject_text 2 3 2) 0 (record p { refused = false }) UnacceptableRq) ]) h
+      → at_entry rooms s p good (At (Head kind n)) ≡ refusing (done [] r (headed (decision.PduRefused (record { kind = kind; length = n }))) e)
+  head_at_once e r h = ap by_event h
 
   pub head_rejected : head_event (rooms.request - 12) s.max_pdu p.state kind n ≡ TooLong
-      → at_entry rooms s p good (At (Head kind n)) ≡ refusing (done (reject_text 2 3 2) 0 (record p { refused = false }) UnacceptableRq)
-  head_rejected h = ap (λ (h : HeadEvent). elim h [ NoEvent ↦ nothing (record p { refused = false }) | AtOnce event reason ↦ refusing (done [] reason (record p { refused = false }) event) | TooLong ↦ refusing (done (reject_text 2 3 2) 0 (record p { refused = false }) UnacceptableRq) ]) h
+      → at_entry rooms s p good (At (Head kind n)) ≡ refusing (done (reject_text 2 3 2) 0 (headed (decision.RequestTooLong n)) UnacceptableRq)
+  head_rejected h = ap by_event h

@@ -27,9 +27,11 @@ use Rattle.dimse.specs.Reading.{command_in}
 use Rattle.dimse.specs.Messages.{Message, message_by, Begun, NoMessage, InCommand, InSet, Brought, Goes, Ends, Refuses, brought, refusal, head_refusal, if_context, with_command, completed, with_fragment}
 use Rattle.dimse.specs.Joining.{Joining, ShowsMessage, InContext, Joins, ok_unless, without_set, pdv_of, goes_on, lending, with_pdv}
 use Rattle.engine.specs.Timeline.{At, Finding, good}
-use Rattle.engine.specs.Progress.{Progress, Advance, nothing, done, absorb, is_established}
+use Rattle.decisions.specs.declared.decision.Decision.TheVariants as decision
+use Rattle.dimse.specs.Messages as message
+use Rattle.engine.specs.Progress.{Progress, Advance, deciding, nothing, done, absorb, is_established}
 use Rattle.engine.specs.Reached.{takes_pdvs}
-use Rattle.engine.specs.Replies.{invalid, user_aborts, aborted_if_refused, at_pdv_head, at_pdv, replied, going_on}
+use Rattle.engine.specs.Replies.{invalid, user_aborts, value_head, aborted_if_refused, command_refused, decided_on, at_pdv_head, at_pdv, replied, going_on}
 use Rattle.engine.specs.Run.{Rooms, at_entry}
 use Rattle.engine.specs.Fair.{InStore, IsVerdict, message_at}
 use Rattle.engine.specs.Held.{is_ended}
@@ -62,6 +64,7 @@ pends_dropped k store p body b c t h =
     record {
       state_is = h.state_is;
       refused_is = h.refused_is;
+      decided_is = h.decided_is;
       body_is = h.body_is;
       join_is = subst (λ (xs : List ℕ). ShowsMessage k.room k.join p.message xs) same h.join_is;
       agreed = h.agreed;
@@ -75,13 +78,14 @@ pends_dropped k store p body b c t h =
 -- ---- beside the message
 
 pub aside_of : (k : Kept) (store : Store) (p : Progress) (begun : List ℕ) → Pends k store p [] begun → Aside k p
-aside_of k store p begun h = record { state_is = h.state_is; refused_is = h.refused_is; body_is = h.body_is; agreed = h.agreed; none_left = h.none_left; unagreed = h.unagreed }
+aside_of k store p begun h = record { state_is = h.state_is; refused_is = h.refused_is; decided_is = h.decided_is; body_is = h.body_is; agreed = h.agreed; none_left = h.none_left; unagreed = h.unagreed }
 
 -- of another join the same is aside
 pub aside_joined : (k : Kept) (p : Progress) (j : Joining) → Aside k p → Aside (with_join j k) p
 aside_joined k p j h = record {
   state_is = h.state_is;
   refused_is = h.refused_is;
+  decided_is = h.decided_is;
   body_is = h.body_is;
   agreed = h.agreed;
   none_left = h.none_left;
@@ -89,7 +93,7 @@ aside_joined k p j h = record {
 }
 
 pub aside_absorbed : (k : Kept) (p : Progress) (failed : Bool) → Aside k p → Aside k (absorb failed p)
-aside_absorbed k p failed h = record { state_is = h.state_is; refused_is = h.refused_is; body_is = h.body_is; agreed = h.agreed; none_left = h.none_left; unagreed = h.unagreed }
+aside_absorbed k p failed h = record { state_is = h.state_is; refused_is = h.refused_is; decided_is = h.decided_is; body_is = h.body_is; agreed = h.agreed; none_left = h.none_left; unagreed = h.unagreed }
 
 pub pends_joined : (k : Kept) (store : Store) (p : Progress) (j : Joining) (stored : Stored) (begun : List ℕ) → Aside k p → ShowsMessage k.room j p.message (counted_pdv p begun)
     → Carried k.depth k.most stored store p.request (so_far p begun) p.filing_failed → (is_ended p.state ≡ false → p.filing_failed ≡ true → InStore p.request p.message)
@@ -97,6 +101,7 @@ pub pends_joined : (k : Kept) (store : Store) (p : Progress) (j : Joining) (stor
 pends_joined k store p j stored begun h shows c failed = record {
   state_is = h.state_is;
   refused_is = h.refused_is;
+  decided_is = h.decided_is;
   body_is = h.body_is;
   join_is = shows;
   agreed = h.agreed;
@@ -126,13 +131,20 @@ pub head_dropped : (rooms : Rooms) (s : Settings) (p : Progress) (n c x : ℕ) �
 head_dropped rooms s p n c x t =
     taken_when (is_established p.state) p.refused (at_pdv_head rooms.command p n c x) (nothing p) ∙ ap (λ (y : Bool). if y then at_pdv_head rooms.command p n c x else nothing p) t
 
-pub head_unaccepted : (room : ℕ) (p : Progress) (n c x : ℕ) → context_of (request_record p.request) c ≡ None → at_pdv_head room p n c x ≡ invalid p
-head_unaccepted room p n c x e = ap (λ (o : Option Context). elim o [ None ↦ invalid p | Some accepted ↦ aborted_if_refused (refusal room p.message n c x) p ]) e
+-- what the head of a PDV gives, by whether its context is accepted
+abbrev by_context : ℕ → Progress → (n c x : ℕ) → Option Context → Advance
+by_context room p n c x o = elim o [
+  | None ↦ invalid (deciding (decision.ContextRefused (value_head n c x)) p)
+  | Some accepted ↦ aborted_if_refused (value_head n c x) (refusal room p.message n c x) p
+]
+
+pub head_unaccepted : (room : ℕ) (p : Progress) (n c x : ℕ) → context_of (request_record p.request) c ≡ None → at_pdv_head room p n c x ≡ invalid (deciding (decision.ContextRefused (value_head n c x)) p)
+head_unaccepted room p n c x e = ap (by_context room p n c x) e
 
 pub head_accepted : (room : ℕ) (p : Progress) (n c x : ℕ) (a : Context) (o : Option DimseFault) → context_of (request_record p.request) c ≡ Some a → refusal room p.message n c x ≡ o
-    → at_pdv_head room p n c x ≡ aborted_if_refused o p
+    → at_pdv_head room p n c x ≡ aborted_if_refused (value_head n c x) o p
 head_accepted room p n c x a o e f =
-    ap (λ (y : Option Context). elim y [ None ↦ invalid p | Some accepted ↦ aborted_if_refused (refusal room p.message n c x) p ]) e ∙ ap (λ (y : Option DimseFault). aborted_if_refused y p) f
+    ap (by_context room p n c x) e ∙ ap (λ (y : Option DimseFault). aborted_if_refused (value_head n c x) y p) f
 
 pub judged_none : (o : Option DimseFault) (u : Unit {0}) → ok_unless o ≡ Ok u → o ≡ None
 judged_none o u h = grind (arith, common_steps)
@@ -165,17 +177,19 @@ pdv_dropped rooms s p begun t =
     taken_when (is_established p.state) p.refused (at_pdv p good (pdv_of begun)) (nothing p) ∙ ap (λ (y : Bool). if y then at_pdv p good (pdv_of begun) else nothing p) t
 
 -- what a PDV brings to the message comes to this
-abbrev pub by_brought : Progress → Finding → Brought → Advance
-by_brought p f (Goes later) = nothing (going_on later p)
-by_brought p f (Ends m) = replied p f m (command_in m.command)
-by_brought p f (Refuses fault) = user_aborts p
+abbrev pub by_brought : Progress → Finding → message.Pdv → Brought → Advance
+by_brought p f pdv (Goes later) = nothing (going_on later p)
+by_brought p f pdv (Ends m) = replied p f m (command_in m.command)
+by_brought p f pdv (Refuses fault) = user_aborts (deciding (command_refused p pdv fault) p)
 
-pub brought_is : (p : Progress) (f : Finding) (b : Brought) →
-    ◌≡◌ {A = Advance} (elim b [ Goes begun ↦ nothing (going_on begun p) | Ends m ↦ replied p f m (command_in m.command) | Refuses fault ↦ user_aborts p ]) (by_brought p f b)
-brought_is p f b = grind (arith, common_steps)
+pub brought_is : (p : Progress) (f : Finding) (pdv : message.Pdv) (b : Brought) →
+    ◌≡◌ {A = Advance} (elim b [ Goes begun ↦ nothing (going_on begun p) | Ends m ↦ replied p f m (command_in m.command) | Refuses fault ↦ user_aborts (deciding (command_refused p pdv fault) p) ]) (by_brought p f pdv b)
+brought_is p f pdv (Goes later) = refl
+brought_is p f pdv (Ends m) = refl
+brought_is p f pdv (Refuses fault) = refl
 
-pub pdv_comes : (p : Progress) (f : Finding) (begun : List ℕ) (b : Brought) → brought p.message (pdv_of begun) ≡ b → at_pdv p f (pdv_of begun) ≡ by_brought p f b
-pdv_comes p f begun b e = brought_is p f (brought p.message (pdv_of begun)) ∙ ap (by_brought p f) e
+pub pdv_comes : (p : Progress) (f : Finding) (begun : List ℕ) (b : Brought) → brought p.message (pdv_of begun) ≡ b → at_pdv p f (pdv_of begun) ≡ by_brought p f (pdv_of begun) b
+pdv_comes p f begun b e = brought_is p f (pdv_of begun) (brought p.message (pdv_of begun)) ∙ ap (by_brought p f (pdv_of begun)) e
 
 pub verdict_by : (rooms : Rooms) (s : Settings) (p q : Progress) (f : Finding) (begun : List ℕ) (b : Brought) → takes_pdvs p ≡ true → brought p.message (pdv_of begun) ≡ b → IsVerdict rooms s q f (message_by b)
     → IsVerdict rooms s q f (message_at p (At (entry_of begun)))
@@ -295,23 +309,23 @@ ends_row room (InSet first command set) h true bytes m r e =
     (inl (ap (λ (x : Message). InSet x.context x.command x.set) same), sym (ap (λ (x : Message). x.context) same) ∙ same_context h.context first (nat_eq h.context first) _ refl r)
 
 module _ (room : ℕ) (before : Begun) (begun : List ℕ) (six : 6 ≤ length begun) (fine : head_refusal room before (pdv_head_of begun) ≡ None) (old new : Joining) where
-  pub goes_of : Joins room before (brought before (pdv_of begun)) old new (Ok joined.More) → (later : Begun) × (brought before (pdv_of begun) ≡ Goes later) × ShowsMessage room new later [] × (later ≡ with_pdv begun before)
+  pub goes_of : Joins room before (brought before (pdv_of begun)) old new (Ok joined.More) → (later : Begun) × (brought before (pdv_of begun) ≡ Goes later) × ShowsMessage room new later [] × (later ≡ with_pdv begun before) × (joined.More ≡ goes_on before later)
   goes_of j = by (brought before (pdv_of begun)) refl j where
-    by : (b : Brought) → brought before (pdv_of begun) ≡ b → Joins room before b old new (Ok joined.More) → (later : Begun) × (brought before (pdv_of begun) ≡ Goes later) × ShowsMessage room new later [] × (later ≡ with_pdv begun before)
+    by : (b : Brought) → brought before (pdv_of begun) ≡ b → Joins room before b old new (Ok joined.More) → (later : Begun) × (brought before (pdv_of begun) ≡ Goes later) × ShowsMessage room new later [] × (later ≡ with_pdv begun before) × (joined.More ≡ goes_on before later)
     by (Goes later) is (e, h) =
         let more : joined.More ≡ goes_on before later = let x : ◌≡◌ {A = Result Joined DimseFault} (Ok joined.More) (Ok (goes_on before later)) = e in cc in
-        (later, is, h, more_row before (is_last (get_or begun 5 0)) (get_or begun 4 0) (drop 6 begun) later is more ∙ sym (long_pdv begun before six))
+        (later, is, h, more_row before (is_last (get_or begun 5 0)) (get_or begun 4 0) (drop 6 begun) later is more ∙ sym (long_pdv begun before six), more)
     by (Ends m) is (e, h) = let x : ◌≡◌ {A = Result Joined DimseFault} (Ok joined.More) (Ok joined.Message) = e in absurd cc
     by (Refuses f) is (e, h) = let x : ◌≡◌ {A = Result Joined DimseFault} (Ok joined.More) (Err f) = e in absurd cc
 
   pub due_of : Joins room before (brought before (pdv_of begun)) old new (Ok joined.DataDue)
-      → (later : Begun) × (brought before (pdv_of begun) ≡ Goes later) × ShowsMessage room new later [] × IsDataDue room before (pdv_head_of begun) (drop 6 begun) later
+      → (later : Begun) × (brought before (pdv_of begun) ≡ Goes later) × ShowsMessage room new later [] × IsDataDue room before (pdv_head_of begun) (drop 6 begun) later × (joined.DataDue ≡ goes_on before later)
   due_of j = by (brought before (pdv_of begun)) refl j where
     by : (b : Brought) → brought before (pdv_of begun) ≡ b → Joins room before b old new (Ok joined.DataDue)
-        → (later : Begun) × (brought before (pdv_of begun) ≡ Goes later) × ShowsMessage room new later [] × IsDataDue room before (pdv_head_of begun) (drop 6 begun) later
+        → (later : Begun) × (brought before (pdv_of begun) ≡ Goes later) × ShowsMessage room new later [] × IsDataDue room before (pdv_head_of begun) (drop 6 begun) later × (joined.DataDue ≡ goes_on before later)
     by (Goes later) is (e, h) =
         let due : joined.DataDue ≡ goes_on before later = let x : ◌≡◌ {A = Result Joined DimseFault} (Ok joined.DataDue) (Ok (goes_on before later)) = e in cc in
-        (later, is, h, due_row room before (pdv_head_of begun) (is_last (get_or begun 5 0)) (drop 6 begun) later fine is due)
+        (later, is, h, due_row room before (pdv_head_of begun) (is_last (get_or begun 5 0)) (drop 6 begun) later fine is due, due)
     by (Ends m) is (e, h) = let x : ◌≡◌ {A = Result Joined DimseFault} (Ok joined.DataDue) (Ok joined.Message) = e in absurd cc
     by (Refuses f) is (e, h) = let x : ◌≡◌ {A = Result Joined DimseFault} (Ok joined.DataDue) (Err f) = e in absurd cc
 
@@ -340,14 +354,15 @@ module _ (room : ℕ) (before : Begun) (begun : List ℕ) (six : 6 ≤ length be
 
 -- the message goes on
 pub pends_going_on : (k : Kept) (store : Store) (p : Progress) (j : Joining) (later : Begun) (begun : List ℕ) → Pends k store p [] begun → takes_pdvs p ≡ true → ShowsMessage k.room j later []
-    → later ≡ with_pdv begun p.message → 6 ≤ length begun → Pends (with_join j k) store (going_on later p) [] []
-pends_going_on k store p j later begun h t shows is six =
+    → later ≡ with_pdv begun p.message → joined.More ≡ goes_on p.message later → 6 ≤ length begun → Pends (with_join j k) store (going_on later p) [] []
+pends_going_on k store p j later begun h t shows is more six =
     let none : counted_pdv (going_on later p) [] ≡ [] = none_counted_pdv (going_on later p) in
     let same : so_far p begun ≡ so_far (going_on later p) [] = ap (λ (xs : List ℕ). with_pdv xs p.message) (counted_taken p begun t) ∙ sym is ∙ sym (ap (λ (xs : List ℕ). with_pdv xs later) none) in
     let c = subst (λ (x : Begun). Carried k.depth k.most k.storing store p.request x p.filing_failed) same (carried k store p [] begun h) in
     record {
       state_is = h.state_is;
       refused_is = h.refused_is;
+      decided_is = λ n. h.decided_is n ∙ ap (λ (x : Joined). decided_on x p.decided) more;
       body_is = h.body_is;
       join_is = subst (λ (xs : List ℕ). ShowsMessage k.room j later xs) (sym none) shows;
       agreed = h.agreed;

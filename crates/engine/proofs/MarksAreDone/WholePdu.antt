@@ -11,7 +11,8 @@ use Rattle.pdu.specs.Marks.{End}
 use Rattle.negotiate.specs.Settings.{Settings}
 use Rattle.dimse.specs.Messages.{NoMessage}
 use Rattle.engine.specs.Timeline.{At, good}
-use Rattle.engine.specs.Progress.{Progress, Advance, at_start, left, nothing, done, is_due, is_established}
+use Rattle.decisions.specs.declared.decision.Decision.TheVariants as decision
+use Rattle.engine.specs.Progress.{Progress, Advance, at_start, left, deciding, nothing, done, is_due, is_established}
 use Rattle.engine.specs.Held.{is_ended}
 use Rattle.engine.specs.Requests.{at_request}
 use Rattle.engine.specs.Devices.{Devices, line_after, IsFront}
@@ -31,7 +32,8 @@ use Rattle.negotiate.specs.Taken.{Taken}
 -- by which type it is
 abbrev by_kind : Settings → Progress → List ℕ → (seven one five : Bool) → Advance
 by_kind s p body seven one five =
-    if seven then done [] 0 p event.Abort else (if one && is_due p.state then at_request s p body else (if five && is_established p.state then released p else nothing p))
+    if seven then done [] 0 (deciding decision.Aborted p) event.Abort
+    else (if one && is_due p.state then at_request s p body else (if five && is_established p.state then released (deciding decision.Released p) else nothing p))
 
 -- what it gives after the end: nothing that is seen
 record EndedSo (p : Progress) (g : Advance) : Type 0 where
@@ -41,7 +43,7 @@ record EndedSo (p : Progress) (g : Advance) : Type 0 where
   pub nothing_put : g.files ≡ []
 
 ended_two : (s : Settings) (p : Progress) (body : List ℕ) (a b : Bool)
-    → EndedSo (record p { state = Sta1 }) (if a && false then at_request s (record p { state = Sta1 }) body else (if b && false then released (record p { state = Sta1 }) else nothing (record p { state = Sta1 })))
+    → EndedSo (record p { state = Sta1 }) (if a && false then at_request s (record p { state = Sta1 }) body else (if b && false then released (deciding decision.Released (record p { state = Sta1 })) else nothing (record p { state = Sta1 })))
 ended_two s p body true true = record { state_is = refl; message_is = inl refl; nothing_sent = refl; nothing_put = refl }
 ended_two s p body true false = record { state_is = refl; message_is = inl refl; nothing_sent = refl; nothing_put = refl }
 ended_two s p body false true = record { state_is = refl; message_is = inl refl; nothing_sent = refl; nothing_put = refl }
@@ -50,9 +52,9 @@ ended_two s p body false false = record { state_is = refl; message_is = inl refl
 ended_so : (s : Settings) (p : Progress) (body : List ℕ) (r seven one five : Bool) → p.state ≡ Sta1 → EndedSo p (if r then nothing p else by_kind s p body seven one five)
 ended_so s p body true seven one five e = record { state_is = refl; message_is = inl refl; nothing_sent = refl; nothing_put = refl }
 ended_so s p body false true one five e =
-    subst (λ (y : State). EndedSo (record p { state = y }) (done [] 0 (record p { state = y }) event.Abort)) (sym e) (record { state_is = refl; message_is = inr refl; nothing_sent = refl; nothing_put = refl })
+    subst (λ (y : State). EndedSo (record p { state = y }) (done [] 0 (deciding decision.Aborted (record p { state = y })) event.Abort)) (sym e) (record { state_is = refl; message_is = inr refl; nothing_sent = refl; nothing_put = refl })
 ended_so s p body false false one five e =
-    subst (λ (y : State). EndedSo (record p { state = y }) (if one && is_due y then at_request s (record p { state = y }) body else (if five && is_established y then released (record p { state = y }) else nothing (record p { state = y })))) (sym e) (ended_two s p body one five)
+    subst (λ (y : State). EndedSo (record p { state = y }) (if one && is_due y then at_request s (record p { state = y }) body else (if five && is_established y then released (deciding decision.Released (record p { state = y })) else nothing (record p { state = y })))) (sym e) (ended_two s p body one five)
 
 -- and then nothing is due
 nothing_comes : (p : Progress) (g : Advance) → EndedSo p g → g ≡ nothing g.next
@@ -77,19 +79,19 @@ refused_end rooms s p kind body e = ap (λ (t : Bool). if t then nothing p else 
 pub taken_end : (rooms : Rooms) (s : Settings) (p : Progress) (kind : ℕ) (body : List ℕ) → p.refused ≡ false → at_entry rooms s p good (At (End kind body)) ≡ at_end s p kind body
 taken_end rooms s p kind body e = ap (λ (t : Bool). if t then nothing p else at_end s p kind body) e
 
-pub whole_abort : (s : Settings) (p : Progress) (kind : ℕ) (body : List ℕ) → kind ≡ 7 → at_end s p kind body ≡ done [] 0 p event.Abort
+pub whole_abort : (s : Settings) (p : Progress) (kind : ℕ) (body : List ℕ) → kind ≡ 7 → at_end s p kind body ≡ done [] 0 (deciding decision.Aborted p) event.Abort
 whole_abort s p kind body e = ap (λ (n : ℕ). at_end s p n body) e
 
 other_kind : (n m : ℕ) → (n ≡ m → ⊥) → nat_eq n m ≡ false
 other_kind n m h = grind (arith, nat_tests)
 
-pub whole_release : (s : Settings) (p : Progress) (kind : ℕ) (body : List ℕ) (t : Bool) → kind ≡ 5 → is_established p.state ≡ t → at_end s p kind body ≡ (if t then released p else nothing p)
-whole_release s p kind body t e is = ap (λ (n : ℕ). at_end s p n body) e ∙ ap (λ (x : Bool). if x then released p else nothing p) is
+pub whole_release : (s : Settings) (p : Progress) (kind : ℕ) (body : List ℕ) (t : Bool) → kind ≡ 5 → is_established p.state ≡ t → at_end s p kind body ≡ (if t then released (deciding decision.Released p) else nothing p)
+whole_release s p kind body t e is = ap (λ (n : ℕ). at_end s p n body) e ∙ ap (λ (x : Bool). if x then released (deciding decision.Released p) else nothing p) is
 
 pub whole_other : (s : Settings) (p : Progress) (kind : ℕ) (body : List ℕ) → (kind ≡ 7 → ⊥) → (nat_eq kind 1 && is_due p.state) ≡ false → (kind ≡ 5 → ⊥) → at_end s p kind body ≡ nothing p
 whole_other s p kind body a b c =
     ap (λ (t : Bool). by_kind s p body t (nat_eq kind 1) (nat_eq kind 5)) (other_kind kind 7 a)
-    ∙ ap (λ (t : Bool). if t then at_request s p body else (if nat_eq kind 5 && is_established p.state then released p else nothing p)) b
+    ∙ ap (λ (t : Bool). if t then at_request s p body else (if nat_eq kind 5 && is_established p.state then released (deciding decision.Released p) else nothing p)) b
     ∙ ap (λ (t : Bool). by_kind s p body false false t) (other_kind kind 5 c)
 
 -- ---- bytes of a body that do not count
@@ -102,6 +104,7 @@ pends_recounted : (k : Kept) (store : Store) (q : Progress) (xs : List ℕ) → 
 pends_recounted k store q xs e h = record {
   state_is = h.state_is;
   refused_is = h.refused_is;
+  decided_is = h.decided_is;
   body_is = h.body_is ∙ e ∙ sym (none_counted_body q);
   join_is = h.join_is;
   agreed = h.agreed;

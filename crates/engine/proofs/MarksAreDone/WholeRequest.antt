@@ -1,7 +1,6 @@
 -- A whole association request is accepted or rejected as its entry says (`request_tries`), and a release request answered
 -- (`release_tries`). Stands on FieldsShow and StoresAreKept/DraftAndWalk.
-use Rattle.std.proofs.Common.{◌≡◌, ℕ, ◌<◌, ◌≤◌, Bool, true, false, not, ◌&&◌, List, [], length, Option, Some, None, Result, Ok, Err, OnErr, nat_eq, refl, ap, sym, subst, ◌∙◌, if◌then◌else◌, ◌⊎◌, inl, inr, arith}
-use Rattle.std.proofs.lemmas.Grind.{common_steps}
+use Rattle.std.proofs.Common.{◌≡◌, ℕ, ◌<◌, ◌≤◌, Bool, true, false, not, ◌&&◌, List, [], length, Option, Some, None, Result, Ok, Err, OnErr, nat_eq, refl, ap, sym, subst, ◌∙◌, if◌then◌else◌, ◌⊎◌, inl, inr}
 use Rattle.acceptor.specs.declared.state.State.{State}
 use Rattle.acceptor.specs.declared.state.State.TheVariants.{Sta2, Sta6, Sta8, Sta13}
 use Rattle.acceptor.specs.declared.action.Action.{Action}
@@ -25,9 +24,11 @@ use Rattle.negotiate.specs.Accept.{accept_text, answer_bytes, text_by}
 use Rattle.dimse.specs.Messages.{Begun, NoMessage}
 use Rattle.engine.specs.Requested as requested
 use Rattle.engine.specs.Requested.{Requested}
-use Rattle.engine.specs.Progress.{Progress, Advance, at_start, left, done, is_due, is_established}
+use Rattle.decisions.specs.declared.decision.Decision.{Decision}
+use Rattle.decisions.specs.declared.decision.Decision.TheVariants as decision
+use Rattle.engine.specs.Progress.{Progress, Advance, at_start, left, deciding, done, is_due, is_established}
 use Rattle.engine.specs.Held.{is_ended}
-use Rattle.engine.specs.Requests.{keeping, accepting, declined, answered, at_request}
+use Rattle.engine.specs.Requests.{keeping, accepting, declined, judged_so, at_request}
 use Rattle.engine.specs.Devices.{devices}
 use Rattle.engine.specs.Run.{released}
 use Rattle.engine.specs.Kept.{Kept, Pends, Agreed, counted_pdv}
@@ -43,27 +44,28 @@ use Rattle.negotiate.specs.Taken.{Taken}
 
 -- what a request comes to, by its fault and its answer
 abbrev by_fault : Settings → List ℕ → Progress → Option PduFault → Answer → Advance
-by_fault s body p (Some fault) a = done [] 6 p event.Invalid
-by_fault s body p None a = answered s (request_record body) (keeping s body p) a
+by_fault s body p (Some fault) a = done [] 6 (deciding (decision.RequestInvalid fault) p) event.Invalid
+by_fault s body p None a = judged_so s body p a
 
 elim_is : (s : Settings) (p : Progress) (body : List ℕ) (o : Option PduFault) →
-    ◌≡◌ {A = Advance} (elim o [ Some fault ↦ done [] 6 p event.Invalid | None ↦ answered s (request_record body) (keeping s body p) (judged s (request_record body)) ])
+    ◌≡◌ {A = Advance} (elim o [ Some fault ↦ done [] 6 (deciding (decision.RequestInvalid fault) p) event.Invalid | None ↦ judged_so s body p (judged s (request_record body)) ])
     (by_fault s body p o (judged s (request_record body)))
-elim_is s p body o = grind (arith, common_steps)
+elim_is s p body None = refl
+elim_is s p body (Some fault) = refl
 
 request_is : (s : Settings) (p : Progress) (body : List ℕ) → at_request s p body ≡ by_fault s body p (request_fault body) (judged s (request_record body))
 request_is s p body = elim_is s p body (request_fault body)
 
 module _ (s : Settings) (body : List ℕ) (none : request_fault body ≡ None) where
-  good_request : (p : Progress) → at_request s p body ≡ answered s (request_record body) (keeping s body p) (judged s (request_record body))
+  good_request : (p : Progress) → at_request s p body ≡ judged_so s body p (judged s (request_record body))
   good_request p = request_is s p body ∙ ap (λ (o : Option PduFault). by_fault s body p o (judged s (request_record body))) none
 
-  pub accepted_request : (p : Progress) → judged s (request_record body) ≡ Accept → at_request s p body ≡ accepting (keeping s body p) (accept_text s (request_record body))
-  accepted_request p e = good_request p ∙ ap (λ (a : Answer). answered s (request_record body) (keeping s body p) a) e
+  pub accepted_request : (p : Progress) → judged s (request_record body) ≡ Accept → at_request s p body ≡ accepting (keeping s body (deciding (decision.RequestJudged Accept) p)) (accept_text s (request_record body))
+  accepted_request p e = good_request p ∙ ap (judged_so s body p) e
 
   pub rejected_request : (p : Progress) (x b c : ℕ) → judged s (request_record body) ≡ Reject x b c
-      → at_request s p body ≡ (if nat_eq b 2 then done (reject_text x b c) 0 (keeping s body p) event.UnacceptableRq else declined (keeping s body p) (reject_text x b c))
-  rejected_request p x b c e = good_request p ∙ ap (λ (a : Answer). answered s (request_record body) (keeping s body p) a) e
+      → at_request s p body ≡ (if nat_eq b 2 then done (reject_text x b c) 0 (keeping s body (deciding (decision.RequestJudged (Reject x b c)) p)) event.UnacceptableRq else declined (keeping s body (deciding (decision.RequestJudged (Reject x b c)) p)) (reject_text x b c))
+  rejected_request p x b c e = good_request p ∙ ap (judged_so s body p) e
 
 -- ---- the code's steps from Sta2
 
@@ -92,12 +94,27 @@ module _ (s : Settings) (body : List ℕ) (st : State) (due : st ≡ Sta2) (none
   if_sent false text q e = ap (λ (y : State). step_text (table y event.AcceptableRq).1 event.UserRefuses 0 text) due ∙ sym (ap (λ (y : State). (declined (record q { state = y }) text).sent) e)
 
   pub rejection_state : (x b c : ℕ) → judged s (request_record body) ≡ Reject x b c → rejected_state st b ≡ (at_request s at_start body).next.state
-  rejection_state x b c e = if_state (nat_eq b 2) (reject_text x b c) (keeping s body at_start) refl ∙ ap (λ (g : Advance). g.next.state) (sym (rejected_request s body none at_start x b c e))
+  rejection_state x b c e = if_state (nat_eq b 2) (reject_text x b c) (keeping s body (deciding (decision.RequestJudged (Reject x b c)) at_start)) refl ∙ ap (λ (g : Advance). g.next.state) (sym (rejected_request s body none at_start x b c e))
 
   pub rejection_sent : (x b c : ℕ) (q : RequestRecord) → q ≡ request_record body → judged s (request_record body) ≡ Reject x b c → rejected_text st b (answer_bytes s q) ≡ (at_request s at_start body).sent
   rejection_sent x b c q f e =
       ap (λ (r : RequestRecord). rejected_text st b (answer_bytes s r)) f ∙ ap (λ (a : Answer). rejected_text st b (text_by a s (request_record body))) e
-      ∙ if_sent (nat_eq b 2) (reject_text x b c) (keeping s body at_start) refl ∙ ap (λ (g : Advance). g.sent) (sym (rejected_request s body none at_start x b c e))
+      ∙ if_sent (nat_eq b 2) (reject_text x b c) (keeping s body (deciding (decision.RequestJudged (Reject x b c)) at_start)) refl ∙ ap (λ (g : Advance). g.sent) (sym (rejected_request s body none at_start x b c e))
+
+  -- what is decided, whatever it is
+  if_decided : (t : Bool) (text : List ℕ) (d : Decision) → d ≡ (if t then done text 0 (keeping s body (deciding d at_start)) event.UnacceptableRq else declined (keeping s body (deciding d at_start)) text).next.decided
+  if_decided true text d = refl
+  if_decided false text d = refl
+
+  pub rejection_decided : (x b c : ℕ) → judged s (request_record body) ≡ Reject x b c → decision.RequestJudged (Reject x b c) ≡ (at_request s at_start body).next.decided
+  rejection_decided x b c e = if_decided (nat_eq b 2) (reject_text x b c) (decision.RequestJudged (Reject x b c)) ∙ ap (λ (g : Advance). g.next.decided) (sym (rejected_request s body none at_start x b c e))
+
+  pub accepted_decided : judged s (request_record body) ≡ Accept → decision.RequestJudged Accept ≡ (at_request s at_start body).next.decided
+  accepted_decided e = ap (λ (g : Advance). g.next.decided) (sym (accepted_request s body none at_start e))
+
+pub invalid_decided : (s : Settings) (body : List ℕ) (fault : PduFault) → request_fault body ≡ Some fault → decision.RequestInvalid fault ≡ (at_request s at_start body).next.decided
+invalid_decided s body fault e =
+    ap (λ (o : Option PduFault). (by_fault s body at_start o (judged s (request_record body))).next.decided) (sym e) ∙ ap (λ (g : Advance). g.next.decided) (sym (request_is s at_start body))
 
 -- ---- in any progress that awaits a request
 
@@ -108,17 +125,19 @@ asked additional body = record { additional = additional; body = body }
 -- the association is left, or established with this request
 abbrev pub LeavesOrStands : Taken → List ℕ → Progress → Advance → Advance → Type 0
 LeavesOrStands additional body p g first =
-    (g.sent ≡ first.sent) × (g.files ≡ []) × (((first.next.state ≡ Sta13) × (g.next ≡ left Sta13 p)) ⊎ ((first.next.state ≡ Sta6) × (g.next ≡ record p { state = Sta6; request = asked additional body })))
+    (g.sent ≡ first.sent) × (g.files ≡ []) × (((first.next.state ≡ Sta13) × (g.next ≡ left Sta13 (deciding first.next.decided p)))
+    ⊎ ((first.next.state ≡ Sta6) × (g.next ≡ record p { state = Sta6; request = asked additional body; decided = first.next.decided })))
 
-rejects : (s : Settings) (body : List ℕ) (p : Progress) (t : Bool) (text : List ℕ) → p.state ≡ Sta2
-    → LeavesOrStands s.additional body p (if t then done text 0 (keeping s body p) event.UnacceptableRq else declined (keeping s body p) text) (if t then done text 0 (keeping s body at_start) event.UnacceptableRq else declined (keeping s body at_start) text)
-rejects s body p true text e = subst (λ (y : State). LeavesOrStands s.additional body (record p { state = y }) (done text 0 (keeping s body (record p { state = y })) event.UnacceptableRq) (done text 0 (keeping s body at_start) event.UnacceptableRq)) (sym e) (refl, refl, inl (refl, refl))
-rejects s body p false text e = subst (λ (y : State). LeavesOrStands s.additional body (record p { state = y }) (declined (keeping s body (record p { state = y })) text) (declined (keeping s body at_start) text)) (sym e) (refl, refl, inl (refl, refl))
+rejects : (s : Settings) (body : List ℕ) (p : Progress) (d : Decision) (t : Bool) (text : List ℕ) → p.state ≡ Sta2
+    → LeavesOrStands s.additional body p (if t then done text 0 (keeping s body (deciding d p)) event.UnacceptableRq else declined (keeping s body (deciding d p)) text)
+    (if t then done text 0 (keeping s body (deciding d at_start)) event.UnacceptableRq else declined (keeping s body (deciding d at_start)) text)
+rejects s body p d true text e = subst (λ (y : State). LeavesOrStands s.additional body (record p { state = y }) (done text 0 (keeping s body (deciding d (record p { state = y }))) event.UnacceptableRq) (done text 0 (keeping s body (deciding d at_start)) event.UnacceptableRq)) (sym e) (refl, refl, inl (refl, refl))
+rejects s body p d false text e = subst (λ (y : State). LeavesOrStands s.additional body (record p { state = y }) (declined (keeping s body (deciding d (record p { state = y }))) text) (declined (keeping s body (deciding d at_start)) text)) (sym e) (refl, refl, inl (refl, refl))
 
 comes_to : (s : Settings) (body : List ℕ) (p : Progress) (o : Option PduFault) (a : Answer) → p.state ≡ Sta2 → LeavesOrStands s.additional body p (by_fault s body p o a) (by_fault s body at_start o a)
 comes_to s body p (Some f) a e = subst (λ (y : State). LeavesOrStands s.additional body (record p { state = y }) (by_fault s body (record p { state = y }) (Some f) a) (by_fault s body at_start (Some f) a)) (sym e) (refl, refl, inl (refl, refl))
 comes_to s body p None Accept e = subst (λ (y : State). LeavesOrStands s.additional body (record p { state = y }) (by_fault s body (record p { state = y }) None Accept) (by_fault s body at_start None Accept)) (sym e) (refl, refl, inr (refl, refl))
-comes_to s body p None (Reject x b c) e = rejects s body p (nat_eq b 2) (reject_text x b c) e
+comes_to s body p None (Reject x b c) e = rejects s body p (decision.RequestJudged (Reject x b c)) (nat_eq b 2) (reject_text x b c) e
 
 pub request_comes : (s : Settings) (body : List ℕ) (p : Progress) → p.state ≡ Sta2 → LeavesOrStands s.additional body p (at_request s p body) (at_request s at_start body)
 request_comes s body p e =
@@ -144,10 +163,10 @@ pends_due p old store body h due r =
 quiet_between : (p : Progress) → p.message ≡ NoMessage → so_far p [] ≡ NoMessage
 quiet_between p none = ap (λ (xs : List ℕ). with_pdv xs p.message) (none_counted_pdv p) ∙ none
 
-stood : (additional : Taken) (p : Progress) (body : List ℕ) (old given new : Kept) (store : Store) → Pends old store p body [] → old.state ≡ Sta2 → given.refused ≡ old.refused
-    → new ≡ record given { state = Sta6 } → IsEstablishedBy given (requested.request_record (asked additional body)) → Pends new store (record p { state = Sta6; request = asked additional body }) body []
-stood additional p body old given new store h due same is fresh =
-    let q = record p { state = Sta6; request = asked additional body } in
+stood : (additional : Taken) (p : Progress) (d : Decision) (body : List ℕ) (old given new : Kept) (store : Store) → Pends old store p body [] → old.state ≡ Sta2 → given.refused ≡ old.refused → given.decided ≡ d
+    → new ≡ record given { state = Sta6 } → IsEstablishedBy given (requested.request_record (asked additional body)) → Pends new store (record p { state = Sta6; request = asked additional body; decided = d }) body []
+stood additional p d body old given new store h due same told is fresh =
+    let q = record p { state = Sta6; request = asked additional body; decided = d } in
     let two : p.state ≡ Sta2 = sym h.state_is ∙ due in
     let none = h.none_left (ap is_established two) in
     let c = none_carried given.depth given.most given.storing store (asked additional body) (so_far q []) p.filing_failed fresh.storing (no_store (asked additional body) (so_far q []) (quiet_between q none)) in
@@ -155,6 +174,7 @@ stood additional p body old given new store h due same is fresh =
     (record {
       state_is = refl;
       refused_is = λ n. same ∙ h.refused_is (ap is_ended two);
+      decided_is = λ n. told;
       body_is = fresh.body;
       join_is = subst (λ (m : Begun). ShowsMessage given.room given.join m (counted_pdv q [])) (sym none) (subst (λ (xs : List ℕ). ShowsMessage given.room given.join NoMessage xs) (sym (not_taken Sta6 p.refused)) fresh.join);
       agreed = λ six. fresh.agreed;
@@ -167,24 +187,24 @@ stood additional p body old given new store h due same is fresh =
 
 -- the request that is whole was answered, or the wire failed
 module _ (additional : Taken) (p : Progress) (g first : Advance) (body : List ℕ) (n : State) (old given new : Kept) (lo ln : Line) (so sn : Store) where
-  pends_answered : Pends old so p body [] → old.state ≡ Sta2 → given.refused ≡ old.refused → LeavesOrStands additional body p g first → n ≡ first.next.state → ComesTo n (Ok tt) given new so sn
+  pends_answered : Pends old so p body [] → old.state ≡ Sta2 → given.refused ≡ old.refused → given.decided ≡ first.next.decided → LeavesOrStands additional body p g first → n ≡ first.next.state → ComesTo n (Ok tt) given new so sn
       → (n ≡ Sta6 → IsEstablishedBy given (requested.request_record (asked additional body))) → Pends new sn g.next body []
-  pends_answered h due same (sent, files, inl (st, is)) e settles fresh =
+  pends_answered h due same told (sent, files, inl (st, is)) e settles fresh =
       let gone : is_left new.state ≡ true = ap is_left (settles.state_is ∙ e ∙ st) in
       subst (λ (q : Progress). Pends new sn q body []) (sym is)
-      (pends_left Sta13 p new sn body [] refl (settles.state_is ∙ e ∙ st) (settles.refused ∙ same ∙ h.refused_is (ap is_ended (sym h.state_is ∙ due))) (settles.left gone))
-  pends_answered h due same (sent, files, inr (st, is)) e settles fresh =
+      (pends_left Sta13 (deciding first.next.decided p) new sn body [] refl (settles.state_is ∙ e ∙ st) (settles.refused ∙ same ∙ h.refused_is (ap is_ended (sym h.state_is ∙ due))) (settles.decided ∙ told) (settles.left gone))
+  pends_answered h due same told (sent, files, inr (st, is)) e settles fresh =
       let six : new.state ≡ Sta6 = settles.state_is ∙ e ∙ st in
       subst (λ (x : Store). Pends new x g.next body []) (sym (settles.store_same (ap is_left six)))
       (subst (λ (q : Progress). Pends new so q body []) (sym is)
-      (stood additional p body old given new so h due same (settles.same (ap is_left six) ∙ ap (λ (y : State). record given { state = y }) six) (fresh (e ∙ st))))
+      (stood additional p first.next.decided body old given new so h due same told (settles.same (ap is_left six) ∙ ap (λ (y : State). record given { state = y }) six) (fresh (e ∙ st))))
 
-  tries_answered : (r : Result (Unit {0}) WireFailed) → Pends old so p body [] → old.state ≡ Sta2 → given.refused ≡ old.refused → LeavesOrStands additional body p g first → n ≡ first.next.state → ComesTo n r given new so sn
+  tries_answered : (r : Result (Unit {0}) WireFailed) → Pends old so p body [] → old.state ≡ Sta2 → given.refused ≡ old.refused → given.decided ≡ first.next.decided → LeavesOrStands additional body p g first → n ≡ first.next.state → ComesTo n r given new so sn
       → (n ≡ Sta6 → IsEstablishedBy given (requested.request_record (asked additional body)))
       → Sends first.sent r lo ln → OnErr r (0 < length first.sent) → PerformsReaction p g new body [] (devices lo so) (devices ln sn)
-  tries_answered (Ok u) h due same c e settles fresh sends some =
-      record { wire = None; fair = tt; pends = pends_answered h due same c e settles fresh; line = sends ∙ ap (λ (t : List ℕ). sent_all t lo) (sym c.0); unfiled = settles.unfiled }
-  tries_answered (Err f) h due same c e settles fresh sends some =
+  tries_answered (Ok u) h due same told c e settles fresh sends some =
+      record { wire = None; fair = tt; pends = pends_answered h due same told c e settles fresh; line = sends ∙ ap (λ (t : List ℕ). sent_all t lo) (sym c.0); unfiled = settles.unfiled }
+  tries_answered (Err f) h due same told c e settles fresh sends some =
       record {
         wire = Some sends.count;
         fair = subst (λ (t : List ℕ). (0 < length t) × (sends.count ≤ length t)) (sym c.0) (some, sends.few);
@@ -195,13 +215,13 @@ module _ (additional : Taken) (p : Progress) (g first : Advance) (body : List �
 
 -- `given` is what is kept before the answer's result is known
 pub request_tries : (s : Settings) (p : Progress) (body : List ℕ) (n : State) (r : Result (Unit {0}) WireFailed) (old given new : Kept) (lo ln : Line) (so sn : Store)
-    → Pends old so p body [] → old.state ≡ Sta2 → p.refused ≡ false → given.refused ≡ old.refused → n ≡ (at_request s at_start old.body).next.state → ComesTo n r given new so sn
+    → Pends old so p body [] → old.state ≡ Sta2 → p.refused ≡ false → given.refused ≡ old.refused → given.decided ≡ (at_request s at_start old.body).next.decided → n ≡ (at_request s at_start old.body).next.state → ComesTo n r given new so sn
     → (n ≡ Sta6 → IsEstablishedBy given (requested.request_record (asked s.additional old.body)))
     → Sends (at_request s at_start old.body).sent r lo ln → OnErr r (0 < length (at_request s at_start old.body).sent)
     → PerformsReaction p (at_request s p body) new body [] (devices lo so) (devices ln sn)
-request_tries s p body n r old given new lo ln so sn h due unrefused kept state settles fresh sends some =
+request_tries s p body n r old given new lo ln so sn h due unrefused kept told state settles fresh sends some =
     let same = pends_due p old so body h due unrefused in
-    tries_answered s.additional p (at_request s p body) (at_request s at_start body) body n old given new lo ln so sn r h due kept (request_comes s body p (sym h.state_is ∙ due))
+    tries_answered s.additional p (at_request s p body) (at_request s at_start body) body n old given new lo ln so sn r h due kept (told ∙ ap (λ (b : List ℕ). (at_request s at_start b).next.decided) same) (request_comes s body p (sym h.state_is ∙ due))
     (state ∙ ap (λ (b : List ℕ). (at_request s at_start b).next.state) same) settles
     (λ six. subst (λ (b : List ℕ). IsEstablishedBy given (requested.request_record (asked s.additional b))) same (fresh six))
     (subst (λ (b : List ℕ). Sends (at_request s at_start b).sent r lo ln) same sends)
@@ -217,7 +237,7 @@ tries_left p g n (Ok u) old new body begun lo ln so sn h six e next settles send
       wire = None;
       fair = tt;
       pends = subst (λ (q : Progress). Pends new sn q body begun) (sym next)
-          (pends_left Sta13 p new sn body begun refl (settles.state_is ∙ e) (settles.refused ∙ h.refused_is (ap is_ended six)) (settles.left gone));
+          (pends_left Sta13 p new sn body begun refl (settles.state_is ∙ e) (settles.refused ∙ h.refused_is (ap is_ended six)) (settles.decided ∙ h.decided_is (ap is_ended six)) (settles.left gone));
       line = sends;
       unfiled = settles.unfiled;
     }

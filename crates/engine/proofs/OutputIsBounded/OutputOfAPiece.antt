@@ -41,9 +41,14 @@ use Rattle.dimse.specs.Reading.{command_in}
 use Rattle.dimse.proofs.Public.{reply_bounded}
 use Rattle.engine.specs.Heads.{HeadEvent, NoEvent, AtOnce, TooLong, head_event, invalid_parameter}
 use Rattle.engine.specs.Inputs.{Bytes}
-use Rattle.engine.specs.Progress.{Progress, Advance, absorb, nothing, followed_by, done, refusing, is_due, is_established}
-use Rattle.engine.specs.Replies.{invalid, user_aborts, aborted_if_refused, replied, finding_on, going_on}
-use Rattle.engine.specs.Requests.{keeping, accepting, declined, answered}
+use Rattle.decisions.specs.declared.decision.Decision.{Decision}
+use Rattle.decisions.specs.declared.decision.Decision.TheVariants as decision
+use Rattle.decisions.specs.ValueEnds.{value_end}
+use Rattle.pdu.specs.declared.head.PdvHead as declared
+use Rattle.dimse.specs.Messages as messages
+use Rattle.engine.specs.Progress.{Progress, Advance, deciding, absorb, nothing, followed_by, done, refusing, is_due, is_established}
+use Rattle.engine.specs.Replies.{invalid, user_aborts, value_head, aborted_if_refused, command_refused, replied, finding_on, going_on}
+use Rattle.engine.specs.Requests.{keeping, accepting, declined, answered, judged_so}
 use Rattle.engine.specs.Run.{Rooms, released, at_end, at_mark, at_entry, cut, gives, sent_of}
 use Rattle.engine.specs.Timeline.{At, Shut, TimedOut, Aborted, Entry, Finding, Happened, entries}
 use Rattle.engine.specs.OutputLaws.{FewMarks, AnswersHave, BoundedOutput, answer_length, FewBytesButAnswers, AnswersAreShort, StoriesAnswerShortly, OutputOfAPiece}
@@ -171,26 +176,28 @@ done_few answer reason p e = bytes_few answer (sending (table p.state e).0 (tabl
 followed_few : (g : Advance) (f : Progress → Advance) (m n : ℕ) → Few m g → Few n (f g.next) → Few (m + n) (followed_by g f)
 followed_few g f m n a b = omega (arith, length-append g.sent (f g.next).sent, a, b)
 
-head_few : (p : Progress) (n : ℕ) (h : HeadEvent) → Few (30 + n) (elim h [
+head_few : (p : Progress) (c d : Decision) (n : ℕ) (h : HeadEvent) → Few (30 + n) (elim h [
   | NoEvent ↦ nothing p
-  | AtOnce e reason ↦ refusing (done [] reason p e)
-  | TooLong ↦ refusing (done (reject_text rejected_transient service_provider_presentation local_limit_exceeded) 0 p event.UnacceptableRq)
+  | AtOnce e reason ↦ refusing (done [] reason (deciding c p) e)
+  | TooLong ↦ refusing (done (reject_text rejected_transient service_provider_presentation local_limit_exceeded) 0 (deciding d p) event.UnacceptableRq)
 ])
-head_few p n NoEvent = omega arith
-head_few p n (AtOnce e reason) = omega (arith, done_few [] reason p e)
-head_few p n TooLong = omega (arith, done_few (reject_text rejected_transient service_provider_presentation local_limit_exceeded) 0 p event.UnacceptableRq)
+head_few p c d n NoEvent = omega arith
+head_few p c d n (AtOnce e reason) = omega (arith, done_few [] reason (deciding c p) e)
+head_few p c d n TooLong = omega (arith, done_few (reject_text rejected_transient service_provider_presentation local_limit_exceeded) 0 (deciding d p) event.UnacceptableRq)
 
-pdv_head_few : (p : Progress) (refused : Option DimseFault) (known : Option Context) → Few 30 (elim known [ None ↦ invalid p | Some accepted ↦ aborted_if_refused refused p ])
-pdv_head_few p refused known = grind (arith, common_steps)
+pdv_head_few : (p : Progress) (head : declared.PdvHead) (refused : Option DimseFault) (known : Option Context) → Few 30 (elim known [ None ↦ invalid (deciding (decision.ContextRefused head) p) | Some accepted ↦ aborted_if_refused head refused p ])
+pdv_head_few p head refused None = omega (arith, done_few [] invalid_parameter (deciding (decision.ContextRefused head) p) event.Invalid)
+pdv_head_few p head None (Some accepted) = omega arith
+pdv_head_few p head (Some fault) (Some accepted) = omega (arith, done_few [] 0 (deciding (decision.FragmentRefused head fault) p) event.UserAborts)
 
-pdv_few : (p : Progress) (finding : Finding) (b : Brought) → Few (30 + elim b [ Goes begun ↦ 0 | Ends m ↦ length (replied p finding m (command_in m.command)).sent | Refuses fault ↦ 0 ]) (elim b [
+pdv_few : (p : Progress) (finding : Finding) (pdv : messages.Pdv) (b : Brought) → Few (30 + elim b [ Goes begun ↦ 0 | Ends m ↦ length (replied p finding m (command_in m.command)).sent | Refuses fault ↦ 0 ]) (elim b [
   | Goes begun ↦ nothing (going_on begun p)
   | Ends m ↦ replied p finding m (command_in m.command)
-  | Refuses fault ↦ user_aborts p
+  | Refuses fault ↦ user_aborts (deciding (command_refused p pdv fault) p)
 ])
-pdv_few p finding (Goes begun) = omega arith
-pdv_few p finding (Ends m) = omega arith
-pdv_few p finding (Refuses fault) = omega (arith, done_few [] 0 p event.UserAborts)
+pdv_few p finding pdv (Goes begun) = omega arith
+pdv_few p finding pdv (Ends m) = omega arith
+pdv_few p finding pdv (Refuses fault) = omega (arith, done_few [] 0 (deciding (command_refused p pdv fault) p) event.UserAborts)
 
 accepting_few : (p : Progress) (answer : List ℕ) → Few (20 + length answer) (accepting p answer)
 accepting_few p answer =
@@ -207,9 +214,10 @@ answered_few s r p Accept = let few = accepting_few p (accept_text s r) in omega
 answered_few s r p (Reject result source reason) =
     pick (nat_eq source 2) _ _ _ (omega (arith, done_few (reject_text result source reason) 0 p event.UnacceptableRq)) (omega (arith, declined_few p (reject_text result source reason)))
 
-request_few : (s : Settings) (p q : Progress) (r : RequestRecord) (a : Answer) (fault : Option PduFault) → Few (30 + elim fault [ None ↦ length (accept_text s r) | Some f ↦ 0 ]) (elim fault [ Some f ↦ done [] invalid_parameter p event.Invalid | None ↦ answered s r q a ])
-request_few s p q r a (Some f) = omega (arith, done_few [] invalid_parameter p event.Invalid)
-request_few s p q r a None = answered_few s r q a
+request_few : (s : Settings) (p : Progress) (body : List ℕ) (a : Answer) (fault : Option PduFault) → Few (30 + elim fault [ None ↦ length (accept_text s (request_record body)) | Some f ↦ 0 ])
+    (elim fault [ Some f ↦ done [] invalid_parameter (deciding (decision.RequestInvalid f) p) event.Invalid | None ↦ judged_so s body p a ])
+request_few s p body a (Some f) = omega (arith, done_few [] invalid_parameter (deciding (decision.RequestInvalid f) p) event.Invalid)
+request_few s p body a None = answered_few s (request_record body) (keeping s body (deciding (decision.RequestJudged a) p)) a
 
 released_few : (p : Progress) → Few 20 (released p)
 released_few p =
@@ -218,17 +226,17 @@ released_few p =
 
 end_few : (s : Settings) (p : Progress) (kind : ℕ) (body : List ℕ) → Few (30 + elim (request_fault body) [ None ↦ length (accept_text s (request_record body)) | Some f ↦ 0 ]) (at_end s p kind body)
 end_few s p kind body =
-    pick (nat_eq kind 7) _ _ _ (omega (arith, done_few [] 0 p event.Abort))
-    (pick (nat_eq kind 1 && is_due p.state) _ _ _ (request_few s p (keeping s body p) (request_record body) (judged s (request_record body)) (request_fault body))
-    (pick (nat_eq kind 5 && is_established p.state) _ _ _ (omega (arith, released_few p)) (omega arith)))
+    pick (nat_eq kind 7) _ _ _ (omega (arith, done_few [] 0 (deciding decision.Aborted p) event.Abort))
+    (pick (nat_eq kind 1 && is_due p.state) _ _ _ (request_few s p body (judged s (request_record body)) (request_fault body))
+    (pick (nat_eq kind 5 && is_established p.state) _ _ _ (omega (arith, released_few (deciding decision.Released p))) (omega arith)))
 
 module _ (rooms : Rooms) (s : Settings) where
   mark_few : (q : Progress) (finding : Finding) (mark : Mark) → Few (30 + answer_length s q finding (At mark)) (at_mark rooms s q finding mark)
-  mark_few q finding (Head kind n) = head_few q 0 (head_event (rooms.request - 12) s.max_pdu q.state kind n)
-  mark_few q finding (PdvHead n context control) = pick (is_established q.state) _ _ _ (pdv_head_few q (refusal rooms.command q.message n context control) (context_of (requested.request_record q.request) context)) (omega arith)
-  mark_few q finding (Pdv context control fragment) = pick (is_established q.state) _ _ _ (pdv_few q finding (brought q.message (record { context = context; control = control; fragment = fragment }))) (omega arith)
-  mark_few q finding BadPdv = pick (is_established q.state) _ _ _ (omega (arith, done_few [] invalid_parameter q event.Invalid)) (omega arith)
-  mark_few q finding Leftover = pick (is_established q.state) _ _ _ (omega (arith, done_few [] invalid_parameter q event.Invalid)) (omega arith)
+  mark_few q finding (Head kind n) = head_few q _ _ 0 (head_event (rooms.request - 12) s.max_pdu q.state kind n)
+  mark_few q finding (PdvHead n context control) = pick (is_established q.state) _ _ _ (pdv_head_few q (value_head n context control) (refusal rooms.command q.message n context control) (context_of (requested.request_record q.request) context)) (omega arith)
+  mark_few q finding (Pdv context control fragment) = pick (is_established q.state) _ _ _ (pdv_few q finding (record { context = context; control = control; fragment = fragment }) (brought q.message (record { context = context; control = control; fragment = fragment }))) (omega arith)
+  mark_few q finding BadPdv = pick (is_established q.state) _ _ _ (omega (arith, done_few [] invalid_parameter (deciding decision.ValueInvalid q) event.Invalid)) (omega arith)
+  mark_few q finding Leftover = pick (is_established q.state) _ _ _ (omega (arith, done_few [] invalid_parameter (deciding (decision.BytesLeft (value_end q.decided)) q) event.Invalid)) (omega arith)
   mark_few q finding (End kind body) = end_few s q kind body
 
   -- the later marks of a refused PDU give nothing
@@ -237,7 +245,7 @@ module _ (rooms : Rooms) (s : Settings) where
   later_few false p finding mark = mark_few p finding mark
 
   entry_few : (p : Progress) (finding : Finding) (e : Entry) → length (at_entry rooms s p finding e).sent ≤ 30 + answer_length s p finding e
-  entry_few p finding (At (Head kind n)) = head_few (record p { refused = false }) 0 (head_event (rooms.request - 12) s.max_pdu p.state kind n)
+  entry_few p finding (At (Head kind n)) = head_few (record p { refused = false; decided = decision.Nothing }) _ _ 0 (head_event (rooms.request - 12) s.max_pdu p.state kind n)
   entry_few p finding (At (PdvHead n context control)) = later_few p.refused p finding (PdvHead n context control)
   entry_few p finding (At (Pdv context control fragment)) = later_few p.refused p finding (Pdv context control fragment)
   entry_few p finding (At BadPdv) = later_few p.refused p finding BadPdv

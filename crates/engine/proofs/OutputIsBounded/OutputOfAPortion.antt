@@ -63,7 +63,7 @@ front_fragment left most r c f lt =
     by (in_head short) = absurd (omega (arith, short, f.headed))
     by (unfinished.in_fragment headed least fits short) = fits
 
-front_nothing : (q : Position) (r c : List ℕ) → At q r [] → length c < bytes_due q → new_marks r c ≡ []
+pub front_nothing : (q : Position) (r c : List ℕ) → At q r [] → length c < bytes_due q → new_marks r c ≡ []
 front_nothing (position.Head bytes) r c a lt = (head_part r c (omega (arith, lt, ap length a.bytes_are, length-append r c))).marks
 front_nothing (position.Body kind left) r c a lt = front_body kind left r c a lt
 front_nothing (position.PdvHead left bytes) r c a lt =
@@ -91,7 +91,7 @@ few_of_part q r (b ∷ bs) a le =
 
 -- ---- which entries a piece brings
 
-entries_of_piece : (before piece : List ℕ) → entries before (Bytes piece ∷ []) ≡ map timeline.At (new_marks before piece)
+pub entries_of_piece : (before piece : List ℕ) → entries before (Bytes piece ∷ []) ≡ map timeline.At (new_marks before piece)
 entries_of_piece before piece = append-nil (map timeline.At (new_marks before piece))
 
 of_bytes : (o : Opened) (e : Entry) (es : List Entry) → AreHeadedAt IsBytes o (e ∷ es) → IsOfBytes e
@@ -120,7 +120,7 @@ piece_of_bytes inputs piece h =
 -- ---- marks within a frame of which nothing counts
 
 module _ (rooms : Rooms) (s : Settings) where
-  inner_nothing : (p : Progress) (finding : Finding) (m : Mark) → IsInner m → takes_pdvs p ≡ false → at_entry rooms s p finding (timeline.At m) ≡ nothing p
+  pub inner_nothing : (p : Progress) (finding : Finding) (m : Mark) → IsInner m → takes_pdvs p ≡ false → at_entry rooms s p finding (timeline.At m) ≡ nothing p
   inner_nothing p finding (Head kind n) i t = absurd i
   inner_nothing p finding (PdvHead n context control) i t = dropped_by p _ t
   inner_nothing p finding (Pdv context control fragment) i t = dropped_by p _ t
@@ -131,11 +131,11 @@ module _ (rooms : Rooms) (s : Settings) where
   take_nothing : (k : ℕ) (xs : List ℕ) → xs ≡ [] → take k xs ≡ []
   take_nothing k xs h = grind (arith, common_steps)
 
-  cut_nothing : (wire : Option ℕ) (p : Progress) (g : Advance) → g.sent ≡ [] → (cut wire p g).sent ≡ []
+  pub cut_nothing : (wire : Option ℕ) (p : Progress) (g : Advance) → g.sent ≡ [] → (cut wire p g).sent ≡ []
   cut_nothing None p g e = e
   cut_nothing (Some k) p g e = take_nothing k g.sent e
 
-  still_uncounted : (wire : Option ℕ) (p q : Progress) → takes_pdvs q ≡ false → takes_pdvs (cut wire p (nothing q)).next ≡ false
+  pub still_uncounted : (wire : Option ℕ) (p q : Progress) → takes_pdvs q ≡ false → takes_pdvs (cut wire p (nothing q)).next ≡ false
   still_uncounted wire p q h = grind (arith, common_steps)
 
   -- what comes after them is all that is sent

@@ -24,7 +24,9 @@ use Rattle.dimse.specs.Messages.{Message, ended}
 use Rattle.part10.specs.Store.{Store}
 use Rattle.engine.specs.Timeline as timeline
 use Rattle.engine.specs.Timeline.{good}
-use Rattle.engine.specs.Progress.{Progress, Advance, absorb, nothing, is_due, is_established}
+use Rattle.decisions.specs.declared.decision.Decision.TheVariants as decision
+use Rattle.decisions.specs.ValueEnds.{value_end}
+use Rattle.engine.specs.Progress.{Progress, Advance, deciding, absorb, nothing, is_due, is_established}
 use Rattle.engine.specs.Devices.{Devices}
 use Rattle.engine.specs.Run.{Rooms, gives, progress_of}
 use Rattle.engine.specs.Reached.{takes_pdvs, begun_in}
@@ -86,6 +88,7 @@ pends_past k store p body other begun begun_too same t was =
     record {
       state_is = h.state_is;
       refused_is = h.refused_is;
+      decided_is = h.decided_is;
       body_is = h.body_is ∙ same;
       join_is = h.join_is;
       agreed = h.agreed;
@@ -225,8 +228,8 @@ module _ (rooms : Rooms) (set : Settings) where
   does_within p (Pdv context control fragment) k body begun d i t h =
       let pdv : messages.Pdv = record { context = context; control = control; fragment = fragment } in
       does_nothing rooms set p (timeline.At (Pdv context control fragment)) k body begun d (dropped_by p (at_pdv p good pdv) t) (no_message p (ended p.message pdv) t) h
-  does_within p BadPdv k body begun d i t h = does_nothing rooms set p (timeline.At BadPdv) k body begun d (dropped_by p (invalid p) t) tt h
-  does_within p Leftover k body begun d i t h = does_nothing rooms set p (timeline.At Leftover) k body begun d (dropped_by p (invalid p) t) tt h
+  does_within p BadPdv k body begun d i t h = does_nothing rooms set p (timeline.At BadPdv) k body begun d (dropped_by p (invalid (deciding decision.ValueInvalid p)) t) tt h
+  does_within p Leftover k body begun d i t h = does_nothing rooms set p (timeline.At Leftover) k body begun d (dropped_by p (invalid (deciding (decision.BytesLeft (value_end p.decided)) p)) t) tt h
   does_within p (End kind whole) k body begun d i t h = absurd i
 
   does_inner : (ms : List Mark) → AreInner ms → (p : Progress) (k : Kept) (body begun : List ℕ) (d : Devices) → takes_pdvs_in k ≡ false → Pends k d.store p body begun → DoesAll rooms set p (map timeline.At ms) k body begun d d

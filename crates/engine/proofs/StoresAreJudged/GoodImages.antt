@@ -32,14 +32,14 @@ use Rattle.engine.proofs.FieldsShow.TriedIsDone.{files_cut}
 
 -- ---- the entry where a message ends
 
-replied_by : (p : Progress) (finding : Finding) (m : Message) (b : Brought) → message_by b ≡ Some m → by_brought p finding b ≡ replied p finding m (command_in m.command)
-replied_by p finding m (Goes begun) k = absurd cc
-replied_by p finding m (Ends n) k = let same : n ≡ m = cc in ap (λ (z : Message). replied p finding z (command_in z.command)) same
-replied_by p finding m (Refuses fault) k = absurd cc
+replied_by : (p : Progress) (finding : Finding) (pdv : messages.Pdv) (m : Message) (b : Brought) → message_by b ≡ Some m → by_brought p finding pdv b ≡ replied p finding m (command_in m.command)
+replied_by p finding pdv m (Goes begun) k = absurd cc
+replied_by p finding pdv m (Ends n) k = let same : n ≡ m = cc in ap (λ (z : Message). replied p finding z (command_in z.command)) same
+replied_by p finding pdv m (Refuses fault) k = absurd cc
 
 -- what a message brings is the reply to it
 replied_at : (p : Progress) (finding : Finding) (pdv : messages.Pdv) (m : Message) → ended p.message pdv ≡ Some m → at_pdv p finding pdv ≡ replied p finding m (command_in m.command)
-replied_at p finding pdv m k = brought_is p finding (brought p.message pdv) ∙ replied_by p finding m (brought p.message pdv) k
+replied_at p finding pdv m k = brought_is p finding pdv (brought p.message pdv) ∙ replied_by p finding pdv m (brought p.message pdv) k
 
 -- PDVs count where a message may end
 chosen : (established refused : Bool) (ended : Option Message) (m : Message) (x y : Advance) → (if established && not refused then ended else None) ≡ Some m → (if refused then y else (if established then x else y)) ≡ x

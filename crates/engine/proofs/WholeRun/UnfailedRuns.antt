@@ -20,7 +20,8 @@ use Rattle.dimse.specs.Messages.{Message, Brought, Goes, Ends, Refuses, message_
 use Rattle.dimse.specs.Reply.{reply_bytes}
 use Rattle.dimse.specs.Status.{success}
 use Rattle.engine.specs.Timeline.{Entry, At, Shut, TimedOut, Aborted, Finding, Happened, entries_of}
-use Rattle.engine.specs.Progress.{Progress, Advance, at_start, absorb, is_established, nothing}
+use Rattle.decisions.specs.declared.decision.Decision.TheVariants as decision
+use Rattle.engine.specs.Progress.{Progress, Advance, at_start, deciding, absorb, is_established, nothing}
 use Rattle.engine.specs.Replies.{at_pdv, replied, finding_on, file_put, file_in, echo_status, ended_message}
 use Rattle.engine.specs.Run.{Rooms, at_entry, cut, gives, progress_of, sent_of, files_of, fails, counted, wire_failures, filing_failures}
 use Rattle.engine.specs.Fair.{IsFair, AreFair, IsVerdict, IsStory, message_at}
@@ -109,10 +110,12 @@ replied_same p f g m (Ok command) (inl echo) same =
     let files : file_put r m.context command m.set f ≡ file_put r m.context command m.set g =
     ap (λ (n : ℕ). if nat_eq n 0x0001 && nat_eq f.status success then file_in r (context_of r m.context) command m.set else []) echo
     ∙ sym (ap (λ (n : ℕ). if nat_eq n 0x0001 && nat_eq g.status success then file_in r (context_of r m.context) command m.set else []) echo) in
-    λ i. record { next = ended_message p; sent = reply_bytes command (findings i).status (findings i).detail m.context r.maximum; files = files i }
+    λ i. record { next = deciding (decision.Replied (findings i).status (findings i).detail) (ended_message p); sent = reply_bytes command (findings i).status (findings i).detail m.context r.maximum; files = files i }
 
-brought_same : (p : Progress) (f g : Finding) (b : Brought) → message_by b ≡ None → by_brought p f b ≡ by_brought p g b
-brought_same p f g b h = grind (arith, common_steps)
+brought_same : (p : Progress) (f g : Finding) (pdv : messages.Pdv) (b : Brought) → message_by b ≡ None → by_brought p f pdv b ≡ by_brought p g pdv b
+brought_same p f g pdv (Goes later) h = refl
+brought_same p f g pdv (Ends m) h = absurd cc
+brought_same p f g pdv (Refuses fault) h = refl
 
 -- no message ends
 chosen_none : (established refused : Bool) (ended : Option Message) (x y z : Advance) → (if established && not refused then ended else None) ≡ None → (ended ≡ None → x ≡ y)
@@ -128,7 +131,7 @@ module _ (rooms : Rooms) (s : Settings) where
   none_ended p f g context control fragment k =
       let pdv : messages.Pdv = record { context = context; control = control; fragment = fragment } in
       chosen_none (is_established p.state) p.refused (ended p.message pdv) (at_pdv p f pdv) (at_pdv p g pdv) (nothing p) k
-      (λ e. brought_is p f (brought p.message pdv) ∙ brought_same p f g (brought p.message pdv) e ∙ sym (brought_is p g (brought p.message pdv)))
+      (λ e. brought_is p f pdv (brought p.message pdv) ∙ brought_same p f g pdv (brought p.message pdv) e ∙ sym (brought_is p g pdv (brought p.message pdv)))
 
   ended_same : (p : Progress) (f g : Finding) (e : Entry) (m : Message) → message_at p e ≡ Some m → IsVerdict rooms s p f (Some m) → IsVerdict rooms s p g (Some m)
       → ((command : CommandRecord) → command_in m.command ≡ Ok command → command.field ≡ c_store → (context : Context) × (context_of (request_record p.request) m.context ≡ Some context))

@@ -32,7 +32,8 @@ TakesBody old new kind part store = (p : Progress) (body : List ℕ) → Pends o
 
 -- the head of a presentation data value
 abbrev pub TakesPdvHead : Rooms → Settings → Kept → Kept → PdvHead → Devices → Devices → Type 0
-TakesPdvHead rooms s old new head d e = (p : Progress) (begun : List ℕ) → length begun ≡ pdv_head_size → head ≡ pdv_head_of begun → Pends old d.store p [] [] → Does rooms s p (At (head_mark begun)) new [] begun d e
+TakesPdvHead rooms s old new head d e = (p : Progress) (begun : List ℕ) → length begun ≡ pdv_head_size → head ≡ pdv_head_of begun
+    → Pends old d.store p [] [] → Does rooms s p (At (head_mark begun)) new [] begun d e
 
 -- a part of a fragment
 abbrev pub TakesFragment : Rooms → Settings → Kept → Kept → List ℕ → Devices → Devices → Type 0

@@ -1,5 +1,5 @@
 -- The reaction that a call without devices returns: an event that is still to be performed, or nothing.
-use Rattle.std.specs.Prelude.{◌≡◌, ℕ, List, [], length}
+use Rattle.std.specs.Prelude.{◌≡◌, ℕ, List, [], length, if◌then◌else◌}
 use Rattle.acceptor.specs.declared.state.State.{State}
 use Rattle.acceptor.specs.declared.state.State.TheVariants.{Sta6}
 use Rattle.pdu.specs.declared.head.PdvHead.{PdvHead}
@@ -11,7 +11,10 @@ use Rattle.part10.specs.Store.{Store}
 use Rattle.engine.specs.declared.sending.Reaction.{Reaction}
 use Rattle.engine.specs.declared.sending.Reaction.TheVariants as due
 use Rattle.engine.specs.Timeline.{Entry, At, good}
-use Rattle.engine.specs.Progress.{Progress, Advance}
+use Rattle.decisions.specs.declared.decision.Decision.{Decision}
+use Rattle.engine.specs.Progress.{Progress, Advance, deciding, nothing}
+use Rattle.engine.specs.Reached.{takes_pdvs}
+use Rattle.engine.specs.Replies.{invalid}
 use Rattle.engine.specs.Run.{Rooms, at_entry}
 use Rattle.engine.specs.Kept.{Kept, Pends, body_in}
 use Rattle.engine.specs.machine.Answers.{due_at}
@@ -39,5 +42,9 @@ JudgesPdvHead rooms s old new head due store = (p : Progress) (begun : List ℕ)
     → LeavesDue (at_entry rooms s p good (At (head_mark begun))) due new store [] begun
 
 -- the same for the end of a PDU of this type, of whose body nothing is held any more
-abbrev pub JudgesEnd : Rooms → Settings → Kept → ℕ → Reaction → Store → Type 0
-JudgesEnd rooms s kept kind due store = (p : Progress) (body : List ℕ) → Pends kept store p (body_in kind body) [] → LeavesDue (at_entry rooms s p good (At (End kind body))) due kept store [] []
+abbrev pub JudgesEnd : Rooms → Settings → Kept → Kept → ℕ → Reaction → Store → Type 0
+JudgesEnd rooms s old new kind due store = (p : Progress) (body : List ℕ) → Pends old store p (body_in kind body) [] → LeavesDue (at_entry rooms s p good (At (End kind body))) due new store [] []
+
+-- the same for an invalid presentation data value, by which this is decided
+abbrev pub JudgesInvalid : Decision → Kept → Kept → Reaction → Store → Type 0
+JudgesInvalid decision old new due store = (p : Progress) → Pends old store p [] [] → LeavesDue (if takes_pdvs p then invalid (deciding decision p) else nothing p) due new store [] []

@@ -11,6 +11,7 @@ use Rattle.dimse.specs.Messages.{Message, Begun, NoMessage, InCommand, InSet}
 use Rattle.dimse.specs.Joining.{Joining}
 use Rattle.part10.specs.Store.{Store}
 use Rattle.engine.specs.Held.{is_ended}
+use Rattle.decisions.specs.declared.decision.Decision.{Decision}
 use Rattle.engine.specs.Timeline.{Finding}
 use Rattle.engine.specs.Progress.{Progress, absorb, is_established}
 use Rattle.engine.specs.Devices.{Devices, files_in, with_files, line_after, IsFront}
@@ -36,6 +37,7 @@ with_storing stored kept = record kept { storing = stored }
 pub record Aside (kept : Kept) (p : Progress) : Type 0 where
   pub state_is : kept.state ≡ p.state
   pub refused_is : is_ended p.state ≡ false → kept.refused ≡ p.refused
+  pub decided_is : is_ended p.state ≡ false → kept.decided ≡ p.decided
   pub body_is : kept.body ≡ counted_body p []
   pub agreed : p.state ≡ Sta6 → Agreed kept.caller kept.peer_max kept.table kept.additional (request_record p.request)
   pub unagreed : is_established p.state ≡ false → IsUnagreed kept.caller kept.peer_max kept.table
@@ -61,7 +63,8 @@ IsFrom request origin = IsPeerOf origin.peer.now (origin_settings origin).additi
 
 -- the effect of the end of a command set that announces a data set
 abbrev pub BeginsData : ℕ → Origin → List ℕ → Stored → Stored → Store → Store → Type 0
-BeginsData depth origin command stored_old stored_new old new = (request : Requested) → IsFrom request origin → stored_old ≡ Nothing → ((c : CommandRecord) → command_in command ≡ Ok c → c.with_data ≡ true)
+BeginsData depth origin command stored_old stored_new old new = (request : Requested)
+    → IsFrom request origin → stored_old ≡ Nothing → ((c : CommandRecord) → command_in command ≡ Ok c → c.with_data ≡ true)
     → Proceeds depth origin.config.now.max_data request (InSet origin.context command []) false stored_new old new
 
 -- the received parts of a whole message: its command set and its data set, or its command set alone if it announces
@@ -69,10 +72,11 @@ BeginsData depth origin command stored_old stored_new old new = (request : Reque
 abbrev pub HasCome : Message → Begun → Type 0
 HasCome m come = (come ≡ InSet m.context m.command m.set) ⊎ ((come ≡ InCommand m.context m.command) × ((c : CommandRecord) → command_in m.command ≡ Ok c → c.with_data ≡ false))
 
--- A whole message was answered, or the send failed: the bytes sent and the files stored are those of the finding on
--- it.
-pub record Ended (rooms : Rooms) (s : Settings) (p : Progress) (m : Message) (come : Begun) (result : Result (Unit {0}) WireFailed) (devices_old devices_new : Devices) : Type 0 where
+-- A whole message was answered, or the send failed: the bytes sent, the files stored and what is decided are those of
+-- the finding on it.
+pub record Ended (rooms : Rooms) (s : Settings) (p : Progress) (m : Message) (come : Begun) (decided : Decision) (result : Result (Unit {0}) WireFailed) (devices_old devices_new : Devices) : Type 0 where
   pub finding : Finding
+  pub decided_is : decided ≡ (replied p finding m (command_in m.command)).next.decided
   pub failed : Bool
   pub may : failed ≡ true → (p.filing_failed ≡ false) × InStore p.request come
   pub verdict : IsVerdict rooms s (absorb failed p) finding (Some m)
@@ -82,9 +86,10 @@ pub record Ended (rooms : Rooms) (s : Settings) (p : Progress) (m : Message) (co
   pub count : devices_new.store.failures ≡ devices_old.store.failures + counted failed
 
 -- the effect of the end of any message with this command set, in an association with these limits
-abbrev pub EndsMessage : ℕ → ℕ → ℕ → Origin → List ℕ → Stored → Result (Unit {0}) WireFailed → Devices → Devices → Type 0
+abbrev pub EndsMessage : ℕ → ℕ → ℕ → Origin → List ℕ → Stored → Decision × Result (Unit {0}) WireFailed → Devices → Devices → Type 0
 EndsMessage C V D origin command stored result d e = (A : ℕ) (p : Progress) (m : Message) (come : Begun) → IsFrom p.request origin → HasCome m come → command ≡ m.command → origin.context ≡ m.context
-    → Walks D origin.config.now.max_data p.request come stored → IsDraft p.request come p.filing_failed d.store (drafting_in stored) → Ended (rooms_of A C V D) (origin_settings origin) p m come result d e
+    → Walks D origin.config.now.max_data p.request come stored → IsDraft p.request come p.filing_failed d.store (drafting_in stored)
+    → Ended (rooms_of A C V D) (origin_settings origin) p m come result.0 result.1 d e
 
 -- the effect of the end of a message on the devices, and on the fields
 pub record Concludes (rooms : Rooms) (s : Settings) (p : Progress) (m : Message) (come : Begun) (new : Kept) (devices_old devices_new : Devices) : Type 0 where

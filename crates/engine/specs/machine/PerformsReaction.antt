@@ -64,6 +64,7 @@ with_state state kept = record kept { state = state }
 pub record ComesTo (state : State) (sent : Result (Unit {0}) WireFailed) (old new : Kept) (store_old store_new : Store) : Type 0 where
   pub state_is : new.state ≡ state_after sent state
   pub refused : new.refused ≡ old.refused
+  pub decided : new.decided ≡ old.decided
   pub left : is_left new.state ≡ true → IsLeft new
   pub same : is_left new.state ≡ false → new ≡ with_state new.state old
   pub store_same : is_left new.state ≡ false → store_new ≡ store_old

@@ -8,6 +8,7 @@ use crate::phase::{Message, Peer, Phase};
 use crate::provider::Provider;
 use crate::stores::Storing;
 use arrayvec::ArrayVec;
+use decisions::Decision;
 use dimse::Join;
 use negotiate::{Config, ContextRow};
 use pdu::Deframer;
@@ -20,11 +21,13 @@ fn fields<const A: usize, const C: usize, const V: usize, const D: usize>(
     let Provider {
         config,
         refused,
+        decided,
         phase,
     } = provider;
     let _: &Deframer = deframer;
     let _: &Config = config;
     let _: &bool = refused;
+    let _: &Decision = decided;
     match phase {
         Phase::AwaitingRequest { body } => {
             let _: &ArrayVec<u8, A> = body;

@@ -6,7 +6,7 @@ use crate::power::lives::{NEXT, open, replies_of, tried_states};
 use crate::power::mounted::Mounted;
 use crate::power::stores::{Life, first_life, second_life};
 use crate::power::trouble::{Act, Trouble};
-use part10::FolderFiling;
+use folder_filing::FolderFiling;
 use std::alloc::Global;
 use std::io;
 use std::io::ErrorKind;

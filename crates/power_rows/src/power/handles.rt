@@ -3,7 +3,7 @@
 use crate::power::disk::Shared;
 use crate::power::folder::Node;
 use crate::power::trouble::Act;
-use part10::StoredFile;
+use folder_filing::StoredFile;
 use std::fs::{Metadata, OpenFile, TryLockError};
 use std::io;
 use std::io::{Error, ErrorKind, Read, Seek, SeekFrom, Write};

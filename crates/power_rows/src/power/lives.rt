@@ -9,7 +9,7 @@ use crate::power::survivors::Tries;
 use fixtures::bytes::after_first;
 use fixtures::folders::is_filed;
 use fixtures::{Step, drive};
-use part10::{FolderFiling, FolderWriter};
+use folder_filing::{FolderFiling, FolderWriter};
 use std::alloc::Global;
 use std::io;
 

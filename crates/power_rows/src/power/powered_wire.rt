@@ -30,7 +30,7 @@ impl PoweredWire {
 }
 
 impl Wire for PoweredWire {
-    ghost line = { λ w. record { sent = None; failures = w.failures.total } };
+    ghost line = { λ w. record { sent = None; failures = w.failures } };
 
     fn send(&mut self, bytes: &[u8]) -> Result<(), WireFailed> {
         let has_power = match self.disk.try_borrow_mut() {

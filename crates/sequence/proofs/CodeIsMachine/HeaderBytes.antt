@@ -19,8 +19,8 @@ use Rattle.sequence.specs.machine.Keeping.{keeps, keep_header, keep_headed}
 use Rattle.sequence.specs.machine.State.{mode_of}
 use Rattle.sequence.specs.machine.Heading.{IsQuiet, IsEnd}
 use Rattle.sequence.specs.machine.Steps.{IsMade, IsTaken}
-use Rattle.sequence.specs.declared.rule.Rule.{Rule}
-use Rattle.sequence.specs.Names.{rule_number}
+use Rattle.element.specs.declared.rule.Rule.{Rule}
+use Rattle.element.specs.RuleNames.{rule_number}
 use Rattle.sequence.proofs.MachineStands.UnbrokenHeader.{on_tail}
 use Rattle.sequence.proofs.CodeIsMachine.WhereRulesBreak.{take_both}
 use Rattle.sequence.proofs.MachineStands.HeaderParts.{part_short}

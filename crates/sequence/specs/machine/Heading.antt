@@ -10,8 +10,8 @@ use Rattle.sequence.specs.declared.level.Scope.{Scope}
 use Rattle.sequence.specs.declared.spot.Spot.{Spot}
 use Rattle.sequence.specs.declared.shape.Shape.{Shape}
 use Rattle.sequence.specs.Shape.{shape}
-use Rattle.sequence.specs.declared.rule.Rule.{Rule}
-use Rattle.sequence.specs.Names.{rule_number}
+use Rattle.element.specs.declared.rule.Rule.{Rule}
+use Rattle.element.specs.RuleNames.{rule_number}
 use Rattle.sequence.specs.declared.reading.Front.{Front}
 use Rattle.sequence.specs.declared.heading.End.{End}
 use Rattle.sequence.specs.declared.heading.End.TheVariants as ends

@@ -6,8 +6,8 @@ use Rattle.sequence.specs.declared.spot.Bounds.{Bounds}
 use Rattle.sequence.specs.declared.spot.Spot.{Spot}
 use Rattle.element.specs.Header.{tag_at, is_plain, need, is_whole, header_at}
 use Rattle.element.specs.declared.tag.Tag.{Tag}
-use Rattle.sequence.specs.declared.rule.Rule.{Rule}
-use Rattle.sequence.specs.Names.{rule_number}
+use Rattle.element.specs.declared.rule.Rule.{Rule}
+use Rattle.element.specs.RuleNames.{rule_number}
 use Rattle.sequence.specs.Rules.{Limits, Broken, broken_tag, broken_need, broken_header, when}
 
 abbrev pub limits_by : List Want → Bounds → Limits

@@ -25,7 +25,8 @@ IsLength n = n ≢ undefined_length → IsEven n
 
 -- in a data set of encoding s these bytes lead to these levels, the innermost first, and contain these wanted values
 pub data Reaches (s : Coding) (ws : List Want) : Values → Scope → List Scope → List ℕ → Type 0 where
-  at_root : {es : Elements} {b : List ℕ} {last : ℕ} {values : Values} → DataSet s 0 es b → last ≡ last_of 0 es → values ≡ kept_of ws es → FitRooms ws es → Reaches s ws values (set_scope s None last) [] b
+  at_root : {es : Elements} {b : List ℕ} {last : ℕ} {values : Values}
+      → DataSet s 0 es b → last ≡ last_of 0 es → values ≡ kept_of ws es → FitRooms ws es → Reaches s ws values (set_scope s None last) [] b
   into_sequence : {s1 : Coding} {stop out : Option ℕ} {last : ℕ} {fs : List Scope} {q : List ℕ} {h : Header} {hb : List ℕ} {inner : Coding} {is : Items} {ib b : List ℕ} {k : ℕ} {values : Values}
       → Reaches s ws values (set_scope s1 out last) fs q → IsElement s1 last h hb → shape s1 h ≡ Sequence inner → IsLength h.length → h.length ≢ 0 → ItemList inner is ib
       → stop ≡ stop_of (length (q ++ hb)) h.length → k ≡ number h.tag → b ≡ q ++ (hb ++ ib)

@@ -10,6 +10,7 @@ use element::Tag;
 fn is_kept(stage: Stage) -> bool
     ensures { result ≡ is_kept stage }
 {
+    // One arm for each line of the definition: the proof goes through them one by one.
     match stage {
         Stage::Value { kept, .. } => kept,
         Stage::Heading => false,

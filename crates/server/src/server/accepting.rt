@@ -22,12 +22,12 @@ impl<R: Log + Clock, S: Files<File = File> + Alloc<A = Global> + Clone + Drop, P
     S,
     P,
 > {
-    /// Gives a connection that was accepted its place, or lets it wait.
+    /// Gives a connection that was accepted its slot, or lets it wait.
     fn admit(&mut self, accepted: AcceptedStream, now: Instant) {
         let logger = self.logger().about(accepted.peer);
         let peer = peer_number(accepted.peer.ip());
-        match self.places.admit(peer) {
-            Admission::Slot(place) => self.occupy_or_tell(accepted, place, now),
+        match self.occupancy.admit(peer) {
+            Admission::Slot(index) => self.occupy_or_tell(accepted, index, now),
             Admission::Full | Admission::PeerFull => {
                 if self.peer_told.is_due(now) {
                     logger.tell(&PeerFull(self.terms.per_peer as u64));
@@ -43,11 +43,11 @@ impl<R: Log + Clock, S: Files<File = File> + Alloc<A = Global> + Clone + Drop, P
         }
     }
 
-    /// Gives free places to those that wait for one, and then to those that are to be accepted.
+    /// Gives free slots to those that wait for one, and then to those that are to be accepted.
     pub(super) fn admit_all(&mut self, now: Instant) {
         for _ in 0..MOST_AT_ONCE {
-            match self.queue.admit(&mut self.places) {
-                Some((waiter, place)) => self.occupy_or_tell(waiter.waiting, place, now),
+            match self.queue.admit(&mut self.occupancy) {
+                Some((waiter, index)) => self.occupy_or_tell(waiter.waiting, index, now),
                 None => break,
             }
         }

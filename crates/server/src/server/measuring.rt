@@ -37,11 +37,11 @@ impl<R: Log + Clock, S: Files<File = File> + Alloc<A = Global> + Clone + Drop, P
     S,
     P,
 > {
-    /// Returns how many places have a connection.
+    /// Returns how many slots have a connection.
     fn taken(&self) -> u64 {
         let mut taken: u64 = 0;
-        for place in 0..self.slots.len() {
-            if self.is_taken(place) {
+        for index in 0..self.slots.len() {
+            if self.is_taken(index) {
                 taken = taken.saturating_add(1);
             }
         }

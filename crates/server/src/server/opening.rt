@@ -2,6 +2,7 @@
 ghost use Rattle.std.specs.Prelude.{◌≡◌, ◌+◌, length, vec_len, IfOk, OnOk};
 ghost use Rattle.std.specs.List.{All};
 ghost use Rattle.negotiate.specs.Settings.{settings_of};
+ghost use Rattle.server.specs.FolderStore.{folder_store};
 ghost use Rattle.server.specs.Histories.{AllEnded, slots_in};
 
 mod history;
@@ -16,6 +17,7 @@ use crate::socket::AcceptedStream;
 use crate::stopping::clear;
 use crate::terms::ServerTerms;
 use admitting::{Notice, Queue, Slots};
+use folder_filing::{FolderFiling, FolderWriter};
 pub(crate) use history::ClosedSlots;
 pub use history::{ServerHistory, SlotHistory};
 use journal::{Listening, Logger, Stopped};
@@ -23,7 +25,6 @@ use log::Log;
 use mio::net::TcpListener;
 use mio::{Events, Interest, Poll, Token};
 use negotiate::Config;
-use part10::{Filing, FolderFiling, FolderWriter};
 use std::alloc::{AllocError, AllocFailed, Global};
 use std::fs::File;
 use std::marker::Brand;
@@ -31,20 +32,6 @@ use std::net::Net;
 use std::rt::Files;
 use std::time::{Clock, Instant};
 use std::{io, net};
-
-/// Returns the filings of so many places, of which the first has this one.
-fn filings_of<S: Files<File = File> + Alloc<A = Global> + Clone + Drop>(
-    alloc: Global,
-    count: usize,
-    first: FolderFiling<S>,
-) -> Result<Vec<Option<FolderFiling<S>>>, AllocError> {
-    let mut filings = Vec::with_capacity(alloc, count)?;
-    filings.push(Some(first))?;
-    for _ in 1..count {
-        filings.push(None)?;
-    }
-    Ok(filings)
-}
 
 /// Returns what waits for the connections of this listener.
 fn watched<R: Net>(rt: &R, listener: net::TcpListener) -> io::Result<(Poll, TcpListener)> {
@@ -56,17 +43,17 @@ fn watched<R: Net>(rt: &R, listener: net::TcpListener) -> io::Result<(Poll, TcpL
     Ok((poll, listener))
 }
 
-/// Slots that are free, and room for those that wait for one.
+/// Which slots are occupied, which is none, and room for those that wait for one.
 #[derive(Drop)]
 struct Vacancies {
-    places: Slots<Global>,
+    occupancy: Slots<Global>,
     queue: Queue<AcceptedStream, Global>,
 }
 
-/// Returns the places of a server that is held to these terms.
+/// Returns the vacancies of a server that is held to these terms.
 fn vacancies_of(alloc: Global, terms: &ServerTerms<'_>) -> Result<Vacancies, AllocError> {
     Ok(Vacancies {
-        places: Slots::new(alloc, terms.at_once, terms.per_peer)?,
+        occupancy: Slots::new(alloc, terms.at_once, terms.per_peer)?,
         queue: Queue::new(alloc, terms.at_once)?,
     })
 }
@@ -110,8 +97,8 @@ fn make_first<R: Log + Clock, S: Files<File = File> + Alloc<A = Global> + Clone 
     }
 }
 
-/// Returns so many slots, of which the first has its memory, for connections that are held to this
-/// configuration.
+/// Returns so many slots, of which the first has its memory and this filing, for connections that are held
+/// to this configuration.
 fn slots_of<
     'a,
     R: Log + Clock,
@@ -120,14 +107,16 @@ fn slots_of<
 >(
     alloc: Global,
     count: usize,
+    filing: FolderFiling<S>,
     config: &Config,
     now: Instant,
 ) -> Result<Vec<Slot<'a, R, S, P>>, AllocError>
     ensures { IfOk result (λ slots. vec_len slots ≡ count) }
 {
     let mut slots = Vec::new(alloc);
+    let mut filing = Some(filing);
     for added in 0..count {
-        if let Err(AllocFailed { value }) = slots.push(Slot::new()) {
+        if let Err(AllocFailed { value }) = slots.push(Slot::new(filing.take())) {
             let mut closed = ClosedSlots::new();
             closed.push(value.close(now));
             let _history = close_all(slots, closed, now).into_history();
@@ -162,17 +151,15 @@ fn server_of<
     let vacancies = vacancies_of(alloc, &terms)?;
     let arrivals = Arrivals::new(alloc)?;
     let (folder, first) = filings;
-    let filings = filings_of(alloc, terms.at_once, first)?;
-    let Vacancies { places, queue } = vacancies;
-    let slots = slots_of(alloc, terms.at_once, terms.config, now)?;
+    let Vacancies { occupancy, queue } = vacancies;
+    let slots = slots_of(alloc, terms.at_once, first, terms.config, now)?;
     Ok(Server {
         rt,
         poll,
         listener,
         terms,
         folder,
-        filings,
-        places,
+        occupancy,
         slots,
         queue,
         is_open: true,
@@ -183,14 +170,14 @@ fn server_of<
         paused: None,
         looked: None,
         asked: None,
-        places_told: Notice::new(),
+        slots_told: Notice::new(),
         peer_told: Notice::new(),
         accept_told: Notice::new(),
     })
 }
 
 /// Removes the file that ends the server, if it is there, logs where the listener listens, and returns room for the
-/// events of as many connections as there are places, and of the listener.
+/// events of as many connections as there are slots, and of the listener.
 fn begin<R: Log + Clock + Alloc<A = Global>, S: Files>(
     rt: &R,
     listener: &net::TcpListener,
@@ -218,7 +205,7 @@ fn served<
     requires settings { settings_of terms.config.now ≡ P.settings }
     requires at_once { terms.at_once ≡ P.at_once }
     ensures all { OnOk result.1 (length (slots_in result.0) ≡ P.at_once) }
-    ensures ended { ∥ All (AllEnded ⟦<FolderFiling<S> as Filing>⟧.store P.settings) (slots_in result.0) ∥₁ }
+    ensures ended { ∥ All (AllEnded folder_store P.settings) (slots_in result.0) ∥₁ }
 {
     let mut events = match begin(rt, &listener, &terms, files) {
         Ok(events) => events,
@@ -235,8 +222,8 @@ fn served<
 }
 
 /// Serves the associations of the connections that this listener accepts, as many at once as there are
-/// places, until the file appears that ends the server, or only one where that was asked for. Logs what
-/// happens. The first place files by the filing that is handed in, each other one by one of the folder.
+/// slots, until the file appears that ends the server, or only one where that was asked for. Logs what
+/// happens. The first slot files by the filing that is handed in, each other one by one of the folder.
 /// Returns what there was of the connections, for contracts.
 ///
 /// Fails if the clock or the poll does, or if memory runs out at the start.
@@ -256,7 +243,7 @@ pub fn serve_many<
     folder: (FolderWriter<S>, FolderFiling<S>),
 ) -> (ServerHistory<FolderFiling<S>>, io::Result<()>)
     ensures all { OnOk result.1 (length (slots_in result.0) ≡ terms.entry.at_once) }
-    ensures ended { ∥ All (AllEnded ⟦<FolderFiling<S> as Filing>⟧.store (settings_of terms.entry.config.now)) (slots_in result.0) ∥₁ }
+    ensures ended { ∥ All (AllEnded folder_store (settings_of terms.entry.config.now)) (slots_in result.0) ∥₁ }
 {
     let (history, served) = served::<R, S, Brand>(rt, listener, terms, files, folder);
     if served.is_ok() {

@@ -40,15 +40,15 @@ impl<R: Log + Clock, S: Files<File = File> + Alloc<A = Global> + Clone + Drop, P
                 slot.start_writing();
             }
         }
-        for place in 0..self.slots.len() {
-            if let Some(slot) = self.slots.get_mut(place) {
+        for index in 0..self.slots.len() {
+            if let Some(slot) = self.slots.get_mut(index) {
                 slot.write_out();
             }
         }
         let are_named = self.sync_names();
-        for place in 0..self.slots.len() {
-            if self.settle(place, are_named, now) {
-                self.end(place, now);
+        for index in 0..self.slots.len() {
+            if self.settle(index, are_named, now) {
+                self.end(index, now);
             }
         }
     }
@@ -64,9 +64,9 @@ impl<R: Log + Clock, S: Files<File = File> + Alloc<A = Global> + Clone + Drop, P
         }
     }
 
-    /// Settles the file of a place, if one waits. Returns whether its connection is to be let go.
-    fn settle(&mut self, place: usize, are_named: bool, now: Instant) -> bool {
-        match self.slots.get_mut(place) {
+    /// Settles the file of a slot's connection, if one waits. Returns whether the connection is to be let go.
+    fn settle(&mut self, index: usize, are_named: bool, now: Instant) -> bool {
+        match self.slots.get_mut(index) {
             Some(slot) => slot.settle(are_named, now),
             None => false,
         }

@@ -1,4 +1,4 @@
-//! What the log tells of connections that wait for a place.
+//! What the log tells of connections that wait for a slot.
 use super::{LISTENER, Server};
 use crate::arrivals::note_waiting;
 use crate::policy::Policy;
@@ -17,11 +17,11 @@ impl<R: Log + Clock, S: Files<File = File> + Alloc<A = Global> + Clone + Drop, P
     S,
     P,
 > {
-    /// Logs that every place is taken, if a connection is known to wait for one; else has the poll tell
+    /// Logs that every slot is taken, if a connection is known to wait for one; else has the poll tell
     /// whether one does.
     pub(super) fn note_full(&mut self, now: Instant) {
         if self.arrivals.is_known() {
-            if self.terms.tells_full && self.places_told.is_due(now) {
+            if self.terms.tells_full && self.slots_told.is_due(now) {
                 self.logger().tell(&SlotsFull(self.terms.at_once as u64));
             }
         } else if self.arrivals.ask() {
@@ -31,7 +31,7 @@ impl<R: Log + Clock, S: Files<File = File> + Alloc<A = Global> + Clone + Drop, P
         }
     }
 
-    /// A connection of this peer was accepted: logs that it waited long, where there is one place alone.
+    /// A connection of this peer was accepted: logs that it waited long, where there is one slot alone.
     pub(super) fn note_accepted(&mut self, peer: SocketAddr, now: Instant) {
         let waited = self.arrivals.accept(now);
         if self.terms.at_once == 1 {

@@ -1,19 +1,21 @@
 //! What a connection does when it has its turn, and when its time is up.
-ghost use Rattle.std.specs.Prelude.{◌≡◌, ◌≢◌, ◌<◌, ◌+◌, ◌↔◌, Bool, List, [], length, true, false};
+ghost use Rattle.std.specs.Prelude.{◌≡◌, ◌≢◌, ◌≤◌, ◌<◌, ◌+◌, ◌↔◌, [], length, true, false};
 ghost use Rattle.element.specs.Numbers.{IsBytes};
 ghost use Rattle.engine.specs.Devices.{devices};
 ghost use Rattle.engine.specs.Drafts.{IsThere};
-ghost use Rattle.engine.specs.Fields.{association_in, drafting_of, fields_of, settings_in};
-ghost use Rattle.engine.specs.Inputs.{Received, input_of};
-ghost use Rattle.engine.specs.Moves.{Moved};
-ghost use Rattle.engine.specs.Stands.{Stands};
-ghost use Rattle.engine.specs.Timeline.{Happened};
+ghost use Rattle.engine.specs.Fields.{association_in, drafting_of, settings_in};
+ghost use Rattle.engine.specs.Inputs.{Bytes, input_of};
+ghost use Rattle.engine.specs.MovesOn.{EndsWithPart, RunsOn};
+ghost use Rattle.engine.specs.OutputLaws.{most_beside_answers};
 ghost use Rattle.engine.specs.declared.source.Input.TheVariants as kind;
-ghost use Rattle.serving.specs.Rooms.{served_rooms};
+ghost use Rattle.serving.specs.Capacities.{outbox_size};
+ghost use Rattle.serving.specs.Told.{TimelineGoesOn, KeepsDecision};
 
 use super::Connection;
 use crate::inbox::Arrival;
+use crate::link::Portion;
 use crate::memory::ServedAssociation;
+use crate::outbox::MOST_BESIDE_ANSWERS;
 use crate::waiting::Wait;
 use connection::{Observer, ReadEnd};
 use engine::Input;
@@ -23,13 +25,11 @@ use std::io::{Error, ErrorKind, Read, Write};
 use std::snapshot::Snapshot;
 use std::time::Instant;
 
-/// The bytes that an A-ABORT may take.
-const ABORT: usize = 30;
-
 /// A piece is of bytes.
 fn is_of_bytes(piece: &[u8])
     ensures { IsBytes piece.now }
 {
+    // The prover looks up what the type of a piece guarantees where the piece is named.
     let _piece = piece;
 }
 
@@ -68,12 +68,36 @@ fn take<W: Wire, F: Filing>(
     requires draft { IsThere (drafting_of (association_in running.old.value)) (F.store filing.old) }
     ensures draft { IsThere (drafting_of (association_in running.new.value)) (F.store filing.new) }
     ensures settings { settings_in (association_in running.new.value) ≡ settings_in (association_in running.old.value) }
-    ensures moved { (inputs : List Received) (story : List Happened) (failed : Bool)
-        → Stands served_rooms (settings_in (association_in running.old.value)) inputs story failed (fields_of (association_in running.old.value)) (F.store filing.old)
-        → Moved served_rooms (settings_in (association_in running.old.value)) inputs story failed (input_of input piece.now) (fields_of (association_in running.old.value)) (fields_of (association_in running.new.value))
+    ensures moved { RunsOn running.old.value running.new.value (input_of input piece.now)
         (devices (W.line wire.old) (F.store filing.old)) (devices (W.line wire.new) (F.store filing.new)) }
 {
     running.take(input, piece, wire, filing);
+}
+
+/// Has an association take a portion, where so many bytes complete a part of a PDU. Returns whether one is
+/// complete.
+///
+/// `whole`: if one is, the timeline goes on with the portion. `idle`: if none is, what was decided last is
+/// what was before. So what the association decides is told with the portion that completes a part.
+fn take_portion<W: Wire, F: Filing>(
+    running: &mut Box<ServedAssociation>,
+    piece: &[u8],
+    limit: usize,
+    wire: &mut W,
+    filing: &mut F,
+) -> bool
+    requires draft { IsThere (drafting_of (association_in running.old.value)) (F.store filing.old) }
+    requires ends { EndsWithPart (association_in running.old.value) limit }
+    requires within { length piece.now ≤ limit }
+    ensures draft { IsThere (drafting_of (association_in running.new.value)) (F.store filing.new) }
+    ensures settings { settings_in (association_in running.new.value) ≡ settings_in (association_in running.old.value) }
+    ensures moved { RunsOn running.old.value running.new.value (Bytes piece.now)
+        (devices (W.line wire.old) (F.store filing.old)) (devices (W.line wire.new) (F.store filing.new)) }
+    ensures whole { result ≡ true → TimelineGoesOn running.old.value piece.now (F.store filing.old) }
+    ensures idle { result ≡ false → KeepsDecision running.old.value running.new.value (F.store filing.old) }
+{
+    take(running, Input::Piece, piece, wire, filing);
+    piece.len() == limit
 }
 
 impl<S, F: Settling> Connection<S, F> {
@@ -84,7 +108,7 @@ impl<S, F: Settling> Connection<S, F> {
     fn give(&mut self, input: Input, now: Instant)
         requires open { is_ended (state_at self.old) ≡ false }
         requires no_piece { input ≢ kind.Piece }
-        requires room { input ≡ kind.LocalAbort → length (waiting_at self.old) + 30 < 18631 }
+        requires room { input ≡ kind.LocalAbort → length (waiting_at self.old) + most_beside_answers < outbox_size }
         requires closed { input ≡ kind.Closed → ∥ IsClosedAt self.old ∥₁ }
         ensures settings { settings_at self.new ≡ settings_at self.old }
         ensures opening { opening_of self.new ≡ opening_of self.old }
@@ -162,7 +186,7 @@ impl<S: Write, F: Settling> Connection<S, F> {
             return;
         }
         let waited = self.filing.waits();
-        if self.link.outbox.room() <= ABORT {
+        if self.link.outbox.room() <= MOST_BESIDE_ANSWERS {
             if waited {
                 return;
             }
@@ -234,7 +258,7 @@ impl<S: Write, F: Settling> Connection<S, F> {
             Wait::Left(_) => {}
             Wait::Expired => {
                 self.give(Input::Expired, now);
-                observer.read_ended(ReadEnd::Timer, &[]);
+                observer.read_ended(ReadEnd::Timer, 0);
             }
             Wait::Silent => self.end_silence(now, observer),
         }
@@ -254,7 +278,8 @@ impl<S: Read + Write, F: Settling> Connection<S, F> {
         ensures opening { opening_of self.new ≡ opening_of self.old }
         ensures nothing { result ≡ Arrival.Nothing → untaken_at self.new ≡ [] }
     {
-        let arrival = self.link.receive(self.running.input_limit().min(most));
+        let limit = self.running.input_limit();
+        let arrival = self.link.receive(limit.min(most));
         match arrival {
             Arrival::Nothing => {}
             Arrival::Bytes(len) => {
@@ -262,21 +287,27 @@ impl<S: Read + Write, F: Settling> Connection<S, F> {
                 is_of_bytes(piece);
                 self.received = self.received.saturating_add(len as u64);
                 self.given.push(&Input::Piece, piece);
-                take(
+                let is_complete = take_portion(
                     &mut self.running,
-                    Input::Piece,
                     piece,
+                    limit,
                     &mut self.link.outbox,
                     &mut self.filing,
                 );
-                self.link.show_taken(len, self.filing.waits(), observer);
+                let portion = Portion {
+                    len,
+                    is_complete,
+                    is_held: self.filing.waits(),
+                };
+                self.link
+                    .show_taken(portion, &self.running, &mut self.told, observer);
                 self.link.inbox.drop_front(len);
                 self.waiting.hear(now);
                 self.waiting.follow(now, self.running.state());
             }
             Arrival::End(end) => {
                 self.give(Input::Closed, now);
-                observer.read_ended(end, &[]);
+                observer.read_ended(end, 0);
             }
         }
         arrival

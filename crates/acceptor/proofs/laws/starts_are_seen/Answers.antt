@@ -1,4 +1,4 @@
-use Rattle.acceptor.proofs.TimerLemmas.{seen}
+use Rattle.acceptor.proofs.TimerStartsAreEntries.{seen}
 use Rattle.acceptor.proofs.laws.starts_are_seen.Goals as goal
 
 pub returns : goal.returns

@@ -1,4 +1,4 @@
-use Rattle.arguments.proofs.TableLemmas.{rules_more, rules_all}
+use Rattle.arguments.proofs.TableRowsAreAdded.{rules_more, rules_all}
 use Rattle.arguments.proofs.argument.add_arguments.Goals as goal
 
 pub loop-argument-preserved : goal.loop-argument-preserved

@@ -1,5 +1,5 @@
 use Rattle.std.proofs.Common.{rules, ◌≡◌, ◌++◌}
-use Rattle.arguments.proofs.CallersLemmas.{with_named}
+use Rattle.arguments.proofs.LinesGiveTheirTitles.{with_named}
 use Rattle.arguments.proofs.callers.callers_of.Goals as goal
 
 pub returns : goal.returns

@@ -1,7 +1,7 @@
 use Rattle.std.proofs.Common.{[], ◌∷◌, Some, map, ap, sym, ◌∙◌}
 use Rattle.std.proofs.lemmas.List.{map-append}
 use Rattle.element.specs.declared.title.AeTitle.{AeTitle}
-use Rattle.arguments.proofs.CallersLemmas.{title_more, no_title_more}
+use Rattle.arguments.proofs.LinesGiveTheirTitles.{title_more, no_title_more}
 use Rattle.arguments.proofs.callers.listed_titles.Goals as goal
 use Rattle.arguments.proofs.callers.listed_titles.Goals.{then-is_title_line+in_ok-title+else-is_full, else-is_title_line}
 

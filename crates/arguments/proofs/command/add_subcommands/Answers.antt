@@ -1,4 +1,4 @@
-use Rattle.arguments.proofs.TableLemmas.{commands_more, commands_all}
+use Rattle.arguments.proofs.TableRowsAreAdded.{commands_more, commands_all}
 use Rattle.arguments.proofs.command.add_subcommands.Goals as goal
 
 pub loop-subcommand-preserved : goal.loop-subcommand-preserved

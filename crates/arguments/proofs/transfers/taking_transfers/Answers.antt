@@ -1,5 +1,5 @@
 use Rattle.std.proofs.Common.{◌∙◌}
-use Rattle.arguments.proofs.TransferLemmas.{asks_all, asks_named}
+use Rattle.arguments.proofs.TransfersAreAsAsked.{asks_all, asks_named}
 use Rattle.arguments.proofs.transfers.taking_transfers.Goals as goal
 
 pub returns-then-all-clause-transfers : goal.returns-then-all-clause-transfers

@@ -1,7 +1,7 @@
 use Rattle.std.proofs.Common.{◌∙◌, ap, map, refl}
 use Rattle.clap.specs.Matches.{found_of}
 use Rattle.clap.proofs.WalkLemmas.{raw_values-rows}
-use Rattle.arguments.proofs.WordsLemmas.{values_by}
+use Rattle.arguments.proofs.SubcommandHasItsRows.{values_by}
 use Rattle.arguments.proofs.values.all_values.Goals as goal
 
 pub returns : goal.returns

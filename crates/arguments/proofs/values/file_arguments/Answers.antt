@@ -1,7 +1,7 @@
 use Rattle.std.proofs.Common.{sym, ◌∙◌, codes, ap, is_some, ◌&&◌, true}
 use Rattle.clap.specs.Matches.{found_of}
 use Rattle.clap.proofs.WalkLemmas.{first_value-rows}
-use Rattle.arguments.proofs.ValuesLemmas.{if_none}
+use Rattle.arguments.proofs.ValuesKeepTheirOrder.{if_none}
 use Rattle.arguments.proofs.values.file_arguments.Goals as goal
 
 pub returns-in_err-file-clause-none : goal.returns-in_err-file-clause-none

@@ -3,7 +3,7 @@ use Rattle.clap.specs.Matches.{found_of}
 use Rattle.clap.specs.Walk.{rows_of}
 use Rattle.clap.proofs.WalkLemmas.{first_value-rows, one_text-rows}
 use Rattle.arguments.specs.machine.Needs.{index_needs}
-use Rattle.arguments.proofs.ValuesLemmas.{if_none, missing}
+use Rattle.arguments.proofs.ValuesKeepTheirOrder.{if_none, missing}
 use Rattle.arguments.proofs.values.index_arguments.Goals as goal
 
 pub returns-in_err-get_str-clause-none : goal.returns-in_err-get_str-clause-none

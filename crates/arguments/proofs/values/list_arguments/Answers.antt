@@ -1,7 +1,7 @@
 use Rattle.std.proofs.Common.{sym, ◌∙◌, codes, ap, is_some, ◌&&◌, true}
 use Rattle.clap.specs.Matches.{found_of}
 use Rattle.clap.proofs.WalkLemmas.{first_value-rows, one_text-rows}
-use Rattle.arguments.proofs.ValuesLemmas.{if_none}
+use Rattle.arguments.proofs.ValuesKeepTheirOrder.{if_none}
 use Rattle.arguments.proofs.values.list_arguments.Goals as goal
 
 pub returns-in_err-dir-clause-none : goal.returns-in_err-dir-clause-none

@@ -1,7 +1,7 @@
 use Rattle.std.proofs.Common.{sym, ◌∙◌, codes, arith}
 use Rattle.clap.specs.Matches.{found_of}
 use Rattle.clap.proofs.WalkLemmas.{first_value-rows, one_text-rows}
-use Rattle.arguments.proofs.ValuesLemmas.{text_at}
+use Rattle.arguments.proofs.ValuesKeepTheirOrder.{text_at}
 use Rattle.arguments.proofs.values.serve_arguments.Goals as goal
 
 pub returns-clause-some : goal.returns-clause-some

@@ -2,7 +2,7 @@ use Rattle.std.proofs.Common.{◌∙◌, arith, length-set}
 use Rattle.clap.specs.Matches.{found_of}
 use Rattle.clap.specs.Walk.{rows_of}
 use Rattle.clap.proofs.WalkLemmas.{first_value-rows}
-use Rattle.arguments.proofs.ValuesLemmas.{texts_more, text_missing, if_none}
+use Rattle.arguments.proofs.ValuesKeepTheirOrder.{texts_more, text_missing, if_none}
 use Rattle.arguments.proofs.values.texts_of.Goals as goal
 
 pub returns-in_err-found-clause-none : goal.returns-in_err-found-clause-none

@@ -2,8 +2,8 @@ use Rattle.std.proofs.Common.{rules, ◌≤◌, ◌∙◌, ap, map, refl, length
 use Rattle.std.proofs.lemmas.List.{take_all}
 use Rattle.clap.specs.Matches.{found_of}
 use Rattle.clap.proofs.WalkLemmas.{raw_values-rows}
-use Rattle.arguments.proofs.WordsLemmas.{values_by}
-use Rattle.arguments.proofs.ValuesLemmas.{too_many}
+use Rattle.arguments.proofs.SubcommandHasItsRows.{values_by}
+use Rattle.arguments.proofs.ValuesKeepTheirOrder.{too_many}
 use Rattle.arguments.proofs.values.values.Goals as goal
 
 pub returns-then-is_full-clause-none : goal.returns-then-is_full-clause-none

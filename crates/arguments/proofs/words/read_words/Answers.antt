@@ -2,7 +2,7 @@ use Rattle.std.proofs.Common.{ap, ap₂, subst, sym, refl, map, ◌≡◌, ◌�
 use Rattle.clap.specs.Faults.{fault_of, is_simple_and_free}
 use Rattle.clap.specs.Simple.{is_simple, subcommand_of}
 use Rattle.arguments.specs.CommandLine.{Names}
-use Rattle.arguments.proofs.WordsLemmas.{found_pair, if_some_at, names_rows}
+use Rattle.arguments.proofs.SubcommandHasItsRows.{found_pair, if_some_at, names_rows}
 use Rattle.arguments.proofs.words.read_words.Goals as goal
 
 pub returns-in-Some-2 : goal.returns-in-Some-2

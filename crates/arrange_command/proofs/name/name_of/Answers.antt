@@ -3,7 +3,7 @@ use Rattle.std.proofs.lemmas.Grind.{common_steps}
 use Rattle.std.specs.List.{AllByRecursion}
 use Rattle.element.specs.Padding.{is_padding, without_trailing}
 use Rattle.arrange_command.specs.Names as spelling
-use Rattle.arrange_command.proofs.NameLemmas.{trailing_length, named_bytes}
+use Rattle.arrange_command.proofs.NamesArePrintable.{trailing_length, named_bytes}
 use Rattle.arrange_command.proofs.name.name_of.Goals as goal
 
 pub loop-byte-init : goal.loop-byte-init

@@ -1,6 +1,6 @@
 use Rattle.std.proofs.Common.{arith, sym, ◌∙◌}
 use Rattle.std.proofs.lemmas.Grind.{common_steps}
-use Rattle.dicomdir.proofs.WalkLemmas.{explicit_check, implicit_check}
+use Rattle.dicomdir.proofs.WalksEndOrFail.{explicit_check, implicit_check}
 use Rattle.dicomdir.proofs.checking.after_header.Goals as goal
 
 pub returns-in-Implicit-clause-fault : goal.returns-in-Implicit-clause-fault

@@ -1,5 +1,5 @@
 use Rattle.std.proofs.Common.{arith, ap, ◌∙◌, ◌^◌}
-use Rattle.dicomdir.proofs.WalkLemmas.{going_first, text_fails}
+use Rattle.dicomdir.proofs.WalksEndOrFail.{going_first, text_fails}
 use Rattle.dicomdir.proofs.checking.walk.Goals as goal
 
 pub walk_piece-requires : goal.walk_piece-requires

@@ -1,6 +1,6 @@
 use Rattle.std.proofs.Common.{ap, arith}
 use Rattle.dicomdir.specs.machine.Faults.{refusal_of}
-use Rattle.dicomdir.proofs.WalkLemmas.{walks_first, walks_next, walks_whole, walks_fails}
+use Rattle.dicomdir.proofs.WalksEndOrFail.{walks_first, walks_next, walks_whole, walks_fails}
 use Rattle.dicomdir.proofs.data_set.walk_piece.Goals as goal
 use Rattle.std.proofs.lemmas.Grind.{common_steps}
 

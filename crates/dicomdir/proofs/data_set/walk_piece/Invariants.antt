@@ -1,5 +1,5 @@
 use Rattle.std.proofs.Common.{length}
-use Rattle.dicomdir.proofs.WalkLemmas.{Walks}
+use Rattle.dicomdir.proofs.WalksEndOrFail.{Walks}
 use Rattle.dicomdir.proofs.data_set.walk_piece.Given as goal
 
 abbrev pub invariant-loop-rest : goal.invariant-loop-rest

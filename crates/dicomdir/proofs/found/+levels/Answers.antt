@@ -1,8 +1,8 @@
 use Rattle.element.specs.Header.{item_tag}
 use Rattle.std.proofs.Common.{◌∙◌, length, sym, ap, arith}
 use Rattle.std.proofs.lemmas.List.{length-drop}
-use Rattle.dicomdir.proofs.FindLemmas.{content_drop, content_items, item_drop, item_elements, end_of_elements, always_elements, next_elements, end_of_items, always_items, next_items}
-use Rattle.dicomdir.proofs.TextLemmas.{same_tags, other_tag}
+use Rattle.dicomdir.proofs.ElementsFoundByTag.{content_drop, content_items, item_drop, item_elements, end_of_elements, always_elements, next_elements, end_of_items, always_items, next_items}
+use Rattle.dicomdir.proofs.FrontIsFirstElement.{same_tags, other_tag}
 use Rattle.dicomdir.proofs.found.+levels.Goals as goal
 use Rattle.std.proofs.lemmas.Grind.{common_steps}
 

@@ -2,7 +2,7 @@ use Rattle.element.specs.Header.{item_end_tag, sequence_end_tag}
 use Rattle.std.proofs.Common.{◌≤◌, ◌+◌, ◌*◌, ℕ, List, ◌++◌, length}
 use Rattle.sequence.specs.Tree.{Elements, Items, delimitation}
 use Rattle.dicomdir.specs.machine.Texts.{ElementsThen, ItemsThen}
-use Rattle.dicomdir.proofs.FindLemmas.{SomeElements, SomeItems}
+use Rattle.dicomdir.proofs.ElementsFoundByTag.{SomeElements, SomeItems}
 use Rattle.dicomdir.proofs.found.+levels.Given as goal
 
 abbrev pub decreases-after_content : goal.decreases-after_content

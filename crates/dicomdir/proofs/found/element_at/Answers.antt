@@ -1,5 +1,5 @@
 use Rattle.std.proofs.Common.{◌∙◌, sym, arith}
-use Rattle.dicomdir.proofs.FindLemmas.{finds_items, finds_value}
+use Rattle.dicomdir.proofs.ElementsFoundByTag.{finds_items, finds_value}
 use Rattle.dicomdir.proofs.found.element_at.Goals as goal
 use Rattle.std.proofs.lemmas.Grind.{common_steps}
 

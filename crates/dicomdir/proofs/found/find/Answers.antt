@@ -2,7 +2,7 @@ use Rattle.std.proofs.Common.{◌∙◌, ◌+◌, ◌-◌, length, refl, sym, ap
 use Rattle.std.proofs.lemmas.List.{length-drop}
 use Rattle.element.specs.Header.{number}
 use Rattle.dicomdir.specs.Directory.{found}
-use Rattle.dicomdir.proofs.FindLemmas.{all_left, left_after, missing_at_mark, missing_at_end, stands_here, same_number, other_number}
+use Rattle.dicomdir.proofs.ElementsFoundByTag.{all_left, left_after, missing_at_mark, missing_at_end, stands_here, same_number, other_number}
 use Rattle.dicomdir.proofs.found.find.Goals as goal
 use Rattle.std.proofs.lemmas.Grind.{common_steps}
 

@@ -2,7 +2,7 @@ use Rattle.std.proofs.Common.{◌≤◌, length}
 use Rattle.element.specs.Header.{number}
 use Rattle.sequence.specs.Tree.{Elements}
 use Rattle.dicomdir.specs.machine.Texts.{HasElements}
-use Rattle.dicomdir.proofs.FindLemmas.{LeftOf}
+use Rattle.dicomdir.proofs.ElementsFoundByTag.{LeftOf}
 use Rattle.dicomdir.proofs.found.find.Given as goal
 
 abbrev pub invariant-loop-head : goal.invariant-loop-head

@@ -3,7 +3,7 @@ use Rattle.element.specs.Header.{need, is_whole}
 use Rattle.element.specs.declared.size.Need.TheVariants.{Size}
 use Rattle.sequence.specs.Coding.{layout}
 use Rattle.sequence.proofs.Public.{need_least}
-use Rattle.dicomdir.proofs.TextLemmas.{head_whole}
+use Rattle.dicomdir.proofs.FrontIsFirstElement.{head_whole}
 use Rattle.dicomdir.proofs.found.head_of.Goals as goal
 
 pub read_header-requires : goal.read_header-requires

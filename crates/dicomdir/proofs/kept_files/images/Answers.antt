@@ -2,7 +2,7 @@ use Rattle.std.proofs.Common.{[], ◌∷◌, ◌+◌, ◌++◌, not, is_ok, sym,
 use Rattle.std.proofs.lemmas.Bool.{cond-true}
 use Rattle.std.proofs.lemmas.List.{append-nil}
 use Rattle.dicomdir.specs.NodesInUse.{listed, file_id_of_image, node_of}
-use Rattle.dicomdir.proofs.KeptLemmas.{kept_from, kept_one_more, kept_whole}
+use Rattle.dicomdir.proofs.NodesAndTreeAgree.{kept_from, kept_one_more, kept_whole}
 use Rattle.dicomdir.proofs.kept_files.images.Goals.{in-Some+else-is_err, in_default}
 use Rattle.dicomdir.proofs.kept_files.images.Goals as goal
 

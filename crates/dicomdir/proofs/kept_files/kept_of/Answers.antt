@@ -1,7 +1,7 @@
 use Rattle.std.proofs.Common.{ap, ◌∙◌}
 use Rattle.std.proofs.lemmas.Result.{IfOk-weaker}
 use Rattle.dicomdir.specs.NodesInUse.{kept_in, tree_nodes}
-use Rattle.dicomdir.proofs.KeptLemmas.{kept_of_nodes}
+use Rattle.dicomdir.proofs.NodesAndTreeAgree.{kept_of_nodes}
 use Rattle.dicomdir.proofs.kept_files.kept_of.Goals as goal
 
 pub returns-clause-kept : goal.returns-clause-kept

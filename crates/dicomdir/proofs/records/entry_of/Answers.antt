@@ -1,6 +1,6 @@
 use Rattle.std.proofs.Common.{arith}
 use Rattle.dicomdir.specs.Directory.{found}
-use Rattle.dicomdir.proofs.RecordsLemmas.{finds_number, finds_kind, finds_file_id, not_empty}
+use Rattle.dicomdir.proofs.RecordsAreAsSpelled.{finds_number, finds_kind, finds_file_id, not_empty}
 use Rattle.dicomdir.proofs.records.entry_of.Goals as goal
 use Rattle.std.proofs.lemmas.Grind.{common_steps}
 

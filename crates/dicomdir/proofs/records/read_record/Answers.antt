@@ -1,5 +1,5 @@
 use Rattle.std.proofs.Common.{arith}
-use Rattle.dicomdir.proofs.RecordsLemmas.{file_id_as}
+use Rattle.dicomdir.proofs.RecordsAreAsSpelled.{file_id_as}
 use Rattle.dicomdir.proofs.records.read_record.Goals as goal
 use Rattle.std.proofs.lemmas.Grind.{common_steps}
 

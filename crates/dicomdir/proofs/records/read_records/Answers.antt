@@ -3,8 +3,8 @@ use Rattle.std.proofs.Common.{◌∙◌, [], ◌∷◌, ◌++◌, length, not, i
 use Rattle.std.proofs.lemmas.Bool.{cond-true}
 use Rattle.std.proofs.lemmas.List.{length-drop}
 use Rattle.dicomdir.specs.machine.Texts.{HasElements, content_at}
-use Rattle.dicomdir.proofs.TextLemmas.{same_tags, other_tag}
-use Rattle.dicomdir.proofs.RecordsLemmas.{read_none, read_next, read_fails, read_to_mark, read_to_end}
+use Rattle.dicomdir.proofs.FrontIsFirstElement.{same_tags, other_tag}
+use Rattle.dicomdir.proofs.RecordsAreAsSpelled.{read_none, read_next, read_fails, read_to_mark, read_to_end}
 use Rattle.dicomdir.proofs.records.read_records.Goals as goal
 use Rattle.std.proofs.lemmas.Grind.{common_steps}
 

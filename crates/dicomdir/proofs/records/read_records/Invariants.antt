@@ -1,7 +1,7 @@
 use Rattle.std.proofs.Common.{◌≤◌, length}
 use Rattle.sequence.specs.Tree.{Items}
 use Rattle.dicomdir.specs.machine.Texts.{HasItems}
-use Rattle.dicomdir.proofs.RecordsLemmas.{ReadUpTo}
+use Rattle.dicomdir.proofs.RecordsAreAsSpelled.{ReadUpTo}
 use Rattle.dicomdir.proofs.records.read_records.Given as goal
 
 abbrev pub invariant-loop-head : goal.invariant-loop-head

@@ -1,7 +1,7 @@
 use Rattle.std.proofs.Common.{add-one, arith}
 use Rattle.dicomdir_writing.specs.TreeOf.{row_groups, key_for}
 use Rattle.dicomdir_writing.specs.machine.FirstSeen.{texts}
-use Rattle.dicomdir_writing.proofs.GroupingLemmas.{as_many, step, finished}
+use Rattle.dicomdir_writing.proofs.GroupsKeepSeenOrder.{as_many, step, finished}
 use Rattle.dicomdir_writing.proofs.build_groups.groups.Goals as goal
 
 pub put_by_key-requires : goal.put_by_key-requires

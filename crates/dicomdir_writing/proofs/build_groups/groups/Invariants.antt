@@ -1,6 +1,6 @@
 use Rattle.std.proofs.Common.{take}
 use Rattle.dicomdir_writing.specs.TreeOf.{rows_at, row_groups, key_for}
-use Rattle.dicomdir_writing.proofs.GroupingLemmas.{Grouped}
+use Rattle.dicomdir_writing.proofs.GroupsKeepSeenOrder.{Grouped}
 use Rattle.dicomdir_writing.specs.machine.FirstSeen.{texts}
 use Rattle.dicomdir_writing.proofs.build_groups.groups.Given as goal
 

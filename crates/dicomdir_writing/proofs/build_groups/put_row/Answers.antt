@@ -1,6 +1,6 @@
 use Rattle.std.proofs.Common.{◌∙◌, ◌<◌, ◌++◌, ◌∷◌, [], map, length, ap, arith}
 use Rattle.std.proofs.lemmas.List.{length-map}
-use Rattle.dicomdir_writing.proofs.GroupingLemmas.{row_put}
+use Rattle.dicomdir_writing.proofs.GroupsKeepSeenOrder.{row_put}
 use Rattle.dicomdir_writing.proofs.build_groups.put_row.Goals as goal
 
 pub returns : goal.returns

@@ -4,7 +4,7 @@ use Rattle.std.proofs.lemmas.Result.{err_from_is_err_and}
 use Rattle.dicomdir_writing.specs.TreeOf.{rows_at, row_groups, forest_for}
 use Rattle.dicomdir.specs.Level.{lower_level}
 use Rattle.dicomdir_writing.specs.Record.{record_for}
-use Rattle.dicomdir_writing.proofs.LayingLemmas.{group_laid, below_stops, own_stops, empty_group, group_at, first_now, none_now, whole_laid}
+use Rattle.dicomdir_writing.proofs.TreeIsLaidDown.{group_laid, below_stops, own_stops, empty_group, group_at, first_now, none_now, whole_laid}
 use Rattle.dicomdir_writing.proofs.build_plan.+lay.Goals as goal
 
 pub returns-in_err-below-clause-stops : goal.returns-in_err-below-clause-stops

@@ -1,6 +1,6 @@
 use Rattle.std.proofs.Common.{arith}
 use Rattle.std.proofs.lemmas.Result.{err_from_is_err_and}
-use Rattle.dicomdir_writing.proofs.LayingLemmas.{image_laid, image_stops}
+use Rattle.dicomdir_writing.proofs.TreeIsLaidDown.{image_laid, image_stops}
 use Rattle.dicomdir_writing.proofs.build_plan.lay_images.Goals as goal
 use Rattle.std.proofs.lemmas.Grind.{common_steps}
 

@@ -3,7 +3,7 @@ use Rattle.std.proofs.lemmas.Result.{err_from_is_err_and, on_ok_weaker, on_err_w
 use Rattle.std.proofs.KnownBytes.{Appends-trans}
 use Rattle.dicomdir_writing.specs.Built.{directory_file}
 use Rattle.dicomdir_writing.specs.machine.Building.{root_text}
-use Rattle.dicomdir_writing.proofs.BuildingLemmas.{file_text, front_after, front_more}
+use Rattle.dicomdir_writing.proofs.DirectoryHasItsText.{file_text, front_after, front_more}
 use Rattle.dicomdir_writing.proofs.built.write_dir.Goals as goal
 
 pub returns-in_err-write_all-clause-front : goal.returns-in_err-write_all-clause-front

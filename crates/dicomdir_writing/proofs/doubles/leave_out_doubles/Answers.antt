@@ -2,7 +2,7 @@ use Rattle.std.proofs.Common.{arith}
 use Rattle.dicomdir_writing.specs.TreeOf.{rows_at}
 use Rattle.dicomdir_writing.specs.Keys.{IsRow}
 use Rattle.dicomdir_writing.specs.machine.FirstSeen.{texts}
-use Rattle.dicomdir_writing.proofs.GroupingLemmas.{leaves_next, leaves_all, all_more, all_taken}
+use Rattle.dicomdir_writing.proofs.GroupsKeepSeenOrder.{leaves_next, leaves_all, all_more, all_taken}
 use Rattle.dicomdir_writing.proofs.doubles.leave_out_doubles.Goals as goal
 use Rattle.std.proofs.lemmas.Grind.{common_steps}
 

@@ -3,7 +3,7 @@ use Rattle.std.specs.List.{AllByRecursion}
 use Rattle.dicomdir_writing.specs.Keys.{IsRow}
 use Rattle.dicomdir_writing.specs.TreeOf.{rows_at}
 use Rattle.dicomdir_writing.specs.machine.FirstSeen.{texts}
-use Rattle.dicomdir_writing.proofs.GroupingLemmas.{Leaves}
+use Rattle.dicomdir_writing.proofs.GroupsKeepSeenOrder.{Leaves}
 use Rattle.dicomdir_writing.proofs.doubles.leave_out_doubles.Given as goal
 
 abbrev pub invariant-loop-at : goal.invariant-loop-at

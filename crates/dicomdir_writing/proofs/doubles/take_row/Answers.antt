@@ -1,6 +1,6 @@
 use Rattle.dicomdir_writing.specs.TreeOf.{rows_at}
 use Rattle.dicomdir_writing.specs.machine.FirstSeen.{texts}
-use Rattle.dicomdir_writing.proofs.GroupingLemmas.{double_left}
+use Rattle.dicomdir_writing.proofs.GroupsKeepSeenOrder.{double_left}
 use Rattle.dicomdir_writing.proofs.doubles.take_row.Goals as goal
 
 pub returns : goal.returns

@@ -1,6 +1,6 @@
 use Rattle.std.proofs.Common.{arith}
 use Rattle.std.proofs.lemmas.List.{length-map}
-use Rattle.dicomdir_writing.proofs.GroupingLemmas.{sees}
+use Rattle.dicomdir_writing.proofs.GroupsKeepSeenOrder.{sees}
 use Rattle.dicomdir_writing.proofs.first_seen.see.Goals as goal
 
 pub returns : goal.returns

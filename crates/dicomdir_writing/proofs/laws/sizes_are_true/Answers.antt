@@ -1,4 +1,4 @@
-use Rattle.dicomdir_writing.proofs.BuildingLemmas.{sizes_are_true}
+use Rattle.dicomdir_writing.proofs.DirectoryHasItsText.{sizes_are_true}
 use Rattle.dicomdir_writing.proofs.laws.sizes_are_true.Goals as goal
 
 pub returns : goal.returns

@@ -1,7 +1,7 @@
 use Rattle.std.proofs.Common.{sym, ◌∙◌}
 use Rattle.dicomdir_writing.specs.machine.RowRecords.{says_of}
 use Rattle.arrayvec.specs.ArrayVec.{array_vec_len}
-use Rattle.dicomdir_writing.proofs.RecordLemmas.{fields_more, fields_skip, room_more, room_skip}
+use Rattle.dicomdir_writing.proofs.RecordIsItsElements.{fields_more, fields_skip, room_more, room_skip}
 use Rattle.dicomdir_writing.proofs.record_bytes.put_rules.Goals.{then-has, else-has}
 use Rattle.dicomdir_writing.proofs.record_bytes.put_rules.Goals as goal
 

@@ -1,4 +1,4 @@
-use Rattle.dicomdir_writing.proofs.RecordLemmas.{record_rooms}
+use Rattle.dicomdir_writing.proofs.RecordIsItsElements.{record_rooms}
 use Rattle.dicomdir_writing.proofs.record_bytes.record_elements.Goals as goal
 
 pub put_rules-requires-clause-fits : goal.put_rules-requires-clause-fits

@@ -1,7 +1,7 @@
 use Rattle.std.proofs.Common.{◌-◌, ◌++◌, take, append_assoc, arith}
 use Rattle.std.proofs.lemmas.Result.{err_from_is_err_and}
 use Rattle.dicomdir_writing.specs.machine.Building.{entry_text, laid_text}
-use Rattle.dicomdir_writing.proofs.BuildingLemmas.{last_entry, front_after, front_more}
+use Rattle.dicomdir_writing.proofs.DirectoryHasItsText.{last_entry, front_after, front_more}
 use Rattle.dicomdir_writing.proofs.record_writer.write_records.Goals as goal
 use Rattle.std.proofs.lemmas.Grind.{common_steps}
 

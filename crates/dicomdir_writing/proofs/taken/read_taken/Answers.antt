@@ -1,5 +1,5 @@
 use Rattle.std.proofs.Common.{sym, ◌∙◌}
-use Rattle.dicomdir_writing.proofs.TakenLemmas.{other_fails}
+use Rattle.dicomdir_writing.proofs.OtherSyntaxesFail.{other_fails}
 use Rattle.dicomdir_writing.proofs.taken.read_taken.Goals as goal
 
 pub returns-else-is_taken-clause-fault : goal.returns-else-is_taken-clause-fault

@@ -1,6 +1,6 @@
 use Rattle.std.proofs.Common.{sym, ◌∙◌}
 use Rattle.dictionary.specs.StorageTable.{storage_row}
-use Rattle.dictionary.proofs.StorageLemmas.{row_of_part, past_part}
+use Rattle.dictionary.proofs.StorageClassesAreFew.{row_of_part, past_part}
 use Rattle.dictionary.proofs.storage.class_in.Goals as goal
 
 pub returns-then-left-rows : goal.returns-then-left-rows

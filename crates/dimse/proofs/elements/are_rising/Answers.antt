@@ -1,5 +1,5 @@
 use Rattle.std.proofs.Common.{◌∙◌}
-use Rattle.dimse.proofs.SetLemmas.{element_shorter, ahead_all, ahead_next, ahead_none, ahead_order}
+use Rattle.dimse.proofs.SetElementsAreFound.{element_shorter, ahead_all, ahead_next, ahead_none, ahead_order}
 use Rattle.dimse.proofs.elements.are_rising.Goals as goal
 
 pub loop-number-init : goal.loop-number-init

@@ -1,5 +1,5 @@
 use Rattle.std.proofs.Common.{length}
-use Rattle.dimse.proofs.SetLemmas.{Ahead}
+use Rattle.dimse.proofs.SetElementsAreFound.{Ahead}
 use Rattle.dimse.proofs.elements.are_rising.Given as goal
 
 abbrev pub invariant-loop-number : goal.invariant-loop-number

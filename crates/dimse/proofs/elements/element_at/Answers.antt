@@ -1,4 +1,4 @@
-use Rattle.dimse.proofs.ElementLemmas.{element_read}
+use Rattle.dimse.proofs.BytesSpellTheElement.{element_read}
 use Rattle.dimse.proofs.elements.element_at.Goals as goal
 
 pub returns : goal.returns

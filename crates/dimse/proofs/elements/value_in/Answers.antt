@@ -1,6 +1,6 @@
 use Rattle.std.proofs.Common.{eq-eqb}
 use Rattle.std.proofs.lemmas.Bool.{ne_eqb}
-use Rattle.dimse.proofs.SetLemmas.{element_shorter, left_all, left_next, left_found, left_none}
+use Rattle.dimse.proofs.SetElementsAreFound.{element_shorter, left_all, left_next, left_found, left_none}
 use Rattle.dimse.proofs.elements.value_in.Goals as goal
 
 pub loop-at-init : goal.loop-at-init

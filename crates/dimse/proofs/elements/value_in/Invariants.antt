@@ -1,7 +1,7 @@
 use Rattle.std.proofs.Common.{◌≡◌, List, length, Some}
 use Rattle.dimse.specs.Command.{CommandElement}
 use Rattle.dimse.specs.Reading.{elements_of}
-use Rattle.dimse.proofs.SetLemmas.{Left}
+use Rattle.dimse.proofs.SetElementsAreFound.{Left}
 use Rattle.dimse.proofs.elements.value_in.Given as goal
 
 abbrev pub invariant-loop-at : goal.invariant-loop-at

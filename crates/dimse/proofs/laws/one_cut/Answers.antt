@@ -1,4 +1,4 @@
-use Rattle.dimse.proofs.CutLemmas.{fragments_cut, one_cut}
+use Rattle.dimse.proofs.TextHasOneCut.{fragments_cut, one_cut}
 use Rattle.dimse.proofs.laws.one_cut.Goals as goal
 
 pub returns-clause-cut : goal.returns-clause-cut

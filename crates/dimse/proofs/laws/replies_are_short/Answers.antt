@@ -1,4 +1,4 @@
-use Rattle.dimse.proofs.LengthLemmas.{command_short, reply_short}
+use Rattle.dimse.proofs.RepliesStayShort.{command_short, reply_short}
 use Rattle.dimse.proofs.Public.{reply_bounded}
 use Rattle.dimse.proofs.laws.replies_are_short.Goals as goal
 

@@ -1,5 +1,5 @@
 use Rattle.std.proofs.Common.{◌∙◌, arith}
-use Rattle.dimse.proofs.CommandLemmas.{command_only, ok_found, err_fault}
+use Rattle.dimse.proofs.TextSpellsOneCommand.{command_only, ok_found, err_fault}
 use Rattle.dimse.proofs.reading.read_command.Goals as goal
 
 pub returns-clause-found : goal.returns-clause-found

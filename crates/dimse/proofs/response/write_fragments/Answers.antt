@@ -1,5 +1,5 @@
 use Rattle.std.proofs.Common.{arith}
-use Rattle.dimse.proofs.SendingLemmas.{sending_all, sending_next, sending_fails, last_sent}
+use Rattle.dimse.proofs.SetIsSentWhole.{sending_all, sending_next, sending_fails, last_sent}
 use Rattle.dimse.proofs.response.write_fragments.Goals as goal
 
 pub loop-rest-init : goal.loop-rest-init

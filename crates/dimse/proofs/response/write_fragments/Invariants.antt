@@ -1,6 +1,6 @@
 use Rattle.std.proofs.Common.{length}
 use Rattle.dimse.specs.Reply.{fragments, command_pdus}
-use Rattle.dimse.proofs.SendingLemmas.{Sending}
+use Rattle.dimse.proofs.SetIsSentWhole.{Sending}
 use Rattle.dimse.proofs.response.write_fragments.Given as goal
 
 abbrev pub invariant-loop-rest : goal.invariant-loop-rest

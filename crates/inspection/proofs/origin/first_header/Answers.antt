@@ -1,6 +1,6 @@
 use Rattle.std.proofs.Common.{◌∙◌, sym}
 use Rattle.element.specs.declared.syntax.Syntax.TheVariants.{Explicit}
-use Rattle.inspection.proofs.OriginLemmas.{whole_at}
+use Rattle.inspection.proofs.FrontHeaderIsWhole.{whole_at}
 use Rattle.inspection.proofs.origin.first_header.Goals as goal
 
 pub read_header-requires : goal.read_header-requires

@@ -1,4 +1,4 @@
-use Rattle.negotiate.proofs.AcceptLemmas.{front_is}
+use Rattle.negotiate.proofs.FrontIsItsParts.{front_is}
 use Rattle.negotiate.proofs.accept.front.Goals as goal
 
 pub returns-clause-items : goal.returns-clause-items

@@ -1,6 +1,6 @@
 use Rattle.std.proofs.Common.{sym, ◌∙◌}
 use Rattle.negotiate.specs.Answer.{same_title}
-use Rattle.negotiate.proofs.AnswerLemmas.{list_any-map}
+use Rattle.negotiate.proofs.AcceptedPeersTakeFragments.{list_any-map}
 use Rattle.negotiate.proofs.answer.is_among.Goals as goal
 
 pub returns : goal.returns

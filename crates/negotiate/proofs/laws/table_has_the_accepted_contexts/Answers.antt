@@ -1,5 +1,5 @@
 use Rattle.negotiate.proofs.Public.{context_in-context_rows}
-use Rattle.negotiate.proofs.TableLemmas.{length-context_rows}
+use Rattle.negotiate.proofs.TableHasAcceptedContexts.{length-context_rows}
 use Rattle.negotiate.proofs.laws.table_has_the_accepted_contexts.Goals as goal
 
 pub returns-clause-contexts : goal.returns-clause-contexts

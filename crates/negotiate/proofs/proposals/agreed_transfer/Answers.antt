@@ -1,6 +1,6 @@
 use Rattle.std.proofs.Common.{Some, ap, sym, ◌∙◌}
 use Rattle.negotiate.specs.Settings.{settings_of}
-use Rattle.negotiate.proofs.TransferLemmas.{agreed_additional, agreed_native}
+use Rattle.negotiate.proofs.NativeSyntaxesArePreferred.{agreed_additional, agreed_native}
 use Rattle.negotiate.proofs.proposals.agreed_transfer.Goals as goal
 
 pub returns-in-Some : goal.returns-in-Some

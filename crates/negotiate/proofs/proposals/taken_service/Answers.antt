@@ -1,6 +1,6 @@
 use Rattle.std.proofs.Common.{sym, ◌∙◌}
 use Rattle.negotiate.specs.Settings.{settings_of}
-use Rattle.negotiate.proofs.ServiceLemmas.{placed_service, unplaced_service, unread_service}
+use Rattle.negotiate.proofs.DictionaryDecidesByDefault.{placed_service, unplaced_service, unread_service}
 use Rattle.negotiate.proofs.proposals.taken_service.Goals as goal
 
 pub returns-in-Some-place : goal.returns-in-Some-place

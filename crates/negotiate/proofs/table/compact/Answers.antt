@@ -1,4 +1,4 @@
-use Rattle.negotiate.proofs.TableLemmas.{context_in-table, length-table}
+use Rattle.negotiate.proofs.TableHasAcceptedContexts.{context_in-table, length-table}
 use Rattle.negotiate.proofs.table.compact.Goals as goal
 
 pub returns-clause-count : goal.returns-clause-count

@@ -4,8 +4,8 @@ use Rattle.std.proofs.KnownBytes.{Consumes-trans}
 use Rattle.std.proofs.lemmas.Result.{err_from_is_err_and}
 use Rattle.part10.specs.declared.meta_fault.MetaFault.TheVariants.{BadMeta}
 use Rattle.part10.specs.MetaText.{MetaFaultOf}
-use Rattle.part10.proofs.FaultLemmas.{breaks_after}
-use Rattle.part10.proofs.WholeLemmas.{Whole, breaks_refuse, no_size, no_group_at, takes_meta, meta_refused, names_other, not_other, letters_not_other}
+use Rattle.part10.proofs.PartFailsTheWhole.{breaks_after}
+use Rattle.part10.proofs.HeaderTakenOrRefused.{Whole, breaks_refuse, no_size, no_group_at, takes_meta, meta_refused, names_other, not_other, letters_not_other}
 use Rattle.part10.proofs.reading.read_any_meta.Given.{Over}
 use Rattle.part10.proofs.reading.read_any_meta.Goals as goal
 

@@ -2,8 +2,8 @@ use Rattle.std.proofs.KnownBytes.{Consumes-trans}
 use Rattle.std.proofs.Common.{arith, refl}
 use Rattle.std.proofs.lemmas.Result.{err_from_is_err_and}
 use Rattle.part10.specs.machine.Reading.{NoElement}
-use Rattle.part10.proofs.FaultLemmas.{bad_after, breaks_after, breaks_at}
-use Rattle.part10.proofs.ElementLemmas.{not_next, long_value, short_value, no_header, next_parts}
+use Rattle.part10.proofs.PartFailsTheWhole.{bad_after, breaks_after, breaks_at}
+use Rattle.part10.proofs.NoElementFollows.{not_next, long_value, short_value, no_header, next_parts}
 use Rattle.part10.proofs.reading.read_element.Goals as goal
 
 pub returns-in_err-header : goal.returns-in_err-header

@@ -3,8 +3,8 @@ use Rattle.std.proofs.KnownBytes.{Consumes-nil}
 use Rattle.std.proofs.lemmas.Result.{err_from_is_err_and}
 use Rattle.part10.specs.MetaText.{no_more}
 use Rattle.part10.specs.machine.Reading.{NoGroup}
-use Rattle.part10.proofs.FaultLemmas.{breaks_after}
-use Rattle.part10.proofs.GroupLemmas.{Grouped, grouped_then, no_group}
+use Rattle.part10.proofs.PartFailsTheWhole.{breaks_after}
+use Rattle.part10.proofs.GroupIsItsElements.{Grouped, grouped_then, no_group}
 use Rattle.part10.proofs.reading.read_group.Goals as goal
 
 pub loop-left-init : goal.loop-left-init

@@ -1,4 +1,4 @@
-use Rattle.part10.proofs.GroupLemmas.{Grouped}
+use Rattle.part10.proofs.GroupIsItsElements.{Grouped}
 use Rattle.part10.proofs.reading.read_group.Given as goal
 
 abbrev pub invariant-loop-left : goal.invariant-loop-left

@@ -2,8 +2,8 @@ use Rattle.std.proofs.Common.{◌≡◌, ◌∙◌, take, drop, sym, subst, arit
 use Rattle.std.proofs.lemmas.List.{take_all}
 use Rattle.std.specs.Io.KnownBytes.{Consumes}
 use Rattle.part10.specs.machine.Reading.{NoSize}
-use Rattle.part10.proofs.FaultLemmas.{bad_after}
-use Rattle.part10.proofs.PrefixLemmas.{other_size, size_is}
+use Rattle.part10.proofs.PartFailsTheWhole.{bad_after}
+use Rattle.part10.proofs.PrefixIsSpelled.{other_size, size_is}
 use Rattle.part10.proofs.reading.read_group_size.Goals as goal
 
 pub returns-then-not-is_text-clause-none : goal.returns-then-not-is_text-clause-none

@@ -2,8 +2,8 @@ use Rattle.std.proofs.Common.{◌≡◌, ◌<◌, length, take, arith, length-ta
 use Rattle.std.proofs.lemmas.List.{take_all}
 use Rattle.std.specs.Io.KnownBytes.{Consumes}
 use Rattle.part10.specs.MetaText.{HasLetters}
-use Rattle.part10.proofs.FaultLemmas.{bad_after, bad_end}
-use Rattle.part10.proofs.PrefixLemmas.{short_file, other_letters, letters}
+use Rattle.part10.proofs.PartFailsTheWhole.{bad_after, bad_end}
+use Rattle.part10.proofs.PrefixIsSpelled.{short_file, other_letters, letters}
 use Rattle.part10.proofs.reading.read_letters.Goals as goal
 
 pub returns-then-count-lt132-clause-none : goal.returns-then-count-lt132-clause-none

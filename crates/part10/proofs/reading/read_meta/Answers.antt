@@ -1,5 +1,5 @@
 use Rattle.std.proofs.Common.{sym, ◌∙◌}
-use Rattle.part10.proofs.NativeLemmas.{compressed_fails, still_fails, still_names}
+use Rattle.part10.proofs.EncapsulatedSyntaxesFail.{compressed_fails, still_fails, still_names}
 use Rattle.part10.proofs.reading.read_meta.Goals as goal
 
 pub returns-then-is_encapsulated-clause-fault : goal.returns-then-is_encapsulated-clause-fault

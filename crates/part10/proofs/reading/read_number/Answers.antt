@@ -1,5 +1,5 @@
 use Rattle.std.proofs.Common.{arith}
-use Rattle.part10.proofs.PrefixLemmas.{number_back}
+use Rattle.part10.proofs.PrefixIsSpelled.{number_back}
 use Rattle.part10.proofs.reading.read_number.Goals as goal
 
 pub returns : goal.returns

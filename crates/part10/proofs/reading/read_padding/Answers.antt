@@ -1,6 +1,6 @@
 use Rattle.std.proofs.Common.{◌++◌, sym, arith, length-append, length-take}
 use Rattle.std.proofs.KnownBytes.{Consumes-trans}
-use Rattle.part10.proofs.ValueLemmas.{both_padding}
+use Rattle.part10.proofs.UidIsInFront.{both_padding}
 use Rattle.part10.proofs.reading.read_padding.Goals as goal
 
 pub loop-left-preserved : goal.loop-left-preserved

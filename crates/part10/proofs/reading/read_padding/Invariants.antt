@@ -1,4 +1,4 @@
-use Rattle.part10.proofs.ValueLemmas.{Padded}
+use Rattle.part10.proofs.UidIsInFront.{Padded}
 use Rattle.part10.proofs.reading.read_padding.Given as goal
 
 abbrev pub invariant-loop-left : goal.invariant-loop-left

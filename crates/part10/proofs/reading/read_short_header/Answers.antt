@@ -3,8 +3,8 @@ use Rattle.std.proofs.lemmas.Result.{err_from_is_err_and}
 use Rattle.std.proofs.KnownBytes.{Consumes-trans}
 use Rattle.element.specs.declared.syntax.Syntax.TheVariants.{Explicit}
 use Rattle.part10.specs.machine.Reading.{NoHeader}
-use Rattle.part10.proofs.FaultLemmas.{bad_after, breaks_after, breaks_at}
-use Rattle.part10.proofs.HeaderLemmas.{need_bounds, short_front, no_front, long_front, short_back, whole_header, whole_spells}
+use Rattle.part10.proofs.PartFailsTheWhole.{bad_after, breaks_after, breaks_at}
+use Rattle.part10.proofs.EightBytesGiveSize.{need_bounds, short_front, no_front, long_front, short_back, whole_header, whole_spells}
 use Rattle.part10.proofs.reading.read_short_header.Goals as goal
 
 pub returns-in_default : goal.returns-in_default

@@ -1,6 +1,6 @@
 use Rattle.std.proofs.Common.{◌≡◌, ℕ, ◌<◌, ◌≤◌, ◌++◌, min, length, replicate, sym, arith, length-append, length-take, ◌∙◌}
 use Rattle.std.proofs.KnownBytes.{Consumes-trans}
-use Rattle.part10.proofs.ValueLemmas.{uid_in_front, no_uid, padding_none}
+use Rattle.part10.proofs.UidIsInFront.{uid_in_front, no_uid, padding_none}
 use Rattle.part10.proofs.reading.read_value.Goals as goal
 
 pub returns-then-not-is_padding : goal.returns-then-not-is_padding

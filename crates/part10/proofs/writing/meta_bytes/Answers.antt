@@ -1,5 +1,5 @@
 -- The header that is written is one that is read.
-use Rattle.part10.proofs.MetaLemmas.{head_is_read}
+use Rattle.part10.proofs.WrittenHeaderReadsBack.{head_is_read}
 use Rattle.part10.proofs.writing.meta_bytes.Goals as goal
 
 pub returns-clause-reads_back : goal.returns-clause-reads_back

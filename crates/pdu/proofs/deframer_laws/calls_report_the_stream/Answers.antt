@@ -1,4 +1,4 @@
-use Rattle.pdu.proofs.LoopLemmas.{all_reported, tokens_reported, marks_reported}
+use Rattle.pdu.proofs.CallsReportTheStream.{all_reported, tokens_reported, marks_reported}
 use Rattle.pdu.proofs.deframer_laws.calls_report_the_stream.Goals as goal
 
 pub returns : goal.returns

@@ -1,4 +1,4 @@
-use Rattle.pdu.proofs.TokenLemmas.{tokens_then, tokens_rest}
+use Rattle.pdu.proofs.TokensIgnoreTheCut.{tokens_then, tokens_rest}
 use Rattle.pdu.proofs.deframer_laws.tokens_do_not_show_the_cut.Goals as goal
 
 pub returns : goal.returns

@@ -1,5 +1,5 @@
 use Rattle.std.proofs.Common.{length, ap, arith}
-use Rattle.pdu.proofs.ItemLemmas.{items_few}
+use Rattle.pdu.proofs.FirstItemIsUnique.{items_few}
 use Rattle.pdu.proofs.item.count_of.Goals as goal
 
 pub overflow_add-count : goal.overflow_add-count

@@ -1,6 +1,6 @@
 use Rattle.std.proofs.Common.{◌+◌, ◌<◌, length, drop, arith}
 use Rattle.byteorder.specs.Endian.{big_number}
-use Rattle.pdu.proofs.ItemLemmas.{begins_short, begins_begun}
+use Rattle.pdu.proofs.FirstItemIsUnique.{begins_short, begins_begun}
 use Rattle.pdu.proofs.item.first_item.Goals as goal
 
 pub returns-then-text-lt4 : goal.returns-then-text-lt4

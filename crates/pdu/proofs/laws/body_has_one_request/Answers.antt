@@ -1,4 +1,4 @@
-use Rattle.pdu.proofs.RequestLemmas.{one_request}
+use Rattle.pdu.proofs.BodySpellsOneRequest.{one_request}
 use Rattle.pdu.proofs.laws.body_has_one_request.Goals as goal
 
 pub returns : goal.returns

@@ -1,4 +1,4 @@
-use Rattle.pdu.proofs.ExampleLemmas.{one_left, five_left, five_dropped, six_left}
+use Rattle.pdu.proofs.ShortStreamsAreMarked.{one_left, five_left, five_dropped, six_left}
 use Rattle.pdu.proofs.laws.bytes_left_over.Goals as goal
 
 pub returns : goal.returns

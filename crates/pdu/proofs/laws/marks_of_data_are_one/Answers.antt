@@ -1,4 +1,4 @@
-use Rattle.pdu.proofs.PdvLemmas.{marked, marks_are, spot_is}
+use Rattle.pdu.proofs.DataMarksAreComputed.{marked, marks_are, spot_is}
 use Rattle.pdu.proofs.laws.marks_of_data_are_one.Goals as goal
 
 pub returns : goal.returns

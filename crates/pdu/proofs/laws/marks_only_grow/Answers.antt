@@ -1,4 +1,4 @@
-use Rattle.pdu.proofs.FrameLemmas.{marks_grow}
+use Rattle.pdu.proofs.FramesAreUnique.{marks_grow}
 use Rattle.pdu.proofs.laws.marks_only_grow.Goals as goal
 
 pub returns : goal.returns

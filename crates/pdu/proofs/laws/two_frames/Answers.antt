@@ -1,4 +1,4 @@
-use Rattle.pdu.proofs.ExampleLemmas.{two_releases}
+use Rattle.pdu.proofs.ShortStreamsAreMarked.{two_releases}
 use Rattle.pdu.proofs.laws.two_frames.Goals as goal
 
 pub returns : goal.returns

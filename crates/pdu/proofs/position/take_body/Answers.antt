@@ -1,6 +1,6 @@
 use Rattle.std.proofs.Common.{◌≡◌, ℕ, false-eqb, ◌-◌, ◌<◌, length, take, refl, sym, ap, ◌∙◌, arith}
 use Rattle.std.proofs.lemmas.List.{length-take}
-use Rattle.pdu.proofs.CallLemmas.{body_ended, empty_at, body_still, body_part}
+use Rattle.pdu.proofs.CallFollowsTheMarks.{body_ended, empty_at, body_still, body_part}
 use Rattle.pdu.proofs.position.take_body.Goals as goal
 
 pub returns-then-left-eq0-clause-finds : goal.returns-then-left-eq0-clause-finds

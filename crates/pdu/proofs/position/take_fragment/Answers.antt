@@ -1,6 +1,6 @@
 use Rattle.std.proofs.Common.{◌≡◌, ℕ, false-eqb, ◌-◌, ◌<◌, length, take, refl, sym, ap, ◌∙◌, arith}
 use Rattle.std.proofs.lemmas.List.{length-take}
-use Rattle.pdu.proofs.CallLemmas.{value_ended, fragment_still, fragment_part_told}
+use Rattle.pdu.proofs.CallFollowsTheMarks.{value_ended, fragment_still, fragment_part_told}
 use Rattle.pdu.proofs.position.take_fragment.Goals as goal
 
 pub returns-then-more-eq0-clause-finds : goal.returns-then-more-eq0-clause-finds

@@ -1,7 +1,7 @@
 use Rattle.std.proofs.Common.{ℕ, ◌<◌, List, ◌++◌, length, take, sym, subst}
 use Rattle.pdu.specs.Deframing.{AtHead}
-use Rattle.pdu.proofs.DeframerLemmas.{head_goes_on}
-use Rattle.pdu.proofs.CallLemmas.{head_told, took_silent}
+use Rattle.pdu.proofs.DeframerFollowsTheStream.{head_goes_on}
+use Rattle.pdu.proofs.CallFollowsTheMarks.{head_told, took_silent}
 use Rattle.pdu.proofs.position.take_head.Goals as goal
 
 pub returns-in-Some-clause-finds : goal.returns-in-Some-clause-finds

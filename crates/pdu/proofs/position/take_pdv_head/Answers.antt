@@ -1,8 +1,8 @@
 use Rattle.std.proofs.Common.{◌≡◌, ℕ, ◌-◌, ◌<◌, List, ◌++◌, length, take, sym, ap, subst, arith}
 use Rattle.std.proofs.lemmas.List.{length-take}
 use Rattle.pdu.specs.Deframing.{AtPdvHead}
-use Rattle.pdu.proofs.DeframerLemmas.{pdv_head_goes_on}
-use Rattle.pdu.proofs.CallLemmas.{pdv_told, pdv_head_ended, empty_at, took_silent}
+use Rattle.pdu.proofs.DeframerFollowsTheStream.{pdv_head_goes_on}
+use Rattle.pdu.proofs.CallFollowsTheMarks.{pdv_told, pdv_head_ended, empty_at, took_silent}
 use Rattle.pdu.proofs.position.take_pdv_head.Goals as goal
 
 pub returns-in-Some-clause-finds : goal.returns-in-Some-clause-finds

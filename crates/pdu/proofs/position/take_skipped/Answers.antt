@@ -1,5 +1,5 @@
 use Rattle.std.proofs.Common.{arith}
-use Rattle.pdu.proofs.CallLemmas.{over_told, empty_at}
+use Rattle.pdu.proofs.CallFollowsTheMarks.{over_told, empty_at}
 use Rattle.pdu.proofs.position.take_skipped.Goals as goal
 
 pub returns-then-rest-eq0-clause-finds : goal.returns-then-rest-eq0-clause-finds

@@ -1,5 +1,5 @@
 use Rattle.std.proofs.Common.{arith}
-use Rattle.pdu.proofs.RequestLemmas.{request_text, request_ok, request_err, none_where_fault}
+use Rattle.pdu.proofs.BodySpellsOneRequest.{request_text, request_ok, request_err, none_where_fault}
 use Rattle.pdu.proofs.request.read_request.Goals as goal
 
 pub view-requires : goal.view-requires

@@ -1,7 +1,7 @@
 use Rattle.std.proofs.Common.{refl, arith}
 use Rattle.element.specs.Numbers.{IsBytes}
 use Rattle.pdu.specs.Items.{request_record}
-use Rattle.pdu.proofs.RequestLemmas.{request_text, request_kept}
+use Rattle.pdu.proofs.BodySpellsOneRequest.{request_text, request_kept}
 use Rattle.pdu.proofs.request.view.Goals as goal
 
 pub returns : goal.returns

@@ -1,4 +1,4 @@
-use Rattle.pdu.proofs.TextLemmas.{data_parts}
+use Rattle.pdu.proofs.TwelveBytesAndFragment.{data_parts}
 use Rattle.pdu.proofs.writers.write_data.Goals as goal
 
 pub returns : goal.returns

@@ -8,7 +8,7 @@ ghost use Rattle.server.specs.Histories.{AllEnded, ended_in, opened_in, slots_in
 
 use crate::policy::Policy;
 use crate::socket::Socket;
-use admitting::History;
+use element::history::History;
 use part10::Filing;
 use serving::ConnectionEnd;
 use std::marker::PhantomData;
@@ -37,7 +37,7 @@ impl<F> SlotHistory<F> {
         ensures opened { opened_in self.new ≡ opened_in self.old ++ filing.now ∷ [] }
         ensures ended { ended_in self.new ≡ ended_in self.old }
     {
-        self.opened = self.opened.and(filing);
+        self.opened.push(filing);
     }
 
     /// A connection has ended, and left this.
@@ -45,7 +45,7 @@ impl<F> SlotHistory<F> {
         ensures opened { opened_in self.new ≡ opened_in self.old }
         ensures ended { ended_in self.new ≡ ended_in self.old ++ end.now ∷ [] }
     {
-        self.ended = self.ended.and(end);
+        self.ended.push(end);
     }
 }
 
@@ -90,7 +90,7 @@ impl<F: Filing, P: Policy> ClosedSlots<F, P> {
         requires { AllEnded F.store P.settings slot }
         ensures { slots_in self.new.history ≡ slots_in self.old.history ++ slot ∷ [] }
     {
-        self.history.slots = self.history.slots.and(&slot);
+        self.history.slots.push(&slot);
         let SlotHistory {
             opened: _opened,
             ended: _ended,

@@ -1,5 +1,5 @@
 -- The one that was found is taken out.
-use Rattle.admitting.proofs.QueueLemmas.{gets}
+use Rattle.admitting.proofs.FirstAdmittedGetsSlot.{gets}
 use Rattle.admitting.proofs.queue.Queue.admit.Goals as goal
 
 pub returns-clause-admits : goal.returns-clause-admits

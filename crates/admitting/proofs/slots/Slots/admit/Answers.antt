@@ -1,6 +1,6 @@
 -- No peer has more slots than one may have.
 use Rattle.std.proofs.Common.{rules}
-use Rattle.admitting.proofs.OccupantLemmas.{admitted}
+use Rattle.admitting.proofs.PeersStayWithinLimit.{admitted}
 use Rattle.admitting.proofs.slots.Slots.admit.Goals as goal
 
 pub invariant_of-self : goal.invariant_of-self

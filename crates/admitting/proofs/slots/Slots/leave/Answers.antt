@@ -1,6 +1,6 @@
 -- No peer has more slots than one may have.
 use Rattle.std.proofs.Common.{arith}
-use Rattle.admitting.proofs.OccupantLemmas.{freed}
+use Rattle.admitting.proofs.PeersStayWithinLimit.{freed}
 use Rattle.admitting.proofs.slots.Slots.leave.Goals as goal
 
 pub invariant_of-self : goal.invariant_of-self

@@ -1,6 +1,6 @@
 -- No peer has a slot yet.
 use Rattle.std.proofs.Common.{rules}
-use Rattle.admitting.proofs.OccupantLemmas.{free_within}
+use Rattle.admitting.proofs.PeersStayWithinLimit.{free_within}
 use Rattle.admitting.proofs.slots.Slots.new.Goals as goal
 
 pub invariant_of-result : goal.invariant_of-result

@@ -1,6 +1,6 @@
 use Rattle.std.proofs.Common.{refl, sym, ap, ◌∙◌}
 use Rattle.dimse.specs.Joining.{Joining}
-use Rattle.dimse.proofs.JoinLemmas.{first_head, later_head, no_fault}
+use Rattle.dimse.proofs.JoinShowsTheMessage.{first_head, later_head, no_fault}
 use Rattle.dimse.proofs.join.Join.head.Goals as goal
 use Rattle.dimse.proofs.join.Join.head.Goals.{in-Between, in_default-stage}
 

@@ -1,7 +1,7 @@
 use Rattle.std.proofs.Common.{◌+◌, ◌≤◌, length, sym, subst, arith}
 use Rattle.arrayvec.specs.ArrayVec.{array_vec_len}
 use Rattle.dimse.specs.Joining.{Joining, ShowsMessage}
-use Rattle.dimse.proofs.JoinLemmas.{part_shown, command_part, other_part, taken}
+use Rattle.dimse.proofs.JoinShowsTheMessage.{part_shown, command_part, other_part, taken}
 use Rattle.dimse.proofs.join.Join.take.Goals as goal
 use Rattle.dimse.proofs.join.Join.take.Goals.{in-Command, in_default}
 

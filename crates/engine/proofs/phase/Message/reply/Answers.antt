@@ -21,13 +21,13 @@ returns-then-field-eq-C_ECHO-clause-ended g c = λ A p m come peer has same id w
     let accepted : c.context-accepted.result ≡ context_of (request_record p.request) m.context =
     c.context-accepted.ensures ∙ peer.contexts c.args.origin.context ∙ ap (context_of (request_record p.request)) id in
     echo_ended (rooms_of A g.row.C g.row.V g.row.D) (settings_of c.args.origin.config.now) p m come _ _ _ _ c.in-Ok.command c.echo_status-status.result c.args.origin.context c.args.origin.peer.now.max_length c.context-accepted.result
-    e (sym c.field.ensures.value ∙ c.if-field-eq-C_ECHO.true) c.echo_status-status.ensures accepted id peer.maximum c.write_response.ensures.sends
+    e (sym c.field.ensures.value ∙ c.if-field-eq-C_ECHO.true) c.echo_status-status.ensures accepted id peer.maximum c.write_response-sent.ensures.sends
 
-pub write_response-requires : goal.write_response-requires
-write_response-requires g c = is_maximum c.args.origin.peer.now.max_length c.args.origin.peer.now.answerable
+pub write_response-sent-requires : goal.write_response-sent-requires
+write_response-sent-requires g c = is_maximum c.args.origin.peer.now.max_length c.args.origin.peer.now.answerable
 
-pub write_response-requires-2 : goal.write_response-requires-2
-write_response-requires-2 g c = is_maximum c.args.origin.peer.now.max_length c.args.origin.peer.now.answerable
+pub write_response-sent-requires-2 : goal.write_response-sent-requires-2
+write_response-sent-requires-2 g c = is_maximum c.args.origin.peer.now.max_length c.args.origin.peer.now.answerable
 
 pub returns-clause-drafts : goal.returns-clause-drafts
 returns-clause-drafts g c = c.end-ended.ensures.drafts
@@ -39,4 +39,4 @@ returns-clause-ended g c = λ A p m come peer has same id walks draft.
     let f = finding_of c.end-ended.result in
     store_ended (rooms_of A g.row.C g.row.V g.row.D) (settings_of c.args.origin.config.now) p m come c.in-Ok.command f _ _ _ _ _ c.args.origin.context c.args.origin.peer.now.max_length e kind.0 id peer.maximum
     (judged_store g.row.D c.args.origin.config.now.max_data p.request m come c.in-Ok.command p.filing_failed f _ _ (stored_of c.args.self.now.storing) walks draft has e kind c.end-ended.ensures.unsupported c.end-ended.ensures.ends)
-    c.write_response-2.ensures.sends
+    c.write_response-sent-2.ensures.sends

@@ -1,7 +1,9 @@
 -- By its type and the phase.
-use Rattle.std.proofs.Common.{◌≡◌, true, false, ap, sym, ◌∙◌, arith}
+use Rattle.std.proofs.Common.{◌≡◌, [], refl, true, false, ap, sym, ◌∙◌, arith}
 use Rattle.engine.specs.Phases.{state_in}
-use Rattle.engine.specs.Progress.{is_established}
+use Rattle.decisions.specs.declared.decision.Decision.TheVariants as decision
+use Rattle.engine.specs.Progress.{deciding, is_established}
+use Rattle.engine.proofs.FieldsShow.AfterAnEvent.{pends_decided}
 use Rattle.engine.specs.Kept.{kept_of, settings_in, body_in}
 use Rattle.engine.specs.Run.{rooms_of}
 use Rattle.engine.proofs.FieldsShow.TriedIsDone.{stays_abort}
@@ -25,23 +27,28 @@ returns-in-7-clause-due g c = λ store p body h.
     let k = kept_of c.args.self.now in
     let s = settings_in c.args.self.now in
     let taken = sym (refused_shown k _ p _ _ h (unended c.args.self.now.phase c.in_default.not-Ended)) ∙ c.if-self.false in
-    leaves_due p _ _ k store _ _ (taken_end (rooms_of g.row.A g.row.C g.row.V g.row.D) s p c.args.kind body taken ∙ whole_abort s p c.args.kind body c.in-7.is) (pends_unkept k store p c.args.kind body c.requires.unkept h)
+    leaves_due (deciding decision.Aborted p) _ _ (record k { decided = decision.Aborted }) store _ _ (taken_end (rooms_of g.row.A g.row.C g.row.V g.row.D) s p c.args.kind body taken ∙ whole_abort s p c.args.kind body c.in-7.is)
+    (pends_decided decision.Aborted k store p [] [] (pends_unkept k store p c.args.kind body c.requires.unkept h))
 
 pub returns-in-7-clause-stays : goal.returns-in-7-clause-stays
 returns-in-7-clause-stays g c = stays_abort _
 
 pub returns-in-Established : goal.returns-in-Established
 returns-in-Established g c = record {
+  settings = refl;
+  storing = refl;
   stays = ap state_in c.in-Established.is;
   due = λ store p body h.
       let k = kept_of c.args.self.now in
       let s = settings_in c.args.self.now in
       let taken = sym (refused_shown k _ p _ _ h (unended c.args.self.now.phase c.in_default.not-Ended)) ∙ c.if-self.false in
-      leaves_due p _ _ k store _ _ (taken_end (rooms_of g.row.A g.row.C g.row.V g.row.D) s p c.args.kind body taken ∙ whole_release s p c.args.kind body true c.in-5.is (ap is_established (sym h.state_is ∙ ap state_in c.in-Established.is))) (pends_unkept k store p c.args.kind body c.requires.unkept h);
+      leaves_due (deciding decision.Released p) _ _ (record k { decided = decision.Released }) store _ _ (taken_end (rooms_of g.row.A g.row.C g.row.V g.row.D) s p c.args.kind body taken ∙ whole_release s p c.args.kind body true c.in-5.is (ap is_established (sym h.state_is ∙ ap state_in c.in-Established.is))) (pends_decided decision.Released k store p [] [] (pends_unkept k store p c.args.kind body c.requires.unkept h));
 }
 
 pub returns-in_default-phase : goal.returns-in_default-phase
 returns-in_default-phase g c = record {
+  settings = refl;
+  storing = refl;
   stays = tt;
   due = λ store p body h.
       let k = kept_of c.args.self.now in

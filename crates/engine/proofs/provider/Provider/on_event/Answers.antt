@@ -1,7 +1,17 @@
-use Rattle.std.proofs.Common.{refl, sym, ◌∙◌}
+use Rattle.std.proofs.Common.{refl, ap, sym, ◌∙◌, if◌then◌else◌}
+use Rattle.decisions.specs.declared.decision.Decision.TheVariants as decision
+use Rattle.decisions.specs.declared.value_end.ValueEnd.{ValueEnd}
+use Rattle.engine.specs.Progress.{deciding, nothing}
+use Rattle.engine.specs.Reached.{takes_pdvs}
+use Rattle.engine.specs.Replies.{invalid}
+use Rattle.engine.specs.Kept.{settings_in}
+use Rattle.engine.specs.Run.{rooms_of}
 use Rattle.engine.proofs.FieldsShow.AfterAnEvent.{body_fits_then, fragment_fits_then}
 use Rattle.engine.proofs.MarksAreDone.WholePdu.{does_request}
 use Rattle.engine.proofs.FieldsShow.ReactionIsPerformed.{does_judged}
+use Rattle.engine.proofs.FieldsShow.TriedIsDone.{at_bad, at_leftover, left_after}
+use Rattle.engine.specs.Held.{is_ended}
+use Rattle.engine.proofs.MarksAreDone.PdvJoined.{taken_state}
 use Rattle.engine.proofs.provider.Provider.on_event.Goals as goal
 
 pub returns-in-PduHead-clause-room : goal.returns-in-PduHead-clause-room
@@ -23,10 +33,15 @@ pub returns-in-Fragment-clause-takes : goal.returns-in-Fragment-clause-takes
 returns-in-Fragment-clause-takes g c = rw c.in-Fragment.is (λ p begun six h. c.on_data.ensures.takes _ p begun six h)
 
 pub returns-in-BadPdv-clause-takes : goal.returns-in-BadPdv-clause-takes
-returns-in-BadPdv-clause-takes g c = rw c.in-BadPdv.is (λ p h. does_judged _ _ p _ _ _ _ _ _ _ _ tt (c.on_invalid-due.ensures.due _ p h) c.perform-in-BadPdv.ensures.tries)
+returns-in-BadPdv-clause-takes g c = rw c.in-BadPdv.is (λ p h.
+    let x = c.on_invalid-due.ensures.due _ p h in
+    does_judged _ _ p _ _ _ _ _ _ _ _ tt (record { shown = x.shown; pends = x.pends; gives = at_bad (rooms_of g.row.A g.row.C g.row.V g.row.D) (settings_in c.args.self.now) p ∙ x.gives }) c.perform-in-BadPdv.ensures.tries)
 
 pub returns-in-Leftover-clause-takes : goal.returns-in-Leftover-clause-takes
-returns-in-Leftover-clause-takes g c = rw c.in-Leftover.is (λ p h. does_judged _ _ p _ _ _ _ _ _ _ _ tt (c.on_invalid-due-in-Leftover.ensures.due _ p h) c.perform-in-Leftover.ensures.tries)
+returns-in-Leftover-clause-takes g c = rw c.in-Leftover.is (λ p h.
+    let x = c.on_invalid-due-in-Leftover.ensures.due _ p h in
+    let told = ap (λ (v : ValueEnd). if takes_pdvs p then invalid (deciding (decision.BytesLeft v) p) else nothing p) (sym c.value_end.ensures) in
+    does_judged _ _ p _ _ _ _ _ _ _ _ tt (record { shown = x.shown; pends = x.pends; gives = at_leftover (rooms_of g.row.A g.row.C g.row.V g.row.D) (settings_in c.args.self.now) p ∙ left_after p c.args.self.now.decided (λ taken. h.decided_is (ap is_ended (taken_state p taken))) ∙ told ∙ x.gives }) c.perform-in-Leftover.ensures.tries)
 
 pub returns-then-takes_body-clause-takes : goal.returns-then-takes_body-clause-takes
 returns-then-takes_body-clause-takes g c = rw c.in-PduEnd.is (λ p body h. does_request _ _ p _ body _ _ _ _ (sym c.takes_body.ensures ∙ c.if-takes_body.true) h c.on_request.ensures.tries)

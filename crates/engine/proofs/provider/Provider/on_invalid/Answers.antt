@@ -1,22 +1,29 @@
 -- Where PDVs count the PDU is invalid, else nothing is due.
-use Rattle.std.proofs.Common.{sym, ◌∙◌}
+use Rattle.std.proofs.Common.{Bool, [], sym, ◌∙◌, ap, if◌then◌else◌}
 use Rattle.acceptor.specs.declared.event.Event.TheVariants.{Invalid}
 use Rattle.engine.specs.declared.sending.Answering.TheVariants.{Abort}
-use Rattle.engine.specs.Kept.{kept_of, settings_in}
-use Rattle.engine.specs.Run.{rooms_of}
+use Rattle.engine.specs.Progress.{deciding, nothing}
+use Rattle.engine.specs.Replies.{invalid}
+use Rattle.engine.specs.Kept.{kept_of}
+use Rattle.engine.proofs.FieldsShow.AfterAnEvent.{pends_decided}
 use Rattle.engine.proofs.FieldsShow.NothingCounts.{takes_shown}
-use Rattle.engine.proofs.FieldsShow.TriedIsDone.{at_invalid, stays_invalid}
+use Rattle.engine.proofs.FieldsShow.TriedIsDone.{stays_invalid}
 use Rattle.engine.proofs.FieldsShow.ReactionIsPerformed.{leaves_due, leaves_refused}
 use Rattle.engine.proofs.AssociationSize.{provider_small}
 use Rattle.engine.proofs.provider.Provider.on_invalid.Goals as goal
 
 pub returns-then-not-takes_pdvs-clause-due : goal.returns-then-not-takes_pdvs-clause-due
 returns-then-not-takes_pdvs-clause-due g c = λ store p h.
-    leaves_due p _ _ _ store _ _ (at_invalid (rooms_of g.row.A g.row.C g.row.V g.row.D) (settings_in c.args.self.now) p _ (sym (takes_shown (kept_of c.args.self.now) _ p _ _ h) ∙ sym c.takes_pdvs.ensures ∙ c.if-not-takes_pdvs.true)) h
+    let k = kept_of c.args.self.now in
+    let dropped = sym (takes_shown k store p _ _ h) ∙ sym c.takes_pdvs.ensures ∙ c.if-not-takes_pdvs.true in
+    leaves_due p _ _ k store _ _ (ap (λ (t : Bool). if t then invalid (deciding c.args.decided p) else nothing p) dropped) h
 
 pub returns-clause-due : goal.returns-clause-due
 returns-clause-due g c = λ store p h.
-    leaves_refused p _ (Abort 6) Invalid (kept_of c.args.self.now) store _ _ (at_invalid (rooms_of g.row.A g.row.C g.row.V g.row.D) (settings_in c.args.self.now) p _ (sym (takes_shown (kept_of c.args.self.now) _ p _ _ h) ∙ sym c.takes_pdvs.ensures ∙ c.if-not-takes_pdvs.false)) h
+    let k = kept_of c.args.self.now in
+    let d = c.args.decided in
+    let taken = sym (takes_shown k store p _ _ h) ∙ sym c.takes_pdvs.ensures ∙ c.if-not-takes_pdvs.false in
+    leaves_refused (deciding d p) _ (Abort 6) Invalid (record k { decided = d }) store _ _ (ap (λ (t : Bool). if t then invalid (deciding d p) else nothing p) taken) (pends_decided d k store p [] [] h)
 
 pub returns-clause-stays : goal.returns-clause-stays
 returns-clause-stays g c = stays_invalid _

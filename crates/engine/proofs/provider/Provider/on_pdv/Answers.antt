@@ -1,13 +1,16 @@
 -- By what the join makes of the PDV.
-use Rattle.std.proofs.Common.{◌≡◌, ◌∙◌, ◌&&◌, Bool, not, ap, sym, subst, refl, List, ℕ, [], get_or, false, true, Ok}
+use Rattle.std.proofs.Common.{◌≡◌, ◌∙◌, ◌&&◌, Bool, not, ap, sym, subst, refl, List, ℕ, Option, [], drop, get_or, false, true, Ok}
 use Rattle.acceptor.specs.declared.event.Event.TheVariants as event
 use Rattle.dimse.specs.declared.joined.Joined.{Joined}
-use Rattle.dimse.specs.Reading.{command_in}
-use Rattle.dimse.specs.Messages.{Begun, InSet, Goes, Refuses}
-use Rattle.dimse.specs.Joining.{Joining, with_pdv, command_bytes}
+use Rattle.dimse.specs.Reading.{command_in, field_in}
+use Rattle.dimse.specs.Messages.{Begun, InSet, Goes, Refuses, with_fragment}
+use Rattle.dimse.specs.Joining.{Joining, with_pdv, pdv_of, command_bytes}
 use Rattle.engine.specs.Timeline.{At, good}
-use Rattle.engine.specs.Progress.{nothing, done}
-use Rattle.engine.specs.Replies.{user_aborts, going_on}
+use Rattle.engine.specs.Progress.{deciding, nothing, done}
+use Rattle.decisions.specs.declared.decision.Decision.{Decision}
+use Rattle.decisions.specs.declared.decision.Decision.TheVariants as decision
+use Rattle.engine.proofs.FieldsShow.AfterAnEvent.{pends_decided, tries_from}
+use Rattle.engine.specs.Replies.{user_aborts, command_refused, going_on}
 use Rattle.engine.specs.Devices.{devices}
 use Rattle.engine.specs.Kept.{Pends, kept_of, settings_in}
 use Rattle.engine.specs.machine.Does.{Does}
@@ -52,7 +55,7 @@ returns-in-Ok-More-clause-does g c = rw c.in-Established.is (λ p begun six whol
     let later = got.0 in
     does_by rooms s p (At (entry_of begun)) (nothing (going_on later p)) (with_join j k) [] [] _ _
     (pdv_taken rooms s p good begun pdv.taken ∙ pdv_comes p good begun (Goes later) got.1) refl (verdict_by rooms s p p good begun (Goes later) pdv.taken got.1 tt)
-    (tries_still p (going_on later p) (with_join j k) [] [] _ (pends_going_on k so p j later begun h pdv.taken got.2 got.3 six)))
+    (tries_still p (going_on later p) (with_join j k) [] [] _ (pends_going_on k so p j later begun h pdv.taken got.2 got.3 got.4 six)))
 
 pub returns-in-Ok-Message-clause-does : goal.returns-in-Ok-Message-clause-does
 returns-in-Ok-Message-clause-does g c = rw c.in-Established.is (λ p begun six whole h.
@@ -70,14 +73,14 @@ returns-in-Ok-Message-clause-does g c = rw c.in-Established.is (λ p begun six w
     let kept = carried_taken k so p begun pdv.taken h in
     let aside = aside_joined k p j (aside_of k so p begun h) in
     let agreed = aside.agreed (taken_state p pdv.taken) in
-    let ended = c.reply-sent.ensures.ended g.row.A p m come agreed got.3 same here kept.0 kept.1 in
+    let ended = c.reply-decided.ensures.ended g.row.A p m come agreed got.3 same here kept.0 kept.1 in
     does_concluded rooms s p begun m come (kept_of c.settle.new.self) _ _ pdv.taken got.1 (λ st. pdv_store p.request begun p.message six st)
-    (concludes rooms s p m come c.reply-sent.result (with_join j k) (kept_of c.settle.new.self) c.clear.new.self (stored_of c.leave.new.self) _ _ _ _ _ _
+    (concludes rooms s p m come c.reply-decided.result.0 c.reply-decided.result.1 (with_join j k) (kept_of c.settle.new.self) c.clear.new.self (stored_of c.leave.new.self) _ _ _ _ _ _
     aside refl c.clear.ensures c.leave.ensures.nothing ended (drops_unfiled _ _ _ c.leave.ensures.drops) c.settle.ensures.settles))
 
 pub returns-in-Ok-Message-clause-drafts : goal.returns-in-Ok-Message-clause-drafts
 returns-in-Ok-Message-clause-drafts g c = rw c.in-Established.is (
-    drafts_then _ _ _ _ _ _ c.reply-sent.ensures.drafts
+    drafts_then _ _ _ _ _ _ c.reply-decided.ensures.drafts
     (drafts_then _ _ _ _ _ _ (drops_drafts _ _ _ (stored_of c.leave.new.self) c.leave.ensures.nothing c.leave.ensures.drops) c.settle.ensures.drafts))
 
 pub returns-in-Ok-DataDue-clause-drafts : goal.returns-in-Ok-DataDue-clause-drafts
@@ -101,9 +104,9 @@ returns-in-Ok-DataDue-clause-does g c = rw c.in-Established.is (λ p begun six w
     let same : InSet c.context.result j.command [] ≡ later = ap (λ (n : ℕ). InSet n j.command []) (pdv_context g.row.C k.join p.message begun c.context.result six pdv.shows c.context.ensures) ∙ ap (λ (xs : List ℕ). InSet (get_or begun 4 0) xs []) command ∙ sym due.later_is in
     let agreed = (aside_joined k p j (aside_of k so p begun h)).agreed (taken_state p pdv.taken) in
     let proceeds = c.begin.ensures.proceeds p.request agreed none (λ x e. due.announced x (ap command_in (sym command) ∙ e)) in
-    subst (λ (x : Joining). Does rooms s p (At (entry_of begun)) (with_storing z (with_join x k)) [] [] (devices (g.W.Wire.line c.args.devices.wire.now) so) (devices (g.W.Wire.line c.args.devices.wire.now) (g.F.Filing.store c.begin.new.filing)))
+    subst (λ (x : Joining). Does rooms s p (At (entry_of begun)) (record (with_storing z (with_join x k)) { decided = decision.DataDue }) [] [] (devices (g.W.Wire.line c.args.devices.wire.now) so) (devices (g.W.Wire.line c.args.devices.wire.now) (g.F.Filing.store c.begin.new.filing)))
     (sym c.begin.ensures.join)
-    (does_due rooms s p begun g.row.C k j z _ so _ later h pdv.taken got.1 got.2 due
+    (does_due rooms s p begun g.row.C k j z _ so _ later h pdv.taken got.1 got.2 due got.4
     (subst (λ (x : Begun). Proceeds g.row.D c.args.self.now.config.max_data p.request x false z so (g.F.Filing.store c.begin.new.filing)) same proceeds)))
 
 pub returns-in-Err-clause-does : goal.returns-in-Err-clause-does
@@ -114,9 +117,15 @@ returns-in-Err-clause-does g c = rw c.in-Established.is (λ p begun six whole h.
     let so = g.F.Filing.store c.args.devices.filing.now in
     let j = c.end.new.self in
     let pdv = ends_pdv k so p begun j _ _ six h (ap not c.if-self.false) c.end.ensures c.in-Err.is in
-    let got = refuses_of g.row.C p.message begun six (pdv.shows.accepted six) k.join j c.in-Err.field-0 pdv.joins in
+    let got = refuses_of g.row.C p.message begun six (pdv.shows.accepted six) k.join j c.in-Err.fault pdv.joins in
     let pends : Pends (with_join j k) so p [] begun = subst (λ (x : Joining). Pends (with_join x k) so p [] begun) (sym got.1) h in
     let new = kept_of c.perform.new.self in
-    does_by rooms s p (At (entry_of begun)) (user_aborts p) (record new { refused = true }) [] [] _ _
-    (pdv_taken rooms s p good begun pdv.taken ∙ pdv_comes p good begun (Refuses c.in-Err.field-0) got.0) refl (verdict_by rooms s p p good begun (Refuses c.in-Err.field-0) pdv.taken got.0 tt)
-    (refused_by p (done [] 0 p event.UserAborts) new [] begun [] [] _ _ (aborted_body p pdv.taken) (aborted_pdv p begun pdv.taken) (c.perform.ensures.tries p [] begun pends)))
+    let d = command_refused p (pdv_of begun) c.in-Err.fault in
+    let bytes : c.command.result.now ≡ command_bytes (with_fragment (get_or begun 4 0) (drop 6 begun) p.message) =
+    c.command.ensures.value ∙ ap (λ (x : Joining). x.command) (got.1 ∙ pdv.shows.shows) ∙ ap command_bytes (long_pdv begun p.message six) in
+    let field : decision.CommandRefused c.in-Err.fault c.command_field.result ≡ d = ap (λ (x : Option ℕ). decision.CommandRefused c.in-Err.fault x) (c.command_field.ensures ∙ ap field_in bytes) in
+    let decides = subst (λ (x : Decision). Pends (record (with_join j k) { decided = x }) so (deciding d p) [] begun) (sym field) (pends_decided d (with_join j k) so p [] begun pends) in
+    does_by rooms s p (At (entry_of begun)) (user_aborts (deciding d p)) (record new { refused = true }) [] [] _ _
+    (pdv_taken rooms s p good begun pdv.taken ∙ pdv_comes p good begun (Refuses c.in-Err.fault) got.0) refl (verdict_by rooms s p p good begun (Refuses c.in-Err.fault) pdv.taken got.0 tt)
+    (refused_by p (done [] 0 (deciding d p) event.UserAborts) new [] begun [] [] _ _ (aborted_body (deciding d p) pdv.taken) (aborted_pdv (deciding d p) begun pdv.taken)
+    (tries_from p (deciding d p) (done [] 0 (deciding d p) event.UserAborts) new [] begun _ _ (c.perform.ensures.tries (deciding d p) [] begun decides))))

@@ -9,6 +9,10 @@ use Rattle.dimse.specs.Messages.{head_refusal}
 use Rattle.dimse.specs.Joining.{Joining, ShowsMessage}
 use Rattle.engine.specs.Requested.{request_record}
 use Rattle.engine.specs.declared.sending.Answering.TheVariants as answering
+use Rattle.decisions.specs.declared.decision.Decision.TheVariants as decision
+use Rattle.engine.specs.Progress.{deciding, nothing}
+use Rattle.engine.specs.Replies.{invalid, user_aborts}
+use Rattle.engine.proofs.FieldsShow.AfterAnEvent.{pends_decided}
 use Rattle.engine.specs.Kept.{Pends, kept_of, settings_in}
 use Rattle.engine.specs.machine.Messages.{with_join}
 use Rattle.engine.specs.Run.{rooms_of}
@@ -50,7 +54,9 @@ returns-in_default-context-clause-due g c = rw c.in-Established.is (λ store p b
     let id : c.args.head.context ≡ get_or begun 4 0 = ap (λ (x : PdvHead). x.context) head in
     let none : context_of (request_record p.request) (get_or begun 4 0) ≡ None =
     sym (context_shown k _ p [] [] (get_or begun 4 0) h taken) ∙ ap (context_in k.additional k.table) (sym id) ∙ sym c.context.ensures ∙ c.in_default-context.is in
-    leaves_refused p _ (answering.Abort 6) event.Invalid k store _ _ (head_taken rooms (settings_in c.args.self.now) p _ _ _ taken ∙ head_unaccepted g.row.C p _ (get_or begun 4 0) _ none) h)
+    let d = decision.ContextRefused c.args.head in
+    leaves_refused (deciding d p) _ (answering.Abort 6) event.Invalid (record k { decided = d }) store _ _
+    (head_taken rooms (settings_in c.args.self.now) p _ _ _ taken ∙ head_unaccepted g.row.C p _ (get_or begun 4 0) _ none ∙ ap (λ (x : PdvHead). invalid (deciding (decision.ContextRefused x) p)) (sym head)) (pends_decided d k store p [] [] h))
 
 pub returns-in-Err-clause-due : goal.returns-in-Err-clause-due
 returns-in-Err-clause-due g c = rw c.in-Established.is (λ store p begun six head h.
@@ -61,11 +67,13 @@ returns-in-Err-clause-due g c = rw c.in-Established.is (λ store p begun six hea
     let some : context_of (request_record p.request) (get_or begun 4 0) ≡ Some c.in-Some.field-0 =
     sym (context_shown k _ p [] [] (get_or begun 4 0) h taken) ∙ ap (context_in k.additional k.table) (sym id) ∙ sym c.context.ensures ∙ c.in-Some.is in
     let message = join_between k _ p [] h in
-    let wrong : head_refusal g.row.C p.message (pdv_head_of begun) ≡ Some c.in-Err.field-0 =
-    ap (head_refusal g.row.C p.message) (sym head) ∙ judged_some (head_refusal g.row.C p.message c.args.head) c.in-Err.field-0 (sym (c.head.ensures.judged p.message message) ∙ c.in-Err.is) in
+    let wrong : head_refusal g.row.C p.message (pdv_head_of begun) ≡ Some c.in-Err.fault =
+    ap (head_refusal g.row.C p.message) (sym head) ∙ judged_some (head_refusal g.row.C p.message c.args.head) c.in-Err.fault (sym (c.head.ensures.judged p.message message) ∙ c.in-Err.is) in
     let pends : Pends (with_join c.head.new.self k) store p [] [] = subst (λ (j : Joining). Pends (with_join j k) store p [] []) (sym c.in-Err.ensures.refused) h in
-    leaves_refused p _ answering.Nothing event.UserAborts (with_join c.head.new.self k) store _ _
-    (head_taken rooms (settings_in c.args.self.now) p _ _ _ taken ∙ head_accepted g.row.C p _ (get_or begun 4 0) _ c.in-Some.field-0 (Some c.in-Err.field-0) some wrong) pends)
+    let d = decision.FragmentRefused c.args.head c.in-Err.fault in
+    leaves_refused (deciding d p) _ answering.Nothing event.UserAborts (record (with_join c.head.new.self k) { decided = d }) store _ _
+    (head_taken rooms (settings_in c.args.self.now) p _ _ _ taken ∙ head_accepted g.row.C p _ (get_or begun 4 0) _ c.in-Some.field-0 (Some c.in-Err.fault) some wrong
+    ∙ ap (λ (x : PdvHead). user_aborts (deciding (decision.FragmentRefused x c.in-Err.fault) p)) (sym head)) (pends_decided d (with_join c.head.new.self k) store p [] [] pends))
 
 pub returns-in-Ok-clause-due : goal.returns-in-Ok-clause-due
 returns-in-Ok-clause-due g c = rw c.in-Established.is (λ store p begun six head h.
@@ -80,8 +88,10 @@ returns-in-Ok-clause-due g c = rw c.in-Established.is (λ store p begun six head
     ap (head_refusal g.row.C p.message) (sym head) ∙ judged_none (head_refusal g.row.C p.message c.args.head) c.in-Ok.field-0 (sym (c.head.ensures.judged p.message message) ∙ c.in-Ok.is) in
     let shows : ShowsMessage g.row.C c.head.new.self p.message begun = c.in-Ok.ensures.begun p.message begun message six head in
     let j = c.head.new.self in
-    leaves_due p _ _ (with_join j k) store _ _ (head_taken rooms (settings_in c.args.self.now) p _ _ _ taken ∙ head_accepted g.row.C p _ (get_or begun 4 0) _ c.in-Some.field-0 None some fine)
-    (pends_headed k _ p j begun six taken h shows))
+    let d = decision.Fragment c.args.head in
+    leaves_due (deciding d p) _ _ (record (with_join j k) { decided = d }) store _ _
+    (head_taken rooms (settings_in c.args.self.now) p _ _ _ taken ∙ head_accepted g.row.C p _ (get_or begun 4 0) _ c.in-Some.field-0 None some fine ∙ ap (λ (x : PdvHead). nothing (deciding (decision.Fragment x) p)) (sym head))
+    (pends_decided d (with_join j k) store p [] begun (pends_headed k _ p j begun six taken h shows)))
 
 pub returns-in_default-context-clause-stays : goal.returns-in_default-context-clause-stays
 returns-in_default-context-clause-stays g c = stays_invalid _

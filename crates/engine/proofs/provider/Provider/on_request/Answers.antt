@@ -35,9 +35,10 @@ returns-in-Some g c =
       drafts = subst (λ (z : Stored). Drafts (drafting_in z) (g.F.Filing.store c.args.devices.filing.now) (drafting_in (kept_of c.settle.new.self).storing) (g.F.Filing.store c.settle.new.filing)) nothing c.settle.ensures.drafts;
       tries = λ p body h unrefused awaited.
           let s = settings_in c.args.self.now in
-          let given = kept_by c.args.self.now c.in-Some.peer (record { join = c.new.result; storing = Nothing }) in
+          let given = record (kept_by c.args.self.now c.in-Some.peer (record { join = c.new.result; storing = Nothing })) { decided = a.result.3 } in
           let bytes = c.as_slice.ensures.value ∙ sym (ap request_in c.in-AwaitingRequest.is) in
           request_tries s p body a.result.1 a.result.2 (kept_of c.args.self.now) given (kept_of c.settle.new.self) _ _ _ _ h due unrefused refl
+          (a.ensures.decided ∙ ap (λ (b : List ℕ). (at_request s at_start b).next.decided) bytes)
           (a.ensures.state ∙ ap (λ (b : List ℕ). (at_request s at_start b).next.state) bytes) c.settle.ensures.settles
           (λ six. record {
             body = refl;
@@ -61,7 +62,8 @@ returns-in-None g c =
           let s = settings_in c.args.self.now in
           let old = kept_of c.args.self.now in
           let bytes = c.as_slice.ensures.value ∙ sym (ap request_in c.in-AwaitingRequest.is) in
-          request_tries s p body a.result.1 a.result.2 old old (kept_of c.settle-in-None.new.self) _ _ _ _ h due unrefused refl
+          request_tries s p body a.result.1 a.result.2 old (record old { decided = a.result.3 }) (kept_of c.settle-in-None.new.self) _ _ _ _ h due unrefused refl
+          (a.ensures.decided ∙ ap (λ (b : List ℕ). (at_request s at_start b).next.decided) bytes)
           (a.ensures.state ∙ ap (λ (b : List ℕ). (at_request s at_start b).next.state) bytes) c.settle-in-None.ensures.settles
           (λ six. let wrong : is_left Sta6 ≡ true = sym (ap is_left six) ∙ gone in absurd cc)
           (subst (λ (b : List ℕ). Sends (at_request s at_start b).sent a.result.2 (g.W.Wire.line c.args.devices.wire.now) (g.W.Wire.line a.new.wire)) bytes a.ensures.sends)

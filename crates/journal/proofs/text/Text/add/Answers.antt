@@ -1,7 +1,7 @@
 use Rattle.std.proofs.Common.{◌≡◌, true, take, subst, sym}
 use Rattle.std.specs.List.{list_all}
 use Rattle.journal.specs.Printable as spelling
-use Rattle.journal.proofs.TextLemmas.{shown_after}
+use Rattle.journal.proofs.ShownTextIsPrintable.{shown_after}
 use Rattle.journal.proofs.text.Text.add.Goals as goal
 
 pub invariant_of-self : goal.invariant_of-self

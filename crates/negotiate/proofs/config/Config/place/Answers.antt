@@ -3,7 +3,7 @@ use Rattle.std.specs.Cmp.Lexicographic.{pointwise}
 use Rattle.std.proofs.Common.{nat_eq}
 use Rattle.negotiate.specs.Contexts.{is_text}
 use Rattle.negotiate.specs.Settings.{settings_of}
-use Rattle.negotiate.proofs.PlaceLemmas.{is_here, not_here, none_here, none_left}
+use Rattle.negotiate.proofs.FurtherClassIsFound.{is_here, not_here, none_here, none_left}
 use Rattle.negotiate.proofs.config.Config.place.Goals as goal
 
 pub returns-then-eq : goal.returns-then-eq

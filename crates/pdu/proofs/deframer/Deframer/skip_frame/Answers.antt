@@ -2,7 +2,7 @@ use Rattle.std.proofs.Common.{ℕ, sym, subst}
 use Rattle.pdu.specs.declared.position.Position.{Position}
 use Rattle.pdu.specs.declared.position.Position.TheVariants as position
 use Rattle.pdu.specs.Deframing.{At, Skip}
-use Rattle.pdu.proofs.CallLemmas.{skip_body, skip_pdv_head, skip_fragment, skip_leftover, skip_again}
+use Rattle.pdu.proofs.CallFollowsTheMarks.{skip_body, skip_pdv_head, skip_fragment, skip_leftover, skip_again}
 use Rattle.pdu.proofs.deframer.Deframer.skip_frame.Goals.{in-Body, in-PdvHead, in-Fragment, in-Leftover, in-Skipped}
 use Rattle.pdu.proofs.deframer.Deframer.skip_frame.Goals as goal
 

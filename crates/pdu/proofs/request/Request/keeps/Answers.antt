@@ -1,4 +1,4 @@
-use Rattle.pdu.proofs.IdLemmas.{kept_few}
+use Rattle.pdu.proofs.ContextIdsAreFew.{kept_few}
 use Rattle.pdu.proofs.request.Request.keeps.Goals as goal
 
 pub returns-clause-few : goal.returns-clause-few

@@ -1,7 +1,7 @@
 -- What is taken waits no more.
 use Rattle.std.proofs.Common.{ℕ, arith}
 use Rattle.std.proofs.lemmas.List.{length-take, length-drop}
-use Rattle.serving.proofs.InboxLemmas.{taken_on}
+use Rattle.serving.proofs.InboxLosesNothing.{taken_on}
 use Rattle.serving.proofs.inbox.Inbox.drop_front.Goals as goal
 
 pub returns : goal.returns

@@ -1,6 +1,6 @@
 -- What is read waits behind what did before.
 use Rattle.std.proofs.Common.{◌≤◌, ℕ, List, ◌++◌, length, take, slice_range, ap, sym, ◌∙◌, arith}
-use Rattle.serving.proofs.InboxLemmas.{read_behind}
+use Rattle.serving.proofs.InboxLosesNothing.{read_behind}
 use Rattle.serving.proofs.inbox.Inbox.fill.Goals as goal
 
 pub returns-in-Ok-clause-reads : goal.returns-in-Ok-clause-reads

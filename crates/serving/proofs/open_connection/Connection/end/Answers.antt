@@ -1,8 +1,10 @@
 -- What was taken is a run, and the report is of the state.
 use Rattle.std.proofs.Common.{refl}
+use Rattle.engine.specs.Inputs.{inputs_of}
 use Rattle.std.proofs.Math.Logic.{∥∥₁_elim, ∥∥₁_map, ∥∥₁_prop}
-use Rattle.serving.proofs.SettledLemmas.{ends_settled}
-use Rattle.serving.proofs.TakenLemmas.{ended_stands, ends}
+use Rattle.serving.proofs.EachPieceIsTold.{all_told}
+use Rattle.serving.proofs.SentIsSettledFirst.{ends_settled}
+use Rattle.serving.proofs.TakenInputsAreARun.{ended_stands, ends}
 use Rattle.serving.proofs.open_connection.Connection.end.Goals as goal
 
 pub returns : goal.returns
@@ -12,6 +14,7 @@ returns g c =
     record {
       left = ∥∥₁_elim was.closed ∥∥₁_prop (λ closes. ∥∥₁_map was.taken (λ h. rw (traces.read, traces.ends, traces.sent, traces.refusals, traces.inbox, traces.outbox) (ends _ _ _ _ _ _ _ _ _ _ _ _ _ was.whole closes (c.report-report.ensures.reports _) c.discard.ensures.leaves h).0));
       opened = refl;
+      told = rw (traces.read, traces.inbox) (all_told _ (inputs_of was.given.named) _ _ was.heard was.whole);
       ended = ended_stands _ _ (c.report-report.ensures.reports (g.F.Filing.store was.filing)).standing;
       sent = ∥∥₁_elim was.closed ∥∥₁_prop (λ closes. ∥∥₁_elim was.sent ∥∥₁_prop (λ first. ∥∥₁_map was.taken (λ h. rw (traces.read, traces.ends, traces.sent, traces.refusals, traces.inbox, traces.outbox)
           (ends_settled _ _ _ _ _ _ _ _ _ _ _ _ _ _ was.whole closes (c.report-report.ensures.reports _) c.discard.ensures.leaves h first))));

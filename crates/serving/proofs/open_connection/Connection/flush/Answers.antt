@@ -1,8 +1,8 @@
 -- What is written to a socket does not show whether it had closed: an association that has not ended was not given the close.
 use Rattle.std.proofs.Common.{◌∙◌, ap, arith, sym}
 use Rattle.engine.specs.Fields.{association_in}
-use Rattle.serving.proofs.CloseLemmas.{open_unclosed}
-use Rattle.serving.proofs.SettledLemmas.{sent_at}
+use Rattle.serving.proofs.ClosesWithItsSocket.{open_unclosed}
+use Rattle.serving.proofs.SentIsSettledFirst.{sent_at}
 use Rattle.serving.proofs.open_connection.Connection.flush.Goals as goal
 
 pub invariant_of-self-clause-whole : goal.invariant_of-self-clause-whole
@@ -43,6 +43,7 @@ invariant_of-self-in-Err-1 g c =
       bytes = was.bytes;
       followed = was.followed;
       whole = rw (c.flush.ensures.same_inbox, c.flush.ensures.same_read) was.whole;
+      heard = was.heard;
       taken = rw c.flush.ensures.same_sent was.taken;
       sent = sent_at _ _ _ _ _ c.args.self.now.link.stream.traced.written.bytes c.args.self.now.link.outbox.bytes.items _ _ _ c.flush.ensures.same_sent (ap g.F.Filing.store c.of.ensures) was.taken;
       rested = λ _. rw c.of.ensures c.requires.settled;

@@ -2,8 +2,9 @@
 use Rattle.std.proofs.Common.{◌∙◌, refl, subst, sym}
 use Rattle.std.proofs.Math.Logic.{∥∥₁_map}
 use Rattle.element.specs.Numbers.{IsBytes}
-use Rattle.serving.proofs.SettledLemmas.{sent_before}
-use Rattle.serving.proofs.TakenLemmas.{Keeps, keeps_closed, keeps_other}
+use Rattle.serving.proofs.EachPieceIsTold.{told_without}
+use Rattle.serving.proofs.SentIsSettledFirst.{sent_before}
+use Rattle.serving.proofs.TakenInputsAreARun.{Keeps, keeps_closed, keeps_other}
 use Rattle.serving.proofs.open_connection.Connection.give.Goals as goal
 
 pub invariant_of-self : goal.invariant_of-self
@@ -18,6 +19,7 @@ invariant_of-self g c =
       bytes = subst IsBytes (sym k.whole) was.bytes;
       followed = rw (← c.deref.ensures) (c.follow.ensures.state ∙ c.state.ensures);
       whole = rw k.whole was.whole;
+      heard = told_without _ _ _ _ _ c.requires.no_piece c.push.ensures was.heard;
       taken = k.taken;
       sent = ∥∥₁_map was.sent (λ h. sent_before _ _ _ _ _ _ _ _ _ c.take.ensures.settings c.push.ensures h);
       rested = was.rested;

@@ -2,12 +2,12 @@
 use Rattle.std.proofs.Common.{ℕ, ◌<◌, refl, ap, sym, subst, ◌∙◌}
 use Rattle.std.proofs.Math.Logic.{∥∥₁_map}
 use Rattle.element.specs.Numbers.{IsBytes}
-use Rattle.element.specs.declared.count.Count.{Count}
 use Rattle.serving.specs.declared.outbox.Outbox.{Outbox}
-use Rattle.serving.proofs.CloseLemmas.{one_more_closes, still_closes}
-use Rattle.serving.proofs.InboxLemmas.{front_taken, nothing_more, within_portion}
-use Rattle.serving.proofs.SettledLemmas.{sent_before}
-use Rattle.serving.proofs.TakenLemmas.{keeps_piece, more_bytes, same_link}
+use Rattle.serving.proofs.ClosesWithItsSocket.{one_more_closes, still_closes}
+use Rattle.serving.proofs.EachPieceIsTold.{told_with_piece}
+use Rattle.serving.proofs.InboxLosesNothing.{front_taken, nothing_more, within_portion}
+use Rattle.serving.proofs.SentIsSettledFirst.{sent_before}
+use Rattle.serving.proofs.TakenInputsAreARun.{keeps_piece, more_bytes, same_link}
 use Rattle.serving.proofs.open_connection.Connection.receive.Goals as goal
 
 pub invariant_of-self-in-Bytes : goal.invariant_of-self-in-Bytes
@@ -17,17 +17,18 @@ invariant_of-self-in-Bytes g c =
     let are = more_bytes _ _ _ refl was.bytes c.is_of_bytes.ensures in
     let kept = same_link _ _ _ _ _ _ _ _ _ _ lent.same_written lent.same_outbox (record { never = was.never; fits = was.fits; whole = refl; taken = was.taken }) in
     let none = ap (λ (o : Outbox). o.bytes.items) lent.same_outbox ∙ c.requires.flushed in
-    let k = keeps_piece _ _ _ _ _ _ _ _ _ _ _ _ _ _ _ _ _ c.take.ensures.settings c.push.ensures c.requires.open c.take.new.wire.full c.take.ensures.moved kept c.input_limit.result _ refl none (within_portion _ _ _ _ _ c.min.ensures lent.arrives.1) refl are
-    (λ inputs story failed h. rw (← c.deref.ensures) (c.input_limit.ensures.few inputs story failed (g.F.Filing.store was.filing) (rw c.deref.ensures h))) in
+    let k = keeps_piece _ _ _ _ _ _ _ _ _ _ _ _ _ _ _ _ _ c.take_portion-is_complete.ensures.settings c.push.ensures c.requires.open c.take_portion-is_complete.new.wire.full c.take_portion-is_complete.ensures.moved kept c.input_limit-limit.result _ refl none (within_portion _ _ _ _ _ c.min.ensures lent.arrives.1) refl are
+    (λ inputs story failed h. rw (← c.deref.ensures) (c.input_limit-limit.ensures.few inputs story failed (g.F.Filing.store was.filing) (rw c.deref.ensures h))) in
     record {
-      there = c.take.ensures.draft;
+      there = c.take_portion-is_complete.ensures.draft;
       never = k.never;
       fits = k.fits;
       bytes = subst IsBytes (sym k.whole) are;
       followed = rw (← c.deref-in-Bytes.ensures) (c.follow.ensures.state ∙ c.state.ensures);
       whole = rw k.whole (front_taken _ _ _ _ _ _ c.pending.ensures c.drop_front.ensures (lent.arrives.2 _ was.whole));
+      heard = told_with_piece _ _ _ _ _ _ _ c.show_taken.ensures c.pending.ensures c.push.ensures was.heard;
       taken = k.taken;
-      sent = ∥∥₁_map was.sent (λ h. rw lent.same_written (sent_before _ _ _ _ _ _ _ _ _ c.take.ensures.settings c.push.ensures h));
+      sent = ∥∥₁_map was.sent (λ h. rw lent.same_written (sent_before _ _ _ _ _ _ _ _ _ c.take_portion-is_complete.ensures.settings c.push.ensures h));
       rested = rw lent.same_written was.rested;
       closed = one_more_closes _ _ _ _ _ _ _ _ c.push.ensures (λ e. absurd cc);
     }
@@ -35,7 +36,7 @@ invariant_of-self-in-Bytes g c =
 pub invariant_of-self-clause-closed : goal.invariant_of-self-clause-closed
 invariant_of-self-clause-closed g c =
     let lent = c.in-Nothing.ensures in
-    still_closes _ _ _ _ _ _ _ _ _ lent.arrives.2 (λ lt. subst (λ (n : ℕ). 0 < n) (sym lent.ends) lt) (ap (λ (o : Outbox). o.bytes.items) lent.same_outbox) (ap (λ (k : Count). k.total) lent.same_refusals) c.args.self.now.closed
+    still_closes _ _ _ _ _ _ _ _ _ lent.arrives.2 (λ lt. subst (λ (n : ℕ). 0 < n) (sym lent.ends) lt) (ap (λ (o : Outbox). o.bytes.items) lent.same_outbox) lent.same_refusals c.args.self.now.closed
 
 pub invariant_of-self-clause-whole : goal.invariant_of-self-clause-whole
 invariant_of-self-clause-whole g c = let lent = c.in-Nothing.ensures.arrives in nothing_more _ _ _ _ _ lent.0 lent.1 lent.2 c.args.self.now.whole
@@ -48,3 +49,6 @@ invariant_of-self-clause-sent g c = rw c.in-Nothing.ensures.same_written c.args.
 
 pub invariant_of-self-clause-rested : goal.invariant_of-self-clause-rested
 invariant_of-self-clause-rested g c = rw c.in-Nothing.ensures.same_written c.args.self.now.rested
+
+pub take_portion-is_complete-requires-clause-ends : goal.take_portion-is_complete-requires-clause-ends
+take_portion-is_complete-requires-clause-ends g c = rw (← c.deref.ensures) c.input_limit-limit.ensures.ends

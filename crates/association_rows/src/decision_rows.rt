@@ -1,0 +1,248 @@
+//! What an association decides of each part of a PDU that it is handed: heads, bodies, the heads of presentation data
+//! values, fragments, and what it skips.
+
+use decisions::{Decision, ValueEnd};
+use dimse::{Detail, DimseFault, INSTANCE_MISMATCH};
+use element::Tag;
+use fixtures::bytes::joined;
+use fixtures::decides_at_each;
+use fixtures::echo::{ECHO, RELEASE, REQUEST};
+use fixtures::stores::{CT_SET, EXPLICIT, INSTANCE, OTHER, request, whole_store};
+use negotiate::Answer;
+use part10::MemoryFiling;
+use pdu::{MemoryWire, PduFault, PduHead, PdvHead};
+use std::alloc::{AllocError, Global};
+
+/// The parts of a stream, and what is decided of one part of its PDUs after the other.
+type Decided = (&'static [&'static [u8]], &'static [Decision]);
+
+/// The head of the recorded C-ECHO-RQ.
+const ECHO_HEAD: PdvHead = PdvHead {
+    length: 70,
+    context: 1,
+    command: true,
+    last: true,
+};
+
+/// The P-DATA-TF of the recorded echo, with three bytes more.
+const ECHO_AND_MORE: &[u8] = &[
+    4, 0, 0, 0, 0, 77, 0, 0, 0, 70, 1, 3, 0, 0, 0, 0, 4, 0, 0, 0, 56, 0, 0, 0, 0, 0, 2, 0, 18, 0,
+    0, 0, 49, 46, 50, 46, 56, 52, 48, 46, 49, 48, 48, 48, 56, 46, 49, 46, 49, 0, 0, 0, 0, 1, 2, 0,
+    0, 0, 48, 0, 0, 0, 16, 1, 2, 0, 0, 0, 1, 0, 0, 0, 0, 8, 2, 0, 0, 0, 1, 1, 0, 0, 0,
+];
+
+/// The same with the Command Field of a C-FIND-RQ.
+const FIND: &[u8] = &[
+    4, 0, 0, 0, 0, 74, 0, 0, 0, 70, 1, 3, 0, 0, 0, 0, 4, 0, 0, 0, 56, 0, 0, 0, 0, 0, 2, 0, 18, 0,
+    0, 0, 49, 46, 50, 46, 56, 52, 48, 46, 49, 48, 48, 48, 56, 46, 49, 46, 49, 0, 0, 0, 0, 1, 2, 0,
+    0, 0, 32, 0, 0, 0, 16, 1, 2, 0, 0, 0, 1, 0, 0, 0, 0, 8, 2, 0, 0, 0, 1, 1,
+];
+
+static ROWS: [Decided; 10] = [
+    // The recorded echo.
+    (
+        &[REQUEST, ECHO, RELEASE],
+        &[
+            Decision::Nothing,
+            Decision::RequestJudged(Answer::Accept),
+            Decision::Nothing,
+            Decision::Fragment(ECHO_HEAD),
+            Decision::Replied(0, None),
+            Decision::Nothing,
+            Decision::Released,
+        ],
+    ),
+    // A request above the limit, whose body is skipped; an invalid one; bytes that are no PDU.
+    (
+        &[&[1, 0, 0, 0, 0xff, 0xf5]],
+        &[Decision::RequestTooLong(0xfff5)],
+    ),
+    (
+        &[&[1, 0, 0, 0, 0, 68], &[0; 68]],
+        &[
+            Decision::Nothing,
+            Decision::RequestInvalid(PduFault::Missing),
+        ],
+    ),
+    (
+        &[b"GET / "],
+        &[Decision::PduRefused(PduHead {
+            kind: 0x47,
+            length: 0x54202f20,
+        })],
+    ),
+    // A value of a context that is not accepted: the rest of its PDU is skipped.
+    (
+        &[REQUEST, &[4, 0, 0, 0, 0, 10, 0, 0, 0, 6, 3, 3, 1, 2, 3, 4]],
+        &[
+            Decision::Nothing,
+            Decision::RequestJudged(Answer::Accept),
+            Decision::Nothing,
+            Decision::ContextRefused(PdvHead {
+                length: 6,
+                context: 3,
+                command: true,
+                last: true,
+            }),
+            Decision::ContextRefused(PdvHead {
+                length: 6,
+                context: 3,
+                command: true,
+                last: true,
+            }),
+        ],
+    ),
+    // A fragment of a data set where a command is due.
+    (
+        &[REQUEST, &[4, 0, 0, 0, 0, 6, 0, 0, 0, 2, 1, 2]],
+        &[
+            Decision::Nothing,
+            Decision::RequestJudged(Answer::Accept),
+            Decision::Nothing,
+            Decision::FragmentRefused(
+                PdvHead {
+                    length: 2,
+                    context: 1,
+                    command: false,
+                    last: true,
+                },
+                DimseFault::WrongKind,
+            ),
+        ],
+    ),
+    // The head of a value whose length is below 2.
+    (
+        &[REQUEST, &[4, 0, 0, 0, 0, 6, 0, 0, 0, 1, 1, 3]],
+        &[
+            Decision::Nothing,
+            Decision::RequestJudged(Answer::Accept),
+            Decision::Nothing,
+            Decision::ValueInvalid,
+        ],
+    ),
+    // Bytes after a command that is answered.
+    (
+        &[REQUEST, ECHO_AND_MORE],
+        &[
+            Decision::Nothing,
+            Decision::RequestJudged(Answer::Accept),
+            Decision::Nothing,
+            Decision::Fragment(ECHO_HEAD),
+            Decision::BytesLeft(ValueEnd::Replied(0, None)),
+            Decision::BytesLeft(ValueEnd::Replied(0, None)),
+        ],
+    ),
+    // A command that is none of the two, by its Command Field.
+    (
+        &[REQUEST, FIND],
+        &[
+            Decision::Nothing,
+            Decision::RequestJudged(Answer::Accept),
+            Decision::Nothing,
+            Decision::Fragment(ECHO_HEAD),
+            Decision::CommandRefused(DimseFault::UnknownField, Some(0x20)),
+        ],
+    ),
+    // The peer aborts.
+    (
+        &[REQUEST, &[7, 0, 0, 0, 0, 4, 0, 0, 0, 0]],
+        &[
+            Decision::Nothing,
+            Decision::RequestJudged(Answer::Accept),
+            Decision::Nothing,
+            Decision::Aborted,
+        ],
+    ),
+];
+
+/// Whether this is decided of a stream over memory.
+fn is_decided(alloc: Global, stream: &[u8], decisions: &[Decision]) -> bool {
+    let mut wire = MemoryWire::new(alloc);
+    let mut filing = MemoryFiling::new(alloc);
+    decides_at_each::<MemoryWire<Global>, MemoryFiling<Global>, 64>(
+        &mut wire,
+        &mut filing,
+        stream,
+        decisions,
+    )
+}
+
+/// Returns which of these rows is the first that is decided otherwise, if there is one.
+fn other(alloc: Global, rows: &[Decided]) -> Result<Option<usize>, AllocError> {
+    for (index, (parts, decisions)) in rows.iter().enumerate() {
+        let stream = joined(alloc, parts)?;
+        if !is_decided(alloc, stream.as_slice(), decisions) {
+            return Ok(Some(index));
+        }
+    }
+    Ok(None)
+}
+
+/// The head of the command of a store, and that of its data set.
+const STORE_HEAD: PdvHead = PdvHead {
+    length: 102,
+    context: 1,
+    command: true,
+    last: true,
+};
+
+const SET_HEAD: PdvHead = PdvHead {
+    length: 50,
+    context: 1,
+    command: false,
+    last: true,
+};
+
+/// What is decided of a store with an instance, whose data set has it, too, and of one whose data set has another.
+static STORED: [Decision; 8] = [
+    Decision::Nothing,
+    Decision::RequestJudged(Answer::Accept),
+    Decision::Nothing,
+    Decision::Fragment(STORE_HEAD),
+    Decision::DataDue,
+    Decision::Nothing,
+    Decision::Fragment(SET_HEAD),
+    Decision::Replied(0, None),
+];
+
+static MISMATCHED: [Decision; 8] = [
+    Decision::Nothing,
+    Decision::RequestJudged(Answer::Accept),
+    Decision::Nothing,
+    Decision::Fragment(STORE_HEAD),
+    Decision::DataDue,
+    Decision::Nothing,
+    Decision::Fragment(SET_HEAD),
+    Decision::Replied(
+        0xa900,
+        Some(Detail {
+            number: INSTANCE_MISMATCH,
+            tag: Tag(0x0008, 0x0018),
+        }),
+    ),
+];
+
+/// Whether this is decided of a store of a CT image with this instance.
+fn store_is_decided(
+    alloc: Global,
+    instance: &[u8; 6],
+    decisions: &[Decision],
+) -> Result<bool, AllocError> {
+    let asked = request(alloc, EXPLICIT)?;
+    let stored = whole_store(alloc, instance, &CT_SET)?;
+    let stream = joined(alloc, &[asked.as_slice(), stored.as_slice()])?;
+    Ok(is_decided(alloc, stream.as_slice(), decisions))
+}
+
+#[test]
+fn each_decision(rt: HostRuntime) -> Result<(), AllocError> {
+    assert!(rt; other(rt.alloc(), &ROWS)?.is_none());
+    Ok(())
+}
+
+#[test]
+fn decisions_on_stores(rt: HostRuntime) -> Result<(), AllocError> {
+    assert!(rt; store_is_decided(rt.alloc(), INSTANCE, &STORED)?);
+    assert!(rt; store_is_decided(rt.alloc(), OTHER, &MISMATCHED)?);
+    Ok(())
+}

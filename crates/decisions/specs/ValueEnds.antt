@@ -1,0 +1,12 @@
+-- What the end of a presentation data value has decided. This product's own profile.
+use Rattle.decisions.specs.declared.decision.Decision.{Decision}
+use Rattle.decisions.specs.declared.decision.Decision.TheVariants as decision
+use Rattle.decisions.specs.declared.value_end.ValueEnd.{ValueEnd}
+use Rattle.decisions.specs.declared.value_end.ValueEnd.TheVariants as end
+
+-- what the end of a value decided, where that was the last decision, or bytes after it were found no head of a further one
+abbrev pub value_end : Decision → ValueEnd
+value_end decision.DataDue = end.DataDue
+value_end (decision.Replied status detail) = end.Replied status detail
+value_end (decision.BytesLeft before) = before
+value_end other = end.Nothing

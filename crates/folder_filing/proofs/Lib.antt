@@ -1,0 +1,3 @@
+pub mod SevenDigitsFit
+pub mod NamesStayOrderly
+pub mod WaitingFileIsNewest

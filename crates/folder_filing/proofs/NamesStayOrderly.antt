@@ -1,0 +1,221 @@
+-- The names of a filing stay orderly from call to call (`goes_on`, `names_one`, `tries_one`), and along a search for a
+-- free name (`search_begins`, `search_goes_on`, `search_ends`, `search_fails`); places that rise differ (`are_apart`).
+-- Stands on the definitions alone.
+use Rattle.std.proofs.Common.{◌≢◌, inl, inr, Result, Ok, Err, ◌^◌, ◌∙◌, ◌≡◌, ℕ, ◌+◌, ◌<◌, ◌≤◌, true, List, [], ◌∷◌, Option, Some, None, refl, ap, subst, arith, nat_lt, false}
+use Rattle.std.specs.Result.{OnOk, OnErr}
+use Rattle.folder_filing.specs.declared.call.Call.{Call}
+use Rattle.folder_filing.specs.declared.call.Call.TheVariants.{Refused}
+use Rattle.std.specs.List.{AllByRecursion}
+use Rattle.std.proofs.lemmas.Bool.{le-leb, le-ltb, leb-true}
+use Rattle.std.specs.declared.io.Error.{Error}
+use Rattle.folder_filing.specs.declared.numbers.Numbers.{Numbers}
+use Rattle.folder_filing.specs.declared.location.Layout.{Layout}
+use Rattle.folder_filing.specs.declared.location.Layout.TheVariants.{Flat, Levels}
+use Rattle.folder_filing.specs.declared.location.Location.{Location}
+use Rattle.folder_filing.specs.Numbers.{Keeps, is_covered}
+use Rattle.folder_filing.specs.Examples.{WorkedNames}
+use Rattle.folder_filing.specs.Naming.{AreApart, IsKept, IsOrderly, KeepsAll, LeavesNames, LosesNone, WasRefused, Naming, Rises, standing, refusals}
+use Rattle.folder_filing.specs.Locations.{next_location, order}
+use Rattle.folder_filing.specs.declared.naming.Attempt.{Attempt}
+use Rattle.folder_filing.specs.declared.naming.Attempt.TheVariants.{Named, Met}
+use Rattle.folder_filing.specs.declared.naming.Named.{Named as How}
+use Rattle.folder_filing.specs.declared.naming.Obstacle.{Obstacle}
+use Rattle.folder_filing.specs.machine.Naming.{PlaceLeaves, SameTerms}
+
+-- a later last place is behind the same places
+pub behind_more : (last later : Location) → order last ≤ order later → (places : List Location)
+    → AllByRecursion (λ place. order place ≤ order last) places → AllByRecursion (λ place. order place ≤ order later) places
+behind_more last later more [] behind = tt
+behind_more last later more (place ∷ places) behind = (omega (arith, more, behind.0), behind_more last later more places behind.1)
+
+-- a place after the last one is after each that this is behind
+pub after_all : (last place : Location) → order last < order place → (places : List Location)
+    → AllByRecursion (λ other. order other ≤ order last) places → AllByRecursion (λ other. order other < order place) places
+after_all last place more [] behind = tt
+after_all last place more (other ∷ places) behind = (omega (arith, more, behind.0), after_all last place more places behind.1)
+
+covers_more : (layout : Layout) (kept more : Numbers) → Keeps kept more → (place : Location) → is_covered layout kept place ≡ true → is_covered layout more place ≡ true
+covers_more Flat kept more keeps place covered = le-leb place.file more.file (omega (arith, leb-true place.file kept.file covered, keeps.0))
+covers_more (Levels per) kept more keeps place covered = le-leb place.folder more.folder (omega (arith, leb-true place.folder kept.folder covered, keeps.1))
+
+-- what is kept stays kept
+pub kept_more : (layout : Layout) (kept more : Option Numbers) → KeepsAll kept more → (place : Location) → IsKept layout kept place → IsKept layout more place
+kept_more layout None None keeps place is = tt
+kept_more layout None (Some more) keeps place is = absurd keeps
+kept_more layout (Some kept) None keeps place is = tt
+kept_more layout (Some kept) (Some more) keeps place is = covers_more layout kept more keeps place is
+
+pub all_kept_more : (layout : Layout) (kept more : Option Numbers) → KeepsAll kept more → (places : List Location)
+    → AllByRecursion (IsKept layout kept) places → AllByRecursion (IsKept layout more) places
+all_kept_more layout kept more keeps [] are = tt
+all_kept_more layout kept more keeps (place ∷ places) are = (kept_more layout kept more keeps place are.0, all_kept_more layout kept more keeps places are.1)
+
+pub keeps_same : (kept : Option Numbers) → KeepsAll kept kept
+keeps_same None = tt
+keeps_same (Some kept) = (omega arith, omega arith)
+
+-- A filing goes on: its last place is no earlier, no kept number is missing, and the calls name no file and lose none.
+pub goes_on : (old new : Naming) → new.layout ≡ old.layout → order old.last ≤ order new.last → KeepsAll old.kept new.kept
+    → standing new.calls ≡ standing old.calls → (LosesNone old.calls → LosesNone new.calls) → IsOrderly old → IsOrderly new
+goes_on old new layout last kept same loses was =
+    record {
+      loses = loses was.loses;
+      rises = rw same was.rises;
+      behind = rw same (behind_more old.last new.last last _ was.behind);
+      kept = rw (same, layout) (all_kept_more old.layout old.kept new.kept kept _ was.kept);
+    }
+
+-- A call that was passed on names no file and loses none.
+pub passed_on : {T E : Type 0} (result : Result T E) (old new : List Call) → OnOk result (new ≡ old) → OnErr result (new ≡ Refused ∷ old)
+    → (standing new ≡ standing old) × (LosesNone old → LosesNone new)
+passed_on (Ok value) old new taken refused = (ap standing taken, λ h. rw taken h)
+passed_on (Err error) old new taken refused = (rw refused refl, λ h. rw refused h)
+
+-- It names a file: at a place after the last one, whose number is kept, and which is the last one or before it.
+pub names_one : (old new : Naming) (place : Location) → new.layout ≡ old.layout → new.kept ≡ old.kept → order old.last < order place
+    → order place ≤ order new.last → IsKept old.layout old.kept place
+    → standing new.calls ≡ place ∷ standing old.calls → (LosesNone old.calls → LosesNone new.calls) → IsOrderly old → IsOrderly new
+names_one old new place layout kept after behind is more loses was =
+    record {
+      loses = loses was.loses;
+      rises = rw more (after_all old.last place after _ was.behind, was.rises);
+      behind = rw more (behind, behind_more old.last new.last (omega (arith, after, behind)) _ was.behind);
+      kept =
+          let one : IsKept new.layout new.kept place = rw (layout, kept) is in
+          let all : AllByRecursion (IsKept new.layout new.kept) (standing old.calls) = rw (layout, kept) was.kept in
+          rw more (one, all);
+    }
+
+-- A try at a place after the last one, whose number is kept, goes on, whatever came of it.
+pub tries_one : {E : Type 0} (result : Result Attempt E) (old new : Naming) (place : Location) → order old.last < order place → IsKept old.layout old.kept place
+    → PlaceLeaves place result old new → SameTerms old new → (LosesNone old.calls → LosesNone new.calls) → IsOrderly old → IsOrderly new
+tries_one (Ok (Named how)) old new place after is left same loses was =
+    names_one old new place same.0 same.1 after (rw left.2 (omega arith)) is left.0 loses was
+tries_one (Ok (Met obstacle)) old new place after is left same loses was =
+    goes_on old new same.0 (rw left.2 (omega arith)) (rw same.1 (keeps_same old.kept)) left.0 loses was
+tries_one (Err error) old new place after is left same loses was = elim left.0 [
+  | inl stays ↦ goes_on old new same.0 (rw stays.1 (omega arith)) (rw same.1 (keeps_same old.kept)) stays.0 loses was
+  | inr more ↦ names_one old new place same.0 same.1 after (rw more.1 (omega arith)) is more.0 loses was
+]
+
+-- the search for a free name, after so many places that were met
+pub record Searches (old now : Naming) (met : ℕ) : Type 0 where
+  pub same : standing now.calls ≡ standing old.calls
+  pub refused : refusals now.calls ≡ refusals old.calls
+  pub orderly : IsOrderly old → IsOrderly now
+  pub far : met ≤ order now.last
+
+pub search_begins : (old now : Naming) → now.layout ≡ old.layout → now.kept ≡ old.kept → now.calls ≡ old.calls → order old.last ≤ order now.last → Searches old now 0
+search_begins old now layout kept calls last =
+    record {
+      same = ap standing calls;
+      refused = ap refusals calls;
+      orderly = goes_on old now layout last (rw kept (keeps_same old.kept)) (ap standing calls) (λ h. rw calls h);
+      far = omega arith;
+    }
+
+-- the next place, at which a name is tried: it is after the last one, and its number is kept
+pub record Reaches (now next : Naming) (place : Location) : Type 0 where
+  pub calls : next.calls ≡ now.calls
+  pub rises : order now.last ≤ order next.last
+  pub behind : order next.last < order place
+  pub kept : IsKept next.layout next.kept place
+  pub orderly : IsOrderly now → IsOrderly next
+
+-- what the try at this place leaves, whatever came of it
+pub record Tries {E : Type 0} (result : Result Attempt E) (place : Location) (next tried : Naming) : Type 0 where
+  pub left : PlaceLeaves place result next tried
+  pub same : SameTerms next tried
+  pub loses : LosesNone next.calls → LosesNone tried.calls
+
+orderly_then : {E : Type 0} (result : Result Attempt E) (old now next tried : Naming) (place : Location) (met : ℕ)
+    → Searches old now met → Reaches now next place → Tries result place next tried → IsOrderly old → IsOrderly tried
+orderly_then result old now next tried place met was reaches tries h =
+    tries_one result next tried place reaches.behind reaches.kept tries.left tries.same tries.loses (reaches.orderly (was.orderly h))
+
+same_calls : (old now next : Naming) (place : Location) (met : ℕ) → Searches old now met → Reaches now next place
+    → (standing next.calls ≡ standing old.calls) × (refusals next.calls ≡ refusals old.calls)
+same_calls old now next place met was reaches = (ap standing reaches.calls ∙ was.same, ap refusals reaches.calls ∙ was.refused)
+
+-- the place was given
+pub search_ends : (old now next tried : Naming) (place : Location) (met : ℕ) (attempt : Attempt) (how : How) → attempt ≡ Named how
+    → Searches old now met → Reaches now next place → Tries {E = Error} (Ok attempt) place next tried
+    → (standing tried.calls ≡ place ∷ standing old.calls) × (refusals tried.calls ≡ refusals old.calls) × (IsOrderly old → IsOrderly tried)
+search_ends old now next tried place met (Named how) _ is was reaches tries =
+    let same = same_calls old now next place met was reaches in
+    (tries.left.0 ∙ ap (λ z. place ∷ z) same.0, tries.left.1 ∙ same.1, orderly_then (Ok (Named how)) old now next tried place met was reaches tries)
+search_ends old now next tried place met (Met obstacle) how is was reaches tries = absurd cc
+
+-- an obstacle was met, and the search goes on behind the place
+pub search_goes_on : (old now next tried over : Naming) (place : Location) (met : ℕ) (attempt : Attempt) (obstacle : Obstacle) → attempt ≡ Met obstacle
+    → Searches old now met → Reaches now next place → Tries {E = Error} (Ok attempt) place next tried
+    → over.calls ≡ tried.calls → SameTerms tried over → order place ≤ order over.last → Searches old over (met + 1)
+search_goes_on old now next tried over place met (Named how) _ is was reaches tries calls terms behind = absurd cc
+search_goes_on old now next tried over place met (Met obstacle) _ is was reaches tries calls terms behind =
+    let same = same_calls old now next place met was reaches in
+    let last : order tried.last ≤ order over.last = rw tries.left.2 (omega (arith, reaches.behind, behind)) in
+    record {
+      same = ap standing calls ∙ tries.left.0 ∙ same.0;
+      refused = ap refusals calls ∙ tries.left.1 ∙ same.1;
+      orderly = λ h. goes_on tried over terms.0 last (rw terms.1 (keeps_same tried.kept)) (ap standing calls) (λ l. rw calls l)
+          (orderly_then (Ok (Met obstacle)) old now next tried place met was reaches tries h);
+      far = omega (arith, was.far, reaches.rises, reaches.behind, behind);
+    }
+
+-- the try failed
+pub search_fails : {E : Type 0} (old now next tried : Naming) (place : Location) (met : ℕ) (error : E)
+    → Searches old now met → Reaches now next place → Tries (Err error) place next tried
+    → LeavesNames (standing old.calls) (standing tried.calls) × WasRefused old tried × (IsOrderly old → IsOrderly tried)
+search_fails old now next tried place met error was reaches tries =
+    let same = same_calls old now next place met was reaches in
+    let left : LeavesNames (standing old.calls) (standing tried.calls) = elim tries.left.0 [
+      | inl stays ↦ inl (stays.0 ∙ same.0)
+      | inr more ↦ inr (place, more.0 ∙ ap (λ z. place ∷ z) same.0)
+    ] in
+    let refused : refusals old.calls < refusals tried.calls = rw (← same.1) tries.left.1 in
+    (left, inl refused, orderly_then (Err error) old now next tried place met was reaches tries)
+
+-- no place was reached
+pub search_is_refused : (old now next : Naming) (met : ℕ) → Searches old now met → standing next.calls ≡ standing now.calls → WasRefused now next → (IsOrderly now → IsOrderly next)
+    → LeavesNames (standing old.calls) (standing next.calls) × WasRefused old next × (IsOrderly old → IsOrderly next)
+search_is_refused old now next met was same refused orderly =
+    let why : WasRefused old next = elim refused [
+      | inl more ↦ inl (rw (← was.refused) more)
+      | inr none ↦ inr none
+    ] in
+    (inl (same ∙ was.same), why, λ h. orderly (was.orderly h))
+
+lt_no : (a b : ℕ) → b ≤ a → nat_lt a b ≡ false
+lt_no a b more = le-ltb a b more
+
+-- A place so far behind that none comes after it.
+pub none_behind : (folder file : ℕ) → folder < 2 ^ 32 → file < 2 ^ 32 → 18446744073709551615 ≤ order (record { folder = folder; file = file })
+    → next_location Flat (record { folder = folder; file = file }) ≡ None
+none_behind folder file least most far = rw (lt_no file 9999999 (omega (arith, least, most, far))) refl
+
+pub none_behind_levels : (per folder file : ℕ) → per < 2 ^ 32 → folder < 2 ^ 32 → file < 2 ^ 32 → 18446744073709551615 ≤ order (record { folder = folder; file = file })
+    → next_location (Levels per) (record { folder = folder; file = file }) ≡ None
+none_behind_levels per folder file fits least most far =
+    rw (lt_no file per (omega (arith, fits, least, most, far))) (rw (lt_no folder 9999999 (omega (arith, least, most, far))) refl)
+
+apart : (place : Location) (before : List Location) → AllByRecursion (λ other. order other < order place) before → AllByRecursion (λ other. other ≢ place) before
+apart place [] rises = tt
+apart place (other ∷ before) rises = ((λ same. absurd (let less : order place < order place = subst (λ z. order z < order place) same rises.0 in omega (arith, less))), apart place before rises.1)
+
+-- places that rise are apart
+pub are_apart : (places : List Location) → Rises places → AreApart places
+are_apart [] rises = tt
+are_apart (place ∷ before) rises = (apart place before rises.0, are_apart before rises.1)
+
+pub worked_names : WorkedNames
+worked_names =
+    record {
+      names = refl;
+      count = refl;
+      loses = (refl, (refl, tt));
+      rises = ((omega arith, tt), (tt, tt));
+      unseen = λ loses. loses.0;
+      other = λ loses. absurd (let same = ap (λ z. z.file) loses.0 in omega (arith, same));
+      earlier = λ loses. absurd (let same = ap (λ z. z.file) loses.0 in omega (arith, same));
+      twice = λ rises. absurd (omega (arith, rises.0.0));
+    }

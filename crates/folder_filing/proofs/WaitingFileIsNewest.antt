@@ -1,0 +1,66 @@
+-- The file that waits is the newest, the one that was named last (`same_last`, `just_named`, `is_newest`), and the
+-- names stay orderly where its name is removed, or where that fails (`takes_back_or_fails`). Stands on
+-- NamesStayOrderly.
+use Rattle.std.proofs.Common.{◌≡◌, ◌≤◌, ◌∙◌, List, [], ◌∷◌, Result, Ok, Err, ap, arith, drop, refl, subst, sym}
+use Rattle.std.specs.Result.{OnOk, OnErr}
+use Rattle.std.specs.List.{AllByRecursion}
+use Rattle.folder_filing.specs.declared.call.Call.{Call}
+use Rattle.folder_filing.specs.declared.call.Call.TheVariants.{Refused, Removed}
+use Rattle.folder_filing.specs.Naming.{IsKept, IsNewest, IsOrderly, Naming, Rises, standing}
+use Rattle.folder_filing.specs.Locations.{order}
+use Rattle.folder_filing.specs.declared.location.Location.{Location}
+use Rattle.folder_filing.specs.declared.pending.Pending.{Pending}
+use Rattle.folder_filing.specs.declared.pending.Pending.TheVariants.{Settled, Unnamed, Named}
+use Rattle.folder_filing.specs.Settling.{IsNamedLast}
+use Rattle.folder_filing.proofs.NamesStayOrderly.{goes_on, keeps_same}
+
+-- The file that waits is the one that was named last, as the same files have names.
+pub same_last : (pending : Pending) (old new : List Location) → new ≡ old → ∥ IsNamedLast pending old ∥₁ → ∥ IsNamedLast pending new ∥₁
+same_last pending old new same last = subst (λ z. ∥ IsNamedLast pending z ∥₁) (sym same) last
+
+-- No file that waits has a name.
+pub none_waits : (pending : Pending) (places : List Location) → pending ≡ Settled → ∥ IsNamedLast pending places ∥₁
+none_waits pending places is = subst (λ z. ∥ IsNamedLast z places ∥₁) (sym is) ∣ tt ∣₁
+
+pub none_has_its_name : (pending : Pending) (places : List Location) → pending ≡ Unnamed → ∥ IsNamedLast pending places ∥₁
+none_has_its_name pending places is = subst (λ z. ∥ IsNamedLast z places ∥₁) (sym is) ∣ tt ∣₁
+
+-- The file that has just been named is the one that was named last.
+pub just_named : (place : Location) (old new : List Location) → new ≡ place ∷ old → ∥ IsNamedLast (Named place) new ∥₁
+just_named place old new is = subst (λ z. ∥ IsNamedLast (Named place) z ∥₁) (sym is) ∣ refl ∣₁
+
+-- The file that waits and has its name was named last.
+pub is_newest : (pending : Pending) (place : Location) (places : List Location) → pending ≡ Named place → ∥ IsNamedLast pending places ∥₁ → ∥ IsNewest place places ∥₁
+is_newest pending place places is last = subst (λ z. ∥ IsNamedLast z places ∥₁) is last
+
+all_drop : (P : Location → Type 0) (places : List Location) → AllByRecursion P places → AllByRecursion P (drop 1 places)
+all_drop P [] all = tt
+all_drop P (place ∷ places) all = all.1
+
+rises_drop : (places : List Location) → Rises places → Rises (drop 1 places)
+rises_drop [] rises = tt
+rises_drop (place ∷ places) rises = rises.1
+
+-- The name that was given last is removed.
+pub takes_back : (old new : Naming) (place : Location) → new.layout ≡ old.layout → new.last ≡ old.last → new.kept ≡ old.kept
+    → new.calls ≡ Removed place ∷ old.calls → IsNewest place (standing old.calls) → IsOrderly old → IsOrderly new
+takes_back old new place layout last kept calls newest was =
+    let same : standing new.calls ≡ drop 1 (standing old.calls) = ap standing calls in
+    let behind : AllByRecursion (λ other. order other ≤ order new.last) (drop 1 (standing old.calls)) = rw last (all_drop _ _ was.behind) in
+    let all : AllByRecursion (IsKept new.layout new.kept) (drop 1 (standing old.calls)) = rw (layout, kept) (all_drop _ _ was.kept) in
+    record {
+      loses = rw calls (newest, was.loses);
+      rises = rw same (rises_drop _ was.rises);
+      behind = rw same behind;
+      kept = rw same all;
+    }
+
+-- The name that was given last is removed, or the call failed.
+pub takes_back_or_fails : {T E : Type 0} (result : Result T E) (old new : Naming) (place : Location) (before : List Call) → new.layout ≡ old.layout → new.last ≡ old.last
+    → new.kept ≡ old.kept → before ≡ old.calls → OnOk result (new.calls ≡ Removed place ∷ before) → OnErr result (new.calls ≡ Refused ∷ before)
+    → IsNewest place (standing old.calls) → IsOrderly old → IsOrderly new
+takes_back_or_fails (Ok value) old new place before layout last kept same removed refused newest was =
+    takes_back old new place layout last kept (removed ∙ ap (λ z. Removed place ∷ z) same) newest was
+takes_back_or_fails (Err error) old new place before layout last kept same removed refused newest was =
+    let calls : new.calls ≡ Refused ∷ old.calls = refused ∙ ap (λ z. Refused ∷ z) same in
+    goes_on old new layout (rw last (omega arith)) (rw kept (keeps_same old.kept)) (rw calls refl) (λ l. rw calls l) was

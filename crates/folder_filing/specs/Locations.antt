@@ -1,0 +1,23 @@
+-- The order in which the files of a folder are numbered. This product's own profile.
+use Rattle.std.specs.Prelude.{ℕ, ◌+◌, ◌*◌, Option, Some, None, nat_lt, if◌then◌else◌}
+use Rattle.folder_filing.specs.declared.location.Layout.{Layout}
+use Rattle.folder_filing.specs.declared.location.Layout.TheVariants.{Flat, Levels}
+use Rattle.folder_filing.specs.declared.location.Location.{Location}
+
+-- the greatest number of seven digits
+abbrev pub greatest : ℕ
+greatest = 9999999
+
+-- the place after this one, while there are numbers: the next number; with subfolders of `per` files, after the last
+-- file of one the first of the next
+abbrev pub next_location : Layout → Location → Option Location
+next_location Flat place =
+    if nat_lt place.file greatest then Some (record { folder = place.folder; file = place.file + 1 }) else None
+next_location (Levels per) place =
+    if nat_lt place.file per then Some (record { folder = place.folder; file = place.file + 1 })
+    else (if nat_lt place.folder greatest then Some (record { folder = place.folder + 1; file = 1 })
+    else None)
+
+-- a place as one number, by which places are ordered: by the number of the folder, then by that of the file
+abbrev pub order : Location → ℕ
+order place = place.folder * 4294967296 + place.file

@@ -1,0 +1,122 @@
+-- The system calls of a filing over a folder, the newest first, and what holds of the names that it has given to
+-- files. This product's own profile.
+use Rattle.std.specs.Prelude.{◌≡◌, ◌≢◌, ℕ, ◌+◌, ◌<◌, ◌≤◌, ◌⊎◌, true, List, [], ◌∷◌, drop, Option, Some, None, ⊤}
+use Rattle.std.specs.List.{AllByRecursion}
+use Rattle.folder_filing.specs.declared.call.Call.{Call}
+use Rattle.folder_filing.specs.declared.call.Call.TheVariants.{Created, Linked, SeenFree, Renamed, Removed, Refused, Replaced}
+use Rattle.folder_filing.specs.declared.numbers.Numbers.{Numbers}
+use Rattle.folder_filing.specs.declared.location.Layout.{Layout}
+use Rattle.folder_filing.specs.declared.location.Location.{Location}
+use Rattle.folder_filing.specs.Numbers.{Keeps, is_covered}
+use Rattle.folder_filing.specs.Locations.{next_location, order}
+
+-- the places of the files that a filing has named, newest first: those that it has linked or renamed, without those
+-- that it has removed again
+abbrev pub standing : List Call → List Location
+standing [] = []
+standing (Created ∷ before) = standing before
+standing (Linked place ∷ before) = place ∷ standing before
+standing (SeenFree place ∷ before) = standing before
+standing (Renamed place ∷ before) = place ∷ standing before
+standing (Removed place ∷ before) = drop 1 (standing before)
+standing (Refused ∷ before) = standing before
+standing (Replaced ∷ before) = standing before
+
+-- how many calls failed, or found another folder at the path
+abbrev pub refusals : List Call → ℕ
+refusals [] = 0
+refusals (Created ∷ before) = refusals before
+refusals (Linked place ∷ before) = refusals before
+refusals (SeenFree place ∷ before) = refusals before
+refusals (Renamed place ∷ before) = refusals before
+refusals (Removed place ∷ before) = refusals before
+refusals (Refused ∷ before) = refusals before + 1
+refusals (Replaced ∷ before) = refusals before + 1
+
+-- the last call found the name of this place free
+abbrev pub FoundFree : Location → List Call → Type 0
+FoundFree place [] = ⊥
+FoundFree place (SeenFree free ∷ before) = free ≡ place
+FoundFree place (Created ∷ before) = ⊥
+FoundFree place (Linked other ∷ before) = ⊥
+FoundFree place (Renamed other ∷ before) = ⊥
+FoundFree place (Removed other ∷ before) = ⊥
+FoundFree place (Refused ∷ before) = ⊥
+FoundFree place (Replaced ∷ before) = ⊥
+
+-- the file that was named last has this place
+abbrev pub IsNewest : Location → List Location → Type 0
+IsNewest place [] = ⊥
+IsNewest place (newest ∷ before) = newest ≡ place
+
+-- No file is overwritten or lost: a file is renamed only to a name that the call before found free, and no file is
+-- removed but the one that was named last, whose commit has not been reported yet.
+abbrev pub LosesNone : List Call → Type 0
+LosesNone [] = ⊤
+LosesNone (Created ∷ before) = LosesNone before
+LosesNone (Linked place ∷ before) = LosesNone before
+LosesNone (SeenFree place ∷ before) = LosesNone before
+LosesNone (Renamed place ∷ before) = FoundFree place before × LosesNone before
+LosesNone (Removed place ∷ before) = IsNewest place (standing before) × LosesNone before
+LosesNone (Refused ∷ before) = LosesNone before
+LosesNone (Replaced ∷ before) = LosesNone before
+
+-- each place in this list, the newest first, comes after all older ones in the order of places
+abbrev pub Rises : List Location → Type 0
+Rises [] = ⊤
+Rises (place ∷ before) = AllByRecursion (λ other. order other < order place) before × Rises before
+
+-- no place occurs twice in this list
+abbrev pub AreApart : List Location → Type 0
+AreApart [] = ⊤
+AreApart (place ∷ before) = AllByRecursion (λ other. other ≢ place) before × AreApart before
+
+-- the file of numbers, if one is in use, covers the number of this place
+abbrev pub IsKept : Layout → Option Numbers → Location → Type 0
+IsKept layout None place = ⊤
+IsKept layout (Some kept) place = is_covered layout kept place ≡ true
+
+-- the file of numbers, if one is in use, still covers each number that it covered
+abbrev pub KeepsAll : Option Numbers → Option Numbers → Type 0
+KeepsAll None None = ⊤
+KeepsAll None (Some more) = ⊥
+KeepsAll (Some kept) None = ⊥
+KeepsAll (Some kept) (Some more) = Keeps kept more
+
+-- the state of a filing's numbering, as contracts see it: the layout of the folder; the place after which the next
+-- file comes; the contents of the file of numbers, if one is in use; and the system calls so far, newest first
+pub record Naming : Type 0 where
+  pub layout : Layout
+  pub last : Location
+  pub kept : Option Numbers
+  pub calls : List Call
+
+-- the invariant of a filing's numbering
+pub record IsOrderly (naming : Naming) : Type 0 where
+  pub loses : LosesNone naming.calls
+  pub rises : Rises (standing naming.calls)
+  pub behind : AllByRecursion (λ place. order place ≤ order naming.last) (standing naming.calls)
+  pub kept : AllByRecursion (IsKept naming.layout naming.kept) (standing naming.calls)
+
+-- no place comes after the last one: all numbers are in use
+abbrev pub NoneIsLeft : Naming → Type 0
+NoneIsLeft naming = next_location naming.layout naming.last ≡ None
+
+-- after the calls `new`, which extend the calls `old`, the files have these places, `refused` calls have failed, and
+-- no file is lost
+pub record Asks (names : List Location) (refused : ℕ) (old new : List Call) : Type 0 where
+  pub standing : standing new ≡ names
+  pub refusals : refusals new ≡ refused
+  pub loses : LosesNone old → LosesNone new
+
+-- why a name was not given: a call failed or found another folder, or all numbers are in use
+abbrev pub WasRefused : Naming → Naming → Type 0
+WasRefused old new = (refusals old.calls < refusals new.calls) ⊎ NoneIsLeft new
+
+-- the second list is the first with one place more
+abbrev pub IsOneMore : List Location → List Location → Type 0
+IsOneMore old new = (place : Location) × (new ≡ place ∷ old)
+
+-- after a failed commit: the same files have names, or one more, whose name could not be removed again
+abbrev pub LeavesNames : List Location → List Location → Type 0
+LeavesNames old new = (new ≡ old) ⊎ IsOneMore old new

@@ -1,0 +1,65 @@
+-- How the commits of a filing over a folder are settled in groups. This product's own profile.
+use Rattle.std.specs.Prelude.{◌≡◌, ◌<◌, ◌⊎◌, Bool, true, false, List, ◌∷◌, drop, ⊤}
+use Rattle.folder_filing.specs.declared.location.Location.{Location}
+use Rattle.folder_filing.specs.declared.pending.Pending.{Pending}
+use Rattle.folder_filing.specs.declared.pending.Pending.TheVariants.{Settled, Unnamed, Named, Lost}
+use Rattle.folder_filing.specs.Naming.{IsNewest, LeavesNames, Naming, WasRefused, refusals, standing}
+
+-- a commit waits to be settled, or its file was lost
+abbrev pub is_waiting : Pending → Bool
+is_waiting Settled = false
+is_waiting Unnamed = true
+is_waiting (Named place) = true
+is_waiting Lost = true
+
+-- the file that waits, once it has a name, is the one that the filing has named last
+abbrev pub IsNamedLast : Pending → List Location → Type 0
+IsNamedLast Settled places = ⊤
+IsNamedLast Unnamed places = ⊤
+IsNamedLast (Named place) places = IsNewest place places
+IsNamedLast Lost places = ⊤
+
+-- the effect of writing a file out that has no name: it has got one, or it is lost, and then the same files have names,
+-- or one more, whose name could not be removed again
+abbrev pub IsWrittenOut : Pending → Naming → Naming → Type 0
+IsWrittenOut Settled old new = ⊥
+IsWrittenOut Unnamed old new = ⊥
+IsWrittenOut (Named place) old new = (standing new.calls ≡ place ∷ standing old.calls) × (refusals new.calls ≡ refusals old.calls)
+IsWrittenOut Lost old new = LeavesNames (standing old.calls) (standing new.calls) × WasRefused old new
+
+-- the effect of writing out the last commit, which was in the first state and is in the second one: nothing, but for a
+-- file that has no name yet
+abbrev pub WritesOut : Pending → Pending → Naming → Naming → Type 0
+WritesOut Settled pending old new = (pending ≡ Settled) × (new ≡ old)
+WritesOut Unnamed pending old new = IsWrittenOut pending old new
+WritesOut (Named place) pending old new = (pending ≡ Named place) × (new ≡ old)
+WritesOut Lost pending old new = (pending ≡ Lost) × (new ≡ old)
+
+-- the state of the last commit after it was settled, if the names are on the disk (true) or could not be synced
+abbrev pub settled : Bool → Pending → Pending
+settled are_named Settled = Settled
+settled are_named Unnamed = Unnamed
+settled true (Named place) = Settled
+settled false (Named place) = Lost
+settled are_named Lost = Lost
+
+-- the name of a file that is lost is removed, or it could not be
+abbrev pub TakesBack : Naming → Naming → Type 0
+TakesBack old new =
+    ((standing new.calls ≡ drop 1 (standing old.calls)) × (refusals new.calls ≡ refusals old.calls))
+    ⊎ ((standing new.calls ≡ standing old.calls) × (refusals old.calls < refusals new.calls))
+
+-- the effect of settling the last commit on the names: none, but that a file whose name could not be synced loses it
+abbrev pub SettlesNames : Bool → Pending → Naming → Naming → Type 0
+SettlesNames are_named Settled old new = new ≡ old
+SettlesNames are_named Unnamed old new = new ≡ old
+SettlesNames true (Named place) old new = new ≡ old
+SettlesNames false (Named place) old new = TakesBack old new
+SettlesNames are_named Lost old new = new ≡ old
+
+-- the state of the last commit once a file that is lost is given up
+abbrev pub without_lost : Pending → Pending
+without_lost Settled = Settled
+without_lost Unnamed = Unnamed
+without_lost (Named place) = Named place
+without_lost Lost = Settled

@@ -1,0 +1,288 @@
+//! The system calls of a filing over a folder, recorded for contracts.
+//!
+//! Only this module creates, names and removes the files of a folder, except for drafts that are
+//! discarded. Each method makes its system
+//! calls and records their outcome, so that contracts can require, for example, that a name is checked
+//! before a rename, or that a failure has a failed call as its cause.
+ghost use Rattle.std.specs.Prelude.{◌≡◌, ◌+◌, List, [], ◌∷◌, ◌++◌, OnOk, OnErr, reverse, true};
+ghost use Rattle.folder_filing.specs.declared.call.Call.{Call as SeenCall};
+ghost use Rattle.folder_filing.specs.declared.call.Call.TheVariants as seen;
+
+use crate::call::Call;
+use crate::folder_identity::FolderIdentity;
+use crate::location::{Layout, Location};
+use crate::naming::{Obstacle, Target, check_free, is_without_links, obstacle_of};
+use crate::numbers::NumbersFile;
+use element::history::History;
+use element::traced::Traced;
+use std::alloc::{AllocError, Allocator};
+use std::fs::{File, OpenFile};
+use std::io::{Error, ErrorKind, Write};
+use std::marker::Model;
+use std::rt::Files;
+use std::{fs, io};
+
+/// The list of system calls so far, the newest first. It is a ghost value: contracts can name it, the
+/// program cannot read it.
+#[derive(Drop)]
+pub struct FolderCalls {
+    /// The oldest first.
+    history: History<Call>,
+}
+
+impl Model for FolderCalls {
+    ghost Value = { List SeenCall };
+
+    ghost view = { λ c. reverse c.history };
+}
+
+/// Removes a file. It is no error if there is none.
+pub(crate) fn remove_left<R: Files>(rt: &R, path: &str) -> io::Result<()> {
+    match fs::remove_file(rt, path) {
+        Err(error) if error.kind() == ErrorKind::NotFound => Ok(()),
+        result => result,
+    }
+}
+
+/// Creates the file of a draft. A file that an earlier draft left under this name is removed first.
+pub(crate) fn create_draft<R: Files>(rt: &R, path: &str) -> io::Result<R::File> {
+    match File::create_new(rt, path) {
+        Err(error) if error.kind() == ErrorKind::AlreadyExists => {
+            remove_left(rt, path)?;
+            File::create_new(rt, path)
+        }
+        result => result,
+    }
+}
+
+/// Creates a folder. Returns `false` if something with this path exists already.
+fn create_folder<R: Files>(rt: &R, path: &str) -> io::Result<bool> {
+    match fs::create_dir(rt, path) {
+        Ok(()) => Ok(true),
+        Err(error) if error.kind() == ErrorKind::AlreadyExists => Ok(false),
+        Err(error) => Err(error),
+    }
+}
+
+impl FolderCalls {
+    ghost use Rattle.folder_filing.specs.Naming.{Asks, standing, refusals};
+    ghost use Rattle.folder_filing.specs.Numbers.{Keeps, is_covered};
+    ghost use Rattle.folder_filing.specs.machine.Naming.{TriesLeave};
+
+    /// Creates an empty list of calls.
+    pub(crate) fn new() -> FolderCalls
+        ensures { result ≡ [] }
+    {
+        FolderCalls {
+            history: History::new(),
+        }
+    }
+
+    /// Adds a call as the newest.
+    fn push(&mut self, call: &Call)
+        ensures { self.new ≡ call.now ∷ self.old }
+    {
+        self.history.push(call);
+    }
+
+    /// Returns the result `given` of a system call, and records a failed call if it is an error.
+    pub(crate) fn passed<T, E>(&mut self, given: Result<T, E>) -> Result<T, E>
+        ensures same { result ≡ given }
+        ensures taken { OnOk result (self.new ≡ self.old) }
+        ensures refused { OnErr result (self.new ≡ seen.Refused ∷ self.old) }
+    {
+        if given.is_err() {
+            self.push(&Call::Refused);
+        }
+        given
+    }
+
+    /// Returns the outcome of an attempt to name a file, from the result `given` of its system call:
+    /// `None` if it succeeded, which records `call`, or the [`Obstacle`]. Any other error is recorded
+    /// as a failed call and returned.
+    fn tried(
+        &mut self,
+        call: Call,
+        given: io::Result<()>,
+        target: Target<'_>,
+    ) -> io::Result<Option<Obstacle>>
+        ensures { TriesLeave call result self.old self.new }
+    {
+        match given {
+            Ok(()) => {
+                self.push(&call);
+                Ok(None)
+            }
+            Err(error) => match obstacle_of(&error, target) {
+                Some(obstacle) => Ok(Some(obstacle)),
+                None => {
+                    self.push(&Call::Refused);
+                    Err(error)
+                }
+            },
+        }
+    }
+
+    /// Returns the text, or the error of memory that ran out, which is recorded as a failed call.
+    pub(crate) fn text<A: Allocator>(
+        &mut self,
+        text: Result<String<A>, AllocError>,
+    ) -> io::Result<String<A>>
+        ensures taken { OnOk result (self.new ≡ self.old) }
+        ensures refused { OnErr result (self.new ≡ seen.Refused ∷ self.old) }
+    {
+        match self.passed(text) {
+            Ok(text) => Ok(text),
+            Err(error) => Err(Error::from(error)),
+        }
+    }
+
+    /// Fails if the path leads to another folder than the one with this identity, or if its metadata
+    /// cannot be read. Either is recorded.
+    pub(crate) fn check_at<R: Files>(
+        &mut self,
+        rt: &R,
+        identity: FolderIdentity,
+        path: &str,
+    ) -> io::Result<()>
+        ensures taken { OnOk result (self.new ≡ self.old) }
+        ensures refused { OnErr result (Asks (standing self.old) (refusals self.old + 1) self.old self.new) }
+    {
+        let found = self.passed(FolderIdentity::at(rt, path))?;
+        if found == identity {
+            return Ok(());
+        }
+        self.push(&Call::Replaced);
+        Err(FolderIdentity::replaced())
+    }
+
+    /// Creates the file of a draft. A file that an earlier draft left under this name is removed first.
+    pub(crate) fn create_draft<R: Files>(&mut self, rt: &R, path: &str) -> io::Result<R::File>
+        ensures created { OnOk result (self.new ≡ seen.Created ∷ self.old) }
+        ensures refused { OnErr result (self.new ≡ seen.Refused ∷ self.old) }
+    {
+        let file = self.passed(create_draft(rt, path))?;
+        self.push(&Call::Created);
+        Ok(file)
+    }
+
+    /// Writes all of the bytes to the file of a draft, and records a failure.
+    pub(crate) fn write_all<W: Write>(
+        &mut self,
+        draft: &mut Traced<W>,
+        bytes: &[u8],
+    ) -> io::Result<()>
+        ensures traced { OnOk result (draft.new.trace.bytes ≡ draft.old.trace.bytes ++ bytes.now) }
+        ensures failed { OnErr result (draft.new.trace ≡ draft.old.trace) }
+        ensures taken { OnOk result (self.new ≡ self.old) }
+        ensures refused { OnErr result (self.new ≡ seen.Refused ∷ self.old) }
+    {
+        self.passed(draft.write_all(bytes))
+    }
+
+    /// Syncs the file of a draft to the disk, and records a failure.
+    pub(crate) fn sync_draft<F: OpenFile>(&mut self, draft: &Traced<F>) -> io::Result<()>
+        ensures taken { OnOk result (self.new ≡ self.old) }
+        ensures refused { OnErr result (self.new ≡ seen.Refused ∷ self.old) }
+    {
+        self.passed(draft.sync_all())
+    }
+
+    /// Syncs an open folder to the disk, and records a failure.
+    pub(crate) fn sync<F: OpenFile>(&mut self, folder: &F) -> io::Result<()>
+        ensures taken { OnOk result (self.new ≡ self.old) }
+        ensures refused { OnErr result (self.new ≡ seen.Refused ∷ self.old) }
+    {
+        self.passed(folder.sync_all())
+    }
+
+    /// Opens a folder, and records a failure.
+    pub(crate) fn open<R: Files>(&mut self, rt: &R, path: &str) -> io::Result<R::File>
+        ensures taken { OnOk result (self.new ≡ self.old) }
+        ensures refused { OnErr result (self.new ≡ seen.Refused ∷ self.old) }
+    {
+        self.passed(fs::open(rt, path))
+    }
+
+    /// Creates a folder for files, and records a failure. Returns `false` if something with this path
+    /// exists already.
+    pub(crate) fn create_folder<R: Files>(&mut self, rt: &R, path: &str) -> io::Result<bool>
+        ensures taken { OnOk result (self.new ≡ self.old) }
+        ensures refused { OnErr result (self.new ≡ seen.Refused ∷ self.old) }
+    {
+        self.passed(create_folder(rt, path))
+    }
+
+    /// Makes sure that the file of numbers covers the number of this place, as [`NumbersFile::keep`]
+    /// does, and records a failure.
+    pub(crate) fn keep<R: Files + Alloc>(
+        &mut self,
+        rt: &R,
+        file: &mut NumbersFile<R::A>,
+        layout: Layout,
+        place: Location,
+    ) -> io::Result<()>
+        ensures kept { OnOk result (is_covered layout file.new.kept place ≡ true) }
+        ensures keeps { Keeps file.old.kept file.new.kept }
+        ensures taken { OnOk result (self.new ≡ self.old) }
+        ensures refused { OnErr result (self.new ≡ seen.Refused ∷ self.old) }
+    {
+        self.passed(file.keep(rt, layout, place))
+    }
+
+    /// Gives the file of a draft a second name, the target, by a hard link. Returns `None`, or the
+    /// obstacle: `NoLinks` on a file system without hard links. Other errors are recorded and returned.
+    pub(crate) fn link<R: Files>(
+        &mut self,
+        rt: &R,
+        draft: &str,
+        target: Target<'_>,
+    ) -> io::Result<Option<Obstacle>>
+        ensures { TriesLeave (seen.Linked target.entry.place) result self.old self.new }
+    {
+        match fs::hard_link(rt, draft, target.path) {
+            Err(error) if is_without_links(&error) => Ok(Some(Obstacle::NoLinks)),
+            given => self.tried(Call::Linked(target.place), given, target),
+        }
+    }
+
+    /// Checks that the target name is free. Returns `None`, or the obstacle. Other errors are recorded
+    /// and returned.
+    pub(crate) fn look<R: Files>(
+        &mut self,
+        rt: &R,
+        target: Target<'_>,
+    ) -> io::Result<Option<Obstacle>>
+        ensures { TriesLeave (seen.SeenFree target.entry.place) result self.old self.new }
+    {
+        self.tried(
+            Call::SeenFree(target.place),
+            check_free(rt, target.path),
+            target,
+        )
+    }
+
+    /// Renames the file of a draft to the target name. Returns `None`, or the obstacle. Other errors
+    /// are recorded and returned.
+    pub(crate) fn rename<R: Files>(
+        &mut self,
+        rt: &R,
+        draft: &str,
+        target: Target<'_>,
+    ) -> io::Result<Option<Obstacle>>
+        ensures { TriesLeave (seen.Renamed target.entry.place) result self.old self.new }
+    {
+        let given = fs::rename(rt, draft, target.path);
+        self.tried(Call::Renamed(target.place), given, target)
+    }
+
+    /// Removes the file with the target name, and records that, or the failure.
+    pub(crate) fn remove<R: Files>(&mut self, rt: &R, target: Target<'_>) -> io::Result<()>
+        ensures removed { OnOk result (self.new ≡ seen.Removed target.entry.place ∷ self.old) }
+        ensures refused { OnErr result (self.new ≡ seen.Refused ∷ self.old) }
+    {
+        self.passed(fs::remove_file(rt, target.path))?;
+        self.push(&Call::Removed(target.place));
+        Ok(())
+    }
+}

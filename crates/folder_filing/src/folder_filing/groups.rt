@@ -1,0 +1,164 @@
+//! Commits of a filing over a folder that are settled in groups.
+ghost use Rattle.std.specs.Prelude.{◌≡◌, ◌∷◌, ◌++◌, [], None, IfOk, OnOk, OnErr, is_some, true, false};
+ghost use Rattle.folder_filing.specs.Naming.{LeavesNames, WasRefused, refusals, standing};
+ghost use Rattle.folder_filing.specs.Settling.{SettlesNames, WritesOut, is_waiting, settled, without_lost};
+ghost use Rattle.part10.specs.Store.{or_nothing, store_of};
+ghost use Rattle.folder_filing.specs.declared.call.Call.TheVariants as seen;
+ghost use Rattle.folder_filing.specs.declared.pending.Pending.TheVariants as pending;
+
+use super::FolderFiling;
+use crate::location::Location;
+use crate::pending::Pending;
+use crate::stored_file::StoredFile;
+use part10::{FilingFailed, Settling};
+use std::io;
+use std::io::Error;
+use std::rt::Files;
+
+impl<R: Files + Alloc + Clone + Drop> FolderFiling<R>
+where
+    R::File: StoredFile,
+{
+    /// Hands the draft over, to be settled later. For contracts it is a file from now on.
+    pub(super) fn hand_over(&mut self)
+        requires draft { is_some self.old.contents.draft ≡ true }
+        ensures same_names { self.new.names ≡ self.old.names }
+        ensures waits { self.new.pending ≡ pending.Unnamed }
+        ensures committed { self.new.contents.files ≡ self.old.contents.files ++ or_nothing self.old.contents.draft ∷ [] }
+        ensures draft { self.new.contents.draft ≡ None }
+        ensures same_count { self.new.contents.failures ≡ self.old.contents.failures }
+    {
+        if let Some(draft) = self.draft.take() {
+            self.kept.push(draft.trace());
+            self.handed = Some(draft);
+        }
+        self.pending = Pending::Unnamed;
+    }
+
+    /// Syncs the file that waits to the disk.
+    fn sync_handed(&mut self) -> io::Result<()>
+        ensures same { self.new.contents ≡ self.old.contents }
+        ensures same_pending { self.new.pending ≡ self.old.pending }
+        ensures taken { OnOk result (self.new.names ≡ self.old.names) }
+        ensures refused { OnErr result (self.new.names ≡ record self.old.names { calls = seen.Refused ∷ self.old.names.calls }) }
+    {
+        match &self.handed {
+            Some(file) => self.names.calls.sync_draft(file),
+            None => Ok(()),
+        }
+    }
+
+    /// Syncs the file that waits to the disk, and gives it its name. The name is not synced.
+    fn name_handed(&mut self) -> io::Result<Location>
+        requires unnamed { self.old.pending ≡ pending.Unnamed }
+        ensures same { self.new.contents ≡ self.old.contents }
+        ensures same_pending { self.new.pending ≡ self.old.pending }
+        ensures named { IfOk result (λ place. standing self.new.names.calls ≡ place ∷ standing self.old.names.calls) }
+        ensures settled { OnOk result (refusals self.new.names.calls ≡ refusals self.old.names.calls) }
+        ensures left { OnErr result (LeavesNames (standing self.old.names.calls) (standing self.new.names.calls)) }
+        ensures refused { OnErr result (WasRefused self.old.names self.new.names) }
+    {
+        self.sync_handed()?;
+        self.folder
+            .name_draft(self.draft_path.as_str(), &mut self.names)
+    }
+
+    /// Records that the file that waits is lost, with the error, and removes its draft name.
+    fn lose(&mut self, error: Error)
+        ensures same { self.new.contents ≡ self.old.contents }
+        ensures same_names { self.new.names ≡ self.old.names }
+        ensures lost { self.new.pending ≡ pending.Lost }
+    {
+        self.notes.failed(error);
+        self.handed = None;
+        self.pending = Pending::Lost;
+        self.dropped = self.dropped.saturating_add(1);
+        self.folder.discard_draft(self.draft_path.as_str());
+    }
+
+    /// Gives up a file that is lost, once nobody waits for it any more: drafts can be begun again.
+    pub fn give_up_lost(&mut self)
+        ensures same { self.new.contents ≡ self.old.contents }
+        ensures same_names { self.new.names ≡ self.old.names }
+        ensures pending { self.new.pending ≡ without_lost self.old.pending }
+    {
+        if matches!(self.pending, Pending::Lost) {
+            self.pending = Pending::Settled;
+        }
+    }
+
+    /// Loses the file of this place, whose name could not be synced, and removes it.
+    fn take_back(&mut self, place: Location)
+        requires named { self.old.pending ≡ pending.Named place }
+        ensures same { self.new.contents ≡ self.old.contents }
+        ensures names { SettlesNames false (pending.Named place) self.old.names self.new.names }
+        ensures lost { self.new.pending ≡ pending.Lost }
+    {
+        self.pending = Pending::Lost;
+        // A name that cannot be removed stays, as after a failed commit that is no part of a group.
+        let _ = self.folder.remove_at(place, &mut self.names);
+        self.lose(Error::other("the names of the group could not be synced"));
+    }
+}
+
+impl<R: Files + Alloc + Clone + Drop> Settling for FolderFiling<R>
+where
+    R::File: StoredFile,
+{
+    ghost waits = { λ f. is_waiting f.pending };
+
+    fn waits(&self) -> bool {
+        self.pending.is_waiting()
+    }
+
+    fn start_writing(&self) {
+        if matches!(self.pending, Pending::Unnamed) {
+            self.writeback.start_rest();
+        }
+    }
+
+    /// Syncs the file that waits to the disk, and then gives it its name. If either fails, the file is
+    /// lost.
+    fn write_out(&mut self)
+        ensures store { store_of self.new.contents ≡ store_of self.old.contents }
+        ensures waits { is_waiting self.new.pending ≡ is_waiting self.old.pending }
+        ensures names { WritesOut self.old.pending self.new.pending self.old.names self.new.names }
+    {
+        if !matches!(self.pending, Pending::Unnamed) {
+            return;
+        }
+        match self.name_handed() {
+            Ok(place) => {
+                self.handed = None;
+                self.pending = Pending::Named(place);
+            }
+            Err(error) => self.lose(error),
+        }
+    }
+
+    /// Settles the last commit. Fails, and loses the file, if the names could not be synced; and fails
+    /// if the file was lost before or was not written out.
+    fn settle(&mut self, are_named: bool) -> Result<(), FilingFailed>
+        ensures store { store_of self.new.contents ≡ store_of self.old.contents }
+        ensures settled { OnOk result (is_waiting self.new.pending ≡ false) }
+        ensures lost { OnErr result (is_waiting self.new.pending ≡ true) }
+        ensures pending { self.new.pending ≡ settled are_named self.old.pending }
+        ensures names { SettlesNames are_named self.old.pending self.old.names self.new.names }
+    {
+        match self.pending {
+            Pending::Settled => Ok(()),
+            Pending::Named(place) if are_named => {
+                self.folder.remove_old_name(self.draft_path.as_str());
+                self.note(place);
+                self.committed = self.committed.saturating_add(1);
+                self.pending = Pending::Settled;
+                Ok(())
+            }
+            Pending::Named(place) => {
+                self.take_back(place);
+                Err(FilingFailed)
+            }
+            Pending::Unnamed | Pending::Lost => Err(FilingFailed),
+        }
+    }
+}

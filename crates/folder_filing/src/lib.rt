@@ -1,0 +1,36 @@
+//! The storage of received files in a folder: [`FolderFiling`] is a `part10::Filing` whose files stand in a
+//! folder, each under a name of its own, and [`FolderWriter`] makes several of them for one folder.
+#![tactic(auto)]
+
+mod aside;
+mod call;
+mod draft_size;
+mod drafts;
+mod folder_calls;
+mod folder_filing;
+mod folder_identity;
+mod folder_writer;
+mod given_names;
+mod group;
+pub mod laws;
+mod listing;
+mod location;
+mod locked_folder;
+mod names;
+mod naming;
+mod notes;
+mod numbers;
+mod occupancy;
+mod pending;
+mod quarantine;
+mod quarantine_names;
+mod stored_file;
+mod writeback;
+
+pub use aside::{KeptDraft, SetAside};
+pub use folder_filing::FolderFiling;
+pub use folder_writer::{FolderWriter, QuarantineFound};
+pub use location::Location;
+pub use names::{EntryKind, EntryName};
+pub use notes::DraftNotes;
+pub use stored_file::StoredFile;

@@ -1,0 +1,105 @@
+//! Gives a committed file its name.
+ghost use Rattle.folder_filing.specs.machine.Naming.{NameLeaves};
+
+use crate::folder_calls::FolderCalls;
+use crate::location::{Layout, Location};
+use std::io::{Error, ErrorKind};
+use std::rt::Files;
+use std::{fs, io};
+
+/// The number of the system error `EPERM`, with which Linux rejects hard links on vfat and exFAT.
+const NOT_PERMITTED: i32 = 1;
+
+/// How a file got its new name.
+#[derive(Clone, Copy, PartialEq, Eq)]
+pub(crate) enum Named {
+    /// By a hard link: it has the old name, too.
+    Linked,
+    /// By a rename: it has the new name alone.
+    Renamed,
+}
+
+/// Why a file did not get a name, if another name or another attempt can succeed.
+#[derive(Clone, Copy, PartialEq, Eq)]
+pub(crate) enum Obstacle {
+    /// The name is in use.
+    Taken,
+    /// The subfolder in the path does not exist.
+    Missing,
+    /// The subfolder in the path is no directory.
+    Blocked,
+    /// The file system has no hard links.
+    NoLinks,
+}
+
+/// The outcome of an attempt to name a file.
+#[derive(Clone, Copy)]
+pub(crate) enum Attempt {
+    Named(Named),
+    Met(Obstacle),
+}
+
+/// The name that a file is to get: its place, and the path of that.
+#[derive(Clone, Copy)]
+pub(crate) struct Target<'a> {
+    pub(crate) place: Location,
+    pub(crate) path: &'a str,
+    pub(crate) layout: Layout,
+    /// Whether a missing subfolder is an obstacle, after which it is created and the attempt repeated,
+    /// rather than an error.
+    pub(crate) may_miss: bool,
+}
+
+/// Returns whether an error of `hard_link` means that the file system has no hard links: `EPERM`,
+/// `EOPNOTSUPP` or `ENOSYS`. `EPERM` is compared by its number, as its `ErrorKind` is also that of
+/// `EACCES`, which does not mean that.
+pub(crate) fn is_without_links(error: &Error) -> bool {
+    error.kind() == ErrorKind::Unsupported || error.raw_os_error() == Some(NOT_PERMITTED)
+}
+
+/// Returns the obstacle that an error stands for, or `None` if another name or attempt would not help.
+pub(crate) fn obstacle_of(error: &Error, target: Target<'_>) -> Option<Obstacle> {
+    let in_levels = matches!(target.layout, Layout::Levels { .. });
+    match error.kind() {
+        ErrorKind::AlreadyExists => Some(Obstacle::Taken),
+        ErrorKind::NotFound if in_levels && target.may_miss => Some(Obstacle::Missing),
+        ErrorKind::NotADirectory if in_levels => Some(Obstacle::Blocked),
+        _ => None,
+    }
+}
+
+/// Fails with `AlreadyExists` if something exists at this path, and with the system's error if that
+/// cannot be checked.
+pub(crate) fn check_free<R: Files>(rt: &R, path: &str) -> io::Result<()> {
+    match fs::symlink_metadata(rt, path) {
+        Ok(_) => Err(Error::from(ErrorKind::AlreadyExists)),
+        Err(error) if error.kind() == ErrorKind::NotFound => Ok(()),
+        Err(error) => Err(error),
+    }
+}
+
+/// Gives a file the target name: by a hard link or, on a file system without them, by a rename after a
+/// check that the name is free, which overwrites nothing while the folder has no other writer.
+///
+/// After an error or an obstacle the file has its old name alone.
+pub(crate) fn name_file<R: Files>(
+    rt: &R,
+    file: &str,
+    target: Target<'_>,
+    calls: &mut FolderCalls,
+) -> io::Result<Attempt>
+    ensures left { NameLeaves target.entry.place result calls.old calls.new }
+{
+    match calls.link(rt, file, target)? {
+        None => return Ok(Attempt::Named(Named::Linked)),
+        Some(Obstacle::NoLinks) => {}
+        Some(obstacle) => return Ok(Attempt::Met(obstacle)),
+    }
+    if let Some(obstacle) = calls.look(rt, target)? {
+        return Ok(Attempt::Met(obstacle));
+    }
+    match calls.rename(rt, file, target)? {
+        None => Ok(Attempt::Named(Named::Renamed)),
+        Some(obstacle) => Ok(Attempt::Met(obstacle)),
+    }
+}

@@ -1,0 +1,232 @@
+//! The file of numbers: the greatest numbers that the files and subfolders of a folder were given, so
+//! that no number is given again after its file was moved away.
+ghost use Rattle.std.specs.Prelude.{◌≡◌, IfOk, OnOk, OnErr, true, false};
+
+use crate::location::{GREATEST, Layout, Location};
+use crate::names::{EntryKind, EntryName};
+use std::alloc::{AllocError, Allocator};
+use std::fs::OpenFile;
+use std::io::{Error, ErrorKind, Read, Write};
+use std::rt::Files;
+use std::{fmt, fs, io};
+
+/// How many numbers of files are reserved with one write of the file of numbers.
+const AHEAD: u32 = 100;
+
+/// The size in bytes of the line in the file: two names, a space between them, and a line feed.
+const LINE: usize = 18;
+
+/// The greatest numbers that may have been given: to a file of a folder without subfolders, and to a
+/// subfolder.
+#[derive(Clone, Copy, Debug, PartialEq, Eq)]
+pub(crate) struct Numbers {
+    file: u32,
+    folder: u32,
+}
+
+/// Prints the line of the file of numbers, as `I0000100 S0000007`.
+impl fmt::Display for Numbers {
+    fn fmt<W: fmt::Write>(&self, f: &mut fmt::Formatter<W>) -> fmt::Result {
+        let file = EntryName {
+            kind: EntryKind::File,
+            number: self.file,
+        };
+        let folder = EntryName {
+            kind: EntryKind::Folder,
+            number: self.folder,
+        };
+        writeln!(f, "{file} {folder}")
+    }
+}
+
+impl Numbers {
+    ghost use Rattle.folder_filing.specs.Numbers.{Continues, Keeps, is_covered, numbers_of};
+
+    /// Before any number is given.
+    pub(crate) const NONE: Numbers = Numbers { file: 0, folder: 0 };
+
+    /// Reads the line of the file of numbers. Returns `None` if it has any other form.
+    fn of_line(line: &[u8]) -> Option<Numbers>
+        ensures { result ≡ numbers_of line.now }
+    {
+        if line.len() != LINE || !line[8..].starts_with(b" ") || !line[17..].starts_with(b"\n") {
+            return None;
+        }
+        let file = EntryKind::File.number_in_bytes(&line[..8])?;
+        let folder = EntryKind::Folder.number_in_bytes(&line[9..17])?;
+        Some(Numbers { file, folder })
+    }
+
+    /// Returns whether these numbers cover that of this place: that of its file or, with subfolders,
+    /// that of its subfolder. Only covered numbers are given.
+    fn covers(self, layout: Layout, place: Location) -> bool
+        ensures { result ≡ is_covered layout self place }
+    {
+        match layout {
+            Layout::Flat => place.file <= self.file,
+            Layout::Levels { .. } => place.folder <= self.folder,
+        }
+    }
+
+    /// Returns the numbers to write before the number of this place, which these do not cover, is
+    /// given. Without subfolders they reserve 100 numbers from it on.
+    fn with(self, layout: Layout, place: Location) -> Numbers
+        requires uncovered { is_covered layout self place ≡ false }
+        ensures covers { is_covered layout result place ≡ true }
+        ensures keeps { Keeps self result }
+    {
+        match layout {
+            Layout::Flat => Numbers {
+                file: place
+                    .file
+                    .max(GREATEST.min(place.file.saturating_add(AHEAD - 1))),
+                folder: self.folder,
+            },
+            Layout::Levels { .. } => Numbers {
+                file: self.file,
+                folder: place.folder,
+            },
+        }
+    }
+
+    /// Returns the greater file number and the greater folder number of two pairs.
+    pub(crate) fn max(self, other: Numbers) -> Numbers
+        ensures keeps { Keeps self result }
+        ensures other { Keeps other result }
+    {
+        Numbers {
+            file: self.file.max(other.file),
+            folder: self.folder.max(other.folder),
+        }
+    }
+
+    /// Returns the place after which the next file comes, given the place of the last file that was
+    /// found: not before any number that may have been given. With subfolders, it is the end of one, so
+    /// that a new one is opened.
+    pub(crate) fn last(self, layout: Layout, found: Location) -> Location
+        ensures { Continues layout self found result }
+    {
+        match layout {
+            Layout::Flat => Location {
+                folder: found.folder,
+                file: found.file.max(self.file),
+            },
+            Layout::Levels { per } => Location {
+                folder: found.folder.max(self.folder),
+                file: per,
+            },
+        }
+    }
+}
+
+/// The file of numbers: its path and its contents.
+#[derive(Drop)]
+pub(crate) struct NumbersFile<A: Allocator> {
+    path: String<A>,
+    kept: Numbers,
+}
+
+/// Returns the folder part of a path: `.` if it has none.
+fn folder_of(path: &str) -> &str {
+    match path.rsplit_once('/') {
+        Some(("", _)) => "/",
+        Some((folder, _)) => folder,
+        None => ".",
+    }
+}
+
+/// Replaces the file by one with these numbers, and syncs it and its folder. It is written beside it,
+/// with `.new` appended to its name, and renamed.
+fn replace<R: Files + Alloc>(rt: &R, path: &str, numbers: Numbers) -> io::Result<()> {
+    let draft = format!(in rt.alloc(); "{path}.new")?;
+    let line = format!(in rt.alloc(); "{numbers}")?;
+    let mut file = fs::create(rt, draft.as_str())?;
+    file.write_all(line.as_bytes())?;
+    file.sync_all()?;
+    fs::rename(rt, draft.as_str(), path)?;
+    fs::open(rt, folder_of(path))?.sync_all()
+}
+
+/// Reads the file, or returns `None` if it does not exist.
+///
+/// Fails with `InvalidData` if it is anything but one line of two numbers.
+fn read<R: Files + Alloc>(rt: &R, path: &str) -> io::Result<Option<Numbers>> {
+    let file = match fs::open(rt, path) {
+        Ok(file) => file,
+        Err(error) if error.kind() == ErrorKind::NotFound => return Ok(None),
+        Err(error) => return Err(error),
+    };
+    let mut line = Vec::new(rt.alloc());
+    file.take(LINE as u64 + 1).read_to_end(&mut line)?;
+    match Numbers::of_line(line.as_slice()) {
+        Some(numbers) => Ok(Some(numbers)),
+        None => Err(Error::new(ErrorKind::InvalidData, "it has no line of two numbers")),
+    }
+}
+
+impl<A: Allocator> NumbersFile<A> {
+    ghost use Rattle.folder_filing.specs.Numbers.{Keeps, is_covered};
+
+    /// Reads the file of numbers, which is created if it does not exist.
+    ///
+    /// Fails with `InvalidData` if it is anything but one line of two numbers, and if it cannot be read
+    /// or created.
+    pub(crate) fn open<R: Files + Alloc<A = A>>(rt: &R, path: &str) -> io::Result<NumbersFile<A>> {
+        let kept = match read(rt, path)? {
+            Some(numbers) => numbers,
+            None => {
+                replace(rt, path, Numbers::NONE)?;
+                Numbers::NONE
+            }
+        };
+        let path = String::from_str(rt.alloc(), path)?;
+        Ok(NumbersFile { path, kept })
+    }
+
+    /// Returns a copy for another filing of the folder. Fails if memory runs out.
+    pub(crate) fn duplicate(&self, alloc: A) -> Result<NumbersFile<A>, AllocError>
+        ensures same { IfOk result (λ file. file.kept ≡ self.now.kept) }
+    {
+        let path = String::from_str(alloc, self.path.as_str())?;
+        Ok(NumbersFile {
+            path,
+            kept: self.kept,
+        })
+    }
+
+    /// Takes over the numbers that another filing of the folder has written to the file.
+    pub(crate) fn take_over(&mut self, kept: Numbers)
+        ensures keeps { Keeps self.old.kept self.new.kept }
+        ensures taken { Keeps kept self.new.kept }
+    {
+        self.kept = self.kept.max(kept);
+    }
+
+    /// Returns the greatest numbers that may have been given.
+    pub(crate) fn kept(&self) -> Numbers
+        ensures { result ≡ self.now.kept }
+    {
+        self.kept
+    }
+
+    /// Makes sure that the file covers the number of this place: writes and syncs it if it does not.
+    ///
+    /// Fails if the file cannot be written; the numbers stay as they were.
+    pub(crate) fn keep<R: Files + Alloc<A = A>>(
+        &mut self,
+        rt: &R,
+        layout: Layout,
+        place: Location,
+    ) -> io::Result<()>
+        ensures kept { OnOk result (is_covered layout self.new.kept place ≡ true) }
+        ensures keeps { Keeps self.old.kept self.new.kept }
+        ensures failed { OnErr result (self.new.kept ≡ self.old.kept) }
+    {
+        if !self.kept.covers(layout, place) {
+            let numbers = self.kept.with(layout, place);
+            replace(rt, self.path.as_str(), numbers)?;
+            self.kept = numbers;
+        }
+        Ok(())
+    }
+}
