@@ -5,9 +5,9 @@ use decisions::{Decision, ValueEnd};
 use dimse::{Detail, DimseFault, INSTANCE_MISMATCH};
 use element::Tag;
 use fixtures::bytes::joined;
-use fixtures::decides_at_each;
 use fixtures::echo::{ECHO, RELEASE, REQUEST};
 use fixtures::stores::{CT_SET, EXPLICIT, INSTANCE, OTHER, request, whole_store};
+use fixtures::{decides_at_each, decides_last};
 use negotiate::Answer;
 use part10::MemoryFiling;
 use pdu::{MemoryWire, PduFault, PduHead, PdvHead};
@@ -38,7 +38,10 @@ const FIND: &[u8] = &[
     0, 0, 32, 0, 0, 0, 16, 1, 2, 0, 0, 0, 1, 0, 0, 0, 0, 8, 2, 0, 0, 0, 1, 1,
 ];
 
-static ROWS: [Decided; 10] = [
+/// An A-ABORT of the service user.
+const ABORT: &[u8] = &[7, 0, 0, 0, 0, 4, 0, 0, 0, 0];
+
+static ROWS: [Decided; 11] = [
     // The recorded echo.
     (
         &[REQUEST, ECHO, RELEASE],
@@ -145,11 +148,23 @@ static ROWS: [Decided; 10] = [
     ),
     // The peer aborts.
     (
-        &[REQUEST, &[7, 0, 0, 0, 0, 4, 0, 0, 0, 0]],
+        &[REQUEST, ABORT],
         &[
             Decision::Nothing,
             Decision::RequestJudged(Answer::Accept),
             Decision::Nothing,
+            Decision::Aborted,
+        ],
+    ),
+    // What comes after that decides nothing.
+    (
+        &[REQUEST, ABORT, &[4, 0]],
+        &[
+            Decision::Nothing,
+            Decision::RequestJudged(Answer::Accept),
+            Decision::Nothing,
+            Decision::Aborted,
+            Decision::Aborted,
             Decision::Aborted,
         ],
     ),
@@ -237,6 +252,23 @@ fn store_is_decided(
 #[test]
 fn each_decision(rt: HostRuntime) -> Result<(), AllocError> {
     assert!(rt; other(rt.alloc(), &ROWS)?.is_none());
+    Ok(())
+}
+
+#[test]
+fn nothing_is_decided_after_the_end(rt: HostRuntime) -> Result<(), AllocError> {
+    let alloc = rt.alloc();
+    let stream = joined(alloc, &[REQUEST, ABORT, b"GET / ", ECHO])?;
+    let mut wire = MemoryWire::new(alloc);
+    let mut filing = MemoryFiling::new(alloc);
+    assert!(rt;
+        decides_last::<MemoryWire<Global>, MemoryFiling<Global>, 64>(
+            &mut wire,
+            &mut filing,
+            stream.as_slice(),
+            Decision::Aborted,
+        )
+    );
     Ok(())
 }
 

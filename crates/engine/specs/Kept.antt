@@ -103,11 +103,11 @@ body_in kind body = if nat_eq kind associate_rq then body else []
 -- The fields and the draft are those of this state of the timeline and of the unfinished PDU, of which the bytes
 -- `body` of a request's body and `begun` of a presentation data value were received. Bytes that are ignored are not
 -- held. Of a request the values that are kept are there while it is accepted (Sta6), and only then. Once the
--- association has ended, nothing is said of `refused` and `decided`.
+-- association has ended, nothing is said of `refused`.
 pub record Pends (kept : Kept) (store : Store) (p : Progress) (body begun : List ℕ) : Type 0 where
   pub state_is : kept.state ≡ p.state
   pub refused_is : is_ended p.state ≡ false → kept.refused ≡ p.refused
-  pub decided_is : is_ended p.state ≡ false → kept.decided ≡ p.decided
+  pub decided_is : kept.decided ≡ p.decided
   pub body_is : kept.body ≡ counted_body p body
   pub join_is : ShowsMessage kept.room kept.join p.message (counted_pdv p begun)
   pub agreed : p.state ≡ Sta6 → Agreed kept.caller kept.peer_max kept.table kept.additional (request_record p.request)

@@ -13,15 +13,16 @@ use Rattle.engine.specs.Ran.{Run}
 abbrev pub EntriesAppend : Type 0
 EntriesAppend = (before inputs : List Received) → entries [] (before ++ inputs) ≡ entries [] before ++ entries (stream_of before) inputs
 
--- an entry without effect: nothing is sent, no file is stored, and the association has ended
-pub record IsIdle (g : Advance) : Type 0 where
+-- an entry without effect: nothing is sent, no file is stored, nothing is decided, and the association has ended
+pub record IsIdle (p : Progress) (g : Advance) : Type 0 where
   pub sent : g.sent ≡ []
   pub files : g.files ≡ []
   pub ended : g.next.state ≡ Sta1
+  pub decided : g.next.decided ≡ p.decided
 
 -- no entry has an effect in an association that has ended
 abbrev pub NothingAfterTheEnd : Type 0
-NothingAfterTheEnd = (rooms : Rooms) (s : Settings) (p : Progress) → p.state ≡ Sta1 → (finding : Finding) (e : Entry) → IsIdle (at_entry rooms s p finding e)
+NothingAfterTheEnd = (rooms : Rooms) (s : Settings) (p : Progress) → p.state ≡ Sta1 → (finding : Finding) (e : Entry) → IsIdle p (at_entry rooms s p finding e)
 
 -- ---- how the stream is cut
 

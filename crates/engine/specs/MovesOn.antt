@@ -35,11 +35,11 @@ HoldsBytes {A} {C} {V} {D} seen n = (inputs : List Received) (story : List Happe
     → Stands (rooms_of A C V D) (settings_in seen) inputs story failed (fields_of seen) store
     → Held (rooms_of A C V D) (settings_in seen) (reached (rooms_of A C V D) (settings_in seen) inputs story failed) n
 
--- this was decided last, unless the association has ended
+-- this was decided last
 abbrev pub HasDecided : {A C V D : ℕ} → Association A C V D → Decision → Type 0
 HasDecided {A} {C} {V} {D} seen decision = (inputs : List Received) (story : List Happened) (failed : Bool) (store : Store)
     → Stands (rooms_of A C V D) (settings_in seen) inputs story failed (fields_of seen) store
-    → is_ended (state_of seen) ≡ false → decision ≡ (reached (rooms_of A C V D) (settings_in seen) inputs story failed).progress.decided
+    → decision ≡ (reached (rooms_of A C V D) (settings_in seen) inputs story failed).progress.decided
 
 -- the command set of the unfinished message has these bytes, so far
 abbrev pub HasCommand : {A C V D : ℕ} → Association A C V D → List ℕ → Type 0

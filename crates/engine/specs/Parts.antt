@@ -1,10 +1,9 @@
 -- Portions of the received stream that end with a part of a PDU: a head, a body, a fragment, or a PDU that is skipped.
 -- What is decided is decided with the last byte of a part.
-use Rattle.std.specs.Prelude.{◌≡◌, ◌≢◌, ℕ, ◌<◌, Bool, false, List, [], ◌∷◌, length}
+use Rattle.std.specs.Prelude.{◌≡◌, ◌≢◌, ℕ, ◌<◌, Bool, List, [], ◌∷◌, length}
 use Rattle.negotiate.specs.Settings.{Settings}
 use Rattle.engine.specs.Devices.{Devices}
 use Rattle.engine.specs.FrameFields.{Fields}
-use Rattle.engine.specs.Held.{is_ended}
 use Rattle.engine.specs.Inputs.{Received, Bytes, stream_of}
 use Rattle.engine.specs.Moves.{Moved}
 use Rattle.engine.specs.Progress.{Progress, at_start}
@@ -28,10 +27,9 @@ DecidesNothingBefore rooms s inputs story most =
 abbrev pub CompletesPart : List Received → ℕ → Type 0
 CompletesPart inputs most = (piece : List ℕ) → length piece ≡ most → entries (stream_of inputs) (Bytes piece ∷ []) ≢ []
 
--- an association that is given fewer bytes keeps what it decided last, unless it has ended
+-- an association that is given fewer bytes keeps what it decided last
 abbrev pub FewerKeepTheDecision : Type 0
 FewerKeepTheDecision =
     (rooms : Rooms) (s : Settings) (inputs : List Received) (story : List Happened) (failed : Bool) (piece : List ℕ) (most : ℕ) (seen seen_new : Fields) (old new : Devices)
     → Stands rooms s inputs story failed seen old.store → DecidesNothingBefore rooms s inputs story most → length piece < most
-    → is_ended seen.kept.state ≡ false → is_ended seen_new.kept.state ≡ false
     → Moved rooms s inputs story failed (Bytes piece) seen seen_new old new → seen_new.kept.decided ≡ seen.kept.decided

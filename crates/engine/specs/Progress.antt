@@ -14,7 +14,7 @@ use Rattle.engine.specs.Requested.{Requested, no_request}
 
 -- The acceptor's state; the association request, until the association is left; whether the rest of the unfinished
 -- PDU is ignored; the unfinished message, and whether a call of the filing failed in it; what was decided last, since
--- the head of the last PDU.
+-- the head of the last PDU before the end.
 pub record Progress : Type 0 where
   pub state : State
   pub request : Requested
@@ -43,6 +43,15 @@ absorb failed p = record p { filing_failed = failed || p.filing_failed }
 -- the state, where this was decided
 abbrev pub deciding : Decision → Progress → Progress
 deciding decision p = record p { decided = decision }
+
+-- what is decided in a state, after what was decided before: nothing else, once the association has ended
+abbrev pub decided_at : State → Decision → Decision → Decision
+decided_at Sta1 before decision = before
+decided_at state before decision = decision
+
+-- the state, where this was decided unless the association has ended
+abbrev pub deciding_unless_ended : Decision → Progress → Progress
+deciding_unless_ended decision p = deciding (decided_at p.state p.decided decision) p
 
 abbrev pub is_due : State → Bool
 is_due Sta2 = true

@@ -11,7 +11,7 @@ use Rattle.negotiate.specs.Settings.{Settings}
 use Rattle.engine.specs.Timeline.{Entry, At, Shut, TimedOut, Aborted, Finding, Happened}
 use Rattle.decisions.specs.declared.decision.Decision.TheVariants as decision
 use Rattle.decisions.specs.ValueEnds.{value_end}
-use Rattle.engine.specs.Progress.{Progress, absorb, left, deciding, is_due, is_established, Advance, nothing, followed_by, done, refusing}
+use Rattle.engine.specs.Progress.{Progress, absorb, left, deciding, deciding_unless_ended, is_due, is_established, Advance, nothing, followed_by, done, refusing}
 use Rattle.engine.specs.Heads.{NoEvent, AtOnce, TooLong, head_event}
 use Rattle.engine.specs.Requests.{at_request}
 use Rattle.engine.specs.Replies.{invalid, at_pdv_head, at_pdv}
@@ -35,9 +35,9 @@ heads_size = head_size + pdv_head_size
 
 abbrev pub at_head : Rooms → Settings → Progress → ℕ → ℕ → Advance
 at_head rooms s p kind n = elim (head_event (rooms.request - heads_size) s.max_pdu p.state kind n) [
-  | NoEvent ↦ nothing p
-  | AtOnce e reason ↦ refusing (done [] reason (deciding (decision.PduRefused (record { kind = kind; length = n })) p) e)
-  | TooLong ↦ refusing (done (reject_text rejected_transient service_provider_presentation local_limit_exceeded) 0 (deciding (decision.RequestTooLong n) p) event.UnacceptableRq)
+  | NoEvent ↦ nothing (deciding_unless_ended decision.Nothing p)
+  | AtOnce e reason ↦ refusing (done [] reason (deciding_unless_ended (decision.PduRefused (record { kind = kind; length = n })) p) e)
+  | TooLong ↦ refusing (done (reject_text rejected_transient service_provider_presentation local_limit_exceeded) 0 (deciding_unless_ended (decision.RequestTooLong n) p) event.UnacceptableRq)
 ]
 
 abbrev pub released : Progress → Advance
@@ -46,7 +46,7 @@ released p = followed_by (done [] 0 p event.ReleaseRq) (λ q. done [] 0 q event.
 -- the effect of the end of a PDU that was not answered at its head
 abbrev pub at_end : Settings → Progress → ℕ → List ℕ → Advance
 at_end s p kind body =
-    if nat_eq kind abort then done [] 0 (deciding decision.Aborted p) event.Abort
+    if nat_eq kind abort then done [] 0 (deciding_unless_ended decision.Aborted p) event.Abort
     else (if nat_eq kind associate_rq && is_due p.state then at_request s p body
     else (if nat_eq kind release_rq && is_established p.state then released (deciding decision.Released p)
     else nothing p))
@@ -70,17 +70,17 @@ begins mark = false
 -- the effect of an entry, with the finding on the C-STORE that it may end
 abbrev pub at_entry : Rooms → Settings → Progress → Finding → Entry → Advance
 at_entry rooms s p finding (At mark) =
-    if begins mark then at_mark rooms s (record p { refused = false; decided = decision.Nothing }) finding mark
+    if begins mark then at_mark rooms s (record p { refused = false }) finding mark
     else (if p.refused then nothing p else at_mark rooms s p finding mark)
 at_entry rooms s p finding Shut = done [] 0 p event.Closed
 at_entry rooms s p finding TimedOut = done [] 0 p event.Expired
 at_entry rooms s p finding Aborted = done [] 0 p event.UserAborts
 
 -- the effect if a send failed after k bytes: only these are sent, and the association ends as if the transport
--- connection had been closed; a file that was stored stays
+-- connection had been closed; a file that was stored stays, and so does what was decided
 abbrev pub cut : Option ℕ → Progress → Advance → Advance
 cut None p g = g
-cut (Some k) p g = record { next = left Sta1 p; sent = take k g.sent; files = g.files }
+cut (Some k) p g = record { next = left Sta1 (deciding g.next.decided p); sent = take k g.sent; files = g.files }
 
 -- the effect of an entry with its outcome; a call of the filing that failed counts for the unfinished message
 abbrev pub gives : Rooms → Settings → Progress → Happened → Advance

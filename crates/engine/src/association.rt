@@ -101,9 +101,10 @@ impl<const A: usize, const C: usize, const V: usize, const D: usize> Association
         self.provider.drafting()
     }
 
-    /// Returns what the association decided last, since the head of the last PDU that it received.
+    /// Returns what the association decided last, since the head of the last PDU that it received before
+    /// its end.
     ///
-    /// `decided`: it is what the timeline of its inputs gives, unless it has ended.
+    /// `decided`: it is what the timeline of its inputs gives.
     pub fn decision(&self) -> Decision
         ensures kept { result ≡ decided_in self.now }
         ensures decided { HasDecided self.now result }

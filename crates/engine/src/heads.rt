@@ -5,6 +5,7 @@ ghost use Rattle.acceptor.specs.declared.state.State.TheVariants.{Sta2};
 ghost use Rattle.engine.specs.Heads as spelling;
 ghost use Rattle.engine.specs.machine.HeadEvents.{brings};
 
+use crate::phase::Phase;
 use crate::provider::Provider;
 use crate::sending::{Answering, Reaction};
 use acceptor::{Action, Event, State, act};
@@ -141,7 +142,8 @@ impl<const A: usize, const C: usize, const V: usize, const D: usize> Provider<A,
     ghost use Rattle.pdu.specs.Marks.{Head};
     ghost use Rattle.engine.specs.Run.{rooms_of};
 
-    /// Handles the head of a PDU: judges it by its type, its length and the state.
+    /// Handles the head of a PDU: judges it by its type, its length and the state. Once the association
+    /// has ended, nothing is decided any more.
     pub(crate) fn on_head(&mut self, kind: u8, length: u32) -> Reaction
         ensures fits { BodyFits (A - 12) (kept_of self.new) kind length }
         ensures settings { settings_in self.new ≡ settings_in self.old }
@@ -149,6 +151,9 @@ impl<const A: usize, const C: usize, const V: usize, const D: usize> Provider<A,
         ensures stays { StaysThen (kept_of self.new).state result }
         ensures due { (store : Store) → Judges (rooms_of A C V D) (settings_in self.old) (kept_of self.old) (kept_of self.new) (At (Head kind length)) result store }
     {
+        if let Phase::Ended = &self.phase {
+            return Reaction::Nothing;
+        }
         let state = self.phase.state();
         let event = head_event(A - HEADS, self.config.max_pdu, state, kind, length);
         self.clear_body();

@@ -39,7 +39,7 @@ pub fn cuts_give_the_same()
     ensures { CutsGiveTheSame }
 {}
 
-/// After the end of the association nothing is sent and no file is stored.
+/// After the end of the association nothing is sent or decided, and no file is stored.
 pub fn nothing_after_the_end()
     ensures { NothingAfterTheEnd }
 {}

@@ -185,6 +185,8 @@ impl<const A: usize, const C: usize, const V: usize, const D: usize> Provider<A,
                     let Devices { wire, filing } = devices;
                     let (decided, sent) = message.reply(origin, Devices { wire, filing });
                     message.join.clear();
+                    // (the reply to a C-STORE has left its draft; that no other message has one is known of the
+                    // timeline only)
                     message.storing.leave(filing);
                     self.decided = decided;
                     self.settle(State::Sta6, sent, filing);

@@ -72,9 +72,10 @@ impl<const A: usize, const C: usize, const V: usize, const D: usize> Running<A, 
         self.association.is_ended()
     }
 
-    /// Returns what the association decided last, since the head of the last PDU that it received.
+    /// Returns what the association decided last, since the head of the last PDU that it received before
+    /// its end.
     ///
-    /// `decided`: it is what the timeline of its inputs gives, unless it has ended.
+    /// `decided`: it is what the timeline of its inputs gives.
     pub fn decision(&self) -> Decision
         ensures kept { result ≡ decided_in (association_in self.now) }
         ensures decided { HasDecided (association_in self.now) result }

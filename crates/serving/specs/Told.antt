@@ -29,9 +29,8 @@ TimelineGoesOn before piece store = (inputs : List Received) (story : List Happe
     → Stands served_rooms (settings_in (association_in before)) inputs story failed (fields_of (association_in before)) store
     → is_ended (state_of (association_in before)) ≡ false → entries (stream_of inputs) (Bytes piece ∷ []) ≢ []
 
--- what was decided last is what was before, whatever came before, unless the association has ended
+-- what was decided last is what was before, whatever came before
 abbrev pub KeepsDecision : {A C V D : ℕ} → Running A C V D → Running A C V D → Store → Type 0
 KeepsDecision before after store = (inputs : List Received) (story : List Happened) (failed : Bool)
     → Stands served_rooms (settings_in (association_in before)) inputs story failed (fields_of (association_in before)) store
-    → is_ended (state_of (association_in before)) ≡ false → is_ended (state_of (association_in after)) ≡ false
     → decided_in (association_in after) ≡ decided_in (association_in before)

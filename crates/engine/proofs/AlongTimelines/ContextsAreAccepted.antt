@@ -33,7 +33,7 @@ use Rattle.decisions.specs.declared.decision.Decision.{Decision}
 use Rattle.decisions.specs.declared.decision.Decision.TheVariants as decision
 use Rattle.decisions.specs.ValueEnds.{value_end}
 use Rattle.pdu.specs.declared.head.PdvHead as declared
-use Rattle.engine.specs.Progress.{Progress, Advance, at_start, deciding, absorb, left, moved, done, refusing, nothing, is_due, is_established}
+use Rattle.engine.specs.Progress.{Progress, Advance, at_start, deciding, deciding_unless_ended, absorb, left, moved, done, refusing, nothing, is_due, is_established}
 use Rattle.engine.specs.Heads.{HeadEvent, NoEvent, AtOnce, TooLong, head_event}
 use Rattle.engine.specs.Requested.{Requested, request_record}
 use Rattle.engine.specs.Requests.{answered, keeping, judged_so, at_request}
@@ -157,9 +157,9 @@ by_context p head refused accepted = elim accepted [
 
 abbrev pub by_head : Progress → (kind n : ℕ) → HeadEvent → Advance
 by_head p kind n e = elim e [
-  | NoEvent ↦ nothing p
-  | AtOnce ev reason ↦ refusing (done [] reason (deciding (decision.PduRefused (record { kind = kind; length = n })) p) ev)
-  | TooLong ↦ refusing (done (reject_text 2 3 2) 0 (deciding (decision.RequestTooLong n) p) event.UnacceptableRq)
+  | NoEvent ↦ nothing (deciding_unless_ended decision.Nothing p)
+  | AtOnce ev reason ↦ refusing (done [] reason (deciding_unless_ended (decision.PduRefused (record { kind = kind; length = n })) p) ev)
+  | TooLong ↦ refusing (done (reject_text 2 3 2) 0 (deciding_unless_ended (decision.RequestTooLong n) p) event.UnacceptableRq)
 ]
 
 module _ (p : Progress) (finding : Finding) (context control : ℕ) (fragment : List ℕ) where
@@ -190,11 +190,11 @@ head_sound : (room most : ℕ) (p : Progress) (kind n : ℕ) (e : HeadEvent) →
     → Sound (by_head p kind n e).next (OfPdu kind n)
 head_sound room most p kind n NoEvent e h = record { message = h.message; quiet = h.quiet; head = tt }
 head_sound room most p kind n (AtOnce ev reason) e h =
-    let q = deciding (decision.PduRefused (record { kind = kind; length = n })) p in
+    let q = deciding_unless_ended (decision.PduRefused (record { kind = kind; length = n })) p in
     refused_sound (done [] reason q ev).next Between _ (event_sound q Between ev (head_stays room most p.state kind n ev reason e) (decided_sound q.decided p Between h))
 head_sound room most p kind n TooLong e h =
     let stays : Stays p.state event.UnacceptableRq = subst (λ (st : State). Stays st event.UnacceptableRq) (sym (head_too_long room most p.state kind n e)) (λ l. absurd cc) in
-    let q = deciding (decision.RequestTooLong n) p in
+    let q = deciding_unless_ended (decision.RequestTooLong n) p in
     refused_sound (done (reject_text 2 3 2) 0 q event.UnacceptableRq).next Between _ (event_sound q Between event.UnacceptableRq stays (decided_sound q.decided p Between h))
 
 -- ---- a whole PDU
@@ -235,9 +235,9 @@ released_quiet p e =
     subst (λ (st : State). (moved (table (moved (table st event.ReleaseRq).1 p).state event.UserReleases).1 (moved (table st event.ReleaseRq).1 p)).message ≡ NoMessage) (established_is p.state e) refl
 
 end_sound : (s : Settings) (p : Progress) (o : Opened) (body : List ℕ) (aborts request release : Bool) → Sound p o
-    → Sound (if aborts then done [] 0 (deciding decision.Aborted p) event.Abort
+    → Sound (if aborts then done [] 0 (deciding_unless_ended decision.Aborted p) event.Abort
     else (if request && is_due p.state then at_request s p body else (if release && is_established p.state then released (deciding decision.Released p) else nothing p))).next Between
-end_sound s p o body true request release h = event_sound (deciding decision.Aborted p) Between event.Abort (stays_abort p.state) (decided_sound decision.Aborted p Between (without_head p o h))
+end_sound s p o body true request release h = let q = deciding_unless_ended decision.Aborted p in event_sound q Between event.Abort (stays_abort p.state) (decided_sound q.decided p Between (without_head p o h))
 end_sound s p o body false request release h = by (request && is_due p.state) (release && is_established p.state) refl refl
   where
     second : (a b : Bool) → a && b ≡ true → b ≡ true
@@ -277,7 +277,7 @@ AreAccepted rooms s p (h ∷ story) = IsAccepted p h × AreAccepted rooms s (giv
 module _ (rooms : Rooms) (s : Settings) where
   entry_sound : (p : Progress) (finding : Finding) (o : Opened) (x : Entry) → Sound p o → IsHeadedAt Any o x → Sound (at_entry rooms s p finding x).next (opens_at o x)
   entry_sound p finding o (At (Head kind n)) h k =
-      let fresh : Progress = record p { refused = false; decided = decision.Nothing } in
+      let fresh : Progress = record p { refused = false } in
       head_sound (rooms.request - 12) s.max_pdu fresh kind n (head_event (rooms.request - 12) s.max_pdu fresh.state kind n) refl (record { message = h.message; quiet = h.quiet; head = tt })
   entry_sound p finding o (At (PdvHead n context control)) h k =
       counts p o (OfPdv n context control) p.refused (is_established p.state) (at_pdv_head rooms.command p n context control) refl refl h
@@ -304,7 +304,7 @@ module _ (rooms : Rooms) (s : Settings) where
 
   cut_sound : (wire : Option ℕ) (p : Progress) (g : Advance) (o : Opened) → Sound g.next o → Sound (cut wire p g).next o
   cut_sound None p g o h = h
-  cut_sound (Some k) p g o h = left_sound Sta1 p o refl
+  cut_sound (Some k) p g o h = left_sound Sta1 (deciding g.next.decided p) o refl
 
   gives_sound : (p : Progress) (o : Opened) (h : Happened) → Sound p o → IsHeadedAt Any o h.0 → Sound (gives rooms s p h).next (opens_at o h.0)
   gives_sound p o h sound k = cut_sound h.1.wire p _ (opens_at o h.0) (entry_sound (absorb h.1.filing p) h.1.finding o h.0 (absorbed_sound h.1.filing p o sound) k)

@@ -1,5 +1,5 @@
 -- No entry does anything to an association that has ended (`nothing_after_the_end`; PS3.8 section 9.2.2: in Sta1 there is
--- none). Stands on ContextsAreAccepted.
+-- none), and its fields show so (`leaves_ended`). Stands on ContextsAreAccepted and FieldsShow/NothingCounts.
 use Rattle.std.proofs.Common.{◌≡◌, ◌⊎◌, ℕ, ◌-◌, Bool, true, false, not, ◌&&◌, nat_eq, if◌then◌else◌, List, [], ◌∷◌, ◌++◌, map, None, refl, sym, ap, subst, ◌∙◌, arith, inl, inr}
 use Rattle.std.proofs.lemmas.Grind.{common_steps}
 use Rattle.acceptor.specs.declared.state.State.{State}
@@ -22,18 +22,25 @@ use Rattle.engine.specs.Requests.{at_request}
 use Rattle.engine.specs.Run.{Rooms, released, at_entry, gives, progress_of, sent_of, files_of, wire_failures, filing_failures}
 use Rattle.engine.specs.Laws.{NothingAfterTheEnd}
 use Rattle.engine.specs.Fair.{IsFair, AreFair, message_at}
+use Rattle.engine.specs.Held.{is_ended}
+use Rattle.engine.specs.Kept.{Kept, Pends}
+use Rattle.engine.specs.declared.sending.Reaction.TheVariants as due
+use Rattle.engine.specs.machine.Judged.{LeavesDue}
+use Rattle.part10.specs.Store.{Store}
+use Rattle.engine.proofs.FieldsShow.NothingCounts.{pends_ended}
 use Rattle.engine.proofs.AlongTimelines.ContextsAreAccepted.{by_head}
 
 -- in Sta1, with all else as it may be
 abbrev at_end_with : Requested → Begun → Bool → Decision → Bool → Progress
 at_end_with rq m f d b = record { state = Sta1; request = rq; refused = b; message = m; filing_failed = f; decided = d }
 
--- nothing is done, and a message that had begun stays or is dropped
+-- nothing is done and nothing is decided, and a message that had begun stays or is dropped
 pub record IsStill (p : Progress) (g : Advance) : Type 0 where
   pub next : Progress
   pub is : g ≡ nothing next
   pub state : next.state ≡ Sta1
   pub message : (next.message ≡ p.message) ⊎ (next.message ≡ NoMessage)
+  pub decided : next.decided ≡ p.decided
 
 -- no PDU's type has an event in Sta1
 idle_event : (a b c d e f g : Bool) → table Sta1 (if a then event.AcceptableRq else (if b then event.Ac else (if c then event.Rj else (if d then event.Data else (if e then event.ReleaseRq else (if f then event.ReleaseRp else (if g then event.Abort else event.Invalid))))))) ≡ (action.Nothing, Sta1)
@@ -53,16 +60,16 @@ idle_head false true c d r1 r2 other h = at_once 6
 idle_head false false c d r1 r2 other h = h
 
 module _ (rq : Requested) (m : Begun) (f : Bool) where
-  head_still : (d : Decision) (b : Bool) (kind n : ℕ) {h : HeadEvent} → BringsNothing h → IsStill (at_end_with rq m f d b) (by_head (at_end_with rq m f decision.Nothing false) kind n h)
-  head_still d b kind n no_event = record { next = at_end_with rq m f decision.Nothing false; is = refl; state = refl; message = inl refl }
-  head_still d b kind n (at_once reason) = record { next = at_end_with no_request NoMessage false (decision.PduRefused (record { kind = kind; length = n })) true; is = refl; state = refl; message = inr refl }
+  head_still : (d : Decision) (b : Bool) (kind n : ℕ) {h : HeadEvent} → BringsNothing h → IsStill (at_end_with rq m f d b) (by_head (at_end_with rq m f d false) kind n h)
+  head_still d b kind n no_event = record { next = at_end_with rq m f d false; is = refl; state = refl; message = inl refl; decided = refl }
+  head_still d b kind n (at_once reason) = record { next = at_end_with no_request NoMessage false d true; is = refl; state = refl; message = inr refl; decided = refl }
 
   kept_still : (d : Decision) (b : Bool) → IsStill (at_end_with rq m f d b) (nothing (at_end_with rq m f d b))
-  kept_still d b = record { next = at_end_with rq m f d b; is = refl; state = refl; message = inl refl }
+  kept_still d b = record { next = at_end_with rq m f d b; is = refl; state = refl; message = inl refl; decided = refl }
 
   end_still : (s : Settings) (d : Decision) (a b c : Bool) (body : List ℕ) → IsStill (at_end_with rq m f d false)
-      (if a then done [] 0 (at_end_with rq m f decision.Aborted false) event.Abort else (if b && false then at_request s (at_end_with rq m f d false) body else (if c && false then released (at_end_with rq m f decision.Released false) else nothing (at_end_with rq m f d false))))
-  end_still s d true b c body = record { next = at_end_with no_request NoMessage false decision.Aborted false; is = refl; state = refl; message = inr refl }
+      (if a then done [] 0 (at_end_with rq m f d false) event.Abort else (if b && false then at_request s (at_end_with rq m f d false) body else (if c && false then released (at_end_with rq m f decision.Released false) else nothing (at_end_with rq m f d false))))
+  end_still s d true b c body = record { next = at_end_with no_request NoMessage false d false; is = refl; state = refl; message = inr refl; decided = refl }
   end_still s d false true true body = kept_still d false
   end_still s d false true false body = kept_still d false
   end_still s d false false true body = kept_still d false
@@ -84,7 +91,7 @@ module _ (rq : Requested) (m : Begun) (f : Bool) where
   mark_still rooms s v d false (End kind body) = end_still s d (nat_eq kind 7) (nat_eq kind 1) (nat_eq kind 5) body
 
   other_still : (d : Decision) (b : Bool) (e : Event) → table Sta1 e ≡ (action.Nothing, Sta1) → IsStill (at_end_with rq m f d b) (done [] 0 (at_end_with rq m f d b) e)
-  other_still d b e is = record { next = at_end_with no_request NoMessage false d b; is = rw is refl; state = refl; message = inr refl }
+  other_still d b e is = record { next = at_end_with no_request NoMessage false d b; is = rw is refl; state = refl; message = inr refl; decided = refl }
 
   entry_still : (rooms : Rooms) (s : Settings) (v : Finding) (d : Decision) (b : Bool) (x : Entry) → IsStill (at_end_with rq m f d b) (at_entry rooms s (at_end_with rq m f d b) v x)
   entry_still rooms s v d b (At x) = mark_still rooms s v d b x
@@ -95,6 +102,19 @@ module _ (rq : Requested) (m : Begun) (f : Bool) where
   no_message : (d : Decision) (b : Bool) (x : Entry) → message_at (at_end_with rq m f d b) x ≡ None
   no_message d b x = grind (arith, common_steps)
 
+pub still_at : (rooms : Rooms) (s : Settings) (p : Progress) (finding : Finding) (x : Entry) → p.state ≡ Sta1 → IsStill p (at_entry rooms s p finding x)
+still_at rooms s p finding x e =
+    let same : p ≡ at_end_with p.request p.message p.filing_failed p.decided p.refused = ap (λ (q : State). record { state = q; request = p.request; refused = p.refused; message = p.message; filing_failed = p.filing_failed; decided = p.decided }) e in
+    subst (λ (q : Progress). IsStill q (at_entry rooms s q finding x)) (sym same) (entry_still p.request p.message p.filing_failed rooms s finding p.decided p.refused x)
+
+-- the fields of an association that has ended show its progress after any entry, and nothing is due of it
+pub leaves_ended : (rooms : Rooms) (s : Settings) (p : Progress) (x : Entry) (k : Kept) (store : Store) (body begun body2 begun2 : List ℕ) → Pends k store p body begun → k.state ≡ Sta1
+    → LeavesDue (at_entry rooms s p good x) due.Nothing k store body2 begun2
+leaves_ended rooms s p x k store body begun body2 begun2 h e =
+    let is : p.state ≡ Sta1 = sym h.state_is ∙ e in
+    let i = still_at rooms s p good x is in
+    record { shown = i.next; pends = pends_ended k store store p i.next body begun body2 begun2 (ap is_ended is) (i.state ∙ sym is) i.decided i.message h; gives = i.is }
+
 -- nothing failed
 abbrev pub calmly : Outcome
 calmly = record { wire = None; filing = false; finding = good }
@@ -102,9 +122,8 @@ calmly = record { wire = None; filing = false; finding = good }
 pub one_still : (rooms : Rooms) (s : Settings) (p : Progress) (x : Entry) → p.state ≡ Sta1 → IsStill p (gives rooms s p (x, calmly)) × IsFair rooms s p (x, calmly)
 one_still rooms s p x e =
     let same : p ≡ at_end_with p.request p.message p.filing_failed p.decided p.refused = ap (λ (q : State). record { state = q; request = p.request; refused = p.refused; message = p.message; filing_failed = p.filing_failed; decided = p.decided }) e in
-    let still : IsStill p (at_entry rooms s p good x) = subst (λ (q : Progress). IsStill q (at_entry rooms s q good x)) (sym same) (entry_still p.request p.message p.filing_failed rooms s good p.decided p.refused x) in
     let none : message_at p x ≡ None = subst (λ (q : Progress). message_at q x ≡ None) (sym same) (no_message p.request p.message p.filing_failed p.decided p.refused x) in (
-      still,
+      still_at rooms s p good x e,
       record { verdict = rw none tt; wire = tt; filing = λ wrong. absurd cc },
     )
 
@@ -115,6 +134,7 @@ calm es = map (λ x. (x, calmly)) es
 pub record Stays (rooms : Rooms) (s : Settings) (p : Progress) (ms : List Entry) : Type 0 where
   pub state : (progress_of rooms s p (calm ms)).state ≡ Sta1
   pub message : ((progress_of rooms s p (calm ms)).message ≡ p.message) ⊎ ((progress_of rooms s p (calm ms)).message ≡ NoMessage)
+  pub decided : (progress_of rooms s p (calm ms)).decided ≡ p.decided
   pub sent : sent_of rooms s p (calm ms) ≡ []
   pub files : files_of rooms s p (calm ms) ≡ []
   pub fair : AreFair rooms s p (calm ms)
@@ -128,7 +148,7 @@ message_then a b c (inl x) (inl e) = inl (e ∙ x)
 message_then a b c (inr x) (inl e) = inr (e ∙ x)
 
 pub stays : (rooms : Rooms) (s : Settings) (p : Progress) (ms : List Entry) → p.state ≡ Sta1 → Stays rooms s p ms
-stays rooms s p [] e = record { state = e; message = inl refl; sent = refl; files = refl; fair = tt; wires = refl; filings = refl; told = refl }
+stays rooms s p [] e = record { state = e; message = inl refl; decided = refl; sent = refl; files = refl; fair = tt; wires = refl; filings = refl; told = refl }
 stays rooms s p (x ∷ ms) e =
     let one = one_still rooms s p x e in
     let i = one.0 in
@@ -139,6 +159,7 @@ stays rooms s p (x ∷ ms) e =
     record {
       state = rest.state;
       message = message_then p.message next.message _ message rest.message;
+      decided = rest.decided ∙ ap (λ (q : Progress). q.decided) there ∙ i.decided;
       sent = ap (λ (g : Advance). g.sent ++ sent_of rooms s next (calm ms)) i.is ∙ rest.sent;
       files = ap (λ (g : Advance). g.files ++ files_of rooms s next (calm ms)) i.is ∙ rest.files;
       fair = (one.1, rest.fair);
@@ -149,6 +170,5 @@ stays rooms s p (x ∷ ms) e =
 
 pub nothing_after_the_end : NothingAfterTheEnd
 nothing_after_the_end rooms s p e finding x =
-    let same : p ≡ at_end_with p.request p.message p.filing_failed p.decided p.refused = ap (λ (q : State). record { state = q; request = p.request; refused = p.refused; message = p.message; filing_failed = p.filing_failed; decided = p.decided }) e in
-    let still : IsStill p (at_entry rooms s p finding x) = subst (λ (q : Progress). IsStill q (at_entry rooms s q finding x)) (sym same) (entry_still p.request p.message p.filing_failed rooms s finding p.decided p.refused x) in
-    record { sent = ap (λ (g : Advance). g.sent) still.is; files = ap (λ (g : Advance). g.files) still.is; ended = ap (λ (g : Advance). g.next.state) still.is ∙ still.state }
+    let still = still_at rooms s p finding x e in
+    record { sent = ap (λ (g : Advance). g.sent) still.is; files = ap (λ (g : Advance). g.files) still.is; ended = ap (λ (g : Advance). g.next.state) still.is ∙ still.state; decided = ap (λ (g : Advance). g.next.decided) still.is ∙ still.decided }

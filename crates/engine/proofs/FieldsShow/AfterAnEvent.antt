@@ -19,7 +19,7 @@ use Rattle.dimse.specs.Joining.{ShowsMessage, with_pdv}
 use Rattle.engine.specs.Reached.{takes_pdvs}
 use Rattle.decisions.specs.declared.decision.Decision.{Decision}
 use Rattle.decisions.specs.declared.decision.Decision.TheVariants as decision
-use Rattle.engine.specs.Progress.{Progress, Advance, at_start, left, moved, deciding, done, is_due, is_established}
+use Rattle.engine.specs.Progress.{Progress, Advance, at_start, left, moved, deciding, decided_at, done, is_due, is_established}
 use Rattle.engine.specs.Run.{cut}
 use Rattle.engine.specs.Devices.{Devices, devices, line_after, IsFront}
 use Rattle.engine.specs.Drafts.{IsDraft}
@@ -38,8 +38,8 @@ left_carried : (k : Kept) (store : Store) → IsLeft k → Carried k.depth k.mos
 left_carried k store h = none_carried k.depth k.most k.storing store no_request NoMessage false h.storing (no_store no_request NoMessage refl)
 
 pub pends_left : (st : State) (p : Progress) (k : Kept) (store : Store) (body begun : List ℕ) → is_left st ≡ true → k.state ≡ st → k.refused ≡ p.refused → k.decided ≡ p.decided → IsLeft k → Pends k store (left st p) body begun
-pends_left Sta1 p k store body begun l e r d h = let c = left_carried k store h in record { state_is = e; refused_is = λ n. absurd cc; decided_is = λ n. absurd cc; body_is = h.body; join_is = h.join; agreed = λ six. absurd cc; none_left = λ e. refl; unagreed = λ _. h.unagreed; walks = c.0; draft = c.1; failed_in = λ n e. absurd cc }
-pends_left Sta13 p k store body begun l e r d h = let c = left_carried k store h in record { state_is = e; refused_is = λ n. r; decided_is = λ n. d; body_is = h.body; join_is = h.join; agreed = λ six. absurd cc; none_left = λ e. refl; unagreed = λ _. h.unagreed; walks = c.0; draft = c.1; failed_in = λ n e. absurd cc }
+pends_left Sta1 p k store body begun l e r d h = let c = left_carried k store h in record { state_is = e; refused_is = λ n. absurd cc; decided_is = d; body_is = h.body; join_is = h.join; agreed = λ six. absurd cc; none_left = λ e. refl; unagreed = λ _. h.unagreed; walks = c.0; draft = c.1; failed_in = λ n e. absurd cc }
+pends_left Sta13 p k store body begun l e r d h = let c = left_carried k store h in record { state_is = e; refused_is = λ n. r; decided_is = d; body_is = h.body; join_is = h.join; agreed = λ six. absurd cc; none_left = λ e. refl; unagreed = λ _. h.unagreed; walks = c.0; draft = c.1; failed_in = λ n e. absurd cc }
 pends_left Sta2 p k store body begun l e r d h = absurd cc
 pends_left Sta3 p k store body begun l e r d h = absurd cc
 pends_left Sta6 p k store body begun l e r d h = absurd cc
@@ -73,12 +73,12 @@ joined_left Sta8 p k begun l h = absurd cc
 quiet_left : (st : State) (p : Progress) (begun : List ℕ) → is_left st ≡ true → so_far (left st p) begun ≡ NoMessage
 quiet_left st p begun l = by_left (λ (x : State). so_far (left x p) begun ≡ NoMessage) refl refl st l
 
--- the wire failed
-pub settled_failed : (p : Progress) (st : State) (f : WireFailed) (old new : Kept) (so sn : Store) (body begun : List ℕ) → ComesTo st (Err f) old new so sn → Pends new sn (left Sta1 p) body begun
-settled_failed p st f old new so sn body begun h =
+-- the wire failed where this was decided
+pub settled_failed : (p : Progress) (d : Decision) (st : State) (f : WireFailed) (old new : Kept) (so sn : Store) (body begun : List ℕ) → old.decided ≡ d → ComesTo st (Err f) old new so sn → Pends new sn (left Sta1 (deciding d p)) body begun
+settled_failed p d st f old new so sn body begun told h =
     let l = h.left (ap is_left h.state_is) in
     let c = left_carried new sn l in
-    record { state_is = h.state_is; refused_is = λ n. absurd cc; decided_is = λ n. absurd cc; body_is = l.body; join_is = l.join; agreed = λ six. absurd cc; none_left = λ e. refl; unagreed = λ _. l.unagreed; walks = c.0; draft = c.1; failed_in = λ n e. absurd cc }
+    record { state_is = h.state_is; refused_is = λ n. absurd cc; decided_is = h.decided ∙ told; body_is = l.body; join_is = l.join; agreed = λ six. absurd cc; none_left = λ e. refl; unagreed = λ _. l.unagreed; walks = c.0; draft = c.1; failed_in = λ n e. absurd cc }
 
 -- the event leaves the association
 pub settled_left : (p : Progress) (st : State) (old new : Kept) (so sn : Store) (body begun : List ℕ) → Pends old so p body begun → is_left st ≡ true
@@ -86,7 +86,7 @@ pub settled_left : (p : Progress) (st : State) (old new : Kept) (so sn : Store) 
 settled_left p st old new so sn body begun h l n s =
     let gone = s.left (ap is_left s.state_is ∙ l) in
     let c = none_carried new.depth new.most new.storing sn no_request (so_far (left st p) begun) false gone.storing (no_store no_request (so_far (left st p) begun) (quiet_left st p begun l)) in
-    record { state_is = s.state_is; refused_is = λ m. s.refused ∙ h.refused_is (n m); decided_is = λ m. s.decided ∙ h.decided_is (n m); body_is = counted_left st p new body l gone; join_is = joined_left st p new begun l gone; agreed = λ six. let x : is_left Sta6 ≡ true = subst (λ (x : State). is_left x ≡ true) six l in absurd cc; none_left = λ e. refl; unagreed = λ _. gone.unagreed; walks = c.0; draft = c.1; failed_in = λ n e. absurd cc }
+    record { state_is = s.state_is; refused_is = λ m. s.refused ∙ h.refused_is (n m); decided_is = s.decided ∙ h.decided_is; body_is = counted_left st p new body l gone; join_is = joined_left st p new begun l gone; agreed = λ six. let x : is_left Sta6 ≡ true = subst (λ (x : State). is_left x ≡ true) six l in absurd cc; none_left = λ e. refl; unagreed = λ _. gone.unagreed; walks = c.0; draft = c.1; failed_in = λ n e. absurd cc }
 
 -- or keeps the state
 pub settled_stays : (p : Progress) (st : State) (old new : Kept) (so sn : Store) (body begun : List ℕ) → Pends old so p body begun → is_left st ≡ false → st ≡ p.state
@@ -100,9 +100,18 @@ settled_stays p st old new so sn body begun h l e s =
 pub opened : (k : Kept) (store : Store) → k.state ≡ Sta2 → k.refused ≡ false → k.decided ≡ decision.Nothing → k.body ≡ [] → ShowsMessage k.room k.join NoMessage [] → k.storing ≡ Nothing → IsUnagreed k.caller k.peer_max k.table → Pends k store at_start [] []
 opened k store state refused decided body join none unagreed =
     let c = none_carried k.depth k.most k.storing store no_request NoMessage false none (no_store no_request NoMessage refl) in
-    record { state_is = state; refused_is = λ n. refused; decided_is = λ n. decided; body_is = body; join_is = join; agreed = λ six. absurd cc; none_left = λ e. refl; unagreed = λ _. unagreed; walks = c.0; draft = c.1; failed_in = λ n e. absurd cc }
+    record { state_is = state; refused_is = λ n. refused; decided_is = decided; body_is = body; join_is = join; agreed = λ six. absurd cc; none_left = λ e. refl; unagreed = λ _. unagreed; walks = c.0; draft = c.1; failed_in = λ n e. absurd cc }
 
 -- ---- one event
+
+-- an event decides nothing
+moved_decided : (st : State) (p : Progress) → (moved st p).decided ≡ p.decided
+moved_decided Sta1 p = refl
+moved_decided Sta2 p = refl
+moved_decided Sta3 p = refl
+moved_decided Sta6 p = refl
+moved_decided Sta8 p = refl
+moved_decided Sta13 p = refl
 
 -- no event but a connection's leaves an association that has ended
 ended_stays : (e : Event) → Stays Sta1 e → (table Sta1 e).1 ≡ Sta1
@@ -153,7 +162,7 @@ happened_at p e reason answer (Ok u) old new body begun lo ln so sn h stays s se
 happened_at p e reason answer (Err f) old new body begun lo ln so sn h stays s sends due = record {
   wire = Some sends.count;
   fair = (due, sends.few);
-  pends = settled_failed p (table p.state e).1 f old new so sn body begun s;
+  pends = settled_failed p (done answer reason p e).next.decided (table p.state e).1 f old new so sn body begun (h.decided_is ∙ sym (moved_decided (table p.state e).1 p)) s;
   line = sends.line;
   unfiled = s.unfiled;
 }
@@ -209,7 +218,7 @@ pub pends_decided : (d : Decision) (k : Kept) (store : Store) (p : Progress) (bo
 pends_decided d k store p body begun h = record {
   state_is = h.state_is;
   refused_is = h.refused_is;
-  decided_is = λ n. refl;
+  decided_is = refl;
   body_is = h.body_is;
   join_is = h.join_is;
   agreed = h.agreed;
@@ -219,6 +228,15 @@ pends_decided d k store p body begun h = record {
   draft = h.draft;
   failed_in = h.failed_in;
 }
+
+-- where the association has not ended, this is decided
+pub decided_there : (st : State) (before d : Decision) → is_ended st ≡ false → decided_at st before d ≡ d
+decided_there Sta1 before d n = absurd cc
+decided_there Sta2 before d n = refl
+decided_there Sta3 before d n = refl
+decided_there Sta6 before d n = refl
+decided_there Sta8 before d n = refl
+decided_there Sta13 before d n = refl
 
 pub pends_begins : (k : Kept) (store : Store) (p : Progress) → Pends k store p [] [] → Pends (record k { refused = false; body = [] }) store (record p { refused = false }) [] []
 pends_begins k store p h =
@@ -238,9 +256,9 @@ pends_begins k store p h =
     }
 
 -- after the end in whose place it was is not seen
-ended_from : (k : Kept) (store : Store) (p q : Progress) (body begun : List ℕ) → Pends k store (left Sta1 q) body begun → Pends k store (left Sta1 p) body begun
-ended_from k store p q body begun h =
-    record { state_is = h.state_is; refused_is = λ n. absurd cc; decided_is = λ n. absurd cc; body_is = h.body_is; join_is = h.join_is; agreed = λ six. absurd cc; none_left = λ e. refl; unagreed = h.unagreed; walks = h.walks; draft = h.draft; failed_in = λ n. absurd cc }
+ended_from : (k : Kept) (store : Store) (p q : Progress) (d : Decision) (body begun : List ℕ) → Pends k store (left Sta1 (deciding d q)) body begun → Pends k store (left Sta1 (deciding d p)) body begun
+ended_from k store p q d body begun h =
+    record { state_is = h.state_is; refused_is = λ n. absurd cc; decided_is = h.decided_is; body_is = h.body_is; join_is = h.join_is; agreed = λ six. absurd cc; none_left = λ e. refl; unagreed = h.unagreed; walks = h.walks; draft = h.draft; failed_in = λ n. absurd cc }
 
 pub tries_from : (p q : Progress) (g : Advance) (k : Kept) (body begun : List ℕ) (old new : Devices) → PerformsReaction q g k body begun old new → PerformsReaction p g k body begun old new
 tries_from p q g k body begun old new t = by t.wire refl where
@@ -255,7 +273,7 @@ tries_from p q g k body begun old new t = by t.wire refl where
   by (Some n) e = record {
     wire = Some n;
     fair = subst (λ (x : Option ℕ). IsFront x g.sent) (sym e) t.fair;
-    pends = ended_from k new.store p q body begun (subst (λ (x : Option ℕ). Pends k new.store (cut x q g).next body begun) (sym e) t.pends);
+    pends = ended_from k new.store p q g.next.decided body begun (subst (λ (x : Option ℕ). Pends k new.store (cut x q g).next body begun) (sym e) t.pends);
     line = t.line ∙ ap (λ (x : Option ℕ). line_after x g.sent old.line) (sym e);
     unfiled = t.unfiled;
   }

@@ -56,8 +56,8 @@ pub ended_stored : (k : Kept) (store : Store) (p : Progress) (body begun : List 
 ended_stored k store p body begun e h = none_stored (ended_message p begun e (h.none_left (ended_unestablished p.state e))) h.walks
 
 pub pends_ended : (k : Kept) (store other : Store) (p q : Progress) (body begun body2 begun2 : List ℕ) → is_ended p.state ≡ true → q.state ≡ p.state
-    → (q.message ≡ p.message) ⊎ (q.message ≡ NoMessage) → Pends k store p body begun → Pends k other q body2 begun2
-pends_ended k store other p q body begun body2 begun2 e same m h =
+    → q.decided ≡ p.decided → (q.message ≡ p.message) ⊎ (q.message ≡ NoMessage) → Pends k store p body begun → Pends k other q body2 begun2
+pends_ended k store other p q body begun body2 begun2 e same told m h =
     let end : is_ended q.state ≡ true = ap is_ended same ∙ e in
     let none : q.message ≡ NoMessage = quiet p.message q.message (h.none_left (ended_unestablished p.state e)) m in
     let so_far : with_pdv (counted_pdv q begun2) q.message ≡ NoMessage = ended_message q begun2 end none in
@@ -65,7 +65,7 @@ pends_ended k store other p q body begun body2 begun2 e same m h =
     record {
       state_is = h.state_is ∙ sym same;
       refused_is = λ n. let x : true ≡ false = sym end ∙ n in absurd cc;
-      decided_is = λ n. let x : true ≡ false = sym end ∙ n in absurd cc;
+      decided_is = h.decided_is ∙ sym told;
       body_is = h.body_is ∙ ended_body p.state p.refused body e ∙ sym (ended_body q.state q.refused body2 end);
       join_is = subst (λ (m : Begun). ShowsMessage k.room k.join m (counted_pdv q begun2)) (h.none_left (ended_unestablished p.state e) ∙ sym none)
           (subst (λ (xs : List ℕ). ShowsMessage k.room k.join p.message xs) (ended_pdv p.state p.refused begun e ∙ sym (ended_pdv q.state q.refused begun2 end)) h.join_is);

@@ -95,7 +95,7 @@ pends_refused q mid store body begun body2 begun2 b d h =
 
 ended_refused : (p : Progress) (mid : Kept) (store : Store) (body begun body2 begun2 : List ℕ) → Pends mid store (left Sta1 p) body begun → Pends (record mid { refused = true }) store (left Sta1 p) body2 begun2
 ended_refused p mid store body begun body2 begun2 h =
-    record { state_is = h.state_is; refused_is = λ n. absurd cc; decided_is = λ n. absurd cc; body_is = h.body_is; join_is = h.join_is; agreed = λ six. absurd cc; none_left = λ e. refl; unagreed = h.unagreed; walks = h.walks; draft = h.draft; failed_in = λ n. absurd cc }
+    record { state_is = h.state_is; refused_is = λ n. absurd cc; decided_is = h.decided_is; body_is = h.body_is; join_is = h.join_is; agreed = λ six. absurd cc; none_left = λ e. refl; unagreed = h.unagreed; walks = h.walks; draft = h.draft; failed_in = λ n. absurd cc }
 
 pub refused_by : (p : Progress) (g : Advance) (mid : Kept) (body begun body2 begun2 : List ℕ) (old new : Devices) → counted_body g.next body ≡ [] → counted_pdv g.next begun ≡ []
     → PerformsReaction p g mid body begun old new → PerformsReaction p (refusing g) (record mid { refused = true }) body2 begun2 old new
@@ -111,7 +111,7 @@ refused_by p g mid body begun body2 begun2 old new b d t = by t.wire refl where
   by (Some k) e = record {
     wire = Some k;
     fair = subst (λ (x : Option ℕ). IsFront x g.sent) (sym e) t.fair;
-    pends = ended_refused p mid new.store body begun body2 begun2 (subst (λ (x : Option ℕ). Pends mid new.store (cut x p g).next body begun) (sym e) t.pends);
+    pends = ended_refused (deciding g.next.decided p) mid new.store body begun body2 begun2 (subst (λ (x : Option ℕ). Pends mid new.store (cut x p g).next body begun) (sym e) t.pends);
     line = t.line ∙ ap (λ (x : Option ℕ). line_after x g.sent old.line) (sym e);
     unfiled = t.unfiled;
   }
@@ -138,13 +138,9 @@ pub at_leftover : (rooms : Rooms) (s : Settings) (p : Progress) → at_entry roo
 at_leftover rooms s p = taken_when (is_established p.state) p.refused (invalid (deciding (decision.BytesLeft (value_end p.decided)) p)) (nothing p)
 
 -- where the fields show what was decided before
-pub left_after : (p : Progress) (d : Decision) → (takes_pdvs p ≡ true → d ≡ p.decided)
+pub left_after : (p : Progress) (d : Decision) → d ≡ p.decided
     → (if takes_pdvs p then invalid (deciding (decision.BytesLeft (value_end p.decided)) p) else nothing p) ≡ (if takes_pdvs p then invalid (deciding (decision.BytesLeft (value_end d)) p) else nothing p)
-left_after p d h = by (takes_pdvs p) h where
-  by : (t : Bool) → (t ≡ true → d ≡ p.decided)
-      → (if t then invalid (deciding (decision.BytesLeft (value_end p.decided)) p) else nothing p) ≡ (if t then invalid (deciding (decision.BytesLeft (value_end d)) p) else nothing p)
-  by true k = ap (λ (x : Decision). invalid (deciding (decision.BytesLeft (value_end x)) p)) (sym (k refl))
-  by false k = refl
+left_after p d e = ap (λ (x : Decision). if takes_pdvs p then invalid (deciding (decision.BytesLeft (value_end x)) p) else nothing p) (sym e)
 
 -- ---- events that leave the association or keep its state
 

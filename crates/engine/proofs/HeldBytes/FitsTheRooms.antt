@@ -38,7 +38,7 @@ use Rattle.engine.specs.Held.{of_command}
 use Rattle.decisions.specs.declared.decision.Decision.{Decision}
 use Rattle.decisions.specs.declared.decision.Decision.TheVariants as decision
 use Rattle.decisions.specs.ValueEnds.{value_end}
-use Rattle.engine.specs.Progress.{Progress, Advance, deciding, absorb, left, moved, done, nothing, is_due, is_established}
+use Rattle.engine.specs.Progress.{Progress, Advance, deciding, deciding_unless_ended, absorb, left, moved, done, nothing, is_due, is_established}
 use Rattle.engine.specs.Reached.{takes_pdvs}
 use Rattle.engine.specs.Replies.{invalid, value_head, command_refused, at_pdv_head, at_pdv, replied}
 use Rattle.engine.specs.Requested.{request_record}
@@ -239,11 +239,11 @@ module _ (rooms : Rooms) where
   pdu_head_fits : (most : ℕ) (p : Progress) (kind n : ℕ) (e : HeadEvent) → head_event (rooms.request - 12) most p.state kind n ≡ e → Fits rooms p Between → Fits rooms (by_head p kind n e).next (OfPdu kind n)
   pdu_head_fits most p kind n NoEvent e h = record { command = h.command; bytes = h.bytes; agreed = h.agreed; room = λ due r one. head_fits (rooms.request - 12) most p.state kind n e due one }
   pdu_head_fits most p kind n (AtOnce ev reason) e h =
-      let q = deciding (decision.PduRefused (record { kind = kind; length = n })) p in
+      let q = deciding_unless_ended (decision.PduRefused (record { kind = kind; length = n })) p in
       refused_fits (done [] reason q ev).next Between _ (event_fits q Between ev (head_stays (rooms.request - 12) most p.state kind n ev reason e) (decided_fits q.decided p Between h))
   pdu_head_fits most p kind n TooLong e h =
       let stays : Stays p.state event.UnacceptableRq = subst (λ (st : State). Stays st event.UnacceptableRq) (sym (head_too_long (rooms.request - 12) most p.state kind n e)) (λ l. absurd cc) in
-      let q = deciding (decision.RequestTooLong n) p in
+      let q = deciding_unless_ended (decision.RequestTooLong n) p in
       refused_fits (done (reject_text 2 3 2) 0 q event.UnacceptableRq).next Between _ (event_fits q Between event.UnacceptableRq stays (decided_fits q.decided p Between h))
 
   -- ---- a whole PDU
@@ -284,8 +284,8 @@ module _ (rooms : Rooms) where
     end_fits kind body r is bytes = by (nat_eq kind abort) (nat_eq kind associate_rq && is_due p.state) (nat_eq kind release_rq && is_established p.state) refl refl
       where
         by : (a b c : Bool) → nat_eq kind associate_rq && is_due p.state ≡ b → nat_eq kind release_rq && is_established p.state ≡ c
-            → Fits rooms (if a then done [] 0 (deciding decision.Aborted p) event.Abort else (if b then at_request s p body else (if c then released (deciding decision.Released p) else nothing p))).next Between
-        by true b c e f = event_fits (deciding decision.Aborted p) Between event.Abort (stays_abort p.state) (decided_fits decision.Aborted p Between (with_nothing p o h))
+            → Fits rooms (if a then done [] 0 (deciding_unless_ended decision.Aborted p) event.Abort else (if b then at_request s p body else (if c then released (deciding decision.Released p) else nothing p))).next Between
+        by true b c e f = let q = deciding_unless_ended decision.Aborted p in event_fits q Between event.Abort (stays_abort p.state) (decided_fits q.decided p Between (with_nothing p o h))
         by false true c e f =
             let one = both_of (nat_eq kind associate_rq) (is_due p.state) e in
             let room : HasRoom rooms p (OfPdu kind (length body)) = subst (HasRoom rooms p) (is one.0) h.room in
@@ -307,7 +307,7 @@ module _ (rooms : Rooms) where
 
   entry_fits : (s : Settings) (p : Progress) (finding : Finding) (o : Opened) (x : Entry) → Fits rooms p o → IsHeadedAt IsBytes o x → Fits rooms (at_entry rooms s p finding x).next (opens_at o x)
   entry_fits s p finding o (At (Head kind n)) h k =
-      let fresh : Progress = record p { refused = false; decided = decision.Nothing } in
+      let fresh : Progress = record p { refused = false } in
       pdu_head_fits s.max_pdu fresh kind n (head_event (rooms.request - 12) s.max_pdu fresh.state kind n) refl (record { command = h.command; bytes = h.bytes; agreed = h.agreed; room = tt })
   entry_fits s p finding o (At (PdvHead n context control)) h k =
       counted_fits p o (OfPdv n context control) p.refused (is_established p.state) (at_pdv_head rooms.command p n context control) refl refl h (not_taken p n context control)
@@ -335,7 +335,7 @@ module _ (rooms : Rooms) where
 
   cut_fits : (wire : Option ℕ) (p : Progress) (g : Advance) (o : Opened) → Fits rooms g.next o → Fits rooms (cut wire p g).next o
   cut_fits None p g o h = h
-  cut_fits (Some k) p g o h = left_fits Sta1 p o refl
+  cut_fits (Some k) p g o h = left_fits Sta1 (deciding g.next.decided p) o refl
 
   gives_fits : (s : Settings) (p : Progress) (o : Opened) (h : Happened) → Fits rooms p o → IsHeadedAt IsBytes o h.0 → Fits rooms (gives rooms s p h).next (opens_at o h.0)
   gives_fits s p o h fits k = cut_fits h.1.wire p _ (opens_at o h.0) (entry_fits s (absorb h.1.filing p) h.1.finding o h.0 (absorbed_fits h.1.filing p o fits) k)

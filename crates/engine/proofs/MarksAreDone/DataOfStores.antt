@@ -141,7 +141,7 @@ does_due rooms s p begun room k j z l so sn later h taken goes shows due announc
     let pends : Pends (record k { join = j; storing = z; decided = decision.DataDue }) sn (going_on later q) [] [] = record {
       state_is = h.state_is;
       refused_is = h.refused_is;
-      decided_is = λ n. ap (λ (y : Joined). decided_on y p.decided) announced;
+      decided_is = ap (λ (y : Joined). decided_on y p.decided) announced;
       body_is = h.body_is;
       join_is = subst (λ (xs : List ℕ). ShowsMessage k.room j later xs) (sym nil) shows;
       agreed = h.agreed;

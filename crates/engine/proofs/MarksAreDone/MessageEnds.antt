@@ -4,7 +4,7 @@ use Rattle.std.proofs.Common.{◌≡◌, ◌⊎◌, nat_lt, ℕ, zero, suc, ◌+
 use Rattle.std.proofs.lemmas.Grind.{common_steps}
 use Rattle.std.proofs.lemmas.Bool.Decides.{nat_tests}
 use Rattle.acceptor.specs.declared.state.State.{State}
-use Rattle.acceptor.specs.declared.state.State.TheVariants.{Sta6}
+use Rattle.acceptor.specs.declared.state.State.TheVariants.{Sta1, Sta6}
 use Rattle.pdu.specs.declared.wire.WireFailed.{WireFailed}
 use Rattle.pdu.specs.Sent.{Line, Sends}
 use Rattle.engine.specs.Requested.{Requested, request_record}
@@ -26,7 +26,7 @@ use Rattle.dimse.specs.Reply.{reply_bytes, reply_command, fragment_size, command
 use Rattle.engine.specs.Timeline.{At, Finding, good}
 use Rattle.engine.specs.Devices.{Devices, devices, files_in, with_files, line_with, IsFront}
 use Rattle.engine.specs.Drafts.{IsDraft, TellsDraft}
-use Rattle.engine.specs.Progress.{Progress, Advance, absorb, deciding}
+use Rattle.engine.specs.Progress.{Progress, Advance, absorb, left, deciding}
 use Rattle.engine.specs.Reached.{takes_pdvs}
 use Rattle.decisions.specs.declared.decision.Decision.{Decision}
 use Rattle.decisions.specs.declared.decision.Decision.TheVariants as decision
@@ -332,7 +332,7 @@ ended_pends p old j z store h six quiet none =
 pub concludes : (rooms : Rooms) (s : Settings) (p : Progress) (m : Message) (come : Begun) (d : Decision) (r : Result (Unit {0}) WireFailed) (old new : Kept) (j : Joining) (z : Stored) (lo ln : Line) (so sm sl sn : Store)
     → Aside old p → old.state ≡ Sta6 → ShowsMessage old.room j NoMessage [] → z ≡ Nothing → Ended rooms s p m come d r (devices lo so) (devices ln sm) → Unfiled sm sl
     → ComesTo Sta6 r (record old { join = j; storing = z; decided = d }) new sl sn → Concludes rooms s p m come new (devices lo so) (devices ln sn)
-concludes rooms s p m come d (Ok u) old new j z lo ln so sm sl sn h six quiet none e left settles = record {
+concludes rooms s p m come d (Ok u) old new j z lo ln so sm sl sn h six quiet none e gone settles = record {
   finding = e.finding;
   failed = e.failed;
   wire = None;
@@ -343,20 +343,20 @@ concludes rooms s p m come d (Ok u) old new j z lo ln so sm sl sn h six quiet no
       (subst (λ (k : Kept). Pends k sn (deciding d (ended_message p)) [] []) (sym (settles.same (ap is_left settles.state_is) ∙ ap (λ (st : State). record old { join = j; storing = z; decided = d; state = st }) settles.state_is))
       (pends_decided d (record old { join = j; storing = z; state = Sta6 }) sn (ended_message p) [] [] (ended_pends p old j z sn h six quiet none)));
   line = e.sends;
-  files = settles.unfiled.files ∙ left.files ∙ e.files;
-  count = settles.unfiled.count ∙ left.count ∙ e.count;
+  files = settles.unfiled.files ∙ gone.files ∙ e.files;
+  count = settles.unfiled.count ∙ gone.count ∙ e.count;
 }
-concludes rooms s p m come d (Err x) old new j z lo ln so sm sl sn h six quiet none e left settles = record {
+concludes rooms s p m come d (Err x) old new j z lo ln so sm sl sn h six quiet none e gone settles = record {
   finding = e.finding;
   failed = e.failed;
   wire = Some e.sends.count;
   may = e.may;
   verdict = e.verdict;
   fair = (e.due, e.sends.few);
-  pends = settled_failed p Sta6 x (record old { join = j; storing = z; decided = d }) new sl sn [] [] settles;
+  pends = subst (λ (y : Decision). Pends new sn (left Sta1 (deciding y p)) [] []) e.decided_is (settled_failed p d Sta6 x (record old { join = j; storing = z; decided = d }) new sl sn [] [] refl settles);
   line = e.sends.line;
-  files = settles.unfiled.files ∙ left.files ∙ e.files;
-  count = settles.unfiled.count ∙ left.count ∙ e.count;
+  files = settles.unfiled.files ∙ gone.files ∙ e.files;
+  count = settles.unfiled.count ∙ gone.count ∙ e.count;
 }
 
 pub does_concluded : (rooms : Rooms) (s : Settings) (p : Progress) (begun : List ℕ) (m : Message) (come : Begun) (k : Kept) (old new : Devices) → takes_pdvs p ≡ true → brought p.message (pdv_of begun) ≡ Ends m

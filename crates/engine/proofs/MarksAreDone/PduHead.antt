@@ -14,7 +14,7 @@ use Rattle.engine.specs.Timeline.{At, good}
 use Rattle.engine.specs.Run.{Rooms, at_entry}
 use Rattle.decisions.specs.declared.decision.Decision.{Decision}
 use Rattle.decisions.specs.declared.decision.Decision.TheVariants as decision
-use Rattle.engine.specs.Progress.{Progress, Advance, nothing, done, refusing, is_due, is_established}
+use Rattle.engine.specs.Progress.{Progress, Advance, decided_at, nothing, done, refusing, is_due, is_established}
 use Rattle.engine.specs.Heads.{HeadEvent, NoEvent, AtOnce, TooLong, event_of, is_known, has_four_bytes, is_abort, out_of_place, request_length, data_length, head_event}
 use Rattle.engine.specs.machine.PerformsReaction.{is_left, Stays}
 use Rattle.engine.proofs.FieldsShow.TriedIsDone.{stays_invalid}
@@ -65,25 +65,25 @@ head_too_long room most st kind n =
 
 -- ---- what a judged head gives
 
-module _ (rooms : Rooms) (s : Settings) (p : Progress) (kind n : ℕ) where
-  -- the progress at the head, where this is decided
-  abbrev pub headed : Decision → Progress
-  headed d = record p { refused = false; decided = d }
+-- the progress at the head, where this is decided unless the association has ended
+abbrev pub headed : Progress → Decision → Progress
+headed p d = record p { refused = false; decided = decided_at p.state p.decided d }
 
+module _ (rooms : Rooms) (s : Settings) (p : Progress) (kind n : ℕ) where
   abbrev by_event : HeadEvent → Advance
   by_event h = elim h [
-    | NoEvent ↦ nothing (headed decision.Nothing)
-    | AtOnce event reason ↦ refusing (done [] reason (headed (decision.PduRefused (record { kind = kind; length = n }))) event)
-    | TooLong ↦ refusing (done (reject_text 2 3 2) 0 (headed (decision.RequestTooLong n)) UnacceptableRq)
+    | NoEvent ↦ nothing (headed p decision.Nothing)
+    | AtOnce event reason ↦ refusing (done [] reason (headed p (decision.PduRefused (record { kind = kind; length = n }))) event)
+    | TooLong ↦ refusing (done (reject_text 2 3 2) 0 (headed p (decision.RequestTooLong n)) UnacceptableRq)
   ]
 
-  pub head_nothing : head_event (rooms.request - 12) s.max_pdu p.state kind n ≡ NoEvent → at_entry rooms s p good (At (Head kind n)) ≡ nothing (headed decision.Nothing)
+  pub head_nothing : head_event (rooms.request - 12) s.max_pdu p.state kind n ≡ NoEvent → at_entry rooms s p good (At (Head kind n)) ≡ nothing (headed p decision.Nothing)
   head_nothing e = ap by_event e
 
   pub head_at_once : (e : Event) (r : ℕ) → head_event (rooms.request - 12) s.max_pdu p.state kind n ≡ AtOnce e r
-      → at_entry rooms s p good (At (Head kind n)) ≡ refusing (done [] r (headed (decision.PduRefused (record { kind = kind; length = n }))) e)
+      → at_entry rooms s p good (At (Head kind n)) ≡ refusing (done [] r (headed p (decision.PduRefused (record { kind = kind; length = n }))) e)
   head_at_once e r h = ap by_event h
 
   pub head_rejected : head_event (rooms.request - 12) s.max_pdu p.state kind n ≡ TooLong
-      → at_entry rooms s p good (At (Head kind n)) ≡ refusing (done (reject_text 2 3 2) 0 (headed (decision.RequestTooLong n)) UnacceptableRq)
+      → at_entry rooms s p good (At (Head kind n)) ≡ refusing (done (reject_text 2 3 2) 0 (headed p (decision.RequestTooLong n)) UnacceptableRq)
   head_rejected h = ap by_event h

@@ -362,7 +362,7 @@ pends_going_on k store p j later begun h t shows is more six =
     record {
       state_is = h.state_is;
       refused_is = h.refused_is;
-      decided_is = λ n. h.decided_is n ∙ ap (λ (x : Joined). decided_on x p.decided) more;
+      decided_is = h.decided_is ∙ ap (λ (x : Joined). decided_on x p.decided) more;
       body_is = h.body_is;
       join_is = subst (λ (xs : List ℕ). ShowsMessage k.room j later xs) (sym none) shows;
       agreed = h.agreed;

@@ -1,6 +1,6 @@
 -- At the end of a PDU its entry gives an abort (`whole_abort`), a release (`whole_release`), the answer to a request
 -- (`does_request`), or nothing (`whole_other`, `refused_end`). Stands on WholeRequest and FieldsShow.
-use Rattle.std.proofs.Common.{◌≡◌, ℕ, Bool, true, false, not, ◌&&◌, List, [], Option, Some, None, nat_eq, eqb-true, refl, ap, sym, subst, ◌∙◌, arith, if◌then◌else◌, ◌⊎◌, inl, inr}
+use Rattle.std.proofs.Common.{◌≡◌, ℕ, Bool, true, false, not, ◌&&◌, List, [], Option, Some, None, nat_eq, eqb-true, refl, ap, sym, subst, ◌∙◌, arith, if◌then◌else◌, inl, inr}
 use Rattle.std.proofs.lemmas.Grind.{common_steps}
 use Rattle.std.proofs.lemmas.Bool.Decides.{nat_tests}
 use Rattle.acceptor.specs.declared.state.State.{State}
@@ -9,21 +9,17 @@ use Rattle.acceptor.specs.declared.event.Event.TheVariants as event
 use Rattle.part10.specs.Store.{Store}
 use Rattle.pdu.specs.Marks.{End}
 use Rattle.negotiate.specs.Settings.{Settings}
-use Rattle.dimse.specs.Messages.{NoMessage}
 use Rattle.engine.specs.Timeline.{At, good}
 use Rattle.decisions.specs.declared.decision.Decision.TheVariants as decision
-use Rattle.engine.specs.Progress.{Progress, Advance, at_start, left, deciding, nothing, done, is_due, is_established}
+use Rattle.engine.specs.Progress.{Progress, Advance, at_start, left, deciding, deciding_unless_ended, nothing, done, is_due, is_established}
 use Rattle.engine.specs.Held.{is_ended}
 use Rattle.engine.specs.Requests.{at_request}
 use Rattle.engine.specs.Devices.{Devices, line_after, IsFront}
 use Rattle.engine.specs.Run.{Rooms, cut, at_end, at_entry, released}
 use Rattle.engine.specs.Kept.{Kept, Pends, counted_body, body_in, takes_body_in}
-use Rattle.engine.specs.declared.sending.Reaction.TheVariants.{Nothing}
 use Rattle.engine.specs.machine.PerformsReaction.{PerformsReaction}
 use Rattle.engine.specs.machine.Does.{Does}
-use Rattle.engine.specs.machine.Judged.{LeavesDue}
 use Rattle.engine.specs.machine.Tries.{TriesRequest}
-use Rattle.engine.proofs.FieldsShow.NothingCounts.{pends_ended}
 use Rattle.engine.proofs.FieldsShow.TriedIsDone.{does_by, none_counted_body}
 use Rattle.engine.proofs.MarksAreDone.WholeRequest.{LeavesOrStands, request_comes}
 use Rattle.engine.proofs.FieldsShow.ByState.{due_is}
@@ -32,42 +28,8 @@ use Rattle.negotiate.specs.Taken.{Taken}
 -- by which type it is
 abbrev by_kind : Settings → Progress → List ℕ → (seven one five : Bool) → Advance
 by_kind s p body seven one five =
-    if seven then done [] 0 (deciding decision.Aborted p) event.Abort
+    if seven then done [] 0 (deciding_unless_ended decision.Aborted p) event.Abort
     else (if one && is_due p.state then at_request s p body else (if five && is_established p.state then released (deciding decision.Released p) else nothing p))
-
--- what it gives after the end: nothing that is seen
-record EndedSo (p : Progress) (g : Advance) : Type 0 where
-  pub state_is : g.next.state ≡ p.state
-  pub message_is : (g.next.message ≡ p.message) ⊎ (g.next.message ≡ NoMessage)
-  pub nothing_sent : g.sent ≡ []
-  pub nothing_put : g.files ≡ []
-
-ended_two : (s : Settings) (p : Progress) (body : List ℕ) (a b : Bool)
-    → EndedSo (record p { state = Sta1 }) (if a && false then at_request s (record p { state = Sta1 }) body else (if b && false then released (deciding decision.Released (record p { state = Sta1 })) else nothing (record p { state = Sta1 })))
-ended_two s p body true true = record { state_is = refl; message_is = inl refl; nothing_sent = refl; nothing_put = refl }
-ended_two s p body true false = record { state_is = refl; message_is = inl refl; nothing_sent = refl; nothing_put = refl }
-ended_two s p body false true = record { state_is = refl; message_is = inl refl; nothing_sent = refl; nothing_put = refl }
-ended_two s p body false false = record { state_is = refl; message_is = inl refl; nothing_sent = refl; nothing_put = refl }
-
-ended_so : (s : Settings) (p : Progress) (body : List ℕ) (r seven one five : Bool) → p.state ≡ Sta1 → EndedSo p (if r then nothing p else by_kind s p body seven one five)
-ended_so s p body true seven one five e = record { state_is = refl; message_is = inl refl; nothing_sent = refl; nothing_put = refl }
-ended_so s p body false true one five e =
-    subst (λ (y : State). EndedSo (record p { state = y }) (done [] 0 (deciding decision.Aborted (record p { state = y })) event.Abort)) (sym e) (record { state_is = refl; message_is = inr refl; nothing_sent = refl; nothing_put = refl })
-ended_so s p body false false one five e =
-    subst (λ (y : State). EndedSo (record p { state = y }) (if one && is_due y then at_request s (record p { state = y }) body else (if five && is_established y then released (deciding decision.Released (record p { state = y })) else nothing (record p { state = y })))) (sym e) (ended_two s p body one five)
-
--- and then nothing is due
-nothing_comes : (p : Progress) (g : Advance) → EndedSo p g → g ≡ nothing g.next
-nothing_comes p g so =
-    ap (λ (t : List ℕ). record { next = g.next; sent = t; files = g.files }) so.nothing_sent ∙ ap (λ (fs : List (List ℕ)). record { next = g.next; sent = []; files = fs }) so.nothing_put
-
-pub leaves_ended : (rooms : Rooms) (s : Settings) (p : Progress) (kind : ℕ) (body xs : List ℕ) (k : Kept) (store : Store) → Pends k store p xs [] → k.state ≡ Sta1
-    → LeavesDue (at_entry rooms s p good (At (End kind body))) Nothing k store [] []
-leaves_ended rooms s p kind body xs k store h e =
-    let is : p.state ≡ Sta1 = sym h.state_is ∙ e in
-    let g = at_entry rooms s p good (At (End kind body)) in
-    let so = ended_so s p body p.refused (nat_eq kind 7) (nat_eq kind 1) (nat_eq kind 5) is in
-    record { shown = g.next; pends = pends_ended k store store p g.next xs [] [] [] (ap is_ended is) so.state_is so.message_is h; gives = nothing_comes p g so }
 
 pub refused_shown : (k : Kept) (store : Store) (p : Progress) (body begun : List ℕ) → Pends k store p body begun → is_ended k.state ≡ false → k.refused ≡ p.refused
 refused_shown k store p body begun h lives = h.refused_is (ap is_ended (sym h.state_is) ∙ lives)
@@ -79,7 +41,7 @@ refused_end rooms s p kind body e = ap (λ (t : Bool). if t then nothing p else 
 pub taken_end : (rooms : Rooms) (s : Settings) (p : Progress) (kind : ℕ) (body : List ℕ) → p.refused ≡ false → at_entry rooms s p good (At (End kind body)) ≡ at_end s p kind body
 taken_end rooms s p kind body e = ap (λ (t : Bool). if t then nothing p else at_end s p kind body) e
 
-pub whole_abort : (s : Settings) (p : Progress) (kind : ℕ) (body : List ℕ) → kind ≡ 7 → at_end s p kind body ≡ done [] 0 (deciding decision.Aborted p) event.Abort
+pub whole_abort : (s : Settings) (p : Progress) (kind : ℕ) (body : List ℕ) → kind ≡ 7 → at_end s p kind body ≡ done [] 0 (deciding_unless_ended decision.Aborted p) event.Abort
 whole_abort s p kind body e = ap (λ (n : ℕ). at_end s p n body) e
 
 other_kind : (n m : ℕ) → (n ≡ m → ⊥) → nat_eq n m ≡ false
@@ -128,7 +90,7 @@ tries_recounted p g k xs old new e t = by t.wire refl where
   by (Some n) is = record {
     wire = Some n;
     fair = subst (λ (x : Option ℕ). IsFront x g.sent) (sym is) t.fair;
-    pends = pends_recounted k new.store (left Sta1 p) xs refl (subst (λ (x : Option ℕ). Pends k new.store (cut x p g).next xs []) (sym is) t.pends);
+    pends = pends_recounted k new.store (left Sta1 (deciding g.next.decided p)) xs refl (subst (λ (x : Option ℕ). Pends k new.store (cut x p g).next xs []) (sym is) t.pends);
     line = t.line ∙ ap (λ (x : Option ℕ). line_after x g.sent old.line) (sym is);
     unfiled = t.unfiled;
   }

@@ -2,7 +2,7 @@
 -- (`release_tries`). Stands on FieldsShow and StoresAreKept/DraftAndWalk.
 use Rattle.std.proofs.Common.{◌≡◌, ℕ, ◌<◌, ◌≤◌, Bool, true, false, not, ◌&&◌, List, [], length, Option, Some, None, Result, Ok, Err, OnErr, nat_eq, refl, ap, sym, subst, ◌∙◌, if◌then◌else◌, ◌⊎◌, inl, inr}
 use Rattle.acceptor.specs.declared.state.State.{State}
-use Rattle.acceptor.specs.declared.state.State.TheVariants.{Sta2, Sta6, Sta8, Sta13}
+use Rattle.acceptor.specs.declared.state.State.TheVariants.{Sta1, Sta2, Sta6, Sta8, Sta13}
 use Rattle.acceptor.specs.declared.action.Action.{Action}
 use Rattle.acceptor.specs.declared.event.Event.TheVariants as event
 use Rattle.acceptor.specs.Table.{table}
@@ -174,7 +174,7 @@ stood additional p d body old given new store h due same told is fresh =
     (record {
       state_is = refl;
       refused_is = λ n. same ∙ h.refused_is (ap is_ended two);
-      decided_is = λ n. told;
+      decided_is = told;
       body_is = fresh.body;
       join_is = subst (λ (m : Begun). ShowsMessage given.room given.join m (counted_pdv q [])) (sym none) (subst (λ (xs : List ℕ). ShowsMessage given.room given.join NoMessage xs) (sym (not_taken Sta6 p.refused)) fresh.join);
       agreed = λ six. fresh.agreed;
@@ -187,6 +187,10 @@ stood additional p d body old given new store h due same told is fresh =
 
 -- the request that is whole was answered, or the wire failed
 module _ (additional : Taken) (p : Progress) (g first : Advance) (body : List ℕ) (n : State) (old given new : Kept) (lo ln : Line) (so sn : Store) where
+  answered_decided : LeavesOrStands additional body p g first → g.next.decided ≡ first.next.decided
+  answered_decided (sent, files, inl (st, is)) = ap (λ (q : Progress). q.decided) is
+  answered_decided (sent, files, inr (st, is)) = ap (λ (q : Progress). q.decided) is
+
   pends_answered : Pends old so p body [] → old.state ≡ Sta2 → given.refused ≡ old.refused → given.decided ≡ first.next.decided → LeavesOrStands additional body p g first → n ≡ first.next.state → ComesTo n (Ok tt) given new so sn
       → (n ≡ Sta6 → IsEstablishedBy given (requested.request_record (asked additional body))) → Pends new sn g.next body []
   pends_answered h due same told (sent, files, inl (st, is)) e settles fresh =
@@ -208,7 +212,7 @@ module _ (additional : Taken) (p : Progress) (g first : Advance) (body : List �
       record {
         wire = Some sends.count;
         fair = subst (λ (t : List ℕ). (0 < length t) × (sends.count ≤ length t)) (sym c.0) (some, sends.few);
-        pends = settled_failed p n f given new so sn body [] settles;
+        pends = subst (λ (d : Decision). Pends new sn (left Sta1 (deciding d p)) body []) (sym (answered_decided c)) (settled_failed p first.next.decided n f given new so sn body [] told settles);
         line = sends.line ∙ ap (λ (t : List ℕ). cut_after sends.count t lo) (sym c.0);
         unfiled = settles.unfiled;
       }
@@ -237,12 +241,12 @@ tries_left p g n (Ok u) old new body begun lo ln so sn h six e next settles send
       wire = None;
       fair = tt;
       pends = subst (λ (q : Progress). Pends new sn q body begun) (sym next)
-          (pends_left Sta13 p new sn body begun refl (settles.state_is ∙ e) (settles.refused ∙ h.refused_is (ap is_ended six)) (settles.decided ∙ h.decided_is (ap is_ended six)) (settles.left gone));
+          (pends_left Sta13 p new sn body begun refl (settles.state_is ∙ e) (settles.refused ∙ h.refused_is (ap is_ended six)) (settles.decided ∙ h.decided_is) (settles.left gone));
       line = sends;
       unfiled = settles.unfiled;
     }
 tries_left p g n (Err f) old new body begun lo ln so sn h six e next settles sends some =
-    record { wire = Some sends.count; fair = (some, sends.few); pends = settled_failed p n f old new so sn body begun settles; line = sends.line; unfiled = settles.unfiled }
+    record { wire = Some sends.count; fair = (some, sends.few); pends = settled_failed p g.next.decided n f old new so sn body begun (h.decided_is ∙ sym (ap (λ (q : Progress). q.decided) next)) settles; line = sends.line; unfiled = settles.unfiled }
 
 release_comes : (p : Progress) → p.state ≡ Sta6 → ((released p).next ≡ left Sta13 p) × ((released p).sent ≡ release_text)
 release_comes p e = subst (λ (y : State). ((released (record p { state = y })).next ≡ left Sta13 (record p { state = y })) × ((released (record p { state = y })).sent ≡ release_text)) (sym e) (refl, refl)

@@ -46,7 +46,7 @@ use Rattle.decisions.specs.declared.decision.Decision.TheVariants as decision
 use Rattle.decisions.specs.ValueEnds.{value_end}
 use Rattle.pdu.specs.declared.head.PdvHead as declared
 use Rattle.dimse.specs.Messages as messages
-use Rattle.engine.specs.Progress.{Progress, Advance, deciding, absorb, nothing, followed_by, done, refusing, is_due, is_established}
+use Rattle.engine.specs.Progress.{Progress, Advance, deciding, deciding_unless_ended, absorb, nothing, followed_by, done, refusing, is_due, is_established}
 use Rattle.engine.specs.Replies.{invalid, user_aborts, value_head, aborted_if_refused, command_refused, replied, finding_on, going_on}
 use Rattle.engine.specs.Requests.{keeping, accepting, declined, answered, judged_so}
 use Rattle.engine.specs.Run.{Rooms, released, at_end, at_mark, at_entry, cut, gives, sent_of}
@@ -176,14 +176,14 @@ done_few answer reason p e = bytes_few answer (sending (table p.state e).0 (tabl
 followed_few : (g : Advance) (f : Progress → Advance) (m n : ℕ) → Few m g → Few n (f g.next) → Few (m + n) (followed_by g f)
 followed_few g f m n a b = omega (arith, length-append g.sent (f g.next).sent, a, b)
 
-head_few : (p : Progress) (c d : Decision) (n : ℕ) (h : HeadEvent) → Few (30 + n) (elim h [
-  | NoEvent ↦ nothing p
+head_few : (p : Progress) (b c d : Decision) (n : ℕ) (h : HeadEvent) → Few (30 + n) (elim h [
+  | NoEvent ↦ nothing (deciding b p)
   | AtOnce e reason ↦ refusing (done [] reason (deciding c p) e)
   | TooLong ↦ refusing (done (reject_text rejected_transient service_provider_presentation local_limit_exceeded) 0 (deciding d p) event.UnacceptableRq)
 ])
-head_few p c d n NoEvent = omega arith
-head_few p c d n (AtOnce e reason) = omega (arith, done_few [] reason (deciding c p) e)
-head_few p c d n TooLong = omega (arith, done_few (reject_text rejected_transient service_provider_presentation local_limit_exceeded) 0 (deciding d p) event.UnacceptableRq)
+head_few p b c d n NoEvent = omega arith
+head_few p b c d n (AtOnce e reason) = omega (arith, done_few [] reason (deciding c p) e)
+head_few p b c d n TooLong = omega (arith, done_few (reject_text rejected_transient service_provider_presentation local_limit_exceeded) 0 (deciding d p) event.UnacceptableRq)
 
 pdv_head_few : (p : Progress) (head : declared.PdvHead) (refused : Option DimseFault) (known : Option Context) → Few 30 (elim known [ None ↦ invalid (deciding (decision.ContextRefused head) p) | Some accepted ↦ aborted_if_refused head refused p ])
 pdv_head_few p head refused None = omega (arith, done_few [] invalid_parameter (deciding (decision.ContextRefused head) p) event.Invalid)
@@ -226,13 +226,13 @@ released_few p =
 
 end_few : (s : Settings) (p : Progress) (kind : ℕ) (body : List ℕ) → Few (30 + elim (request_fault body) [ None ↦ length (accept_text s (request_record body)) | Some f ↦ 0 ]) (at_end s p kind body)
 end_few s p kind body =
-    pick (nat_eq kind 7) _ _ _ (omega (arith, done_few [] 0 (deciding decision.Aborted p) event.Abort))
+    pick (nat_eq kind 7) _ _ _ (omega (arith, done_few [] 0 (deciding_unless_ended decision.Aborted p) event.Abort))
     (pick (nat_eq kind 1 && is_due p.state) _ _ _ (request_few s p body (judged s (request_record body)) (request_fault body))
     (pick (nat_eq kind 5 && is_established p.state) _ _ _ (omega (arith, released_few (deciding decision.Released p))) (omega arith)))
 
 module _ (rooms : Rooms) (s : Settings) where
   mark_few : (q : Progress) (finding : Finding) (mark : Mark) → Few (30 + answer_length s q finding (At mark)) (at_mark rooms s q finding mark)
-  mark_few q finding (Head kind n) = head_few q _ _ 0 (head_event (rooms.request - 12) s.max_pdu q.state kind n)
+  mark_few q finding (Head kind n) = head_few q _ _ _ 0 (head_event (rooms.request - 12) s.max_pdu q.state kind n)
   mark_few q finding (PdvHead n context control) = pick (is_established q.state) _ _ _ (pdv_head_few q (value_head n context control) (refusal rooms.command q.message n context control) (context_of (requested.request_record q.request) context)) (omega arith)
   mark_few q finding (Pdv context control fragment) = pick (is_established q.state) _ _ _ (pdv_few q finding (record { context = context; control = control; fragment = fragment }) (brought q.message (record { context = context; control = control; fragment = fragment }))) (omega arith)
   mark_few q finding BadPdv = pick (is_established q.state) _ _ _ (omega (arith, done_few [] invalid_parameter (deciding decision.ValueInvalid q) event.Invalid)) (omega arith)
@@ -245,7 +245,7 @@ module _ (rooms : Rooms) (s : Settings) where
   later_few false p finding mark = mark_few p finding mark
 
   entry_few : (p : Progress) (finding : Finding) (e : Entry) → length (at_entry rooms s p finding e).sent ≤ 30 + answer_length s p finding e
-  entry_few p finding (At (Head kind n)) = head_few (record p { refused = false; decided = decision.Nothing }) _ _ 0 (head_event (rooms.request - 12) s.max_pdu p.state kind n)
+  entry_few p finding (At (Head kind n)) = head_few (record p { refused = false }) _ _ _ 0 (head_event (rooms.request - 12) s.max_pdu p.state kind n)
   entry_few p finding (At (PdvHead n context control)) = later_few p.refused p finding (PdvHead n context control)
   entry_few p finding (At (Pdv context control fragment)) = later_few p.refused p finding (Pdv context control fragment)
   entry_few p finding (At BadPdv) = later_few p.refused p finding BadPdv

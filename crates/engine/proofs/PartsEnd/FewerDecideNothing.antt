@@ -104,9 +104,7 @@ module _ (rooms : Rooms) (s : Settings) where
         (omega (arith, lt, due.1)) (marked ∙ ap (map timeline.At) (new_rest stream piece))
 
 pub fewer_keep_the_decision : FewerKeepTheDecision
-fewer_keep_the_decision rooms s inputs story failed piece most seen seen_new old new h before lt live live_new x =
-    let pends = h.shows.frame.pends in
-    let pends_new = x.stands.shows.frame.pends in
+fewer_keep_the_decision rooms s inputs story failed piece most seen seen_new old new h before lt x =
     let told = entries_of_more rooms s inputs (Bytes piece) story x.more failed x.failed_then h.story_is x.stands.story_is in
-    pends_new.decided_is (ap is_ended (sym pends_new.state_is) ∙ live_new) ∙ ap (λ (q : Progress). q.decided) (progress_then rooms s at_start story x.more)
-    ∙ (before piece x.more lt told).decided ∙ sym (pends.decided_is (ap is_ended (sym pends.state_is) ∙ live))
+    x.stands.shows.frame.pends.decided_is ∙ ap (λ (q : Progress). q.decided) (progress_then rooms s at_start story x.more)
+    ∙ (before piece x.more lt told).decided ∙ sym h.shows.frame.pends.decided_is

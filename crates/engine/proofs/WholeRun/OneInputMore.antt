@@ -148,7 +148,7 @@ module _ (rooms : Rooms) (s : Settings) where
       let k = stays rooms s p es is in
       let q = progress_of rooms s p (calm es) in
       let rest = rest_of (stream_of (inputs ++ x ∷ [])) in
-      let pends : Pends f.kept d.store q (body_of rest) (begun_in (spot rest)) = pends_ended f.kept d.store d.store p q _ _ _ _ over (k.state ∙ sym is) k.message h.shows.frame.pends in
+      let pends : Pends f.kept d.store q (body_of rest) (begun_in (spot rest)) = pends_ended f.kept d.store d.store p q _ _ _ _ over (k.state ∙ sym is) k.decided k.message h.shows.frame.pends in
       let a : DoesAll rooms s p es f.kept (body_of rest) (begun_in (spot rest)) d d = record {
         story = calm es;
         failed = false;

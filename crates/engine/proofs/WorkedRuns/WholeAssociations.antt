@@ -107,7 +107,7 @@ it_stands_established = (
         pends = record {
           state_is = refl;
           refused_is = λ e. refl;
-          decided_is = λ e. refl;
+          decided_is = refl;
           body_is = refl;
           join_is = record { shows = refl; accepted = λ le. absurd (omega (arith, le)) };
           agreed = λ e. record { caller = refl; maximum = refl; rows = refl; contexts = context_in-context_rows nothing_additional (items.request_record (drop 6 request)) (one_distinct 1); count = refl };

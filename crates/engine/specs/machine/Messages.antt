@@ -37,7 +37,7 @@ with_storing stored kept = record kept { storing = stored }
 pub record Aside (kept : Kept) (p : Progress) : Type 0 where
   pub state_is : kept.state ≡ p.state
   pub refused_is : is_ended p.state ≡ false → kept.refused ≡ p.refused
-  pub decided_is : is_ended p.state ≡ false → kept.decided ≡ p.decided
+  pub decided_is : kept.decided ≡ p.decided
   pub body_is : kept.body ≡ counted_body p []
   pub agreed : p.state ≡ Sta6 → Agreed kept.caller kept.peer_max kept.table kept.additional (request_record p.request)
   pub unagreed : is_established p.state ≡ false → IsUnagreed kept.caller kept.peer_max kept.table

@@ -10,8 +10,6 @@ use Rattle.engine.proofs.FieldsShow.AfterAnEvent.{body_fits_then, fragment_fits_
 use Rattle.engine.proofs.MarksAreDone.WholePdu.{does_request}
 use Rattle.engine.proofs.FieldsShow.ReactionIsPerformed.{does_judged}
 use Rattle.engine.proofs.FieldsShow.TriedIsDone.{at_bad, at_leftover, left_after}
-use Rattle.engine.specs.Held.{is_ended}
-use Rattle.engine.proofs.MarksAreDone.PdvJoined.{taken_state}
 use Rattle.engine.proofs.provider.Provider.on_event.Goals as goal
 
 pub returns-in-PduHead-clause-room : goal.returns-in-PduHead-clause-room
@@ -41,7 +39,7 @@ pub returns-in-Leftover-clause-takes : goal.returns-in-Leftover-clause-takes
 returns-in-Leftover-clause-takes g c = rw c.in-Leftover.is (λ p h.
     let x = c.on_invalid-due-in-Leftover.ensures.due _ p h in
     let told = ap (λ (v : ValueEnd). if takes_pdvs p then invalid (deciding (decision.BytesLeft v) p) else nothing p) (sym c.value_end.ensures) in
-    does_judged _ _ p _ _ _ _ _ _ _ _ tt (record { shown = x.shown; pends = x.pends; gives = at_leftover (rooms_of g.row.A g.row.C g.row.V g.row.D) (settings_in c.args.self.now) p ∙ left_after p c.args.self.now.decided (λ taken. h.decided_is (ap is_ended (taken_state p taken))) ∙ told ∙ x.gives }) c.perform-in-Leftover.ensures.tries)
+    does_judged _ _ p _ _ _ _ _ _ _ _ tt (record { shown = x.shown; pends = x.pends; gives = at_leftover (rooms_of g.row.A g.row.C g.row.V g.row.D) (settings_in c.args.self.now) p ∙ left_after p c.args.self.now.decided h.decided_is ∙ told ∙ x.gives }) c.perform-in-Leftover.ensures.tries)
 
 pub returns-then-takes_body-clause-takes : goal.returns-then-takes_body-clause-takes
 returns-then-takes_body-clause-takes g c = rw c.in-PduEnd.is (λ p body h. does_request _ _ p _ body _ _ _ _ (sym c.takes_body.ensures ∙ c.if-takes_body.true) h c.on_request.ensures.tries)

@@ -15,6 +15,6 @@ pub returns-clause-whole : goal.returns-clause-whole
 returns-clause-whole g c e inputs story failed h live = (c.requires.ends inputs story failed _ h).1 live c.args.piece.now (eqb-true (length c.args.piece.now) c.args.limit e)
 
 pub returns-clause-idle : goal.returns-clause-idle
-returns-clause-idle g c e inputs story failed h live live_new =
-    fewer_keep_the_decision _ _ inputs story failed c.args.piece.now c.args.limit _ _ _ _ h (c.requires.ends inputs story failed _ h).0 (fewer (length c.args.piece.now) c.args.limit c.requires.within e) live live_new
+returns-clause-idle g c e inputs story failed h =
+    fewer_keep_the_decision _ _ inputs story failed c.args.piece.now c.args.limit _ _ _ _ h (c.requires.ends inputs story failed _ h).0 (fewer (length c.args.piece.now) c.args.limit c.requires.within e)
     (c.take.ensures.moved inputs story failed h)
