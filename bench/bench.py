@@ -10,6 +10,7 @@ and peak resident memory of the server's process. One part alone is measured whe
 import argparse
 import os
 import resource
+import shutil
 import socket
 import statistics
 import struct
@@ -330,6 +331,29 @@ def replies(program, work, rounds, log, beside=None):
               f"of its processor time.")
 
 
+def counted(program, work, count, log):
+    """The instructions of a whole program that serves one association with so many stores of 1 KiB."""
+    profile = f"{work}/profile"
+    words = ["valgrind", "--tool=callgrind", f"--callgrind-out-file={profile}", program, "serve", "--port", str(PORT)]
+    server = start([*words, "--no-sync", "--once", "--out", tempfile.mkdtemp(dir=work)], log)
+    send(work, "tiny", str(count))(None)
+    if server.wait():
+        sys.exit(f"{program} failed under callgrind")
+    with open(profile) as lines:
+        return next(int(line.split()[1]) for line in lines if line.startswith(("summary:", "totals:")))
+
+
+def instructions(program, work, _rounds, log, beside=None):
+    """The instructions of a store of 1 KiB: those of 60 less those of 20, which are counted and so need no rounds."""
+    if shutil.which("valgrind") is None:
+        print("\nThe instructions of a store are not counted: valgrind is missing.")
+        return
+    each = {name: (counted(name, work, 60, log) - counted(name, work, 20, log)) / 40 for name in [program, beside] if name}
+    print(f"\nA store of 1 KiB with `--no-sync` takes {each[program]:,.0f} instructions (callgrind, 60 stores less 20).")
+    if beside is not None:
+        print(f"Beside {beside}: {ratio(each[program], each[beside])} of its {each[beside]:,.0f}.")
+
+
 def filled(program, work, rounds, log):
     """Cost of 500 stores into an empty folder and into one that has 20,000 files."""
     words_of = servers(program, work)["dcmbox --no-sync"]
@@ -454,6 +478,7 @@ PARTS = {
     "fragments": fragments,
     "growth": growth,
     "replies": replies,
+    "instructions": instructions,
     "several": several,
     "groups": groups,
     "filled": filled,
@@ -468,7 +493,7 @@ def main():
     words.add_argument("program")
     words.add_argument("--rounds", type=int, default=5)
     words.add_argument("--part", choices=list(PARTS))
-    words.add_argument("--beside", metavar="PROGRAM", help="another build, for the parts groups and replies")
+    words.add_argument("--beside", metavar="PROGRAM", help="another build, for the parts groups, replies and instructions")
     words.add_argument("--draw", metavar="FOLDER")
     given = words.parse_args()
     if given.draw:
@@ -479,7 +504,7 @@ def main():
         compiled(work)
         for name, part in PARTS.items():
             if given.part in (None, name):
-                others = [given.beside] if part in (groups, replies) else []
+                others = [given.beside] if part in (groups, replies, instructions) else []
                 drawn = part(program, work, given.rounds, log, *others)
                 if given.draw and drawn:
                     drawn(draw, given.draw)
