@@ -25,7 +25,7 @@ ALLOCATING = re.compile(
 )
 # What an association is made of, and which of its files are devices.
 ASSOCIATION = (
-    "element dictionary sequence pdu acceptor negotiate dimse part10 folder_filing engine"
+    "element dictionary sequence pdu acceptor negotiate dimse part10 folder_filing decisions engine"
 ).split()
 DEVICES = (
     "memory_wire memory_filing folder_calls folder_filing folder_writer given_names group groups "
