@@ -1,5 +1,6 @@
-# `make run` shows what the program does, in a minute or two; `make dcmbox` proves and builds it; `make quick` runs the
-# tests of the tree and of the crates without proof; `make test` is the whole gate.
+# `make run` shows what the program does, in a minute or two; `make dcmbox` proves and builds it; `make kept` proves what
+# `make check` begins with; `make quick` runs the tests of the tree and of the crates without proof; `make test` is the
+# whole gate.
 PROGRAM := crates/cli/out/cli
 
 # The tests that look at the tree, and those that try the program from outside: as many side by side as there are
@@ -14,22 +15,25 @@ OUTSIDE := $(PYTEST) --program=$(PROGRAM)
 PREFIX ?= /usr/local
 DESTDIR ?=
 
-.PHONY: run quick packages test steps tree outside bench probe docs check wrong-bodies fmt gate-table clean install uninstall deb
+.PHONY: run kept quick packages test steps tree outside bench probe docs check wrong-bodies fmt gate-table clean install uninstall deb
 
 run:
 	@tools/run
 
-# Proves every crate that the program stands on, several side by side, compiles it, and puts it here. The program is as old
-# as the start of its build, so that a source that changes meanwhile is newer (tools/is-proved).
+# Proves every crate that the program stands on as the gate does, several side by side, compiles it, and puts it here. The
+# program is as old as the start of its build, so that a source that changes meanwhile is newer (tools/is-proved).
 dcmbox: FORCE
 	@mkdir -p crates/cli/out && touch crates/cli/out/started
-	tools/build
-	cd crates/cli && rt run -- --version
+	tools/build cli
 	install -m 755 $(PROGRAM) dcmbox
 	@touch -r crates/cli/out/started dcmbox
 
 .PHONY: FORCE
 FORCE:
+
+# Proves them, and keeps the work: `make check` then proves of a crate what changed.
+kept:
+	tools/build --keep
 
 # The tests of the tree, and every test of the crates, compiled with checks and without proof: some minutes. The former use
 # what `make packages` installs.

@@ -4,8 +4,8 @@ import trees
 
 
 def pytest_collection_modifyitems(items):
-    """Begins with what takes longest: the tests that prove a crate."""
-    items.sort(key=lambda item: item.path.stem != "test_wrong_bodies")
+    """Begins with what takes longest: the tests that prove crates."""
+    items.sort(key=lambda item: item.path.stem not in ("test_build", "test_wrong_bodies"))
 
 
 @pytest.fixture
