@@ -84,15 +84,19 @@ def test_a_program_is_proved_and_compiled(built):
 
 
 @together
-def test_nothing_is_said_of_a_function_that_is_proved(built):
-    assert not [line for line in built[2].splitlines() if line.startswith(("fn ", "statements "))]
-
-
-@together
 @pytest.mark.parametrize("name", ["three", "six", "shown"])
 def test_each_crate_is_told_of(built, name):
     proved = (f"rt: {name} proved", f"rt: {name} is kept: ")
     assert any(line.startswith(proved) for line in built[2].splitlines()), built[2]
+
+
+@together
+def test_what_was_proved_is_not_proved_again(built):
+    status, output = build(built[0], "shown")
+    kept = [line.split()[1] for line in output.splitlines() if " is kept: " in line]
+    assert status == 0, output
+    # (the toolchain says so where it can keep nothing)
+    assert kept == ["three", "six", "shown"] or ", so nothing is kept: " in output, output
 
 
 @together
@@ -165,20 +169,39 @@ def test_another_toolchain_is_called_by_its_commands(work, words, printed):
 
 
 @pytest.fixture(scope="module")
-def side_by_side():
-    """The tool's function that runs tasks."""
+def tool():
+    """The tool as a module."""
     loader = importlib.machinery.SourceFileLoader("build", str(ROOT / "tools/build"))
     tool = importlib.util.module_from_spec(importlib.util.spec_from_loader("build", loader))
     loader.exec_module(tool)
+    return tool
+
+
+SAID = "== three\nfn three::three: proved\nlogic {}\nlogic={}proved functions=1\nrt: note\n"
+
+
+def test_of_a_crate_that_is_proved_the_verdict_is_shown(tool):
+    shown = "== three\nlogic=proved functions=1\nrt: note\n"
+    assert tool.brief(SAID.format("sum", "")) == shown
+
+
+@pytest.mark.parametrize("said", [SAID.format("sum", "not-"), "rt: three proved\n"])
+def test_all_else_is_shown_whole(tool, said):
+    assert tool.brief(said) == said
+
+
+@pytest.fixture(scope="module")
+def side_by_side(tool):
+    """The tool's function that runs tasks."""
     return tool.side_by_side
 
 
 # Tasks by name: what each waits for, and its lines. The longest chain is that of `low` and `top`.
 TASKS = {
-    "low": ([], 9),
+    "low": ([], 1),
     "beside": ([], 5),
     "other": ([], 4),
-    "top": (["low"], 8),
+    "top": (["low"], 9),
     "above": (["top", "other"], 1),
 }
 
@@ -202,20 +225,32 @@ def test_a_task_is_given_what_it_waits_for(side_by_side, most):
     assert not lacking
 
 
+def test_the_longest_chain_comes_first(side_by_side):
+    begun = []
+
+    def call(key, _given, _jobs):
+        begun.append(key)
+
+    side_by_side(tasks_of(call), 1)
+    assert begun == ["low", "top", "beside", "other", "above"]
+
+
 @pytest.mark.parametrize("most", [1, 2, 3, 4])
-def test_tasks_take_no_more_lanes_than_there_are(side_by_side, most):
+def test_a_task_of_one_job_waits_for_a_lane(side_by_side, most):
     lock, taken, seen = threading.Lock(), [], []
 
     def call(_key, _given, jobs):
         with lock:
             taken.append(jobs)
-            seen.append(sum(taken))
+            if jobs == 1:
+                seen.append(sum(taken))
         time.sleep(0.02)
         with lock:
             taken.remove(jobs)
 
     side_by_side(tasks_of(call), most)
-    assert max(seen) <= most
+    # (with two lanes each task has both, as it is the first of the longest chain that is left)
+    assert max(seen, default=0) <= most
 
 
 @pytest.mark.parametrize("most, first", [(3, ["low", "beside"]), (4, ["low", "beside", "other"])])
