@@ -157,6 +157,19 @@ def test_what_was_refused_is_tried_again_where_it_rests_on_a_change(tried, what)
 
 
 @together
+def test_what_was_refused_is_kept_for_the_last_two_that_it_rests_on(tried):
+    lock = pathlib.Path(tried[0], "crates/digits/wrong-bodies/refused.lock")
+    kept, before = lock.read_text(), []
+    least = "{ 1 ≤ result }"
+    for new in ("{ 2 ≤ result }", least, "{ 2 ≤ result }", "{ 3 ≤ result }", least):
+        status, output = try_them(tried[0], TWO[0], change=(least, new))
+        before.append(", 1 of them before (" in output)
+        assert status == 0 and "1 wrong bodies: 1 refused" in output, output
+    lock.write_text(kept)
+    assert before == [False, True, True, False, False]
+
+
+@together
 def test_only_what_is_refused_is_kept(tried):
     lines = pathlib.Path(tried[0], "crates/digits/wrong-bodies/refused.lock").read_text().splitlines()
     assert [line.split()[0] for line in lines[1:]] == sorted(TAKEN), lines
