@@ -1,6 +1,6 @@
 """tools/build proves and compiles a program, keeps what checks begin with, and builds nothing that is not proved.
 
-It is tried on two libraries and a program over them, which it proves.
+It is tried on two libraries and a program over them, which it proves, beside a library that is false.
 """
 import importlib.machinery
 import importlib.util
@@ -17,7 +17,7 @@ from trees import ROOT, run, write
 
 SIX = {
     "HANDLES": "Handles allowed: none.\n",
-    "crates.txt": "three:\nsix: three\nshown: six\n",
+    "crates.txt": "# The lowest first.\nthree:\nsix: three\nshown may_abort=0: six\nbeside: three\n",
     "crates/three/src/lib.rt": """//! Three.
 #![tactic(auto)]
 
@@ -56,6 +56,20 @@ fn main(rt: HostRuntime) -> io::Result<()> {
 }
 """,
     "crates/shown/stdout": "6\n",
+    "crates/beside/src/lib.rt": """//! Four, it says.
+#![tactic(auto)]
+
+ghost use Rattle.std.specs.Prelude.{◌≡◌};
+
+use three::three;
+
+/// Returns four.
+pub fn four() -> u8
+    ensures { result ≡ 4 }
+{
+    three()
+}
+""",
 }
 
 # They look at one tree, so they go to one worker.
@@ -89,6 +103,11 @@ def test_a_program_is_proved_and_compiled(built):
 def test_each_crate_is_told_of(built, name):
     proved = (f"rt: {name} proved", f"rt: {name} is kept: ")
     assert any(line.startswith(proved) for line in built[2].splitlines()), built[2]
+
+
+@together
+def test_what_the_program_does_not_stand_on_is_left_out(built):
+    assert built[1] == 0 and "== beside" not in built[2], built[2]
 
 
 @together
