@@ -200,6 +200,17 @@ def tool():
     return tool
 
 
+def test_a_copy_has_what_a_program_stands_on_and_no_more(tool, work, monkeypatch):
+    handles = {"HANDLES": "Handles allowed: Net.\n"}
+    beside = ("crates/beside/src/lib.rt", "crates/six/wrong-bodies/seven.edit", "crates/six/out/six")
+    write(work, {**SIX, **handles, **dict.fromkeys(beside, "")})
+    monkeypatch.chdir(work)
+    tool.copy_below(tool.toolchain(), "shown", "copy")
+    found = {str(it.relative_to("copy")): it.read_text() for it in pathlib.Path("copy").rglob("*") if it.is_file()}
+    expected = {file: text for file, text in SIX.items() if file not in beside}
+    assert found == {**expected, **handles, "crates.txt": "three:\nsix: three\nshown may_abort=0: six\n"}
+
+
 SAID = "== three\nfn three::three: proved\nlogic {}\nlogic={}proved functions=1\nrt: note\n"
 
 
