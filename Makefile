@@ -1,6 +1,6 @@
-# `make run` shows what the program does, in a minute or two; `make dcmbox` proves and builds it; `make kept` proves what
-# `make check` begins with; `make quick` runs the tests of the tree and of the crates without proof; `make test` is the
-# whole gate.
+# `make run` shows what the program does, in a minute or two; `make dcmbox` proves and builds it, and `make verify` says whether
+# the one at hand is that; `make kept` proves what `make check` begins with; `make quick` runs the tests of the tree and of the
+# crates without proof; `make test` is the whole gate.
 PROGRAM := crates/cli/out/cli
 
 # The tests that look at the tree, and those that try the program from outside: as many side by side as there are
@@ -8,6 +8,8 @@ PROGRAM := crates/cli/out/cli
 WORKERS ?= $(shell nproc)
 PYTEST := PYTHONDONTWRITEBYTECODE=1 /usr/bin/python3 -m pytest -c tests/pytest.ini -n $(WORKERS)
 TREE := $(PYTEST) --dist loadgroup
+# Without those that prove small crates, which take nearly all of its time.
+UNPROVED := -m 'not proves'
 OUTSIDE := $(PYTEST) --program=$(PROGRAM)
 
 # Where `make install` puts the program, its manual page, its completion and its systemd units. Their options,
@@ -15,18 +17,23 @@ OUTSIDE := $(PYTEST) --program=$(PROGRAM)
 PREFIX ?= /usr/local
 DESTDIR ?=
 
-.PHONY: run kept quick packages test steps tree outside bench probe docs check wrong-bodies fmt gate-table clean install uninstall deb
+.PHONY: run verify kept quick packages test steps tree outside bench probe docs check wrong-bodies fmt gate-table clean install uninstall deb
 
 run:
 	@tools/run
 
-# Proves every crate that the program stands on as the gate does, several side by side, compiles it, and puts it here. The
-# program is as old as the start of its build, so that a source that changes meanwhile is newer (tools/is-proved).
+# Proves every crate that the program stands on as the gate does, several side by side, compiles it, and puts it here, with
+# dcmbox.proved beside it: the digests of the program and of the sources as they stood when it began, and the toolchain.
 dcmbox: FORCE
-	@mkdir -p crates/cli/out && touch crates/cli/out/started
+	@mkdir -p crates/cli/out && tools/is-proved --sources >crates/cli/out/sources
 	tools/build cli
 	install -m 755 $(PROGRAM) dcmbox
-	@touch -r crates/cli/out/started dcmbox
+	@tools/is-proved --note "$$(cat crates/cli/out/sources)"
+
+# Does the same, changes no program, and says in one line whether ./dcmbox, or another as OF=/usr/bin/dcmbox, is the one that is
+# proved of these sources.
+verify:
+	@tools/verify $(OF)
 
 .PHONY: FORCE
 FORCE:
@@ -38,7 +45,7 @@ kept:
 # The tests of the tree, and every test of the crates, compiled with checks and without proof: some minutes. The former use
 # what `make packages` installs.
 quick:
-	$(TREE) tests/tree
+	$(TREE) $(UNPROVED) tests/tree
 	tools/quick
 
 # Installs what the tests use of Debian (tests/packages.txt) where some of it is missing.
@@ -64,9 +71,10 @@ steps:
 	tools/timed tools/wrong-bodies
 	tools/timed env $(OUTSIDE) tests/program
 
-# The tests of the tree alone: all, those of one file as FILE=layers, or those whose name has words, as TEST='stale index'.
+# The tests of the tree alone: all but those that prove small crates, all of one file as FILE=layers, or those whose name has
+# words, as TEST='stale index'.
 tree:
-	$(TREE) $(if $(TEST),-k '$(TEST)') tests/tree$(if $(FILE),/test_$(FILE).py)
+	$(TREE) $(if $(FILE),,$(UNPROVED)) $(if $(TEST),-k '$(TEST)') tests/tree$(if $(FILE),/test_$(FILE).py)
 
 # The tests from outside alone: all, those of one file as FILE=log, or those whose name has words, as TEST='log and calling title'.
 outside:
@@ -127,4 +135,4 @@ uninstall:
 		$(DESTDIR)$(PREFIX)/lib/systemd/system/dcmbox.service $(DESTDIR)$(PREFIX)/lib/systemd/system/dcmbox@.service
 
 clean:
-	rm -rf dcmbox dcmbox_*.deb crates/*/out
+	rm -rf dcmbox dcmbox.proved dcmbox_*.deb crates/*/out

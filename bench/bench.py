@@ -22,6 +22,7 @@ import time
 HERE = os.path.dirname(os.path.abspath(__file__))
 sys.dont_write_bytecode = True
 sys.path.insert(0, f"{HERE}/../tests")
+from fairness import fairness
 from ports import free_port
 
 PORT = free_port()
@@ -331,6 +332,11 @@ def replies(program, work, rounds, log, beside=None):
               f"of its processor time.")
 
 
+def fair(program, _work, rounds, log, beside=None):
+    """What a store takes beside floods of small messages."""
+    fairness(start, stop, [program] if beside is None else [program, beside], PORT, rounds, log)
+
+
 def counted(program, work, count, log):
     """The instructions of a whole program that serves one association with so many stores of 1 KiB."""
     profile = f"{work}/profile"
@@ -473,11 +479,69 @@ def walks(program, work, rounds, _log):
     print(", ".join(f"`{what}` {ratio(costs[what], costs['cat'])}" for what in ("check", "show")) + ".")
 
 
+def explicit(group, element, vr, value):
+    return struct.pack("<HH2sH", group, element, vr, len(value)) + value
+
+
+def part10(syntax, data):
+    """A file of a CT image with this data set."""
+    meta = explicit(2, 1, b"OB", b"")[:6] + b"\0\0\2\0\0\0\0\1"
+    for element, value in ((2, b"1.2.840.10008.5.1.4.1.1.2\0"), (3, b"1.2.3\0"), (0x10, syntax)):
+        meta += explicit(2, element, b"UI", value)
+    meta += explicit(2, 0x12, b"UI", b"1.2.3.4\0")
+    return bytes(128) + b"DICM" + explicit(2, 0, b"UL", struct.pack("<L", len(meta))) + meta + data
+
+
+def in_implicit(group, element, value):
+    return struct.pack("<HHL", group, element, len(value)) + value
+
+
+def one_sequence(count):
+    """A View Code Sequence of defined length, with so many elements in items of ten."""
+    texts = (0x80, 0x90, 0x1010, 0x1030, 0x103E, 0x1040, 0x1050, 0x1060, 0x1070, 0x1090)
+    item = b"".join(in_implicit(8, number, b"A ") for number in texts)
+    return in_implicit(0x54, 0x220, in_implicit(0xFFFE, 0xE000, item) * (count // 10))
+
+
+def shows(program, work, rounds, _log):
+    """`show` and `show --values` of many elements, with and without a name, beside DCMTK's dcmdump."""
+    explicit_syntax, implicit_syntax = b"1.2.840.10008.1.2.1\0", b"1.2.840.10008.1.2\0"
+    private = b"".join(explicit(0x0009, 0x1000 + n, b"LO", b"AB") for n in range(2000))
+    known = b"".join(explicit(0x0018, 0x1000 + n, b"LO", b"AB") for n in range(2000))
+    files = {
+        "2,000 private tags": (explicit_syntax, private),
+        "2,000 tags of group 0018": (explicit_syntax, known),
+        "20,000 elements in a sequence, Implicit VR": (implicit_syntax, one_sequence(20_000)),
+        "40,000 elements in a sequence, Implicit VR": (implicit_syntax, one_sequence(40_000)),
+    }
+    print("\nProcessor milliseconds of ten runs over a file, and beside those of `show`\n")
+    print("| File | `show` | `show --values` | `check --strict` | `dcmdump` |")
+    print("|---|---|---|---|---|")
+    for title, (syntax, data) in files.items():
+        name = f"{work}/shown.dcm"
+        with open(name, "wb") as file:
+            file.write(part10(syntax, data))
+        costs = []
+        for words in (["show"], ["show", "--values"], ["check", "--strict"], None):
+            words = [program, *words, name] if words else ["dcmdump", "-q", name]
+            runs = []
+            for _ in range(rounds):
+                before = resource.getrusage(resource.RUSAGE_CHILDREN)
+                for _ in range(10):
+                    subprocess.run(words, stdout=subprocess.DEVNULL, stderr=subprocess.DEVNULL)
+                after = resource.getrusage(resource.RUSAGE_CHILDREN)
+                runs.append(after.ru_utime + after.ru_stime - before.ru_utime - before.ru_stime)
+            costs.append(statistics.median(runs))
+        cells = [f"{cost * 1000:.0f} ({cost / costs[0]:.1f})" for cost in costs]
+        print(f"| {title} | {' | '.join(cells)} |")
+
+
 PARTS = {
     "compare": compare,
     "fragments": fragments,
     "growth": growth,
     "replies": replies,
+    "fairness": fair,
     "instructions": instructions,
     "several": several,
     "groups": groups,
@@ -485,6 +549,7 @@ PARTS = {
     "indexing": indexing,
     "starting": starting,
     "walks": walks,
+    "show": shows,
 }
 
 
@@ -493,7 +558,7 @@ def main():
     words.add_argument("program")
     words.add_argument("--rounds", type=int, default=5)
     words.add_argument("--part", choices=list(PARTS))
-    words.add_argument("--beside", metavar="PROGRAM", help="another build, for the parts groups, replies and instructions")
+    words.add_argument("--beside", metavar="PROGRAM", help="another build, for the parts fairness, groups, replies and instructions")
     words.add_argument("--draw", metavar="FOLDER")
     given = words.parse_args()
     if given.draw:
@@ -504,7 +569,7 @@ def main():
         compiled(work)
         for name, part in PARTS.items():
             if given.part in (None, name):
-                others = [given.beside] if part in (groups, replies, instructions) else []
+                others = [given.beside] if part in (fair, groups, replies, instructions) else []
                 drawn = part(program, work, given.rounds, log, *others)
                 if given.draw and drawn:
                     drawn(draw, given.draw)

@@ -27,7 +27,7 @@ class Function:
         self.type = ([""] + [of for start, end, of in impls if start <= self.start < end])[-1]
         module = [it for it in file[len("src/") : -len(".rt")].split("/") if it not in ("lib", "main", "mod")]
         # (a method stands below its type, which may be of another file, and a trait's one below the names of both)
-        of = rf"(?:\w+::)*{self.type}\w*::" if self.type else "".join(f"{it}::" for it in module) + r"(?:\w+::)?"
+        of = rf"(?:\w+::)*{self.type}[\w+]*::" if self.type else "".join(f"{it}::" for it in module) + r"(?:\w+::)?"
         self.path = re.compile(f"{crate}::{of}{self.name}")
 
     def calls(self, functions):

@@ -80,10 +80,10 @@ def established(name, steps, end, warned=(), request=STORES_REQUEST, answer=171,
     return Cause(name, steps, TITLES, end, more.pop("contexts", ACCEPTED), warned, **more)
 
 
-def aborted(name, sent, why, **more):
-    """The box aborts an established association."""
+def aborted(name, sent, why, about="", **more):
+    """The box aborts an established association, and its warning says more about that."""
     end = f"aborted by dcmbox, {why}"
-    return established(name, (sent, Receive(10)), end, (f"WARN {end}{CALLING}",), **more)
+    return established(name, (sent, Receive(10)), end, (f"WARN {end}{about}{CALLING}",), **more)
 
 
 def in_store(name, sent, why):

@@ -87,8 +87,8 @@ PDUS = [
     ),
 ]
 
-LONG = "its user (command: 40 CommandTooLong, {} bytes of at most 1024)"
-KIND = "its user (command: 43 WrongKind, {})"
+LONG = "its application (command: 40 CommandTooLong, {} bytes of at most 1024)"
+KIND = "its application (command: 43 WrongKind, {})"
 FRAGMENTS = [
     aborted("a command of 1026 bytes", values(1, 3, bytes(1026)), LONG.format(1026)),
     aborted("a command of 1025 bytes", values(1, 3, bytes(1025)), LONG.format(1025)),
@@ -114,7 +114,7 @@ FRAGMENTS = [
 ]
 
 TWO = request([(CT, EXPLICIT), (MR, EXPLICIT)])
-OTHER_CONTEXT = "its user (command: 44 OtherContext, context 3 inside a message of context 1)"
+OTHER_CONTEXT = "its application (command: 44 OtherContext, context 3 inside a message of context 1)"
 CONTEXTS = [
     aborted(
         "another context in a command",
@@ -133,29 +133,43 @@ CONTEXTS = [
 
 CLASS = field(0x0002, CT.encode())
 ASKED_CLASS = field(0x0003, CT.encode())
+BAD_STORE = "its application (command: 41 BadCommand, C-STORE-RQ 0001H)"
 COMMANDS = [
-    aborted("zeros for a command", values(1, 3, bytes(80)), "its user (command: 41 BadCommand)"),
-    aborted("a command of no bytes", values(1, 3, b""), "its user (command: 41 BadCommand)"),
+    aborted("zeros for a command", values(1, 3, bytes(80)), "its application (command: 41 BadCommand)"),
+    aborted("a command of no bytes", values(1, 3, b""), "its application (command: 41 BadCommand)"),
     aborted(
         "a command whose length is wrong",
         changed(COMMAND, 20, b"\x59"),
-        "its user (command: 41 BadCommand)",
+        "its application (command: 41 BadCommand)",
     ),
     aborted(
         "a store without an instance",
         command(CLASS, numbers(1, 0)),
-        "its user (command: 41 BadCommand, C-STORE-RQ 0001H)",
+        BAD_STORE,
+        ' element 0000,1000 ""',
+    ),
+    aborted(
+        "a store with an invalid instance",
+        command(CLASS, numbers(1, 0), field(0x1000, b"1.2.scanner 3")),
+        BAD_STORE,
+        ' element 0000,1000 "1.2.scanner 3"',
+    ),
+    aborted(
+        "a store with an invalid class",
+        command(field(0x0002, b"CT"), numbers(1, 0), field(0x1000, b"1.02")),
+        BAD_STORE,
+        ' element 0000,0002 "CT"',
     ),
     aborted(
         "a cancel",
         command(field(0x0100, b"\xff\x0f"), field(0x0120, b"\1\0"), field(0x0800, b"\1\1")),
-        "its user (command: 41 BadCommand, C-CANCEL-RQ 0FFFH)",
+        "its application (command: 41 BadCommand, C-CANCEL-RQ 0FFFH)",
     ),
     *(
         aborted(
             f"a command {name}",
             command(ASKED_CLASS, numbers(kind)),
-            f"its user (command: 41 BadCommand, {name} {kind:04X}H)",
+            f"its application (command: 41 BadCommand, {name} {kind:04X}H)",
         )
         for name, kind in (
             ("N-GET-RQ", 0x0110),
@@ -168,7 +182,7 @@ COMMANDS = [
         aborted(
             f"a command {name}",
             command(CLASS, numbers(kind)),
-            f"its user (command: 42 UnknownField, {name} {kind:04X}H)",
+            f"its application (command: 42 UnknownField, {name} {kind:04X}H)",
         )
         for name, kind in (
             ("C-FIND-RQ", 0x0020),
@@ -184,11 +198,11 @@ COMMANDS = [
     aborted(
         "a store without data",
         command(CLASS, numbers(1), field(0x1000, b"1.2.3")),
-        "its user (command: 43 WrongKind, C-STORE-RQ 0001H)",
+        "its application (command: 43 WrongKind, C-STORE-RQ 0001H)",
     ),
     aborted(
         "an echo with data",
         command(CLASS, numbers(0x30, 0)),
-        "its user (command: 43 WrongKind, C-ECHO-RQ 0030H)",
+        "its application (command: 43 WrongKind, C-ECHO-RQ 0030H)",
     ),
 ]

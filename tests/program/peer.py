@@ -128,8 +128,10 @@ def status_of(reply):
 class Peer:
     """A connection to a box."""
 
-    def __init__(self, port, address="127.0.0.1", seconds=60):
-        self.socket = socket.create_connection(("127.0.0.1", port), seconds, (address, 0))
+    def __init__(self, port, address="127.0.0.1", seconds=60, to="127.0.0.1"):
+        """From this address, or from any where it is `None`."""
+        source = address and (address, 0)
+        self.socket = socket.create_connection((to, port), seconds, source)
 
     def __enter__(self):
         return self
@@ -215,10 +217,14 @@ class Peer:
 
 
 class Archive:
-    """A peer that takes every presentation context and answers each C-STORE with one status."""
+    """A peer that takes every presentation context and answers each C-STORE with a status.
 
-    def __init__(self, port, status):
-        self.status = status
+    `others` has the statuses of instances that have one of their own; at None the association ends.
+    `callers` has the calling title of each association.
+    """
+
+    def __init__(self, port, status=0, others=()):
+        self.status, self.others, self.callers = status, dict(others), []
         self.listener = socket.create_server(("127.0.0.1", port))
         self.thread = threading.Thread(target=self.run, daemon=True)
         self.thread.start()
@@ -250,6 +256,7 @@ class Archive:
             kind, size = struct.unpack(">BxL", stream.read(6))
             body = stream.read(size)
             if kind == ASSOCIATE_RQ:
+                self.callers.append(body[20:36].decode().strip())
                 stream.write(acceptance(body))
             elif kind == RELEASE_RQ:
                 stream.write(pdu(RELEASE_RP, bytes(4)))
@@ -262,7 +269,12 @@ class Archive:
                 if control & 1:
                     command += part
                 elif control & 2:
-                    stream.write(store_reply(context, command, self.status))
+                    asked = fields_of(command)
+                    instance = asked[0x1000].decode().strip("\0")
+                    status = self.others.get(instance, self.status)
+                    if status is None:
+                        return
+                    stream.write(store_reply(context, asked, status))
                     command = b""
             stream.flush()
 
@@ -288,13 +300,18 @@ def acceptance(asked):
     return pdu(ASSOCIATE_AC, answer + item(USER, user))
 
 
-def store_reply(context, command, status):
-    """The P-DATA-TF PDU with the C-STORE-RSP to a command."""
+def fields_of(command):
+    """The values of a command set by their element numbers."""
     asked, at = {}, 0
     while at < len(command):
         _, number, size = struct.unpack("<HHL", command[at : at + 8])
         asked[number] = command[at + 8 : at + 8 + size]
         at += 8 + size
+    return asked
+
+
+def store_reply(context, asked, status):
+    """The P-DATA-TF PDU with the C-STORE-RSP to a command of these values."""
     fields = (
         field(0x0002, asked[0x0002])
         + field(0x0100, b"\x01\x80")

@@ -67,7 +67,7 @@ def maximum(size):
 
 
 def fault(name, number, *items):
-    return early(name, body(*items), f"its user (request: {number})", TITLES)
+    return early(name, body(*items), f"its application (request: {number})", TITLES)
 
 
 def by_peer(source, reason, why):
@@ -92,24 +92,26 @@ REQUESTS = [
         "an abort in place of a request",
         (pdu(7, bytes(4)), until_closed),
         NOBODY,
-        "aborted by the peer, its user (source 0 reason 0)",
+        "aborted by the peer, its application (source 0 reason 0)",
         "0 of 0",
     ),
-    early("TLS", b"\x16\3\1\2\0\1", "its user (PDU type 16)"),
-    early("HTTP", b"GET / HTTP/1.0\r\n\r\n", "its user (PDU type 47)"),
-    early("SSH", b"SSH-2.0-OpenSSH_9.2\r\n", "its user (PDU type 53)"),
-    early("zeros", bytes(12), "its user (PDU type 00)"),
-    early("type 08", pdu(8, bytes(4)), "its user (PDU type 08)"),
-    early("type FF", pdu(255, bytes(4)), "its user (PDU type FF)"),
-    early("an acceptance first", pdu(2, bytes(80)), "its user (PDU type 02)"),
-    early("a rejection first", pdu(3, bytes(4)), "its user (PDU type 03)"),
-    early("data first", DATA_SET, "its user (PDU type 04)"),
-    early("a release first", RELEASE, "its user (PDU type 05)"),
-    early("a reply to a release first", pdu(6, bytes(4)), "its user (PDU type 06)"),
-    early("a long rejection first", pdu(3, bytes(5)), "its user (PDU type 03 of 5 bytes, not 4)"),
-    early("a long release first", pdu(5, bytes(6)), "its user (PDU type 05 of 6 bytes, not 4)"),
-    early("a short abort first", pdu(7, bytes(3)), "its user (PDU type 07 of 3 bytes, not 4)"),
-    early("a short request", pdu(1, bytes(67)), "its user (request: 31 BadLength)"),
+    early("TLS", b"\x16\3\1\2\0\1", "its application (PDU type 16, is it TLS?)"),
+    early("a type of TLS alone", b"\x16\3\x09\2\0\1", "its application (PDU type 16)"),
+    early("TLS of another message", b"\x16\3\1\2\0\2", "its application (PDU type 16)"),
+    early("HTTP", b"GET / HTTP/1.0\r\n\r\n", "its application (PDU type 47)"),
+    early("SSH", b"SSH-2.0-OpenSSH_9.2\r\n", "its application (PDU type 53)"),
+    early("zeros", bytes(12), "its application (PDU type 00)"),
+    early("type 08", pdu(8, bytes(4)), "its application (PDU type 08)"),
+    early("type FF", pdu(255, bytes(4)), "its application (PDU type FF)"),
+    early("an acceptance first", pdu(2, bytes(80)), "its application (PDU type 02)"),
+    early("a rejection first", pdu(3, bytes(4)), "its application (PDU type 03)"),
+    early("data first", DATA_SET, "its application (PDU type 04)"),
+    early("a release first", RELEASE, "its application (PDU type 05)"),
+    early("a reply to a release first", pdu(6, bytes(4)), "its application (PDU type 06)"),
+    early("a long rejection first", pdu(3, bytes(5)), "its application (PDU type 03 of 5 bytes, not 4)"),
+    early("a long release first", pdu(5, bytes(6)), "its application (PDU type 05 of 6 bytes, not 4)"),
+    early("a short abort first", pdu(7, bytes(3)), "its application (PDU type 07 of 3 bytes, not 4)"),
+    early("a short request", pdu(1, bytes(67)), "its application (request: 31 BadLength)"),
     fault("an item past the end", "31 BadLength", APPLICATION, CT_CONTEXT, b"\x50\0\0\x50"),
     fault("bytes left over", "31 BadLength", APPLICATION, CT_CONTEXT, maximum(0), b"\0\0"),
     fault("two applications", "32 BadItem", APPLICATION, APPLICATION, CT_CONTEXT, maximum(0)),
@@ -160,8 +162,8 @@ REQUESTS = [
 ENDS = [
     established("a release", (RELEASE, Receive(10)), "released"),
     established("a close", (), "closed by the peer"),
-    established("a reset", (reset,), "the wire failed"),
-    by_peer(0, 0, "its user"),
+    established("a reset", (reset,), "the connection failed"),
+    by_peer(0, 0, "its application"),
     by_peer(2, 0, "its provider: reason not specified"),
     by_peer(2, 1, "its provider: unrecognized PDU"),
     by_peer(2, 2, "its provider: unexpected PDU"),

@@ -29,8 +29,8 @@ JPEG = "1.2.840.10008.1.2.4.70"
 
 def refused(name, contexts, accepted, told, answer):
     """Some contexts are not accepted, and the association is released."""
-    warned = (f"WARN classes refused: {told}{CALLING}",) if told else ()
     steps = (request(contexts), Receive(answer), RELEASE, Receive(10))
+    warned = (f"{told}{CALLING}",)
     return Cause(name, steps, TITLES, "released", f"{accepted} of {len(contexts)}", warned)
 
 
@@ -39,16 +39,16 @@ def answer_size(contexts):
     return 74 + 25 + 41 + len(contexts) * (12 + len("1.2.840.10008.1.2"))
 
 
-def none_of(name, contexts, told):
-    return refused(name, contexts, 0, told, answer_size(contexts))
+def none_of(name, contexts, told, level="WARN"):
+    return refused(name, contexts, 0, f"{level} classes refused: {told}", answer_size(contexts))
 
 
 def stored(name, command_pdu, data, status, counts, instance="1.2.3", sop="CTImageStorage", **more):
     """A store is answered, and not with success; the association is released."""
-    warned = f"WARN not stored: status {status} class {sop} instance {instance}{CALLING}"
+    store = f"class {sop} instance {instance} syntax ExplicitVRLittleEndian"
+    warned = f"WARN not stored: status {status} {store}{CALLING}"
     steps = (command_pdu, *data, RELEASE, Receive(10))
-    first = more.pop("first", ())
-    return established(name, steps, "released", (*first, warned), counts=counts, dropped=1, **more)
+    return established(name, steps, "released", (warned,), counts=counts, dropped=1, **more)
 
 
 def nested(levels):
@@ -126,20 +126,20 @@ STORES_LOST = [
         "A700 deeper than 64 levels",
         REFUSED,
     ),
-    stored(
+    established(
         "a folder that was removed",
-        lose_folder,
-        (COMMAND, DATA_SET),
-        f"A700 the folder: {NO_FOLDER}",
-        REFUSED,
-        first=(f"ERROR a file could not be written: {NO_FOLDER}",),
+        (lose_folder, COMMAND, DATA_SET, RELEASE, Receive(10)),
+        "released",
+        (f"ERROR a file could not be written: {NO_FOLDER} {STORE}{CALLING}",),
+        counts=REFUSED,
+        dropped=1,
     ),
     established(
         "an abort in a store",
         (COMMAND + pdu(7, bytes(4)), until_closed),
-        "aborted by the peer, its user (source 0 reason 0)",
+        "aborted by the peer, its application (source 0 reason 0)",
         (
-            "WARN not stored: no reply, aborted by the peer, its user (source 0 reason 0) "
+            "WARN not stored: no reply, aborted by the peer, its application (source 0 reason 0) "
             f"{STORE} stores 1{CALLING}",
         ),
         dropped=1,
@@ -161,8 +161,8 @@ STORES_LOST = [
     established(
         "a reset before the reply",
         (stop, COMMAND + DATA_SET, reset, resume),
-        "the wire failed",
-        (f"WARN filed, but not confirmed: the wire failed file I0000001 {STORE}{CALLING}",),
+        "the connection failed",
+        (f"WARN filed, but not confirmed: the connection failed file I0000001 {STORE}{CALLING}",),
         counts="stored 1 refused 0 failed 0",
         files=1,
     ),
@@ -174,26 +174,65 @@ CLASSES = [
     none_of(
         "a class of the standard",
         [(BASIC_TEXT, EXPLICIT)],
-        "BasicTextSRStorage (--all-storage)",
+        "BasicTextSRStorage (class: --all-storage)",
     ),
-    none_of("a private class", [(PRIVATE, EXPLICIT)], "1.2.3.4.5 (--storage-class)"),
+    none_of("a private class", [(PRIVATE, EXPLICIT)], "1.2.3.4.5 (class: --storage-class)"),
     none_of(
         "a class that nothing takes",
         [(FIND, EXPLICIT)],
-        "StudyRootQueryRetrieveInformationModelFind",
+        "StudyRootQueryRetrieveInformationModelFind (class)",
+        "INFO",
     ),
-    none_of("a compressed syntax alone", [(CT, JPEG)], "CTImageStorage (--all-syntaxes)"),
-    none_of("a syntax that nothing takes", [(CT, BIG_ENDIAN)], "CTImageStorage"),
+    none_of(
+        "a compressed syntax alone",
+        [(CT, JPEG)],
+        "CTImageStorage (syntaxes JPEGLosslessSV1: --all-syntaxes)",
+    ),
+    none_of(
+        "a syntax that nothing takes",
+        [(CT, BIG_ENDIAN)],
+        "CTImageStorage (syntaxes ExplicitVRBigEndian)",
+    ),
+    none_of(
+        "five syntaxes, and one twice",
+        [(CT, f"1.2.840.10008.1.2.4.{number}") for number in (50, 51, 70, 70, 80, 90)],
+        "CTImageStorage (syntaxes JPEGBaseline8Bit JPEGExtended12Bit JPEGLosslessSV1 and 2 more: "
+        "--all-syntaxes)",
+    ),
     none_of(
         "a class and a syntax",
         [(BASIC_TEXT, JPEG)],
-        "BasicTextSRStorage (--all-storage --all-syntaxes)",
+        "BasicTextSRStorage (class: --all-storage --all-syntaxes)",
     ),
     none_of(
         "six classes",
         [(name, EXPLICIT) for name in SIX],
-        "BasicTextSRStorage (--all-storage), EnhancedSRStorage (--all-storage), "
-        "StudyRootQueryRetrieveInformationModelFind, 1.2.3 (--storage-class) and 2 more",
+        "BasicTextSRStorage (class: --all-storage), EnhancedSRStorage (class: --all-storage), "
+        "StudyRootQueryRetrieveInformationModelFind (class), 1.2.3 (class: --storage-class) and 2 more",
     ),
-    refused("a class with another context", [(CT, BIG_ENDIAN), (CT, EXPLICIT)], 1, "", 200),
+    refused(
+        "a class that is accepted without its compressed syntaxes",
+        [(CT, JPEG), (CT, EXPLICIT), (MR, EXPLICIT), (CT, "1.2.840.10008.1.2.4.80")],
+        2,
+        "WARN syntaxes refused: CTImageStorage (syntaxes JPEGLosslessSV1 JPEGLSLossless: "
+        "--all-syntaxes)",
+        260,
+    ),
+    refused(
+        "a class with another context",
+        [(CT, BIG_ENDIAN), (CT, EXPLICIT)],
+        1,
+        "WARN syntaxes refused: CTImageStorage (syntaxes ExplicitVRBigEndian)",
+        200,
+    ),
+    established(
+        "a store in a class without its compressed syntaxes",
+        (COMMAND + DATA_SET, Receive(112), RELEASE, Receive(10)),
+        "released",
+        request=request([(CT, EXPLICIT), (CT, JPEG)]),
+        answer=200,
+        contexts="1 of 2",
+        counts="stored 1 refused 0 failed 0",
+        files=1,
+    ),
 ]

@@ -2,6 +2,7 @@
 
 Recordings that are replayed, options that are refused, files that are missing.
 """
+import re
 import shlex
 
 import pytest
@@ -31,6 +32,11 @@ LISTING = SHOWN + ELEMENTS
 )
 def test_replay(expect, lines, arguments):
     expect(0, lines, "", "replay", *arguments.split(), "--out", ".")
+
+
+def test_a_recording_from_standard_input(expect, work):
+    with open(work / "echo.bin", "rb") as recording:
+        expect(0, ECHO_LINES, "", "replay", "-", "--out", ".", "--cut", "7", stdin=recording)
 
 
 @pytest.mark.parametrize(
@@ -91,6 +97,7 @@ REPLAY = "replay empty.bin --out ."
         ("a PDU that is too short", ".*--max-pdu.*", f"{SERVE} --max-pdu 1023"),
         ("too many titles", ".*--caller.*64 times.*", SERVE + " --caller SCANNER1" * 65),
         ("no time", ".*--timeout.*", f"{SERVE} --timeout 0"),
+        ("no port, and no file", ".*--port.*", "serve --out . --port 70000 --callers none"),
         ("all classes twice", ".*--all-storage.*", f"{SERVE} --all-storage --all-storage"),
         (
             "--stop-file in no folder",
@@ -106,6 +113,11 @@ REPLAY = "replay empty.bin --out ."
             "a tag that is none",
             "error: --tag takes a tag as 0010,0020 or its keyword as PatientID, not '0010'",
             "show --tag 0010 ct.dcm",
+        ),
+        (
+            "a tag of a group that repeats",
+            ".* not 'OverlayData', whose group repeats: name the element of one, as 6000,3000",
+            "show ct.dcm --tag OverlayData",
         ),
     ),
 )
@@ -124,8 +136,27 @@ def test_a_number_that_is_refused(expect, option, least, most, value):
     expect(2, "", errors, *SERVE.split(), option, value)
 
 
-def test_an_argument_that_is_not_utf_8(expect):
-    expect(2, "", "error: an argument is not UTF-8", "show", b"\377")
+@pytest.mark.parametrize(
+    "number, arguments",
+    [(2, ["list", b"in\377"]), (4, ["arrange", ".", "--to", b"\377"])],
+)
+def test_an_argument_that_is_not_utf_8(expect, number, arguments):
+    expect(2, "", rf"error: argument {number} is not UTF-8: (in)?\?", *arguments)
+
+
+def test_a_file_whose_name_is_not_utf_8(expect):
+    expect(3, "", r"dcmbox: \?: the file can't be opened: invalid filename; .*", "show", b"\377")
+
+
+@pytest.mark.parametrize("command", ["check", "show"])
+def test_one_of_several_whose_name_is_not_utf_8(run, command):
+    """It is named, and the others are read."""
+    done = run(command, "ct.dcm", b"b\377c", "ct.dcm")
+    assert done.returncode == 3
+    assert re.findall("^file (.*)$", done.stdout, re.M) == ["ct.dcm", "b?c", "ct.dcm"]
+    first, last = done.stderr.splitlines()
+    assert re.fullmatch(r"dcmbox: b\?c: the file can't be opened: invalid filename; .*", first)
+    assert last.endswith(": a file or a folder can't be read, as is told above")
 
 
 @pytest.mark.parametrize(
@@ -161,7 +192,8 @@ def test_an_argument_that_is_not_utf_8(expect):
             "a folder is checked",
             3,
             "",
-            r"dcmbox: \.: the file can.t be read: Is a directory.*",
+            r"dcmbox: \.: it is a folder; -r takes the files in it"
+            "\ndcmbox: \\.: the file can.t be read: Is a directory.*",
             "check .",
         ),
     ),
@@ -210,7 +242,8 @@ class TestIndex:
     def test_a_folder_is_indexed(self, expect, put):
         put({"folder/I0000001": CT_FILE})
         skipped = "skipped I0000001 missing 0008,0020\nrecords 0"
-        expect(0, skipped, "images 0 left out 1", "index", "folder", "--uid", "2.25.1")
+        told = "images 0 left out 1\nleft out: missing 0008,0020 StudyDate 1"
+        expect(0, skipped, told, "index", "folder", "--uid", "2.25.1")
         expect(0, "records 0", "", "checkdir", "folder/DICOMDIR")
 
     def test_a_missing_folder(self, expect):

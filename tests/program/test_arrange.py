@@ -142,8 +142,23 @@ def test_a_dry_run(arrange, put, work):
     assert set(tree_of(work / "tree")) == {PATH}
 
 
+def test_a_dry_run_of_instances_that_repeat(arrange, put, work):
+    """It prints what the real run does: numbers for other bytes, and what is passed over."""
+    put({"in/a": image(), "in/b": image(number="2"), "in/c": image(number="3"), "in/d": image()})
+    put({"in/e/a": image(instance="1.2.3.1.2"), "in/e/b": image(instance="1.2.3.1.2")})
+    status, output, errors = arrange("--dry-run")
+    assert (status, errors) == (0, "") and output.endswith(counts(2, 2, 2))
+    planned = [line.split("\t") for line in output.splitlines()[:-1]]
+    assert arrange() == (0, counts(2, 2, 2), "")
+    for done, file, path in planned:
+        same = (work / path).samefile(work / file)
+        assert same if done in ("link", "rename") else done == "pass over"
+        assert (work / path).read_bytes() == (work / file).read_bytes()
+    assert {path for done, _, path in planned} == {f"tree/{name}" for name in tree_of(work / "tree")}
+
+
 def test_copies(arrange, put, work):
-    put({"in/a": image(), "in/b": image(instance="1.2.3.1.2"), "tree/DRAFT": b"what was left"})
+    put({"in/a": image(), "in/b": image(instance="1.2.3.1.2"), "tree/.DRAFT": b"what was left"})
     assert arrange("--copy") == (0, counts(2, word="copied"), "")
     tree = tree_of(work / "tree")
     assert len(tree) == 2 and tree[PATH].read_bytes() == image()
@@ -154,10 +169,38 @@ def test_copies(arrange, put, work):
 def test_a_draft_that_has_a_name(arrange, put, work):
     """As a run leaves it that ends between the name and the removal: the named file stays as it is."""
     put({"in/a": image(), "in/b": image(instance="1.2.3.1.2"), "tree/" + PATH: image()})
-    os.link(work / "tree" / PATH, work / "tree/DRAFT")
+    os.link(work / "tree" / PATH, work / "tree/.DRAFT")
     assert arrange("--copy") == (0, counts(1, 1, word="copied"), "")
     tree = tree_of(work / "tree")
     assert len(tree) == 2 and tree[PATH].read_bytes() == image()
+
+
+def test_a_patient_whose_name_is_that_of_a_draft(arrange, put, work):
+    """Each name that a draft of the program has, and a file of the user's own at it."""
+    for number, name in enumerate(["DRAFT", "DRAFT2", "DIRDRAFT", ".DRAFT"]):
+        put({f"in/{number}": image(patient=name)})
+    put({"tree/notes/DRAFT": b"of the user"})
+    assert arrange("--copy") == (0, counts(4, word="copied"), "")
+    folders = {name.split("/")[0] for name in tree_of(work / "tree")}
+    assert folders == {"DRAFT", "DRAFT2", "DIRDRAFT", "_DRAFT", "notes"}
+    assert (work / "tree/notes/DRAFT").read_bytes() == b"of the user"
+    assert arrange("--copy") == (0, counts(0, 4, word="copied"), "")
+
+
+def test_a_file_of_the_user_with_the_name_of_a_draft(arrange, put, work):
+    put({"in/a": image(), "tree/DRAFT": b"of the user"})
+    assert arrange("--copy") == (0, counts(1, word="copied"), "")
+    assert (work / "tree/DRAFT").read_bytes() == b"of the user"
+
+
+def test_files_that_differ_at_their_end(arrange, put, work):
+    """Files of 20 KB, of which the first 8 KiB and the lengths are the same."""
+    long = image(comment="x" * 20000)
+    put({"in/a": long, "in/b": long[:-1] + b"y", "in/c": long})
+    assert arrange() == (0, counts(1, 1, 1), "")
+    tree = tree_of(work / "tree")
+    assert {path.read_bytes() for path in tree.values()} == {long, long[:-1] + b"y"}
+    assert arrange() == (0, counts(0, 3), "")
 
 
 def test_a_copy_is_whole_before_it_has_its_name(run, put, work, trace):
@@ -166,7 +209,7 @@ def test_a_copy_is_whole_before_it_has_its_name(run, put, work, trace):
     done = run("arrange", "in", "--to", "tree", "--copy", before=trace(*options))
     assert done.returncode == 0
     calls = (work / "calls.txt").read_text()
-    order = r'open\w*\(.*"tree/DRAFT".*fsync.*link\w*\(.*"tree/DRAFT".*\.dcm".*unlink\w*\(.*"tree/DRAFT"'
+    order = r'open\w*\(.*"tree/\.DRAFT".*fsync.*link\w*\(.*"tree/\.DRAFT".*\.dcm".*unlink\w*\(.*"tree/\.DRAFT"'
     assert re.search(order, calls, re.DOTALL), calls
 
 

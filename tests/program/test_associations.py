@@ -30,7 +30,7 @@ def test_the_recorded_echo(serve, port):
         f"{INFO}127\\.0\\.0\\.1:[0-9]+ Ended held 0 files 0 dropped 0 received 260 in [0-9]+ s "
         'calling "SCANNER1" called "DCMBOX" released contexts 1 of 1 stored 0 refused 0 failed 0'
     )
-    started = f"{INFO}dcmbox [0-9.]+ title .DCMBOX. folder received limits .* removed drafts 0"
+    started = f"{INFO}dcmbox [0-9.]+ title .DCMBOX. folder received limits .* removed drafts 0 callers any classes 11 syntaxes 2"
     listening = f"{INFO}listening on 127\\.0\\.0\\.1:{port}"
     whole = f"{started}\n{listening}\n{line}\n{INFO}stopped\n"
     assert re.fullmatch(whole, box.log), box.log
@@ -92,7 +92,7 @@ class TestStart:
         done = run("serve", "--port", str(port), "--out", "received")
         refused = "dcmbox: received: the folder can.t be opened: .*; end the other program that"
         assert done.returncode == 3
-        assert re.search(f"{refused} receives into it", done.stderr)
+        assert re.search(f"{refused} writes into it", done.stderr)
 
     def test_a_port_that_is_in_use(self, box, run, port, work):
         (work / "other").mkdir()

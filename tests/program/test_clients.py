@@ -255,10 +255,11 @@ class TestStudy:
             shown = run("show", path).stdout
             assert shown.startswith("class 1.2.840.10008.5.1.4.1.1.")
         done = run("index", "received", "--uid", "2.25.7.100")
-        left_out = enumerate((REPORT, PLAN, STRUCTURES, STATE, DOCUMENT), 2)
-        lines = [f"skipped I000000{number} class {uid}" for number, uid in left_out]
+        classes = (REPORT, PLAN, STRUCTURES, STATE, DOCUMENT)
+        lines = [f"skipped I000000{number} class {uid}" for number, uid in enumerate(classes, 2)]
         assert done.stdout.splitlines() == [*lines, "records 4"]
-        assert done.stderr == "images 1 left out 5\n"
+        why = ", ".join(f"class {uid} 1" for uid in classes)
+        assert done.stderr == f"images 1 left out 5\nleft out: {why}\n"
         call(box.folder, "dcmftest", "DICOMDIR")
 
     def test_without_an_option(self, serve, successes, objects):

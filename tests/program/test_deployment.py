@@ -3,6 +3,9 @@
 The systemd units' commands, HAProxy in front of several boxes, the importer of an archive, and TLS
 by stunnel. Of each text ports, names of hosts and folders alone are replaced.
 """
+import contextlib
+import fcntl
+import json
 import os
 import pathlib
 import re
@@ -11,9 +14,35 @@ import signal
 
 import pytest
 from box import PATIENCE, listeners, wait_for
-from images import call, dumped, filed, identity, need
-from peer import ROOT, STORES, STORES_ANSWER, Archive
+from images import (
+    call,
+    digests,
+    dumped,
+    element_of,
+    filed,
+    holds,
+    identity,
+    need,
+    pixels,
+    study,
+    syntax_of,
+)
+from orthanc import Orthanc
+from peer import (
+    CT,
+    ECHO,
+    EXPLICIT,
+    RELEASE,
+    RELEASED,
+    ROOT,
+    STORES,
+    STORES_ANSWER,
+    Archive,
+    Peer,
+    element,
+)
 from ports import free_port
+from units import as_user, settings
 
 # Classes that a sender's defaults leave out.
 RARE = [
@@ -21,6 +50,30 @@ RARE = [
     "VLWholeSlideMicroscopyImageStorage",
     "BreastTomosynthesisImageStorage",
 ]
+# What a box may not do, by the names of systemd's review.
+PROTECTED = {
+    "NoNewPrivileges",
+    "PrivateDevices",
+    "PrivateTmp",
+    "ProtectClock",
+    "ProtectControlGroups",
+    "ProtectHome",
+    "ProtectHostname",
+    "ProtectKernelLogs",
+    "ProtectKernelModules",
+    "ProtectKernelTunables",
+    "ProtectProc",
+    "ProtectSystem",
+    "ProcSubset",
+    "RestrictRealtime",
+}
+# The drop-ins of the unit that the document has, by a line of each.
+DROP_INS = {
+    "user": "^DynamicUser=no$",
+    "disk": "^RequiresMountsFor=/srv/dicom$",
+    "port": "^AmbientCapabilities=CAP_NET_BIND_SERVICE$",
+    "metrics": "^RuntimeDirectory=dcmbox dcmbox-metrics$",
+}
 TARGETS = ["multi-user", "network-online", "sysinit", "basic", "shutdown"]
 
 
@@ -34,9 +87,17 @@ def block(pattern):
             gap += "\n"
         else:
             blocks, text, gap = [*blocks, text], "", ""
-    found = [one for one in blocks if re.search(pattern, one)]
+    found = [one for one in blocks if re.search(pattern, one, re.M)]
     assert len(found) == 1, f"docs/DEPLOY.md has {len(found)} blocks with {pattern}"
     return found[0]
+
+
+def row(message):
+    """What docs/DEPLOY.md says to do at a line of the log."""
+    rows = (ROOT / "docs/DEPLOY.md").read_text().splitlines()
+    found = [line for line in rows if line.startswith("| ") and message in line.split(" | ")[0]]
+    assert len(found) == 1, f"docs/DEPLOY.md has {len(found)} rows with {message}"
+    return found[0].split(" | ")[1]
 
 
 def replaced(text, names):
@@ -66,7 +127,8 @@ def root(program, work, units):
     for folder in ("usr/bin", "bin", "etc/default"):
         (path / folder).mkdir(parents=True)
     shutil.copy(program, path / "usr/bin/dcmbox")
-    shutil.copy("/bin/sh", path / "bin/sh")
+    for tool in ("sh", "mkdir"):
+        shutil.copy(f"/bin/{tool}", path / "bin")
     shutil.copy(ROOT / "packaging/dcmbox.default", path / "etc/default/dcmbox")
     call(work, ROOT / "packaging/make-units", "/usr", path / "lib/systemd/system")
     return units(path)
@@ -94,18 +156,41 @@ def until_listened(port):
     wait_for(lambda: listeners(port), f"port {port} is listened on")
 
 
+def verified(root, unit):
+    """What systemd says of a unit of a root, and of its drop-ins."""
+    folder = root.root / "lib/systemd/system"
+    for target in TARGETS:
+        (folder / f"{target}.target").write_text(f"[Unit]\nDescription={target}\n")
+    words = ("systemd-analyze", f"--root={root.root}", "--man=no", "verify", unit)
+    done = call(folder, *words, check=False)
+    return "".join(line for line in (done.stdout + done.stderr).splitlines() if "dcmbox" in line)
+
+
 class TestUnits:
     """The units: systemd takes them, and each starts a box."""
 
     @pytest.mark.parametrize("unit", ["dcmbox.service", "dcmbox@11201.service"])
     def test_systemd_takes(self, root, unit):
         """It finds nothing to say of the unit."""
+        assert verified(root, unit) == ""
+
+    def test_systemd_takes_each_drop_in(self, root):
+        """It finds nothing to say of all of them in one."""
+        folder = root.root / "lib/systemd/system/dcmbox.service.d"
+        folder.mkdir()
+        for name, pattern in DROP_INS.items():
+            (folder / f"{name}.conf").write_text(block(pattern))
+        assert verified(root, "dcmbox.service") == ""
+
+    @pytest.mark.parametrize("unit", ["dcmbox.service", "dcmbox@11201.service"])
+    def test_what_systemd_says_a_box_may_not_do(self, root, unit):
+        """Beside its review there is the limit of core dumps, which have patients' data."""
         folder = root.root / "lib/systemd/system"
-        for target in TARGETS:
-            (folder / f"{target}.target").write_text(f"[Unit]\nDescription={target}\n")
-        words = ("systemd-analyze", f"--root={root.root}", "--man=no", "verify", unit)
-        done = call(folder, *words, check=False)
-        assert "dcmbox" not in done.stdout + done.stderr
+        verified(root, unit)
+        words = ("systemd-analyze", "security", "--offline=yes", "--json=short", f"./{unit}")
+        review = json.loads(call(folder, *words).stdout)
+        assert {one["name"].rstrip("=") for one in review if one["set"]} >= PROTECTED
+        assert settings(root.unit(re.sub("@.*", "@.service", unit)), "LimitCORE") == ["0"]
 
     def test_each_starts_a_box_over_a_folder_of_its_own(self, root, single, port, work):
         until_answered(work, port)
@@ -115,6 +200,88 @@ class TestUnits:
             until_answered(work, other)
         assert single.is_dir()
         assert all(single.with_name(f"dcmbox-{other}").is_dir() for other in ports)
+
+    def test_which_ends_another_start_may_help(self, root, port):
+        """That of a folder which another box has, for as long as that lasts, and not that of a wrong option."""
+        root.use_port(port)
+        options = root.root / "etc/default/dcmbox"
+        root.run("dcmbox.service", port)
+        ended = [root.start("dcmbox.service").wait(PATIENCE)]
+        options.write_text(f'{options.read_text()}DCMBOX_OPTIONS="--no-such-option"\n')
+        ended.append(root.start("dcmbox.service").wait(PATIENCE))
+        assert ended == [3, 2]
+        unit = root.unit("dcmbox.service")
+        assert settings(unit, "RestartPreventExitStatus") == ["2"]
+        assert settings(unit, "StartLimitIntervalSec") == ["0"]
+        assert settings(unit, "Restart") == ["on-failure"]
+
+    @pytest.mark.parametrize("unit", ["dcmbox.service", "dcmbox@.service"])
+    def test_the_quarantine_is_made(self, root, users, port, work, unit):
+        """It belongs to the box's user and group, who alone may enter it."""
+        work.chmod(0o755)
+        root.use_port(port)
+        instance = f"-{port}" if "@" in unit else ""
+        folder = root.root / f"var/lib/dcmbox{instance}/quarantine"
+        options = root.root / "etc/default/dcmbox"
+        options.write_text(f'{options.read_text()}DCMBOX_OPTIONS="--quarantine {folder}"\n')
+        owner = users["dcmbox"][:2]
+        root.run(unit, port, instance[1:], owner=owner)
+        found = folder.stat()
+        assert (found.st_uid, found.st_gid, found.st_mode & 0o777) == (*owner, 0o770)
+
+    def test_the_exporter_reads_the_metrics_and_no_received_file(
+        self, root, users, images, tool, to_box, port, work
+    ):
+        """With the drop-in; the importer may still take what came."""
+        work.chmod(0o755)
+        metrics = root.root / "run/dcmbox-metrics/dcmbox.prom"
+        assert "`--metrics /run/dcmbox-metrics/dcmbox.prom`" in (ROOT / "docs/DEPLOY.md").read_text()
+        options = root.root / "etc/default/dcmbox"
+        options.write_text(f'{options.read_text()}DCMBOX_OPTIONS="--per 5 --metrics {metrics}"\n')
+        root.use_port(port)
+        dropped_in = block(DROP_INS["user"]) + block(DROP_INS["metrics"])
+        owner = users["dcmbox"][:2]
+        root.run("dcmbox.service", port, dropped_in=dropped_in, owner=owner)
+        tool("storescu", *to_box, images[0][0])
+        stranger = as_user((64003, 64003))
+        wait_for(metrics.exists, "the metrics are written")
+        call("/", *stranger, "cat", metrics)
+        image = filed(root.root / "var/lib")[0]
+        assert call("/", *stranger, "cat", image, check=False).returncode != 0
+        user, group, *further = users["importer"]
+        call("/", *as_user((user, group), *further), "rm", image)
+
+    def test_one_of_the_template_has_options_of_its_own(self, root, work):
+        mine, other = free_port(), free_port()
+        own = root.root / f"etc/default/dcmbox-{mine}"
+        own.write_text('DCMBOX_OPTIONS="--ae MINE --all-storage"\n')
+        for port in (mine, other):
+            root.run("dcmbox@.service", port, str(port))
+        to_mine = ("127.0.0.1", mine)
+        call(work, "echoscu", "-aec", "MINE", *to_mine)
+        assert call(work, "echoscu", "-aec", "DCMBOX", *to_mine, check=False).returncode != 0
+        until_answered(work, other)
+
+
+class TestAnotherDisk:
+    """The folder of received files is on a disk of its own."""
+
+    def test_a_box_of_a_user_files_there(self, small_disk, root, users, images, tool, to_box, port):
+        """With the lines of the text; nothing comes into the folder of the unit."""
+        disk = small_disk("disk", "-t", "tmpfs", "none")
+        disk.parent.chmod(0o755)
+        user, group = users["dcmbox"][:2]
+        names = {"-o dcmbox -g dicom": f"-o {user} -g {group}", "/srv/dicom": disk, "sudo ": ""}
+        tool("sh", "-e", "-c", replaced(block("^sudo install -d -o "), names))
+        options = root.root / "etc/default/dcmbox"
+        folder = replaced("DCMBOX_FOLDER=/srv/dicom/received", {"/srv/dicom": disk})
+        assert "`DCMBOX_FOLDER=/srv/dicom/received`" in (ROOT / "docs/DEPLOY.md").read_text()
+        options.write_text(f"{options.read_text()}{folder}\n")
+        root.use_port(port)
+        root.run("dcmbox.service", port, owner=(user, group))
+        tool("storescu", *to_box, *images[0])
+        assert holds(disk / "received", images[0])
+        assert filed(root.root / "var/lib") == []
 
 
 def test_haproxy_in_front_of_four_boxes(root, spawn, images, work):
@@ -127,7 +294,7 @@ def test_haproxy_in_front_of_four_boxes(root, spawn, images, work):
     boxes = [root.run("dcmbox@.service", port, str(port)) for port in ports[:2]]
     names = {"bind :104": f"bind 127.0.0.1:{balancer}", "/dev/log": work / "haproxy.log"}
     names.update({f":1120{n}": f":{port}" for n, port in enumerate(ports, 1)})
-    (work / "haproxy.cfg").write_text(replaced(block("frontend dicom"), names))
+    (work / "haproxy.cfg").write_text(replaced(block("^frontend dicom$"), names))
     call(work, "haproxy", "-c", "-f", "haproxy.cfg")
     spawn("haproxy", "-db", "-f", "haproxy.cfg", said="haproxy.txt")
     until_answered(work, balancer)
@@ -141,53 +308,397 @@ def test_haproxy_in_front_of_four_boxes(root, spawn, images, work):
         boxes[0].wait(PATIENCE)
 
 
+@pytest.fixture
+def users(work):
+    """The users that the document's lines make beside `importer`, in files of their own.
+
+    Of each its number, that of its group, and those of its further groups.
+    """
+    need("groupadd", "useradd", "usermod", "setpriv")
+    if os.getuid() != 0:
+        pytest.skip("root alone can run as other users")
+    (work / "users/etc").mkdir(parents=True)
+    (work / "tools").mkdir()
+    for name in ("passwd", "group", "shadow", "gshadow"):
+        (work / "users/etc" / name).touch()
+    for name in ("groupadd", "useradd", "usermod"):
+        told = f'#!/bin/sh\nexec {shutil.which(name)} --prefix {work}/users "$@"\n'
+        (work / "tools" / name).write_text(told)
+    (work / "tools/sudo").write_text('#!/bin/sh\nexec "$@"\n')
+    for path in (work / "tools").iterdir():
+        path.chmod(0o755)
+    lines = f"PATH={work}/tools:$PATH\nuseradd --system importer\n"
+    call(work, "sh", "-e", "-c", lines + block("groupadd --system dicom"))
+
+    def rows(name):
+        return [line.split(":") for line in (work / "users/etc" / name).read_text().splitlines()]
+
+    further = {name: [] for name, *_ in rows("passwd")}
+    for _, _, group, members in rows("group"):
+        for name in filter(None, members.split(",")):
+            further[name].append(int(group))
+    return {
+        name: (int(user), int(group), *further[name])
+        for name, _, user, group, *_ in rows("passwd")
+    }
+
+
 class TestImporter:
-    """It sends what came, and removes what the archive took."""
+    """It runs as another user than the box, and removes what the archive took."""
 
     @pytest.fixture
     def archive_port(self):
         return free_port()
 
     @pytest.fixture
-    def imports(self, tool, single, archive_port, work):
-        """Runs the importer, and returns how many images are in the folder then."""
-        need("dcmsend", "flock")
-        names = {"/var/lib": work / "root/var/lib", "=/run/": f"={work}/"}
-        names["archive.example 104"] = f"127.0.0.1 {archive_port}"
-        (work / "import.sh").write_text(replaced(block("import.sh: sends"), names))
+    def box(self, root, users, port, work):
+        """The folder of a box that has the user and the group of the drop-in."""
+        work.chmod(0o755)
+        dropped_in = block(DROP_INS["user"])
+        named = {users[name][0] for name in settings(dropped_in, "User")}
+        assert named == {users["dcmbox"][0]} and settings(dropped_in, "Group") == ["dicom"]
+        root.use_port(port)
+        root.run("dcmbox.service", port, dropped_in=dropped_in, owner=users["dcmbox"][:2])
+        return root.root / "var/lib/dcmbox"
 
-        def imported(check=False):
-            tool("sh", "import.sh", check=check)
-            return len(filed(single))
+    @pytest.fixture
+    def imports(self, users, box, archive_port, work):
+        """Runs the importer, and returns what it says and how many images are in the folder."""
+        need("dcmsend", "flock")
+        script = work / "import.sh"
+        names = {"/var/lib/dcmbox": box, "archive.example 104": f"127.0.0.1 {archive_port}"}
+        text = replaced(block("import.sh: sends"), names)
+        user, group, *further = users["importer"]
+
+        def imported(option=""):
+            script.write_text(replaced(text, {"dcmsend ": f"dcmsend {option} "}))
+            words = [*as_user((user, group), *further), "sh", script]
+            done = call("/", *words, check=False)
+            return done.stdout + done.stderr, len(filed(box))
 
         return imported
 
+    @pytest.fixture
+    def received(self, tool, to_box, box, images):
+        """Has the box receive eight images, in a folder that others of its group can write."""
+        tool("storescu", *to_box, *images[0])
+        assert (box / "S0000001").stat().st_mode & 0o777 == 0o770
+        assert {path.stat().st_mode & 0o777 for path in filed(box)} == {0o660}
+
     def test_what_the_archive_takes(
-        self, tool, to_box, single, imports, images, spawn, work, archive_port
+        self, tool, to_box, box, received, imports, images, spawn, work, archive_port
     ):
-        made, rare = images
-        tool("storescu", *to_box, *made)
-        tool("storescu", "-R", *to_box, *rare)
-        (single / "S0000001/I0000001").rename(single / "I0000001")
+        """Also classes that senders leave out, and a file beside the folders."""
+        tool("storescu", "-R", *to_box, *images[1])
+        (box / "S0000001/I0000001").rename(box / "I0000001")
         archive = work / "archive"
         archive.mkdir()
         need("storescp")
         spawn("storescp", "-aet", "ARCHIVE", archive_port, cwd=archive)
         until_listened(archive_port)
-        assert imports(check=True) == 0
+        assert imports() == ("", 0)
         assert len(list(archive.iterdir())) == 11
+        assert imports() == ("", 0)
 
-    def test_what_stays_while_the_archive_is_down(self, tool, to_box, imports, images):
-        tool("storescu", *to_box, images[0][0])
-        assert imports() == 1
+    def test_one_association_has_all(self, received, imports, archive_port):
+        with Archive(archive_port) as archive:
+            assert imports() == ("", 0)
+        assert archive.callers == ["DCMBOX"]
 
-    @pytest.mark.parametrize("status, count", [(0xA700, 1), (0xC000, 1), (0xB007, 0)])
-    def test_what_stays_by_its_status(
-        self, tool, to_box, imports, images, archive_port, status, count
+    @pytest.mark.parametrize("is_there", [False, True], ids=["down", "rejecting"])
+    def test_what_stays_while_no_association_can_be_had(
+        self, box, received, imports, spawn, archive_port, is_there
     ):
+        """Nothing counts as refused."""
+        if is_there:
+            spawn("storescp", "--refuse", archive_port)
+            until_listened(archive_port)
+        for _ in range(4):
+            said, count = imports()
+            assert count == 8 and ("Rejected" if is_there else "Connection refused") in said
+        assert list((box / "failed").iterdir()) == []
+
+    @pytest.mark.parametrize("status", [0xA700, 0xC000, 0x0122, None])
+    def test_what_is_refused_three_times(self, box, received, imports, archive_port, status):
+        """It is moved away, with the reasons beside it; what is taken is removed."""
+        names = {element_of("0008,0018", path): path.relative_to(box) for path in filed(box)}
+        name = names["2.25.1.3"]
+        reason = f"0x{status:04x}" if status else "<not sent>"
+        with Archive(archive_port, others={"2.25.1.3": status}):
+            for _ in range(3):
+                said, _ = imports()
+                assert f" {name}: {reason}" in said
+            assert imports() == ("", 0)
+        failed = box / "failed"
+        assert sorted(path.name for path in failed.iterdir()) == [
+            f"{str(name).replace('/', '-')}.{kind}" for kind in ("dcm", "txt")
+        ]
+        assert element_of("0008,0018", next(failed.glob("*.dcm"))) == "2.25.1.3"
+        assert next(failed.glob("*.txt")).read_text().count(reason) == 3
+
+    def test_what_is_refused_once(self, box, received, imports, archive_port):
+        """It stays, and nothing of it is left once it is taken."""
+        with Archive(archive_port, 0xA700):
+            assert imports()[1] == 8
+        with Archive(archive_port, 0xB007):
+            assert imports() == ("", 0)
+        assert list((box / "failed").iterdir()) == []
+
+
+    @pytest.mark.parametrize("option", ["", "-dn"], ids=["as_it_stands", "with_dn"])
+    def test_compressed_images_in_orthanc(
+        self, tool, to_box, box, imports, spawn, port, archive_port, work, option
+    ):
+        """It chooses native transfer syntaxes; with the option they get there bit for bit."""
+        need("Orthanc", "dcmcjpeg", "dcmcjpls", "dcmcrle")
+        (work / "pixels").write_bytes(bytes(range(256)))
+        for number, (by, proposal) in enumerate(
+            [("dcmcjpeg +e1", "-xs"), ("dcmcjpls", "-xt"), ("dcmcrle", "-xr")]
+        ):
+            text = identity(instance=f"2.25.9.{number}") + study(number)
+            native = dumped(work, "native", text + pixels("pixels", vr="OB"))
+            tool(*by.split(), native, "encoded.dcm")
+            tool("storescu", proposal, *to_box, "encoded.dcm")
+        sent = [shutil.copy(path, work / path.name) for path in filed(box)]
+        archive = Orthanc(work, port, spawn, archive_port)
+        assert imports(option) == ("", 0)
+        taken = archive.take(work)
+        assert len(taken) == 3
+        if option:
+            assert digests(taken) == digests(sent)
+        else:
+            assert {syntax_of(path) for path in taken} == {EXPLICIT}
+
+
+class TestTree:
+    """A tree for people: those of their group read it and don't write, and nobody else reads."""
+
+    BOX, READER, STRANGER = (64001, 64001), (64002, 64010), (64003, 64003)
+
+    def reads(self, user, path):
+        return call("/", *as_user(user), "cat", path, check=False).returncode == 0
+
+    @pytest.mark.parametrize("links", [True, False], ids=["links", "copies"])
+    def test_who_reads_it(self, root, program, images, tool, to_box, port, work, links):
+        """Also what came before, and with copies and no ACL."""
+        need("setfacl", "flock", "setpriv")
+        if os.getuid() != 0:
+            pytest.skip("root alone can run as other users")
+        work.chmod(0o755)
+        root.use_port(port)
+        root.run("dcmbox.service", port, owner=self.BOX)
+        folder, tree = root.root / "var/lib/dcmbox", work / "tree"
+        group = self.READER[1]
+        names = {"sudo ": "", "/srv/images": tree, "/var/lib/dcmbox": folder}
+        lines = replaced(
+            block("^sudo setfacl "),
+            {"sudo groupadd --system readers\n": "", "-g readers": f"-g {group}", **names},
+        )
+        line = replaced(lines, {"g:readers:": f"g:{group}:"})
+        if not links:
+            line = re.sub("^setfacl .*\n", "", line, flags=re.M)
         tool("storescu", *to_box, images[0][0])
-        with Archive(archive_port, status):
-            assert imports() == count
+        tool("sh", "-e", "-c", line)
+        tool("storescu", *to_box, *images[0][1:])
+        del names["sudo "]
+        names.update({"*/5 * * * * ": "", "/run/": f"{work}/", "dcmbox arr": f"{program} arr"})
+        told = replaced(block("dcmbox arrange "), names)
+        tool("sh", "-e", "-c", told if links else replaced(told, {" >": " --copy >"}))
+        made = [path for path in tree.rglob("*") if path.is_file()]
+        assert digests(made) == digests(images[0])
+        assert {path.stat().st_nlink for path in made} == {2 if links else 1}
+        assert all(self.reads(self.READER, path) for path in made)
+        assert not any(self.reads(self.STRANGER, path) for path in made)
+        write = (*as_user(self.READER), "sh", "-c", ': >>"$0"', made[0])
+        assert call("/", *write, check=False).returncode != 0
+
+
+class TestStandardError:
+    """What becomes of a box by where its log goes."""
+
+    @pytest.fixture
+    def pipe(self, work):
+        """The reading end of a pipe of one page, the file `pipe`."""
+        os.mkfifo(work / "pipe")
+        reader = os.open(work / "pipe", os.O_RDONLY | os.O_NONBLOCK)
+        fcntl.fcntl(reader, fcntl.F_SETPIPE_SZ, 4096)
+        yield reader
+        os.close(reader)
+
+    def test_a_pipe_that_nobody_reads_stops_it_until_it_is_read(self, serve, pipe):
+        box = serve("--timeout", "30", before=["sh", "-c", 'exec "$@" 2>pipe', "sh"])
+
+        def stops():
+            """An association that stored something always has its line."""
+            with box.connect() as peer:
+                peer.send(STORES)
+                return peer.is_silent(3)
+
+        assert not stops()
+        assert any(stops() for _ in range(100))
+        assert b"listening on" in os.read(pipe, 1 << 16)
+        wait_for(box.echoes, "it serves on")
+
+    @pytest.mark.parametrize("to", ["&-", "/dev/full", "pipe"])
+    def test_it_serves_on(self, serve, work, to):
+        """Where standard error is closed, full, or a pipe whose reader ends."""
+        os.mkfifo(work / "pipe")
+        reader = os.open(work / "pipe", os.O_RDONLY | os.O_NONBLOCK)
+        box = serve("--timeout", "30", before=["sh", "-c", f'exec "$@" 2>{to}', "sh"])
+        os.close(reader)
+        assert all(box.answers(STORES, STORES_ANSWER) for _ in range(3))
+        assert len(box.files()) == 6
+
+    def test_a_limit_of_the_size_of_files_kills_it(self, serve):
+        need("prlimit")
+        box = serve("--timeout", "30", before=["prlimit", "--fsize=8192"])
+        assert box.answers(STORES, STORES_ANSWER)
+        with box.connect() as peer:
+            peer.associate([(CT, EXPLICIT)])
+            data = element((0x0010, 0x0010), "PN", b"A" * 10000)
+            peer.send_store(1, CT, "2.25.1", data)
+            assert box.ended() == -signal.SIGXFSZ
+
+
+class TestNumbersAtTheirEnd:
+    """What docs/DEPLOY.md says to do where a file of numbers has the last one."""
+
+    @pytest.fixture
+    def stores(self, serve, put):
+        """Whether a box stores, over a folder without files and with the last number given."""
+        put({"numbers.txt": b"I9999999 S0000000\n"})
+
+        def stored(*options):
+            box = serve("--timeout", "30", "--numbers", "numbers.txt", *options)
+            done = box.answers(STORES, STORES_ANSWER)
+            box.stop()
+            assert done or "is left: move the files and the file of numbers away" in box.log
+            return done
+
+        return stored
+
+    def test_to_move_the_files_away_is_not_enough(self, stores, work):
+        said = row("no number up to 9999999 is left") + row("few numbers are left")
+        assert "remove the file of `--numbers`" in said and "`--per`" in said
+        assert not stores()
+        (work / "numbers.txt").unlink()
+        assert stores()
+
+    def test_folders_have_numbers_of_their_own(self, stores):
+        assert stores("--per", "1000")
+
+
+class TestOldFiles:
+    """What came long ago is removed beside a running box."""
+
+    def test_they_are_removed_and_nothing_else(self, root, images, tool, to_box, port):
+        """The store that goes on meanwhile is filed, and its number is the next one."""
+        root.use_port(port)
+        root.run("dcmbox.service", port)
+        tool("storescu", *to_box, *images[0])
+        before = filed(root.root)
+        days = 86400 * 31
+        for path in before[:5]:
+            os.utime(path, (path.stat().st_mtime - days,) * 2)
+        line = replaced(block("-mtime"), {"/var/lib": root.root / "var/lib", "0 3 * * * ": ""})
+        with Peer(port) as peer:
+            peer.send(STORES[:320])
+            wait_for(lambda: [*root.root.rglob("DRAFT*")], "a store has begun")
+            tool("sh", "-e", "-c", line)
+            assert filed(root.root) == before[5:]
+            peer.send(STORES[320:])
+            assert peer.receive(len(STORES_ANSWER)) == STORES_ANSWER
+        names = [path.name for path in filed(root.root)]
+        assert names == [f"I00000{number:02}" for number in range(6, 11)]
+
+    def test_an_empty_folder_is_removed_and_made_again(self, root, images, tool, to_box, port):
+        """Another one stays."""
+        root.use_port(port)
+        root.run("dcmbox.service", port)
+        tool("storescu", *to_box, images[0][0])
+        (path,) = filed(root.root)
+        path.unlink()
+        other = path.parents[1] / "others"
+        other.mkdir()
+        line = block("-empty")
+        tool("sh", "-e", "-c", replaced(line, {"/var/lib": root.root / "var/lib", "30 3 * * * ": ""}))
+        assert other.exists() and not path.parent.exists()
+        tool("storescu", *to_box, images[0][1])
+        assert [path.name for path in filed(root.root)] == ["I0000002"]
+
+
+def test_port_104(root, work):
+    """A user has it by the drop-in alone."""
+    need("unshare", "setpriv")
+    if os.getuid() != 0:
+        pytest.skip("root alone can run as other users")
+    work.chmod(0o755)
+    options = root.root / "etc/default/dcmbox"
+    text = options.read_text()
+    options.write_text(replaced(text, {"--port 11112 ": "--port 104 "}))
+    kinds = {"owner": (64001, 64001), "before": ("unshare", "--net")}
+    assert root.start("dcmbox.service", **kinds).wait(PATIENCE) == 3
+    box = root.start("dcmbox.service", dropped_in=block(DROP_INS["port"]), **kinds)
+    sockets = pathlib.Path(f"/proc/{box.pid}/net/tcp")
+    wait_for(lambda: re.search(":0068 0+:0000 0A ", sockets.read_text()), "it listens on port 104")
+
+
+def test_sigterm_loses_a_line_and_no_file(serve):
+    """What was answered is on the disk; the association has no line."""
+    box = serve("--timeout", "30")
+    with box.connect() as peer:
+        peer.send(STORES[: -len(RELEASE)])
+        answer = STORES_ANSWER[: -len(RELEASED)]
+        assert peer.receive(len(answer)) == answer
+        box.stop()
+    assert box.files() == ["I0000001", "I0000002"]
+    assert " stored " not in box.log
+
+
+def test_an_importer_is_told_of_names(serve, spawn, work):
+    """Each is created once the file is whole; only the draft is written and closed."""
+    need("inotifywait")
+    box = serve()
+    spawn("inotifywait", "-m", "-e", "create,close_write", "--format", "%e %f", box.folder)
+    said = work / "said.txt"
+    wait_for(lambda: "Watches established" in said.read_text(), "it watches")
+    assert box.answers(STORES, STORES_ANSWER)
+    wait_for(lambda: "I0000002" in said.read_text(), "it sees the second file")
+    told = [line for line in said.read_text().splitlines() if " I0" in line]
+    assert told == ["CREATE I0000001", "CREATE I0000002"]
+
+
+def test_storage_commitment_is_refused(serve):
+    """The association goes on, with its storage classes."""
+    with serve().connect() as peer:
+        asked = [("1.2.840.10008.1.20.1", EXPLICIT), (CT, EXPLICIT)]
+        assert [result for result, _ in peer.associate(asked)] == [3, 0]
+
+
+def test_the_command_of_a_container(program, spawn, images, tool, to_box, port, work):
+    """It files compressed images, too, and keeps its numbers beside the folder.
+
+    Both folders outlive the container.
+    """
+    image = (ROOT / "packaging/Dockerfile").read_text().replace("\\\n", "")
+    command = json.loads(re.search("^CMD (.*)$", image, re.M)[1])
+    kept = json.loads(re.search("^VOLUME (.*)$", image, re.M)[1])
+    folders = {folder: work / folder.strip("/") for folder in kept}
+    for folder in folders.values():
+        folder.mkdir(parents=True)
+    words = [str(port) if word == "11112" else word for word in command]
+    for folder in reversed(kept):
+        words = [re.sub(f"^{folder}(?=/|$)", str(folders[folder]), word) for word in words]
+    spawn(program, *words)
+    until_listened(port)
+    (work / "pixels").write_bytes(bytes(512))
+    text = identity(instance="2.25.1.99") + study(1) + pixels("pixels", bits=12)
+    compressed = work / "compressed.dcm"
+    tool("dcmcrle", dumped(work, "image", text), compressed)
+    tool("storescu", "-xr", *to_box, compressed)
+    tool("storescu", *to_box, *images[0])
+    assert digests(filed(folders["/var/lib/dcmbox"])) == digests([compressed, *images[0]])
+    assert (folders["/var/lib/dcmbox-numbers"] / "NUMBERS").is_file()
 
 
 def test_the_signal_that_ends_a_container(serve):
@@ -211,30 +722,62 @@ def test_the_signal_that_ends_a_container(serve):
     assert box.files() == ["I0000001", "I0000002", "I0000003", "I0000004"]
 
 
-def test_tls(single, spawn, port, work):
-    """A scanner with a certificate that is known is let through, and a stranger is not."""
-    need("stunnel4", "openssl")
-    for name in ("box", "scanner", "stranger"):
-        words = f"req -x509 -newkey rsa:2048 -nodes -days 2 -subj /CN={name}".split()
-        call(work, "openssl", *words, "-keyout", f"{name}.key", "-out", f"{name}.crt")
-        parts = [(work / f"{name}.{part}").read_text() for part in ("key", "crt")]
-        (work / f"{name}.pem").write_text("".join(parts))
+@pytest.fixture
+def certificates(work):
+    """Makes a key with its certificate for each name, in one file: NAME.pem."""
+    need("openssl")
+
+    def made(*names):
+        for name in names:
+            words = f"req -x509 -newkey rsa:2048 -nodes -days 2 -subj /CN={name}".split()
+            call(work, "openssl", *words, "-keyout", f"{name}.key", "-out", f"{name}.crt")
+            parts = [(work / f"{name}.{part}").read_text() for part in ("key", "crt")]
+            (work / f"{name}.pem").write_text("".join(parts))
+
+    return made
+
+
+FOREGROUND = "foreground = yes\npid =\n"
+
+
+@pytest.mark.parametrize("ends_it", ["stunnel", "haproxy"])
+def test_tls(root, spawn, certificates, port, work, ends_it):
+    """A scanner with a certificate that is known is let through, and a stranger is not.
+
+    Ten scanners at once have a place, as the document's options have it.
+    """
+    need("stunnel4", "haproxy")
+    options = root.root / "etc/default/dcmbox"
+    options.write_text(options.read_text() + block("--per-peer 16"))
+    root.use_port(port)
+    root.run("dcmbox.service", port)
+    certificates("box", "scanner", "stranger")
     tls = free_port()
     names = {
-        "accept = 2762": f"accept = 127.0.0.1:{tls}",
         "127.0.0.1:11112": f"127.0.0.1:{port}",
-        "/etc/stunnel/box.pem": work / "box.pem",
-        "/etc/stunnel/scanners.pem": work / "scanner.crt",
+        f"/etc/{ends_it}/box.pem": work / "box.pem",
+        f"/etc/{ends_it}/scanners.pem": work / "scanner.crt",
     }
-    head = "foreground = yes\npid =\n"
-    (work / "server.conf").write_text(head + replaced(block("dicom-tls"), names))
-    spawn("stunnel4", "server.conf", said="server.txt")
+    if ends_it == "stunnel":
+        names["accept = 2762"] = f"accept = 127.0.0.1:{tls}"
+        (work / "server.conf").write_text(FOREGROUND + replaced(block(r"^\[dicom-tls\]$"), names))
+        spawn("stunnel4", "server.conf", said="server.txt")
+    else:
+        names["bind :2762"] = f"bind 127.0.0.1:{tls}"
+        (work / "server.conf").write_text(replaced(block("^frontend dicom-tls$"), names))
+        call(work, "haproxy", "-c", "-f", "server.conf")
+        spawn("haproxy", "-db", "-f", "server.conf", said="server.txt")
+    until_listened(tls)
     tunnels = {name: free_port() for name in ("scanner", "stranger")}
     for name, accepts in tunnels.items():
-        settings = f"[{name}]\nclient = yes\naccept = 127.0.0.1:{accepts}\n"
-        settings += f"connect = 127.0.0.1:{tls}\ncert = {work}/{name}.pem\n"
-        (work / f"{name}.conf").write_text(head + settings)
+        client = f"[{name}]\nclient = yes\naccept = 127.0.0.1:{accepts}\n"
+        client += f"connect = 127.0.0.1:{tls}\ncert = {work}/{name}.pem\n"
+        (work / f"{name}.conf").write_text(FOREGROUND + client)
         spawn("stunnel4", f"{name}.conf", said=f"{name}.txt")
         until_listened(accepts)
     until_answered(work, tunnels["scanner"])
     assert not is_answered(work, tunnels["stranger"])
+    with contextlib.ExitStack() as stack:
+        scanners = [stack.enter_context(Peer(tunnels["scanner"])) for _ in range(10)]
+        for scanner in scanners:
+            assert scanner.associate([(CT, EXPLICIT)]) == [(0, EXPLICIT)]

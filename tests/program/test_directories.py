@@ -39,6 +39,25 @@ def test_checkdir(expect, put, status, output, directory):
     expect(status, output, "", "checkdir", "listed.bin")
 
 
+@pytest.mark.parametrize("kind", ["PALETTE", "IMPLANT", "PRIVATE"])
+def test_a_record_of_the_root_that_is_not_taken(expect, put, kind):
+    """PS3.3 section F.4 has it beside PATIENT; the fault stays the same, and is explained."""
+    put({"listed.bin": DIRECTORY.replace(b"PATIENT ", kind.ljust(8).encode())})
+    errors = f"dcmbox: listed.bin: the record at 320 is of type {kind}, which PS3.3 section F.4 has .*"
+    expect(1, "fault 64 WrongLevel at 320", errors, "checkdir", "listed.bin")
+
+
+def test_a_record_of_the_root_that_the_standard_does_not_have(expect, put):
+    put({"listed.bin": DIRECTORY.replace(b"PATIENT ", b"STUDY   ")})
+    expect(1, "fault 64 WrongLevel at 320", "", "checkdir", "listed.bin")
+
+
+def test_a_file_that_is_no_directory(expect, put):
+    put({"listed.bin": IMAGE})
+    errors = r"dcmbox: listed.bin: it is no DICOMDIR: its class is CTImageStorage \(1.2.840.*\)"
+    expect(1, "fault .*", errors, "checkdir", "listed.bin")
+
+
 NAMES = ("CT1", "ECG1", "PDF1", "SR1")
 KINDS = (("ECG1", "WAVEFORM"), ("PDF1", "ENCAP DOC"), ("SR1", "SR DOCUMENT"))
 
@@ -68,7 +87,10 @@ class TestIndex:
             }
         )
         told = "skipped I0000005 missing 0020,0010\ndouble I0000004\nrecords 7"
-        errors = "dcmbox: five/I0000004: a double of I0000001, with the same bytes\nimages 3 left out 2"
+        errors = (
+            "dcmbox: five/I0000004: a double of I0000001, with the same bytes\nimages 3 left out 2\n"
+            "left out: missing 0020,0010 StudyID 1, doubles 1"
+        )
         expect(0, told, errors, "index", "five", "--uid", "2.25.1")
         listed = run("checkdir", "five/DICOMDIR").stdout
         assert re.sub(r"^\d* *", "", listed, flags=re.M).splitlines() == [
@@ -92,9 +114,61 @@ class TestIndex:
             "dcmbox: doubles/I0000002: a double of I0000001, with other bytes\n"
             "dcmbox: doubles/S0000001/I0000001: a double of I0000001, with other bytes\n"
             "dcmbox: doubles/S0000001/I0000002: a double of I0000001, with the same bytes\n"
-            "images 1 left out 3"
+            "images 1 left out 3\nleft out: doubles 3"
         )
         expect(0, told, errors, "index", "doubles", "--uid", "2.25.1")
+
+
+    def test_what_is_left_out_is_a_fault(self, expect, put, work):
+        """With --strict; the directory is written all the same."""
+        put({"strict/I0000001": IMAGE, "strict/I0000002": b"text"})
+        told, errors = "skipped I0000002 fault 50\nrecords 4", "images 1 left out 1\nleft out: fault 50 NotPart10 1"
+        for status, options in ((0, []), (1, ["--strict"])):
+            expect(status, told, errors, "index", "strict", "--uid", "2.25.1", *options)
+            assert (work / "strict/DICOMDIR").read_bytes() == DIRECTORY
+        (work / "strict/I0000002").unlink()
+        expect(0, ONE, COUNTED, "index", "strict", "--uid", "2.25.1", "--strict")
+
+
+class TestOtherNames:
+    """Images of other names than received files."""
+
+    FILES = {
+        "in/CT.1.2.3.dcm": IMAGE,
+        "in/deeper/I0000001": changed(IMAGE, 208, b"2"),
+        "in/A/B_1/IM1": changed(IMAGE, 208, b"3"),
+        "in/README": b"text",
+        "in/DRAFT": IMAGE,
+    }
+    TOLD = "dcmbox: in: 3 DICOM files are left out: they have other names than I0000001, .* --any-name\n"
+
+    def test_they_are_told_of(self, expect, put):
+        put(self.FILES)
+        errors = self.TOLD + "images 0 left out 3\nleft out: other names 3"
+        expect(0, "records 0", errors, "index", "in", "--uid", "2.25.1")
+        expect(1, "records 0", errors, "index", "in", "--uid", "2.25.1", "--strict")
+
+    def test_beside_a_received_one(self, expect, put, work):
+        put({**self.FILES, "in/I0000001": IMAGE, "in/S0000001/I0000001": changed(IMAGE, 208, b"4")})
+        errors = self.TOLD + "images 2 left out 3\nleft out: other names 3"
+        expect(0, "records 5", errors, "index", "in", "--uid", "2.25.1")
+
+    def test_any_name(self, expect, put, run):
+        """Those whose paths are file IDs, by path."""
+        put({**self.FILES, "in/I0000001": IMAGE})
+        errors = (
+            "dcmbox: in: 2 DICOM files are left out: they have paths that are no file IDs: .*\n"
+            "images 2 left out 2\nleft out: other names 2"
+        )
+        expect(0, "records 5", errors, "index", "in", "--uid", "2.25.1", "--any-name")
+        listed = run("checkdir", "in/DICOMDIR").stdout
+        assert re.findall("IMAGE (.*)", listed) == ["A/B_1/IM1", "I0000001"]
+
+    def test_a_disk_as_scanners_write_them(self, expect, put, run):
+        names = [f"DICOM/PA1/ST1/SE{series}/IM{n:06}" for series in (1, 2) for n in range(3)]
+        put({f"in/{name}": changed(IMAGE, 208, b"%d" % n) for n, name in enumerate(names)})
+        expect(0, "records 9", "images 6 left out 0", *"index in --uid 2.25.1 --any-name".split())
+        assert re.findall("IMAGE (.*)", run("checkdir", "in/DICOMDIR").stdout) == names
 
 
 class TestKeptRecords:
@@ -119,20 +193,44 @@ class TestKeptRecords:
         tool("dcmmkdir", "-q", "+I", "-Nxc", "-Pgp", "+D", "made/DICOMDIR", "+id", "made", *NAMES)
         return folder
 
+    def test_are_not_lost(self, made, run):
+        """Without --drop the directory stays as it is."""
+        before = (made / "DICOMDIR").read_bytes()
+        done = run(*"index made --uid 2.25.1 --keep".split())
+        assert (done.returncode, done.stdout) == (1, "")
+        first, last = done.stderr.splitlines()[3:]
+        assert first == (
+            "dcmbox: made: the DICOMDIR stays as it is: 3 of its records would be lost; "
+            "leave them out with --drop"
+        )
+        assert last == "left out: records of other types 3"
+        assert (made / "DICOMDIR").read_bytes() == before
+
+    def test_of_files_that_can_not_be_read(self, made, run):
+        """As on a disk that is not mounted."""
+        before = (made / "DICOMDIR").read_bytes()
+        for name in NAMES:
+            (made / name).unlink()
+        done = run(*"index made --uid 2.25.1 --keep".split())
+        assert (done.returncode, done.stdout) == (1, "skipped CT1 fault 54\n")
+        assert ": 4 of its records would be lost; " in done.stderr
+        told = "left out: fault 54 ReadFailed 1, records of other types 3"
+        assert done.stderr.splitlines()[-1] == told
+        assert (made / "DICOMDIR").read_bytes() == before
+
     def test_are_told(self, expect, made, run):
         told = "".join(
             f"dcmbox: made/{name}: left out: its record is of type {kind}, not IMAGE\n"
             for name, kind in KINDS
         )
-        expect(
-            0, "records 4", f"{told}images 1 left out 3", *"index made --uid 2.25.1 --keep".split()
-        )
+        told += "images 1 left out 3\nleft out: records of other types 3"
+        expect(0, "records 4", told, *"index made --uid 2.25.1 --keep --drop".split())
         assert run("checkdir", "made/DICOMDIR").stdout.count("IMAGE CT1") == 1
 
     def test_with_a_series_of_an_image(self, expect, made):
         """The directory that was written has images alone, so none is left out of it again."""
-        for errors in (".*images 1 left out 3", "images 1 left out 0"):
-            expect(0, "records 4", errors, "index", "made", "--uid", "2.25.1", "--keep")
+        expect(0, "records 4", ".*left out 3\n.*", *"index made --uid 2.25.1 --keep --drop".split())
+        expect(0, "records 4", COUNTED, *"index made --uid 2.25.1 --keep".split())
 
 
 class TestDescriptions:

@@ -7,12 +7,17 @@ import pytest
 from box import LITTLE, PATIENCE
 from images import need
 from peer import element
-from samples import CT_FILE, CUT_FAULT, ELEMENTS, HEADER, SAMPLES, SHOWN, cases
+from samples import CT_FILE, CUT_FAULT, ELEMENTS, HEADER, SAMPLES, SHOWN, cases, changed
 
 pytestmark = pytest.mark.usefixtures("samples")
 LISTING = SHOWN + ELEMENTS
 NOTE = "note 0000000288 0008,0060 CS 1 BadCharacter\n"
 CHECKED = f"file ct\\.dcm\ngood 336\nfile control\\.dcm\n{NOTE}good 312\n"
+# A strict check notes, too, that neither SOP nor Study Instance UID is there.
+STRICT = (
+    f"note 0000000288 0008,0018 UI 21 MissingUid\n{NOTE}"
+    "note 0000000312 0020,000d UI 21 MissingUid\ngood 312"
+)
 MODALITY = "0000000288 0008,0060 CS 4 Modality"
 BELOW = (
     f"file many/I0000001\ngood 336\nfile many/I0000002\n{NOTE}good 312\n"
@@ -38,7 +43,6 @@ def many(put, work):
     (work / "many/deeper/empty").mkdir()
     (work / "many/up").symlink_to(work)
     (work / "many/linked").symlink_to("../ct.dcm")
-    subprocess.run(["mkfifo", work / "many/pipe"], check=True)
 
 
 @pytest.mark.parametrize(
@@ -106,17 +110,18 @@ def many(put, work):
             "a folder among files",
             3,
             "file many\nfile ct\\.dcm\ngood 336\n" + counts(2, good=1, unread=1),
+            "dcmbox: many: it is a folder; -r takes the files in it\n"
             "dcmbox: many: the file can.t be read: Is a directory.*",
             "check many ct.dcm",
         ),
-        ("a strict check", 1, f"{NOTE}good 312", "", "check --strict control.dcm"),
-        ("a strict check without notes", 0, "good 336", "", "check --strict ct.dcm"),
+        ("a strict check", 1, STRICT, "", "check --strict control.dcm"),
+        ("a strict check without notes", 0, "good 788", "", "check --strict directory.bin"),
         (
             "a strict check of two files",
             1,
-            CHECKED + counts(2, good=2, notes=1),
+            f"file directory\\.bin\ngood 788\nfile control\\.dcm\n{STRICT}\n" + counts(2, good=2, notes=3),
             "",
-            "check --strict ct.dcm control.dcm",
+            "check --strict directory.bin control.dcm",
         ),
     ),
 )
@@ -132,11 +137,120 @@ def test_a_name_with_control_characters(expect, put):
     expect(1, output, "", "check", "-r", "many/deeper/empty")
 
 
-@pytest.mark.usefixtures("many")
-def test_a_name_that_is_not_utf_8(expect, put):
-    put({"many/deeper/empty/a\udcff": b""})
-    errors = "dcmbox: many/deeper/empty: .*\ndcmbox: many/deeper/empty: a file .*"
-    expect(3, counts(1, unread=1), errors, "check", "-r", "many/deeper/empty")
+@pytest.mark.parametrize("command", ["check", "show"])
+def test_a_name_that_is_not_utf_8(run, put, command):
+    """That file is named, and the others are read, before it and after it."""
+    put({"in/a": CT_FILE, "in/b\udcffc": CT_FILE, "in/d": CT_FILE, "in/e/f": CT_FILE})
+    done = run(command, "-r", "in")
+    assert done.returncode == 3
+    assert re.findall("^file (.*)$", done.stdout, re.M) == ["in/a", "in/d", "in/e/f"]
+    first, last = done.stderr.splitlines()
+    assert re.fullmatch(r"dcmbox: in/b\?c: the file can't be opened: invalid filename; .*", first)
+    assert last.endswith(": a file or a folder can't be read, as is told above")
+    if command == "check":
+        assert done.stdout.endswith(counts(4, good=3, unread=1) + "\n")
+
+
+class TestOtherFiles:
+    """Files that are no DICOM files are passed by where that is asked for."""
+
+    FILES = {"in/a": CT_FILE, "in/README": b"text", "in/deeper/Thumbs.db": bytes(200)}
+
+    def test_they_are_faulty(self, run, put):
+        put(self.FILES)
+        done = run("check", "-r", "in")
+        assert (done.returncode, done.stderr) == (1, "")
+        assert done.stdout.endswith(counts(3, good=1, faulty=2) + "\n")
+
+    def test_they_are_passed_by(self, expect, put):
+        put(self.FILES)
+        output = "file in/a\ngood 336\n" + counts(1, good=1)
+        expect(0, output, "dcmbox: ignored 2", "check", "-r", "--ignore-others", "in")
+
+    def test_a_file_that_can_not_be_read_is_none_of_them(self, expect, put):
+        put(self.FILES)
+        output = "file missing\nfile in/a\ngood 336\n" + counts(2, good=1, unread=1)
+        errors = "dcmbox: missing: .*\ndcmbox: ignored 1\ndcmbox: a file .*"
+        words = "check --ignore-others missing in/a in/README"
+        expect(3, output, errors, *words.split())
+
+    def test_one_that_is_cut_is_faulty(self, run, put):
+        put({**self.FILES, "in/b": SAMPLES["cut.dcm"]})
+        done = run("check", "-r", "--ignore-others", "in")
+        assert done.returncode == 1 and done.stdout.endswith(counts(2, good=1, faulty=1) + "\n")
+
+
+class TestWholeValues:
+    """Values of more than 64 bytes."""
+
+    TEXT = "ORIGINAL\\" * 30 + "AXIAL "
+    LONG = HEADER + element((0x08, 0x08), "CS", TEXT.encode()) + element((0x28, 0x10), "US", b"\1\0")
+
+    def test_as_their_length(self, run, put):
+        put({"long.dcm": self.LONG})
+        shown = run("show", "--values", "long.dcm").stdout
+        assert f"           = ({len(self.TEXT)} bytes)\n" in shown
+
+    @pytest.mark.parametrize("options", [["--full"], ["--full", "--values"]])
+    def test_whole(self, run, put, options):
+        put({"long.dcm": self.LONG})
+        lines = run("show", *options, "long.dcm").stdout.splitlines()
+        assert "           = " + self.TEXT.strip() in lines and "           = 1" in lines
+
+    def test_as_json(self, run, put):
+        put({"long.dcm": self.LONG})
+        found = json.loads(run("show", "--json", "--values", "long.dcm").stdout)
+        assert [one["value"] for one in found["elements"]] == [self.TEXT.strip(), "1"]
+
+    @pytest.mark.parametrize("size, is_whole", [(65536, True), (65538, False)])
+    def test_the_longest(self, run, put, size, is_whole):
+        data = b"\x04\0\x20\x04UN\0\0" + size.to_bytes(4, "little") + b"\7" * size
+        put({"long.dcm": HEADER + data})
+        shown = run("show", "--full", "long.dcm").stdout.splitlines()[-2]
+        value = "\\".join(["07"] * size) if is_whole else f"({size} bytes)"
+        assert shown == f"           = {value}"
+        found = json.loads(run("show", "--json", "--values", "long.dcm").stdout)["elements"][0]
+        assert ("value" in found) is is_whole
+
+
+class TestGroup2:
+    """The file meta information as elements."""
+
+    LINES = [
+        "0000000132 0002,0000 UL 4 FileMetaInformationGroupLength",
+        "0000000144 0002,0001 OB 2 FileMetaInformationVersion",
+        "0000000158 0002,0002 UI 26 MediaStorageSOPClassUID",
+        "0000000192 0002,0003 UI 6 MediaStorageSOPInstanceUID",
+        "0000000206 0002,0010 UI 20 TransferSyntaxUID",
+        "0000000234 0002,0012 UI 14 ImplementationClassUID",
+        "0000000256 0002,0013 SH 8 ImplementationVersionName",
+        "0000000272 0002,0016 AE 8 SourceApplicationEntityTitle",
+    ]
+
+    def test_without_options(self, run):
+        assert run("show", "ct.dcm").stdout == f"{LISTING}end 336\n"
+
+    def test_listed(self, expect):
+        output = SHOWN + "\n".join(self.LINES) + "\n" + ELEMENTS + "end 336"
+        expect(0, output, "", "show", "--meta", "ct.dcm")
+
+    def test_values(self, run):
+        lines = run("show", "--meta", "--values", "ct.dcm").stdout.splitlines()
+        assert lines[lines.index(self.LINES[4]) + 1] == "           = 1.2.840.10008.1.2.1"
+        assert lines[lines.index(self.LINES[0]) + 1] == "           = 144"
+
+    @pytest.mark.parametrize("tag", ["0002,0010", "TransferSyntaxUID"])
+    def test_an_element(self, expect, tag):
+        output = f"{self.LINES[4]}\n           = 1.2.840.10008.1.2.1"
+        expect(0, output, "", "show", "--values", "--tag", tag, "ct.dcm")
+
+    def test_as_json(self, run):
+        found = json.loads(run("show", "--json", "--meta", "ct.dcm").stdout)
+        assert [one["tag"][:4] for one in found["elements"]] == ["0002"] * 8 + ["0008"] * 2
+
+    def test_a_fault_of_the_header(self, expect, put):
+        put({"broken.dcm": CT_FILE[:200]})
+        expect(1, "fault 51 BadMeta at 132", ".*", "show", "--meta", "broken.dcm")
 
 
 class TestStandardInput:
@@ -348,6 +462,17 @@ def test_another_transfer_syntax(expect, command):
     syntax = r"ExplicitVRBigEndian \(1\.2\.840\.10008\.1\.2\.2\)"
     errors = rf"dcmbox: big\.dcm: its transfer syntax is {syntax}, which is not taken"
     expect(1, "fault 53 OtherSyntax at 132", errors, command, "big.dcm")
+
+
+@pytest.mark.parametrize("command", ["check", "show"])
+def test_a_compressed_transfer_syntax(run, put, command):
+    """The message names the option that takes it."""
+    put({"rle.dcm": changed(CT_FILE, 232, b"5")})
+    done = run(command, "rle.dcm")
+    syntax = "RLELossless (1.2.840.10008.1.2.5)"
+    said = f"dcmbox: rle.dcm: its transfer syntax is {syntax}, which is not taken; --all-syntaxes takes it\n"
+    assert (done.returncode, done.stdout, done.stderr) == (1, "fault 53 OtherSyntax at 132\n", said)
+    assert run(command, "--all-syntaxes", "rle.dcm").returncode == 0
 
 
 def test_files_are_counted_on_a_terminal(program, work):

@@ -1,4 +1,5 @@
 """The studies that `list` finds in a folder: of made images, of pydicom's test files, and of 20,000 files."""
+import contextlib
 import json
 import os
 import pathlib
@@ -87,6 +88,35 @@ def test_one_object(run, put):
     assert [row["number"] for row in series] == ["1", "10"] and "instances" not in series[0]
 
 
+def test_the_order_is_that_of_numbers(run, put):
+    """10 comes after 2, equal numbers by UID, and what has no number last; studies by date."""
+    numbers = ["10", "2", "1", None, "-1", "2 ", "x"]
+    for place, number in enumerate(numbers):
+        put({f"in/i{place}": image(instance=f"1.5.{9 - place}", number=number)})
+        series = f"1.2.3.{30 - place}"
+        put({f"in/s{place}": image(instance=f"1.6.{place}", series=series, series_number=number)})
+    put({"in/z": image(study="1.1", instance="1.7", date="20260102")})
+    lines = run("list", "in", "--instances").stdout.splitlines()
+    order = ["-1", "1", "2", "2", "10", "x", "-"]
+    rows = [line.split("\t") for line in lines]
+    first = rows.index(["  1", "CT", "HEAD", "7", "1.2.3.1"])
+    assert [row[0].strip() for row in rows[first + 1 : first + 8]] == order
+    assert [row[1] for row in rows[first + 3 : first + 5]] == ["1.5.4", "1.5.8"]
+    listed = [row[0].strip() for row in rows if row[0][:2] == "  " and row[0][2] != " "]
+    assert [number for number in listed[:-1] if number != "1"] == [n for n in order if n != "1"]
+    assert [row[-1] for row in rows if row[0][0] != " "] == ["1.2.3", "1.1"]
+
+
+def test_a_study_of_several_patients(run, put):
+    put({"in/a": image(), "in/b": image(instance="1.2.3.1.2", patient="P2")})
+    put({"in/c": image(study="1.9"), "in/d": image(study="1.9", patient="P1 ")})
+    done = run("list", "in")
+    assert (done.returncode, done.stdout.count("\n")) == (0, 2)
+    assert done.stderr == "dcmbox: study 1.2.3: its files have several Patient IDs\n"
+    studies = json.loads(run("list", "in", "--json").stdout)["studies"]
+    assert [study.get("several_patients") for study in studies] == [True, None]
+
+
 @pytest.mark.parametrize("form", ["", "--json"])
 def test_an_empty_folder(run, work, form):
     (work / "in").mkdir()
@@ -129,14 +159,16 @@ def test_what_is_behind_the_values_is_not_seen(run, put):
 
 
 def test_what_is_passed_by(run, put, work):
-    """Drafts, directories of files and links, without a word."""
+    """Drafts, directories of files and links without a word; a pipe, which is not waited for, with one."""
     put({"in/I0000001": image(), "in/DICOMDIR": DIRECTORY, "in/DRAFT": b"x", "in/DRAFT2": b"x"})
     put({"in/DIRDRAFT": b"x", "elsewhere/I0000001": image(study="1.9")})
     (work / "in/link").symlink_to(work / "elsewhere/I0000001")
     (work / "in/folder").symlink_to(work / "elsewhere")
     os.mkfifo(work / "in/pipe")
     done = run("list", "in")
-    assert (done.returncode, done.stderr) == (0, "") and done.stdout.endswith("\t1\t1\t1.2.3\n")
+    said = "dcmbox: in/pipe: it is a pipe, a socket or a device, and no file\n"
+    assert (done.returncode, done.stderr) == (0, said)
+    assert done.stdout.endswith("\t1\t1\t1.2.3\n")
 
 
 def test_values_that_do_not_print(run, put):
@@ -161,7 +193,19 @@ def test_a_name_that_is_not_utf8(run, put, work):
         file.write(image())
     done = run("list", "in")
     assert done.returncode == 3 and done.stdout.count("\n") == 1
-    assert done.stderr.splitlines()[0].startswith("dcmbox: in: ")
+    named = "dcmbox: in/?: the file can't be opened: invalid filename; "
+    assert done.stderr.splitlines()[0].startswith(named)
+
+
+@pytest.mark.parametrize("command", ["list in", "arrange in --to tree"])
+def test_files_that_are_no_dicom_files(run, put, command):
+    put({"in/I0000001": image(), "in/README": b"text", "in/deeper/Thumbs.db": bytes(200)})
+    done = run(*command.split())
+    assert done.returncode == 1 and done.stderr.count(": left out: fault 50 NotPart10 ") == 2
+    done = run(*command.split(), "--ignore-others")
+    assert (done.returncode, done.stderr) == (0, "dcmbox: ignored 2\n")
+    put({"in/cut": image()[:300]})
+    assert run(*command.split(), "--ignore-others").returncode == 1
 
 
 @pytest.mark.parametrize("folder", ["missing", "file"])
@@ -178,7 +222,10 @@ def test_files_are_counted_on_a_terminal(program, put, work, command):
     words = [program, *command.split()]
     done = subprocess.run(words, cwd=work, stdout=subprocess.PIPE, stderr=theirs, timeout=PATIENCE)
     os.close(theirs)
-    told = os.read(ours, 10_000)
+    told = b""
+    with contextlib.suppress(OSError):  # a terminal whose other end is closed ends with EIO
+        while piece := os.read(ours, 10_000):
+            told += piece
     os.close(ours)
     assert done.returncode == 0
     assert re.fullmatch(rb"\rfiles 1\rfiles 2\r +\r", told)

@@ -4,7 +4,8 @@ import re
 
 import pytest
 from images import call, data_set, dumped, identity, pixels
-from peer import ABORT, RELEASE, STORES, STORES_REQUEST
+from peer import ABORT, EXPLICIT, RELEASE, STORES, STORES_REQUEST
+from peer import CT as CT_CLASS
 from samples import cases, changed
 
 TITLES = 'calling "SCANNER1" called "DCMBOX"'
@@ -76,7 +77,7 @@ class TestClients:
         size = len(data_set(box.folder / "I0000001"))
         tells(
             box,
-            f"DEBUG store {CT} bytes {size} status 0000 file I0000001",
+            f"DEBUG store {CT} syntax ExplicitVRLittleEndian bytes {size} status 0000 file I0000001",
             ended(TITLES, "released", "2 of 2", "stored 1 refused 0 failed 0", files=1),
         )
 
@@ -106,7 +107,7 @@ class TestContexts:
                 "a compressed syntax alone",
                 "1.2.840.10008.1.2.4.70",
                 "JPEGLosslessSV1",
-                " (--all-syntaxes)",
+                ": --all-syntaxes",
             ),
         ),
     )
@@ -123,7 +124,7 @@ class TestContexts:
         tells(
             box,
             f"TRACE {refused} class CTImageStorage syntaxes {name}",
-            f"WARN classes refused: CTImageStorage{option}{CALLING}",
+            f"WARN classes refused: CTImageStorage (syntaxes {name}{option}){CALLING}",
             ended(TITLES, "closed by the peer", "0 of 1"),
         )
 
@@ -136,7 +137,7 @@ class TestContexts:
             box,
             f"TRACE context 1 {refused} ExplicitVRLittleEndian",
             f"TRACE context 3 {refused} ExplicitVRBigEndian ImplicitVRLittleEndian",
-            f"WARN classes refused: BasicTextSRStorage (--all-storage){CALLING}",
+            f"WARN classes refused: BasicTextSRStorage (class: --all-storage){CALLING}",
             ended(TITLES, "closed by the peer", "0 of 2"),
         )
 
@@ -152,14 +153,14 @@ class TestNoAssociation:
     @pytest.mark.parametrize(
         "kind, command",
         cases(
-            ("a TLS hello", 16, "openssl s_client -connect 127.0.0.1:{}"),
+            ("a TLS hello", "16, is it TLS?", "openssl s_client -connect 127.0.0.1:{}"),
             ("HTTP", 47, "curl -s --max-time 60 http://127.0.0.1:{}/"),
         ),
     )
     def test_another_protocol(self, serve, port, tool, kind, command):
         box = serve()
         tool(*command.format(port).split(), check=False)
-        why = f"aborted by dcmbox, its user (PDU type {kind})"
+        why = f"aborted by dcmbox, its application (PDU type {kind})"
         tells(box, f"WARN {why}", ended(NOBODY, why, "0 of 0"))
 
     def test_a_request_that_is_never_finished(self, serve):
@@ -185,7 +186,7 @@ class TestUnfinished:
     @pytest.mark.parametrize(
         "end, place, sent, size",
         cases(
-            ("an abort", "aborted by the peer, its user (source 0 reason 0)", 292, ABORT, 0),
+            ("an abort", "aborted by the peer, its application (source 0 reason 0)", 292, ABORT, 0),
             ("a close", "closed by the peer", 320, b"", 0),
             ("a release", "released", 292, RELEASE, 10),
         ),
@@ -222,7 +223,7 @@ def test_a_data_set_with_a_fault(serve, why, place, new):
         peer.until_released(changed(STORES[:352] + RELEASE, place, new))
     tells(
         box,
-        f"WARN not stored: {why} {RECORDED}{CALLING}",
+        f"WARN not stored: {why} {RECORDED} syntax ExplicitVRLittleEndian{CALLING}",
         ended(TITLES, "released", "1 of 1", "stored 0 refused 0 failed 1", dropped=1),
     )
 
@@ -239,8 +240,7 @@ class TestFolder:
             counts = "stored 0 refused 1 failed 0"
             tells(
                 box,
-                f"ERROR a file could not be written: {error}",
-                f"WARN not stored: status A700 the folder: {error} {CT}{CALLING}",
+                f"ERROR a file could not be written: {error} {CT}{CALLING}",
                 ended(TITLES, "released", "2 of 2", counts, dropped=1),
             )
 
@@ -273,15 +273,27 @@ class TestLines:
         events = ["started", "listening", "store", "association"]
         assert [line["event"] for line in lines] == events
         said = {"title": "DCMBOX", "folder": "received", "max-pdu": 16384, "drafts": 0}
+        said |= {"callers": "any", "classes": 11, "syntaxes": 2}
         assert said.items() <= started.items()
         assert listening["address"].startswith("127.0.0.1:")
         told = {"class": "CTImageStorage", "instance": "2.25.1.1", "status": "0000"}
+        told["syntax"] = "ExplicitVRLittleEndian"
         assert {**told, "file": "I0000001"}.items() <= store.items()
         titles = {"called": "DCMBOX", "calling": "SCANNER1", "end": "released"}
         assert {**titles, "stored": 1, "accepted": 2, "proposed": 2}.items() <= association.items()
         for line in lines:
             assert len(line["time"]) == 24 and line["time"].endswith("Z")
             assert line["level"] in ("INFO", "DEBUG")
+
+    def test_refused_classes_are_an_array_of_json(self, serve):
+        box = serve("--log", "json")
+        with box.connect() as peer:
+            contexts = [("1.2.840.10008.5.1.4.1.1.88.11", EXPLICIT), (CT_CLASS, "1.2.840.10008.1.2.4.70")]
+            assert {answer for answer, _ in peer.associate(contexts)} == {3, 4}
+        box.until_logged('"event":"association"')
+        [told] = [line for line in map(json.loads, box.lines) if line["event"] == "classes refused"]
+        refused = ["BasicTextSRStorage (class: --all-storage)"]
+        assert told["classes"] == [*refused, "CTImageStorage (syntaxes JPEGLosslessSV1: --all-syntaxes)"]
 
     def test_a_quiet_log_has_warnings_alone(self, serve, tool, to_box, port):
         box = serve("--quiet")
@@ -302,23 +314,46 @@ class TestLines:
         assert re.fullmatch(r"[ -~\n]*", box.log)
         assert max(map(len, box.lines)) <= 1000
 
-    def test_the_first_one(self, serve, work):
-        """It says what the box is, and how many drafts of a box that was killed it has removed."""
+    @pytest.mark.parametrize(
+        "options, taken",
+        cases(
+            ("by default", "", "callers any classes 11 syntaxes 2"),
+            (
+                "with all that can be taken",
+                "--caller A --caller B --all-storage --storage-class 2.25.1 --all-syntaxes",
+                r"callers 2 classes all and 1 named syntaxes \d\d",
+            ),
+            ("of further titles", "--ae A --ae B", "titles 3 callers any classes 11 syntaxes 2"),
+            ("of any title", "--ae A --any-called", "titles any callers any classes 11 syntaxes 2"),
+            (
+                "with a quarantine",
+                "--transfer-syntax 1.2.840.10008.1.2.5 --quarantine refused",
+                "callers any classes 11 syntaxes 3 quarantine refused",
+            ),
+        ),
+    )
+    def test_the_first_one(self, serve, work, options, taken):
+        """It says what the box is and takes, and how many drafts of a box that was killed it has removed."""
         (work / "received").mkdir()
         for name in ("DRAFT", "DRAFT2", "DRAFTS", "I0000007"):
             (work / "received" / name).write_bytes(b"")
-        box = serve("--ae", "BOX 1", "--max-pdu", "2000", "--at-once", "3")
+        options = options.split()
+        (work / "refused").mkdir()
+        box = serve("--ae", "BOX 1", "--max-pdu", "2000", "--at-once", "3", *options)
         box.until_logged("listening")
         limits = "limits max-pdu 2000 max-data 1099511627776 at-once 3"
-        told = rf'dcmbox \d+\.\d+\.\d+ title "BOX 1" folder received {limits} removed drafts 2'
+        told = rf'dcmbox \d+\.\d+\.\d+ title "BOX 1" folder received {limits} removed drafts 2 {taken}'
         assert re.search(rf"^\[INFO  dcmbox::serve\] \S+Z {told}$", box.lines[0])
         assert box.files() == ["DRAFTS", "I0000007"]
 
     @pytest.mark.parametrize(
         "form, begins", (("text", r"\[[A-Z]+ +dcmbox::serve\] "), ("json", r"\{"))
     )
-    def test_under_systemd_each_has_its_priority(self, serve, tool, to_box, form, begins):
-        box = serve("--log", form, "-v", env={"JOURNAL_STREAM": "8:1"})
+    def test_in_systemds_journal_each_has_its_priority(self, serve, tool, to_box, work, form, begins):
+        log = work / "log.txt"
+        log.touch()
+        stream = f"{log.stat().st_dev}:{log.stat().st_ino}"
+        box = serve("--log", form, "-v", env={"JOURNAL_STREAM": stream})
         tool("echoscu", *to_box)
         tool("echoscu", "-aec", "OTHER", *to_box[-2:], check=False)
         box.until_logged("OTHER.*rejected|rejected.*OTHER", count=2)
@@ -326,6 +361,16 @@ class TestLines:
         for line in box.lines:
             level = next(level for level in numbers if level in line)
             assert re.match(rf"<{numbers[level]}>{begins}", line)
+
+    @pytest.mark.parametrize("stream", ("8:1", "{device}:1", "1:{inode}", "{inode}", ""))
+    def test_elsewhere_none_has(self, serve, work, stream):
+        """Standard error was redirected, as by a script that systemd runs."""
+        log = work / "log.txt"
+        log.touch()
+        names = {"device": log.stat().st_dev, "inode": log.stat().st_ino}
+        box = serve(env={"JOURNAL_STREAM": stream.format(**names)})
+        box.until_logged("listening on")
+        assert all(line.startswith("[INFO  dcmbox::serve] ") for line in box.lines)
 
     def test_the_port_and_the_end(self, serve, tool, to_box, port):
         box = serve("--once")

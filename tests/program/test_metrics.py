@@ -8,11 +8,14 @@ from box import wait_for
 from cause import Receive, lose_folder
 from causes import CAUSES
 from peer import CT, ECHO, RELEASE, RELEASED, STORES, STORES_REQUEST, store_command
+from ports import free_port
 from samples import changed
 
 FILE = "box.prom"
 # Causes that need no option of their own and lose no folder, so that one box may have them all.
 PLAIN = [cause for cause in CAUSES if not cause.options and lose_folder not in cause.steps]
+# No line is left out of ten associations.
+TENS = [PLAIN[at : at + 10] for at in range(0, len(PLAIN), 10)]
 # The words of the log for each end that is counted.
 ENDS = {
     "released": "released",
@@ -24,7 +27,7 @@ ENDS = {
     "idle": "aborted: the peer was idle",
     "too_long": "aborted: it lasted too long",
     "stopping": "aborted: the box stops",
-    "connection_failed": "the wire failed",
+    "connection_failed": "the connection failed",
     "file_lost": "closed by dcmbox: a file was lost",
     "unknown": " contexts ",
 }
@@ -129,7 +132,7 @@ def test_of_a_box_that_begins(serve, run, becomes, work):
     version = run("--version").stdout.split()[1]
     assert samples.pop(("dcmbox_info", version)) == 1
     assert before <= samples.pop(("dcmbox_start_time_seconds",)) <= time.time()
-    assert len(samples) == 21 and set(samples.values()) == {0}
+    assert len(samples) == 22 and set(samples.values()) == {0}
 
 
 def test_after_an_echo(serve, becomes):
@@ -187,6 +190,15 @@ def test_of_a_rejected_request_and_of_aborts(box, at_the_end):
         assert samples["dcmbox_associations_total", end] == 1
 
 
+def test_of_refused_contexts(box, at_the_end):
+    names = {"a class that is accepted without its compressed syntaxes": 2, "six classes": 7}
+    for cause in CAUSES:
+        if cause.name in names:
+            happens(box, cause)
+    box.until_logged(" Ended held ", count=2)
+    assert at_the_end(box)["dcmbox_refused_contexts_total",] == sum(names.values())
+
+
 def test_of_an_association_that_the_end_of_the_box_aborts(box, at_the_end):
     with box.connect() as peer:
         assert len(peer.exchange(STORES_REQUEST, 171)) == 171
@@ -196,16 +208,21 @@ def test_of_an_association_that_the_end_of_the_box_aborts(box, at_the_end):
     assert samples["dcmbox_open_connections",] == 0
 
 
-def test_they_are_what_the_log_tells(box, at_the_end):
-    """Of each cause of a line, in one box."""
-    assert len(PLAIN) > 80
-    for count, cause in enumerate(PLAIN, 1):
+def test_the_causes_of_lines_are_of_many_ends():
+    ends = {next(end for end, words in ENDS.items() if cause.end.startswith(words)) for cause in PLAIN}
+    assert len(PLAIN) > 80 and len(ends) >= 5
+
+
+@pytest.mark.parametrize("causes", TENS, ids=[causes[0].name.replace(" ", "_") for causes in TENS])
+def test_they_are_what_the_log_tells(box, at_the_end, causes):
+    """Of each cause of a line, ten in one box."""
+    for count, cause in enumerate(causes, 1):
         happens(box, cause)
         box.until_logged("^.INFO .* Ended held ", count=count)
     samples = at_the_end(box)
     agree(box, samples)
     ends = [value for key, value in samples.items() if key[0] == "dcmbox_associations_total"]
-    assert sum(ends) == len(PLAIN) and sum(value > 0 for value in ends) >= 5
+    assert sum(ends) == len(causes)
 
 
 def test_the_file_is_replaced_as_a_whole(serve, becomes, read, work):
@@ -230,11 +247,23 @@ def test_no_reader_sees_a_part_of_it(trace, serve, becomes, calls):
     becomes(0, "dcmbox_open_connections")
     box.stop()
     about = [call for call in calls() if FILE in call or "# HELP dcmbox_info" in call]
+    about = [call for call in about if f".{FILE}.lock" not in call]
     assert not [call for call in about if re.search(rf'openat\(.*"{FILE}"', call)]
     opened, written, renamed = about[:3]
-    assert f'"{FILE}.new"' in opened and "O_TRUNC" in opened
+    assert f'"{FILE}.new"' in opened and "O_EXCL" in opened
     assert "write(" in written
     assert re.search(rf'rename.*"{FILE}\.new", .*"{FILE}"', renamed)
+
+
+def test_a_file_that_another_box_writes(serve, expect, work):
+    """Nor does it get the folder; once the other has ended it may."""
+    (work / "other").mkdir()
+    box = serve("--metrics", FILE)
+    words = ("--port", str(free_port()), "--out", "other", "--metrics", FILE)
+    errors = f"dcmbox: {FILE}: the file of metrics can't be used: it is in use by another program; .*"
+    expect(3, "", errors, "serve", *words)
+    box.stop()
+    assert serve("--metrics", FILE).echoes()
 
 
 def test_a_folder_that_takes_no_file(serve, becomes, work):

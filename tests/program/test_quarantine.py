@@ -294,13 +294,28 @@ def test_another_file_system(run, work, port):
     [
         ("received", "it is the folder that files go to"),
         ("received/../received/.", "it is the folder that files go to"),
-        ("missing", "No such file or directory"),
+        ("missing/aside", "No such file or directory.* it is made within a folder that is there"),
+        ("file", "Not a directory"),
+        ("received/link", "No such file or directory"),
     ],
 )
 def test_what_is_no_quarantine(run, work, port, folder, why):
     (work / "received").mkdir()
+    (work / "file").write_bytes(b"")
+    (work / "received/link").symlink_to("nowhere")
     done = run("serve", "--port", str(port), "--out", "received", "--quarantine", folder)
-    assert done.returncode == 3 and f"the quarantine can't be used: {why}" in done.stderr
+    assert done.returncode == 3
+    assert re.search(f"the quarantine can't be used: {why}", done.stderr, re.S), done.stderr
+    assert names(work) == ["file", "received"] and names(work / "received") == ["link"]
+
+
+@pytest.mark.parametrize(("mask", "mode"), [(0o007, 0o770), (0o027, 0o750), (0, 0o770)])
+def test_a_missing_quarantine_is_made(serve, work, mask, mode):
+    """For the box's user and group, as the umask says. It is there before anything is refused."""
+    box = serve("--quarantine", "aside", before=["sh", "-c", f'umask {mask:03o}; exec "$@"', "sh"])
+    assert (work / "aside").stat().st_mode & 0o7777 == mode and names(work / "aside") == []
+    assert send(box, data_set(more=BAD)) == "C000"
+    assert names(work / "aside") == ["000001.dcm", "000001.txt"]
 
 
 def test_a_quarantine_within_the_folder(serve, run, work):

@@ -9,14 +9,17 @@ import pytest
 from box import LITTLE, PATIENCE, listeners
 from peer import (
     ECHO,
+    ECHO_ANSWER,
     ECHO_REQUEST,
     RELEASE,
     STORES,
     STORES_ANSWER,
     SUCCESS,
+    Peer,
     element,
     values,
 )
+from ports import free_port
 from samples import CT_FILE, HEADER, cases
 
 REFUSED_ANSWER = STORES_ANSWER.replace(SUCCESS, bytes.fromhex("000000090200000000a7"))
@@ -46,6 +49,33 @@ def test_listens_on(start, port, address, options):
     assert listeners(port) == [address]
 
 
+def test_listens_on_further_addresses(serve, port):
+    """A connection of each is served, and the log tells of each."""
+    others = [("127.0.0.2", free_port()), ("127.0.0.1", free_port()), ("::1", free_port())]
+    words = [f"[{host}]:{number}" if ":" in host else f"{host}:{number}" for host, number in others]
+    box = serve("--at-once", "4", *(word for each in words for word in ("--listen", each)))
+    for _ in range(2):
+        assert box.echoes()
+        for host, number in others:
+            with Peer(number, None, to=host) as peer:
+                assert peer.exchange(ECHO, len(ECHO_ANSWER)) == ECHO_ANSWER
+    for word in [f"127.0.0.1:{port}", *words]:
+        assert len(re.findall(f"listening on {re.escape(word)}$", box.log, re.M)) == 1
+
+
+def test_a_further_address_that_is_used(expect, put, serve, port):
+    serve("--at-once", "2")
+    put({"other/.keep": b""})
+    words = ("--port", str(free_port()), "--out", "other", "--listen", f"127.0.0.1:{port}")
+    errors = f".*dcmbox: 127.0.0.1:{port}: an address of --listen can't be listened on: .*"
+    expect(3, "", errors, "serve", *words)
+
+
+def test_of_five_further_addresses_it_listens_on_none(expect):
+    errors = "error: --listen may be given 4 times at most"
+    expect(2, "", errors, "serve", "--port", "11112", "--out", ".", *["--listen", "127.0.0.1:1"] * 5)
+
+
 @pytest.mark.parametrize(
     "answer, options",
     cases(
@@ -57,6 +87,7 @@ def test_listens_on(start, port, address, options):
             "--caller SCANNER2 --caller SCANNER",
         ),
         ("another called title", "03000000000400010107", "--ae ARCHIVE"),
+        ("a called title beside two", "03000000000400010107", "--ae ARCHIVE --ae DCMBOX2"),
     ),
 )
 def test_rejects(start, answer, options):
@@ -65,6 +96,18 @@ def test_rejects(start, answer, options):
     with box.connect() as peer:
         peer.send(ECHO_REQUEST)
         assert peer.rest() == bytes.fromhex(answer)
+
+
+@pytest.mark.parametrize(
+    "options", ["--ae ARCHIVE --ae DCMBOX", "--ae ARCHIVE " * 15 + "--ae DCMBOX", "--ae ARCHIVE --any-called"]
+)
+def test_called_by_a_further_title_it_serves(start, options):
+    assert start(*options.split()).echoes()
+
+
+def test_of_seventeen_called_titles_it_serves_none(expect):
+    errors = "error: --ae may be given 16 times at most"
+    expect(2, "", errors, "serve", "--port", "11112", "--out", ".", *["--ae", "DCMBOX"] * 17)
 
 
 def test_a_caller_that_is_named_is_served(start):
@@ -91,10 +134,10 @@ class TestCallers:
             ("alone", b"SCANNER1\n", ""),
             ("without an end of its line", b"SCANNER2\nSCANNER1", ""),
             ("in lines that end in CR LF", b"# R\366ntgen\r\n\r\nSCANNER2\r\nSCANNER1\r\n", ""),
-            ("the last of 64", b"SCANNER2\n" * 63 + b"SCANNER1\n", ""),
+            ("the last of 4,096", b"SCANNER2\n" * 4095 + b"SCANNER1\n", ""),
             ("by an option", b"SCANNER2\n", "--caller SCANNER1"),
             ("before an option", b"SCANNER1\n", "--caller SCANNER2"),
-            ("the last of 64 with those of options", b"A\n" * 62, "--caller B --caller SCANNER1"),
+            ("the last of 4,096 with those of options", b"A\n" * 4094, "--caller B --caller SCANNER1"),
             ("in the longest file", b"SCANNER1\n#" + b"-" * 65526, ""),
         ),
     )
@@ -126,6 +169,12 @@ class TestCallers:
                 b"SCANNER1\r\n\r\nSEVENTEENLETTERSX\r\n",
                 "",
             ),
+            (
+                "a comment behind a title",
+                'line 2 has a comment behind a title; it needs a line of its own: "US 3 # room 5"',
+                b"CT #2\nUS 3 # room 5\n",
+                "",
+            ),
             ("in UTF-16", "line 1 is no AE title .*", b"\377\376S\0", ""),
             ("in a longer file", "has more than 65536 bytes", b"SCANNER1\n#" + b"-" * 65527, ""),
         ),
@@ -135,9 +184,9 @@ class TestCallers:
         refused(errors, listed, *options.split())
 
     def test_that_are_too_many(self, refused):
-        errors = "error: --callers and --caller may name 64 titles at most"
-        refused(errors, b"SCANNER1\n" * 65)
-        refused(errors, b"SCANNER1\n" * 64, "--caller", "SCANNER1")
+        errors = "error: --callers and --caller may name 4096 titles at most"
+        refused(errors, b"SCANNER1\n" * 4097)
+        refused(errors, b"SCANNER1\n" * 4096, "--caller", "SCANNER1")
 
     @pytest.mark.parametrize("name", ["missing.txt", "."])
     def test_that_cannot_be_read(self, expect, name):
@@ -340,7 +389,7 @@ def test_a_port_that_the_system_keeps(program, work):
         extra_groups=[],
     )
     refused = (
-        r"\[INFO [^\n]* removed drafts 0\n"
+        r"\[INFO [^\n]* removed drafts 0 callers any classes 11 syntaxes 2\n"
         "dcmbox: 104: can't be listened on: Permission denied "
         "[^;]*; choose a port from 1024 on.*CAP_NET_BIND_SERVICE\n"
     )

@@ -3,9 +3,14 @@
 Peers that stall keep nobody out, each data set arrives as it was sent, one address can't take every
 place, and a stop lets stores end.
 """
+import itertools
 import re
+import shutil
 import signal
+import subprocess
+import threading
 import time
+from concurrent.futures import ThreadPoolExecutor
 from contextlib import ExitStack
 
 import pytest
@@ -13,15 +18,21 @@ from box import PATIENCE, wait_for
 from images import digests, dumped, identity, need
 from peer import (
     ABORT,
+    CT,
     ECHO,
     ECHO_ANSWER,
     ECHO_COMMAND,
     ECHO_REQUEST,
+    EXPLICIT,
+    RELEASE,
     RELEASED,
     STORES,
     STORES_REQUEST,
     SUCCESS,
+    data_set_pdus,
+    store_command,
 )
+from test_quarantine import data_set
 
 SENDERS, EACH = 8, 10
 # What a peer that stalls sends: a byte or a half of a request.
@@ -245,3 +256,71 @@ def test_at_most_6_mib_for_sixteen_associations(serve, senders, stall_in_a_store
         stall_in_a_store(box)
     assert [process.wait(PATIENCE) for process in senders(2)] == [0] * 16
     assert box.most_resident() <= 6144
+
+
+class TestFoldersThatAreMoved:
+    """Folders are moved away and removed at any moment, also the one that is filed into."""
+
+    SECONDS, PAUSE = 10, 0.005
+
+    def send(self, box, number, until, stored):
+        """Stores one image an association, by a success each; notes the instances."""
+        count = 0
+        while time.monotonic() < until:
+            count += 1
+            uid = f"1.2.840.{number}.{count}"
+            with box.connect() as peer:
+                assert peer.associate([(CT, EXPLICIT)]) == [(0, EXPLICIT)]
+                peer.send(store_command(1, CT, uid) + b"".join(data_set_pdus(1, data_set(instance=uid))))
+                _, body = peer.receive_pdu()
+                assert SUCCESS in body, (uid, body)
+                stored.append(uid)
+                peer.until_released(RELEASE)
+
+    def move(self, box, aside, ended):
+        for number in itertools.count():
+            for at, folder in enumerate(box.folder.glob("S???????")):
+                folder.rename(aside / f"{number}-{at}")
+            if ended.wait(self.PAUSE):
+                return
+
+    def remove(self, box, ended):
+        """Removes empty folders, as an operator's script does that looks for old files."""
+        while not ended.is_set():
+            words = "find", box.folder, "-mindepth", "1", "-type", "d", "-empty", "-delete"
+            subprocess.run(words, stderr=subprocess.DEVNULL, check=False)
+
+    def take(self, aside, ended, found):
+        """Takes what is in the folders that were moved, and removes them."""
+        while not ended.wait(self.PAUSE):
+            for folder in aside.iterdir():
+                # (what was named meanwhile is in it by then)
+                time.sleep(self.PAUSE)
+                found.extend(path.read_bytes() for path in folder.iterdir())
+                shutil.rmtree(folder)
+
+    def test_no_file_is_lost(self, serve, work):
+        """Each store succeeds, and its file is in a folder that stayed or was moved."""
+        box = serve("--at-once", "8", "--per-peer", "8", "--per", "20")
+        stored, found, ended = [], [], threading.Event()
+        aside, until = work / "aside", time.monotonic() + self.SECONDS
+        aside.mkdir()
+        with ThreadPoolExecutor(11) as pool:
+            senders = [pool.submit(self.send, box, number, until, stored) for number in range(8)]
+            others = [
+                pool.submit(self.move, box, aside, ended),
+                pool.submit(self.take, aside, ended, found),
+                pool.submit(self.remove, box, ended),
+            ]
+            try:
+                for sender in senders:
+                    sender.result()
+            finally:
+                ended.set()
+            for other in others:
+                other.result()
+        for folder in (*aside.iterdir(), *box.folder.glob("S???????")):
+            found.extend(path.read_bytes() for path in folder.iterdir())
+        uids = {re.search(rb"1\.2\.840\.\d\.\d+(?=\0|\x02)", data)[0].decode() for data in found}
+        assert set(stored) <= uids and len(stored) > 100
+        assert "closed by dcmbox" not in box.log

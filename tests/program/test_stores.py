@@ -43,6 +43,25 @@ def test_folders_of_one_file_each(replay):
     }
 
 
+@pytest.mark.parametrize(
+    "command, removes",
+    [
+        (("replay", "stores.bin", "--out"), True),
+        (("check", "-r"), False),
+        (("list",), False),
+        (("arrange", "--to", "tree"), False),
+        (("index", "--new-uid"), False),
+    ],
+    ids=lambda value: value[0] if isinstance(value, tuple) else None,
+)
+def test_files_with_the_names_of_drafts(run, put, work, command, removes):
+    """They are removed as a folder is opened to file there, whoever made them."""
+    put({"in/DRAFT": b"x", "in/DRAFT07": b"x", "in/DRAFTS": b"x"})
+    run(*command, "in")
+    names = {name for name in os.listdir(work / "in") if name.startswith("DRAFT")}
+    assert names == ({"DRAFTS"} if removes else {"DRAFT", "DRAFT07", "DRAFTS"})
+
+
 def mount_without_links(folder, image):
     """Mounts exFAT by the kernel or by FUSE, or vfat by the kernel.
 

@@ -1,8 +1,22 @@
 """What the program asks of the system, and calls that strace cuts short or lets fail."""
+import os
 import re
+import shutil
+import signal
+from contextlib import contextmanager
 
 import pytest
-from peer import ECHO, ECHO_ANSWER, FIRST_REPLY, RELEASED, STORES, STORES_ANSWER
+from box import wait_for
+from peer import (
+    ECHO,
+    ECHO_ANSWER,
+    FIRST_REPLY,
+    RELEASED,
+    STORES,
+    STORES_ANSWER,
+    STORES_REQUEST,
+    SUCCESS,
+)
 from samples import ELEMENTS, SHOWN, LargeStore
 
 LISTING = SHOWN + ELEMENTS
@@ -167,3 +181,213 @@ def test_the_writeback_of_a_small_store_is_left_to_its_sync(stores, calls):
 def test_no_writeback_is_started_where_nothing_is_synced(stores, store, calls):
     stores(store, "--no-sync")
     assert calls() == []
+
+
+# The first store of the recording, and what is answered to the request before it.
+FIRST_STORE, ACCEPTED = STORES[180:352], STORES_ANSWER[:171]
+
+
+# The answer to the second store and to the release, and to the first where its file could not be written.
+STORED = STORES_ANSWER[len(FIRST_REPLY) :]
+REFUSED_REPLY = FIRST_REPLY[len(ACCEPTED) :].replace(SUCCESS, bytes.fromhex("000000090200000000a7"))
+
+
+@pytest.mark.parametrize(
+    "options",
+    [(), ("--stop-file", "stop.txt"), ("--longest", "60"), ("--per", "5", "--longest", "60")],
+    ids=["alone", "with_an_end", "with_a_bound", "in_subfolders"],
+)
+def test_one_slot_settles_each_file_by_itself(serve, trace, calls, work, options):
+    """A folder that can't be synced costs its store, with A700, and not the association."""
+    failing = "fsync:error=EIO:when=1"
+    folder = work / "received" / ("S0000001" if "--per" in options else "")
+    box = serve(*options, before=trace("-P", folder, "-e", "trace=fsync", "-e", f"inject={failing}"))
+    with box.connect() as peer:
+        assert peer.exchange(STORES_REQUEST, len(ACCEPTED)) == ACCEPTED
+        answer = REFUSED_REPLY + STORED
+        assert peer.exchange(STORES[len(STORES_REQUEST) :], len(answer)) == answer
+    box.until_logged(r"^\[ERROR .*a file could not be written: Input/output error")
+    assert len(calls()) == 2 and len(list(box.folder.rglob("I*"))) == 1
+
+
+@pytest.mark.parametrize("options", [(), ("--at-once", "2")], ids=["alone", "in_a_group"])
+def test_a_subfolder_that_stood_is_synced_into_its_folder(serve, trace, calls, work, options):
+    """Once, before its first file is answered."""
+    (work / "received/S0000001").mkdir(parents=True)
+    names = "trace=fsync,link,sendto"
+    box = serve("--per", "5", *options, before=trace("-y", "-e", names))
+    assert box.answers(STORES, STORES_ANSWER)
+    draft, folder = ["fsync DRAFT", "link"], ["fsync S", "sendto"]
+    sent = ["sendto", *draft, "fsync received", *folder, *draft, *folder, "sendto"]
+    assert [shown(call) for call in calls()][: len(sent)] == sent
+
+
+class TestSubfoldersThatGo:
+    """A subfolder is moved, replaced or removed while a file gets its name there."""
+
+    @pytest.fixture
+    def named(self, serve, trace, work):
+        """Stores two objects, and does this once the first has its name, before the system says so.
+
+        Returns the names in the folder.
+        """
+
+        def stored(change, *options, links=(), first=b""):
+            late = f"inject={'rename' if links else 'link'}:delay_exit=2000000:when=1"
+            traced = trace("-y", "-e", "trace=fsync,link,rename,sendto", *links, "-e", late)
+            box = serve("--per", "5", *options, before=traced)
+            with box.connect() as peer:
+                assert peer.exchange(STORES_REQUEST, len(ACCEPTED)) == ACCEPTED
+                peer.send(FIRST_STORE)
+                folder = box.folder / "S0000001"
+                wait_for((folder / "I0000001").exists, "the first file has its name")
+                change(folder)
+                answer = (first or FIRST_REPLY[len(ACCEPTED) :]) + STORED
+                rest = STORES[len(STORES_REQUEST + FIRST_STORE) :]
+                assert peer.exchange(rest, len(answer)) == answer
+            return sorted(str(path.relative_to(box.folder)) for path in box.folder.rglob("I*"))
+
+        return stored
+
+    @pytest.mark.parametrize("options", [(), ("--at-once", "2")], ids=["alone", "in_a_group"])
+    @pytest.mark.parametrize("replaced", [False, True], ids=["moved", "replaced"])
+    def test_the_file_is_named_once_more(self, named, calls, work, options, replaced):
+        """With the next number, in the folder that is there then or is made again.
+
+        The sync of its bytes comes before each name, and that of its folder after the last. What another
+        program has put there stays.
+        """
+
+        def change(folder):
+            folder.rename(work / "moved")
+            if replaced:
+                folder.mkdir()
+                (folder / "I0000001").write_bytes(b"of another")
+
+        names = ["I0000001"] * replaced + ["I0000002", "I0000003"]
+        assert named(change, *options) == [f"S0000001/{name}" for name in names]
+        files = work / "moved/I0000001", work / "received/S0000001/I0000002"
+        assert files[0].read_bytes() == files[1].read_bytes()
+        if replaced:
+            assert files[1].with_name("I0000001").read_bytes() == b"of another"
+        # (where there is no folder the second link fails, and is made again in one that is made)
+        due = ["fsync DRAFT", *["link"] * (3 - replaced), "fsync received", "fsync S", "sendto"]
+        assert [shown(call) for call in calls()][1 : len(due) + 1] == due
+
+    def test_the_file_is_named_once_more_where_its_folder_is_removed(self, named):
+        assert named(shutil.rmtree) == ["S0000001/I0000002", "S0000001/I0000003"]
+
+    def test_without_hard_links_that_file_is_lost(self, named, work):
+        """It has no other name than the one that was moved. The association goes on."""
+        refused = "-e", "inject=link:error=EPERM"
+        names = named(lambda folder: folder.rename(work / "moved"), links=refused, first=REFUSED_REPLY)
+        assert names == ["S0000001/I0000002"]
+
+    def test_a_folder_that_is_always_gone_costs_its_file(self, serve, trace):
+        """It is made a hundred times, and then the store is refused."""
+        names = "--per", "9999"
+        box = serve(*names, before=trace("-e", "inject=link:error=ENOENT:when=1..202"))
+        with box.connect() as peer:
+            assert peer.exchange(STORES_REQUEST, len(ACCEPTED)) == ACCEPTED
+            answer = REFUSED_REPLY + STORED
+            assert peer.exchange(STORES[len(STORES_REQUEST) :], len(answer)) == answer
+        assert [path.name for path in box.folder.rglob("I*")] == ["I0000101"]
+
+    def test_a_draft_that_was_removed_is_refused_at_once(self, serve):
+        """Its folder is not made again and again."""
+        box = serve("--per", "1")
+        with box.connect() as peer:
+            assert peer.exchange(STORES_REQUEST, len(ACCEPTED)) == ACCEPTED
+            peer.send(FIRST_STORE[:-1])
+            wait_for((box.folder / "DRAFT").exists, "the draft is there")
+            (box.folder / "DRAFT").unlink()
+            answer = REFUSED_REPLY + STORED
+            assert peer.exchange(STORES[len(STORES_REQUEST + FIRST_STORE) - 1 :], len(answer)) == answer
+        assert [path.name for path in box.folder.rglob("S*")] == ["S0000001"]
+
+
+class TestGroups:
+    """Stores that end together are settled together."""
+
+    @pytest.fixture
+    def group(self, serve, trace, work):
+        """Stores two objects together while a call fails or waits; the peers wait for their replies.
+
+        The first is filed first.
+        """
+
+        @contextmanager
+        def stored(name, kind, *options, places="2"):
+            path = work / "received" / name
+            words = trace("-P", path, "-e", "trace=fsync", "-e", f"inject=fsync:{kind}")
+            box = serve("--at-once", places, "--per-peer", places, *options, before=words)
+            with box.connect() as first, box.connect() as second:
+                for peer in (first, second):
+                    assert peer.exchange(STORES_REQUEST, len(ACCEPTED)) == ACCEPTED
+                # It is held at its next call, so that both stores have come when it goes on.
+                os.kill(box.pid, signal.SIGSTOP)
+                try:
+                    for peer in (first, second):
+                        peer.send(FIRST_STORE)
+                finally:
+                    os.kill(box.pid, signal.SIGCONT)
+                yield box, first, second
+
+        return stored
+
+    def filed(self, box):
+        return sorted(str(path.relative_to(box.folder)) for path in box.folder.rglob("I*"))
+
+    def stores_both(self, box):
+        """Whether both places store what the next connections send."""
+        with box.connect() as first, box.connect() as second:
+            for peer in (first, second):
+                assert peer.exchange(STORES_REQUEST, len(ACCEPTED)) == ACCEPTED
+            rest = STORES_ANSWER[len(ACCEPTED) :]
+            return all(
+                peer.exchange(STORES[len(STORES_REQUEST) :], len(rest)) == rest
+                for peer in (first, second)
+            )
+
+    def test_a_folder_that_cannot_be_synced_costs_its_group(self, group, calls):
+        """No reply comes, no name stays, and the places serve the next connections."""
+        with group("", "error=EIO:when=1") as (box, first, second):
+            assert (first.rest(), second.rest()) == (b"", b"")
+        box.until_logged("the folder could not be synced: Input/output error")
+        assert len(calls()) == 1 and box.files() == []
+        assert self.stores_both(box)
+        assert self.filed(box) == [f"I000000{n}" for n in (3, 4, 5, 6)]
+
+    def test_nobody_is_served_before_a_slow_sync_has_ended(self, group):
+        """An echo waits for the sync of the second draft."""
+        with group("DRAFT2", "delay_enter=3000000:when=1", places="3") as (box, *_):
+            wait_for((box.folder / "I0000001").exists, "the first file has its name")
+            with box.connect() as other:
+                other.send(ECHO)
+                assert other.is_silent(1)
+                assert other.receive(len(ECHO_ANSWER)) == ECHO_ANSWER
+
+    def test_a_subfolder_that_cannot_be_synced_costs_its_own_files(self, group, calls):
+        """The file in the other one is filed, and the place of the lost one serves again."""
+        inject = "S0000001", "error=EIO:when=1", "--per", "1"
+        with group(*inject) as (box, first, second):
+            reply = STORES_ANSWER[len(ACCEPTED) : len(FIRST_REPLY)]
+            assert (first.rest(), second.receive(len(reply))) == (b"", reply)
+        box.until_logged("the folder could not be synced: Input/output error")
+        assert len(calls()) == 1 and self.filed(box) == ["S0000002/I0000001"]
+        assert self.stores_both(box)
+
+    def test_a_subfolder_that_is_moved_away_before_the_sync(self, group, work):
+        """Each file is filed: the subfolder is synced where it is.
+
+        The sync of the second draft waits until the subfolder is moved.
+        """
+        inject = "DRAFT2", "delay_enter=2000000:when=1", "--per", "1"
+        with group(*inject) as (box, first, second):
+            moved = box.folder / "S0000001"
+            wait_for((moved / "I0000001").exists, "the first file has its name")
+            moved.rename(work / "moved")
+            reply = STORES_ANSWER[len(ACCEPTED) : len(FIRST_REPLY)]
+            assert [peer.receive(len(reply)) for peer in (first, second)] == [reply] * 2
+        assert self.filed(box) == ["S0000002/I0000001"] and (work / "moved/I0000001").exists()
+        assert "could not be synced" not in box.log

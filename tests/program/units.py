@@ -1,4 +1,5 @@
 """Runs the systemd units of a root as systemd would, in 16 MB of memory."""
+import os
 import re
 import subprocess
 
@@ -10,6 +11,50 @@ def in_root(root, command):
     for folder in ("/var/lib", "/run/"):
         command = command.replace(folder, f"{root}{folder}")
     return f"{root}{command}"
+
+
+def settings(unit, name, *default):
+    """The values of a setting in a unit, in order."""
+    return re.findall(rf"^{name}=(.*)$", unit, re.M) or list(default)
+
+
+def environment_files(unit):
+    """The paths of the files of a unit's variables, also of those that need not be there."""
+    return [path.lstrip("-") for path in settings(unit, "EnvironmentFile")]
+
+
+def capabilities(unit, name):
+    """The capabilities that a setting gives, as setpriv has them; an empty value takes all."""
+    given = []
+    for value in settings(unit, name):
+        given = [*given, *value.split()] if value else []
+    return ",".join(["-all", *(one.lower().replace("cap_", "+") for one in given)])
+
+
+def as_user(owner, *groups, unit=""):
+    """The words that run a command as a user of a group, by their numbers, and of further groups.
+
+    It has the capabilities of a unit.
+    """
+    if not owner:
+        return []
+    user, group = owner
+    further = ["--groups", ",".join(map(str, groups))] if groups else ["--clear-groups"]
+    ambient = capabilities(unit, "AmbientCapabilities")
+    return [
+        *("setpriv", f"--reuid={user}", f"--regid={group}", *further),
+        f"--bounding-set={capabilities(unit, 'CapabilityBoundingSet')}",
+        *(f"--inh-caps={ambient}", f"--ambient-caps={ambient}"),
+    ]
+
+
+def linked(path):
+    """The folder that a path leads to by a symbolic link, as with DynamicUser."""
+    private = path.parent / "private" / path.name
+    if not path.is_symlink():
+        private.parent.mkdir(parents=True, exist_ok=True)
+        path.symlink_to(private)
+    return private
 
 
 class Units:
@@ -28,31 +73,60 @@ class Units:
         assert "--port 11112 " in options
         path.write_text(options.replace("--port 11112 ", f"--port {port} "))
 
-    def run(self, name, port, instance=""):
+    def run(self, name, port, instance="", **kinds):
         """Runs a unit's command line with the root's options until it listens on the port."""
-        unit = self.unit(name).replace("%i", instance)
-        for kind, base in (("StateDirectory", "var/lib"), ("RuntimeDirectory", "run")):
-            for folders in re.findall(rf"^{kind}=(.*)$", unit, re.M):
-                for folder in folders.split():
-                    (self.root / base / folder).mkdir(parents=True, exist_ok=True)
-        command = re.search(r"^ExecStart=(.*)$", unit, re.M)[1]
-        shell = f'. "{self.root}/etc/default/dcmbox"; exec {in_root(self.root, command)}'
-        log = self.root / f"{name}.{instance}.log"
-        with open(log, "ab") as lines:
-            process = subprocess.Popen(
-                ["sh", "-c", shell],
-                stdin=subprocess.DEVNULL,
-                stderr=lines,
-                env={"DCMBOX_LISTEN": "", "DCMBOX_OPTIONS": "", "PATH": "/usr/bin:/bin"},
-                preexec_fn=prepare(LITTLE),
-            )
-        self.running.append(process)
+        process = self.start(name, instance, **kinds)
 
         def is_listening():
-            assert process.poll() is None, log.read_text()
+            assert process.poll() is None, self.log(name, instance).read_text()
             return listeners(port)
 
         wait_for(is_listening, f"{name} listens on port {port}")
+        return process
+
+    def log(self, name, instance=""):
+        return self.root / f"{name}.{instance}.log"
+
+    def start(self, name, instance="", dropped_in="", owner=None, before=()):
+        """Runs a unit's command line with the root's options.
+
+        `dropped_in` is the text of a drop-in, `owner` the numbers of a user and a group, and
+        `before` a command that runs it.
+        """
+        unit = (self.unit(name) + dropped_in).replace("%i", instance)
+        for kind, base in (("StateDirectory", "var/lib"), ("RuntimeDirectory", "run")):
+            mode = int(settings(unit, f"{kind}Mode", "0755")[-1], 8)
+            for folder in " ".join(settings(unit, kind)).split():
+                path = self.root / base / folder
+                if kind == "StateDirectory" and settings(unit, "DynamicUser")[-1] == "yes":
+                    path = linked(path)
+                path.mkdir(parents=True, exist_ok=True)
+                path.chmod(mode)
+                if owner:
+                    os.chown(path, *owner)
+        files = [f'[ ! -e "$root{path}" ] || . "$root{path}"' for path in environment_files(unit)]
+        command = in_root(self.root, settings(unit, "ExecStart")[-1])
+        shell = [
+            *settings(unit, "Environment"),
+            *files,
+            'case $DCMBOX_FOLDER in /var/lib/*) DCMBOX_FOLDER=$root$DCMBOX_FOLDER ;; esac',
+            f'umask {settings(unit, "UMask")[-1]}',
+            f"exec {command}",
+        ]
+        with open(self.log(name, instance), "ab") as lines:
+            process = subprocess.Popen(
+                [*before, *as_user(owner, unit=unit), "sh", "-c", "\n".join(shell)],
+                stdin=subprocess.DEVNULL,
+                stderr=lines,
+                env={
+                    "root": str(self.root),
+                    "DCMBOX_LISTEN": "",
+                    "DCMBOX_OPTIONS": "",
+                    "PATH": "/usr/bin:/bin",
+                },
+                preexec_fn=prepare(LITTLE),
+            )
+        self.running.append(process)
         return process
 
     def stop(self):

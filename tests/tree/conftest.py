@@ -5,7 +5,7 @@ import trees
 
 def pytest_collection_modifyitems(items):
     """Begins with what takes longest: the tests that prove crates."""
-    items.sort(key=lambda item: item.path.stem not in ("test_build", "test_wrong_bodies"))
+    items.sort(key=lambda item: item.get_closest_marker("proves") is None)
 
 
 @pytest.fixture

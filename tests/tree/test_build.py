@@ -72,8 +72,10 @@ pub fn four() -> u8
 """,
 }
 
-# They look at one tree, so they go to one worker.
-together = pytest.mark.xdist_group("build")
+
+def proves(test):
+    """Marks a test that looks at the one tree of which crates are proved, so that these go to one worker."""
+    return pytest.mark.proves(pytest.mark.xdist_group("build")(test))
 
 
 def build(tree, *words, **kinds):
@@ -90,7 +92,7 @@ def built():
         yield tree, *build(tree, "shown")
 
 
-@together
+@proves
 def test_a_program_is_proved_and_compiled(built):
     tree, status, output = built
     # (a toolchain whose gate can prove some crates alone says which they were)
@@ -99,19 +101,19 @@ def test_a_program_is_proved_and_compiled(built):
     assert subprocess.check_output([tree / "crates/shown/out/shown"]) == b"6\n"
 
 
-@together
+@proves
 @pytest.mark.parametrize("name", ["three", "six", "shown"])
 def test_each_crate_is_told_of(built, name):
     proved = (f"rt: {name} proved", f"rt: {name} is kept: ")
     assert any(line.startswith(proved) for line in built[2].splitlines()), built[2]
 
 
-@together
+@proves
 def test_what_the_program_does_not_stand_on_is_left_out(built):
     assert built[1] == 0 and "== beside" not in built[2], built[2]
 
 
-@together
+@proves
 def test_what_was_proved_is_not_proved_again(built, tool):
     status, output = build(built[0], "shown")
     assert status == 0, output
@@ -122,7 +124,7 @@ def test_what_was_proved_is_not_proved_again(built, tool):
     assert told == ["three", "six", "shown"], output
 
 
-@together
+@proves
 def test_a_program_over_a_crate_that_is_not_proved_is_not_built(built):
     tree = built[0]
     program = tree / "crates/shown/out/shown"
@@ -136,7 +138,7 @@ def test_a_program_over_a_crate_that_is_not_proved_is_not_built(built):
     assert program.stat() == before
 
 
-@together
+@proves
 def test_a_library_is_built_with_what_checks_begin_with(built):
     tree = built[0]
     status, output = build(tree, "--keep", "six")
@@ -147,7 +149,7 @@ def test_a_library_is_built_with_what_checks_begin_with(built):
         assert os.listdir(tree / f"crates/{name}/out/incremental")
 
 
-@together
+@proves
 def test_a_library_over_one_that_is_not_proved_is_not_built(built):
     tree = built[0]
     source = tree / "crates/three/src/lib.rt"

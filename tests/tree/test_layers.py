@@ -28,9 +28,12 @@ ASSOCIATION = (
     "element dictionary sequence pdu acceptor negotiate dimse part10 folder_filing decisions engine"
 ).split()
 DEVICES = (
-    "memory_wire memory_filing folder_calls folder_filing folder_writer given_names group groups "
-    "listing locked_folder places names numbers aside notes quarantine quarantine_names"
+    "memory_wire memory_filing drafts folder_calls folder_filing folder_writer given_names group groups "
+    "listing locked_folder naming subfolders open_folder places names names_synced numbers aside "
+    "notes quarantine quarantine_names"
 ).split()
+# An association has its settings by reference, and with them this list of whoever made it.
+SETTING = re.compile(r"\bcallers: (Option<)?Vec<AeTitle>")
 
 
 def crates(tree):
@@ -115,6 +118,7 @@ def allocations(tree):
         for name, place, line in lines(tree, crate, "src", [".rt"])
         if ALLOCATING.search(line)
         if name.stem not in DEVICES and not line.lstrip(" ").startswith("//")
+        if not SETTING.search(line)
     ]
 
 

@@ -104,24 +104,21 @@ def said(tried):
     return tried[1:]
 
 
-# They look at one run of the tool, so they go to one worker.
-together = pytest.mark.xdist_group("wrong_bodies")
+# They look at one run of the tool, which proves a crate, so they go to one worker.
+pytestmark = [pytest.mark.proves, pytest.mark.xdist_group("wrong_bodies")]
 
 
-@together
 @pytest.mark.parametrize("name", TAKEN)
 def test_an_edit_that_is_refused_is_taken(said, name):
     assert f"FAILED: digits/{name}:" not in said[1], said[1]
     assert f" {len(TAKEN)} refused by the clause that they name" in said[1], said[1]
 
 
-@together
 @pytest.mark.parametrize("name, why", cases(*((it, it, row[3]) for it, row in REFUSED.items())))
 def test_an_edit_is_told_why_it_shows_nothing(said, name, why):
     assert f"FAILED: digits/{name}: {why}" in said[1], said[1]
 
 
-@together
 def test_its_status_and_last_line_tell_of_failures(said):
     status, output = said
     every = len(TAKEN) + len(REFUSED)
@@ -143,7 +140,6 @@ CHANGES = {
 }
 
 
-@together
 @pytest.mark.parametrize("what", CHANGES)
 def test_what_was_refused_is_tried_again_where_it_rests_on_a_change(tried, what):
     old, new, words, before = CHANGES[what]
@@ -156,7 +152,6 @@ def test_what_was_refused_is_tried_again_where_it_rests_on_a_change(tried, what)
     assert status == 0 and f"{count} wrong bodies: {refused} (" in output, output
 
 
-@together
 def test_what_was_refused_is_kept_for_the_last_two_that_it_rests_on(tried):
     lock = pathlib.Path(tried[0], "crates/digits/wrong-bodies/refused.lock")
     kept, before = lock.read_text(), []
@@ -169,7 +164,6 @@ def test_what_was_refused_is_kept_for_the_last_two_that_it_rests_on(tried):
     assert before == [False, True, True, False, False]
 
 
-@together
 def test_only_what_is_refused_is_kept(tried):
     lines = pathlib.Path(tried[0], "crates/digits/wrong-bodies/refused.lock").read_text().splitlines()
     assert [line.split()[0] for line in lines[1:]] == sorted(TAKEN), lines

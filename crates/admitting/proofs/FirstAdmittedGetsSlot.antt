@@ -8,7 +8,7 @@ use Rattle.admitting.specs.Occupants.{Occupants, Admits}
 use Rattle.admitting.specs.Queues.{AllGetNone, GetsSlot}
 
 -- each stands between those before it and those after it
-around : {T : Type 0} (waiters : List (Waiter T)) (d : Waiter T) (at : ℕ) → at < length waiters → waiters ≡ take at waiters ++ get_or waiters at d ∷ drop (suc at) waiters
+pub around : {T : Type 0} (waiters : List (Waiter T)) (d : Waiter T) (at : ℕ) → at < length waiters → waiters ≡ take at waiters ++ get_or waiters at d ∷ drop (suc at) waiters
 around [] d at lt = absurd (omega (arith, lt))
 around (w ∷ ws) d zero lt = refl
 around (w ∷ ws) d (suc at) lt = ap (λ (xs : List (Waiter _)). w ∷ xs) (around ws d at (omega (arith, lt)))

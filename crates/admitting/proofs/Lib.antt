@@ -1,2 +1,3 @@
 pub mod PeersStayWithinLimit
 pub mod FirstAdmittedGetsSlot
+pub mod FirstNamedLeaves

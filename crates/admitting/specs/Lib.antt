@@ -1,3 +1,4 @@
 pub mod Occupants
 pub mod Queues
 pub mod Notices
+pub mod Peers

@@ -1,5 +1,5 @@
 -- The connections that wait for a slot, in the order of their arrival. This product's own profile.
-use Rattle.std.specs.Prelude.{◌≡◌, ℕ, ◌≤◌, ◌<◌, ◌⊎◌, List, ◌∷◌, ◌++◌, length, take, get_or, Option, Some, None}
+use Rattle.std.specs.Prelude.{◌≡◌, ◌≢◌, ℕ, ◌≤◌, ◌<◌, ◌⊎◌, List, ◌∷◌, ◌++◌, length, take, get_or, Option, Some, None}
 use Rattle.std.specs.List.{AllByRecursion}
 use Rattle.admitting.specs.declared.slots.Admission.TheVariants as admission
 use Rattle.admitting.specs.declared.queue.Queue.{Queue}
@@ -41,3 +41,22 @@ abbrev pub FindsFirst : {T : Type 0} → List (Waiter T) → Occupants → Occup
 FindsFirst waiting occupants occupants_new (Some (at, slot)) = (at < length waiting) × AllGetNone occupants (take at waiting)
     × ((d : Waiter _) → Admits (get_or waiting at d).peer occupants occupants_new (admission.Slot slot))
 FindsFirst waiting occupants occupants_new None = (occupants_new ≡ occupants) × AllGetNone occupants waiting
+
+-- none of these connections has this number
+abbrev pub AllHaveOthers : {T : Type 0} → ℕ → List (Waiter T) → Type 0
+AllHaveOthers number waiters = AllByRecursion (λ w. w.number ≢ number) waiters
+
+-- the first connection with this number is gone; the others stay, in their order
+pub record HasLeft {T : Type 0} (number : ℕ) (old new : List (Waiter T)) : Type 0 where
+  pub before : List (Waiter T)
+  pub after : List (Waiter T)
+  pub gone : Waiter T
+  pub was : old ≡ before ++ gone ∷ after
+  pub is : new ≡ before ++ after
+  pub passed : AllHaveOthers number before
+  pub named : gone.number ≡ number
+
+-- the index of the first connection with this number
+abbrev pub FindsNumber : {T : Type 0} → ℕ → List (Waiter T) → Option ℕ → Type 0
+FindsNumber number waiting (Some at) = (at < length waiting) × AllHaveOthers number (take at waiting) × ((d : Waiter _) → (get_or waiting at d).number ≡ number)
+FindsNumber number waiting None = AllHaveOthers number waiting

@@ -10,6 +10,8 @@ use std::alloc::{AllocError, Allocator};
 pub struct Waiter<T> {
     /// The number of its peer's address.
     pub peer: u128,
+    /// The number of the connection, by which it may leave the queue.
+    pub number: usize,
     /// The connection.
     pub waiting: T,
 }
@@ -24,7 +26,7 @@ pub struct Queue<T, A: Allocator> {
 }
 
 impl<T: Drop, A: Allocator> Queue<T, A> {
-    ghost use Rattle.admitting.specs.Queues.{AdmitsFirst, FindsFirst, most_in, waiting_in};
+    ghost use Rattle.admitting.specs.Queues.{AdmitsFirst, AllHaveOthers, FindsFirst, FindsNumber, HasLeft, most_in, waiting_in};
 
     /// Creates an empty queue of at most `most` connections.
     ///
@@ -72,6 +74,31 @@ impl<T: Drop, A: Allocator> Queue<T, A> {
     {
         let (at, slot) = self.find(slots)?;
         Some((self.waiters.remove(at), slot))
+    }
+
+    /// Returns the index of the first connection with this number.
+    fn index_of(&self, number: usize) -> Option<usize>
+        ensures finds { FindsNumber number (waiting_in self.now) result }
+    {
+        for at in 0..self.waiters.len() {
+            if self.waiters[at].number == number {
+                return Some(at);
+            }
+        }
+        None
+    }
+
+    /// Drops the first connection with this number. Returns `false` if none has it.
+    pub fn leave(&mut self, number: usize) -> bool
+        ensures left { result ≡ true → HasLeft number (waiting_in self.old) (waiting_in self.new) }
+        ensures same { result ≡ false → (waiting_in self.new ≡ waiting_in self.old) × AllHaveOthers number (waiting_in self.old) }
+        ensures same_most { most_in self.new ≡ most_in self.old }
+    {
+        let Some(at) = self.index_of(number) else {
+            return false;
+        };
+        let _gone = self.waiters.remove(at);
+        true
     }
 
     /// Drops all connections that wait.

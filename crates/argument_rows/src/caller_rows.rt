@@ -35,7 +35,7 @@ fn naming<'a>(alloc: Global, has_file: bool, times: usize) -> Result<Vec<&'a str
 fn lists(alloc: Global, text: &str, titles: &[&[u8; 16]]) -> Result<bool, WordsError> {
     let words = naming(alloc, true, 1)?;
     let serve = serve_listing(alloc, words.as_slice(), text)?;
-    Ok(are_titles(serve.config.callers.as_slice(), titles))
+    Ok(are_titles(serve.config.callers(), titles))
 }
 
 #[test]
@@ -62,10 +62,10 @@ fn a_text_counts_where_a_file_is_named(rt: HostRuntime) -> Result<(), Fail> {
     let alloc = rt.alloc();
     let words = naming(alloc, false, 1)?;
     let serve = serve_listing(alloc, words.as_slice(), "SCANNER1\n")?;
-    assert!(rt; are_titles(serve.config.callers.as_slice(), &[b"OPTION          "]));
+    assert!(rt; are_titles(serve.config.callers(), &[b"OPTION          "]));
     let words = naming(alloc, false, 0)?;
     let serve = serve_listing(alloc, words.as_slice(), "SCANNER1\n")?;
-    assert!(rt; serve.config.callers.is_empty());
+    assert!(rt; serve.config.callers().is_empty());
     Ok(())
 }
 
@@ -102,7 +102,15 @@ fn a_line_that_is_no_title_is_refused(rt: HostRuntime) -> Result<(), Fail> {
     assert!(rt; is_refused(alloc, "A\\B", 1, "A\\\\B")?);
     assert!(rt; is_refused(alloc, "SCANNER1\nA\tB\n", 2, "A\\tB")?);
     assert!(rt; is_refused(alloc, "SCANNER1\rSCANNER2\n", 1, "SCANNER1\\rSCANNER2")?);
-    assert!(rt; is_refused(alloc, "SCANNER1 # on floor 1\n", 1, "SCANNER1 # on floor 1")?);
+    let words = naming(alloc, true, 0)?;
+    let behind =
+        "error: --callers names 'scanners.txt', whose line 2 has a comment behind a title; it needs a line of its own: \"US 3 # room 5\"\n";
+    assert!(rt;
+        refuses(
+            &serve_listing(alloc, words.as_slice(), "CT #2\nUS 3 # room 5\n"),
+            behind
+        )
+    );
     assert!(rt; is_refused(alloc, "SCANNER1, SCANNER2\n", 1, "SCANNER1, SCANNER2")?);
     assert!(rt; is_refused(alloc, "SÄLE\n", 1, "SÄLE")?);
     Ok(())
@@ -122,20 +130,21 @@ fn count(alloc: Global, listed: usize, times: usize) -> Result<usize, WordsError
     let text = titles(alloc, listed)?;
     let words = naming(alloc, listed > 0, times)?;
     let serve = serve_listing(alloc, words.as_slice(), text.as_str())?;
-    Ok(serve.config.callers.len())
+    Ok(serve.config.callers().len())
 }
 
 #[test]
-fn sixty_four_titles_may_call(rt: HostRuntime) -> Result<(), Fail> {
+fn four_thousand_titles_may_call(rt: HostRuntime) -> Result<(), Fail> {
     let alloc = rt.alloc();
-    for (listed, times) in [(0, 64), (64, 0), (1, 63), (63, 1)] {
-        assert!(rt; count(alloc, listed, times)? == 64);
+    assert!(rt; count(alloc, 0, 64)? == 64);
+    for (listed, times) in [(4096, 0), (4095, 1), (4032, 64)] {
+        assert!(rt; count(alloc, listed, times)? == 4096);
     }
     let by_options = "error: --caller may be given 64 times at most\n";
     assert!(rt; refuses(&count(alloc, 0, 65), by_options));
     assert!(rt; refuses(&count(alloc, 1, 65), by_options));
-    let together = "error: --callers and --caller may name 64 titles at most\n";
-    for (listed, times) in [(65, 0), (64, 1), (1, 64), (40, 40)] {
+    let together = "error: --callers and --caller may name 4096 titles at most\n";
+    for (listed, times) in [(4097, 0), (4096, 1), (4033, 64)] {
         assert!(rt; refuses(&count(alloc, listed, times), together));
     }
     Ok(())

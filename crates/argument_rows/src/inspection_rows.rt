@@ -1,75 +1,52 @@
 //! What `show` and `check` are asked for by a command line.
-use arguments::{CheckArguments, Job, ShowArguments, read_words};
-use std::alloc::Global;
+use crate::asked::asks;
 use std::test::Fail;
 
-/// Reads the arguments of `show`, or of `check`.
-fn show_for<'a>(alloc: Global, words: &'a [&'a str]) -> Result<ShowArguments<'a>, Fail> {
-    match read_words(alloc, words) {
-        Ok(Job::Show(arguments)) => Ok(arguments),
-        _ => Err(Fail::from("another job")),
-    }
-}
-
-fn check_for<'a>(alloc: Global, words: &'a [&'a str]) -> Result<CheckArguments<'a>, Fail> {
-    match read_words(alloc, words) {
-        Ok(Job::Check(arguments)) => Ok(arguments),
-        _ => Err(Fail::from("another job")),
-    }
-}
+static ALONE: &str = "dcmbox check a.dcm
+files | a.dcm
+values | no
+strict | no
+json | no
+recursive | no
+all-syntaxes | no";
 
 #[test]
 fn check_without_options(rt: HostRuntime) -> Result<(), Fail> {
-    let check = check_for(rt.alloc(), &["dcmbox", "check", "a.dcm"])?;
-    assert!(rt; check.files.as_slice() == ["a.dcm"].as_slice());
-    assert!(rt; !check.values && !check.strict && !check.json);
-    assert!(rt; !check.recursive && !check.all_syntaxes);
-    Ok(())
+    asks(rt.alloc(), ALONE)
 }
 
 /// Each option is its own.
+static OPTIONS: &str = "dcmbox check --values a.dcm b.dcm
+values | yes
+strict | no
+json | no
+files | a.dcm b.dcm
+dcmbox check a.dcm --strict
+strict | yes
+values | no
+dcmbox check -r --json --values --strict --all-syntaxes a
+values | yes
+strict | yes
+json | yes
+recursive | yes
+all-syntaxes | yes
+dcmbox check --values
+fails | yes
+dcmbox check --tag PatientID a
+fails | yes";
+
 #[test]
 fn options_of_check(rt: HostRuntime) -> Result<(), Fail> {
-    let values = check_for(
-        rt.alloc(),
-        &["dcmbox", "check", "--values", "a.dcm", "b.dcm"],
-    )?;
-    assert!(rt; values.values && !values.strict && !values.json && values.files.len() == 2);
-    let strict = check_for(rt.alloc(), &["dcmbox", "check", "a.dcm", "--strict"])?;
-    assert!(rt; strict.strict && !strict.values);
-    let all = check_for(
-        rt.alloc(),
-        &[
-            "dcmbox",
-            "check",
-            "-r",
-            "--json",
-            "--values",
-            "--strict",
-            "--all-syntaxes",
-            "a",
-        ],
-    )?;
-    assert!(rt; all.values && all.strict && all.json && all.recursive && all.all_syntaxes);
-    assert!(rt; read_words(rt.alloc(), &["dcmbox", "check", "--values"]).is_err());
-    assert!(rt; read_words(rt.alloc(), &["dcmbox", "check", "--tag", "PatientID", "a"]).is_err());
-    Ok(())
+    asks(rt.alloc(), OPTIONS)
 }
 
 /// Tags are read as they are given: what one names is looked at later.
+static TAGS: &str = "dcmbox show --tag PatientID --tag (0010,0020) a.dcm
+tags | PatientID (0010,0020)
+values | no
+files | a.dcm";
+
 #[test]
 fn tags_of_show(rt: HostRuntime) -> Result<(), Fail> {
-    let words = [
-        "dcmbox",
-        "show",
-        "--tag",
-        "PatientID",
-        "--tag",
-        "(0010,0020)",
-        "a.dcm",
-    ];
-    let show = show_for(rt.alloc(), &words)?;
-    assert!(rt; show.tags.as_slice() == ["PatientID", "(0010,0020)"].as_slice());
-    assert!(rt; !show.values && show.files.as_slice() == ["a.dcm"].as_slice());
-    Ok(())
+    asks(rt.alloc(), TAGS)
 }

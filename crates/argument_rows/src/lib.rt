@@ -3,6 +3,8 @@
 #![tactic(auto)]
 
 #[cfg(test)]
+mod asked;
+#[cfg(test)]
 mod at_once_rows;
 #[cfg(test)]
 mod caller_rows;

@@ -13,7 +13,7 @@ use Rattle.clap.specs.declared.builder.command.Command.TheOpen.{Command-F}
 use Rattle.arguments.specs.CommandLine.{with_rules, with_subcommands}
 use Rattle.arguments.specs.machine.Tables.{rule_for, app_for}
 use Rattle.arguments.specs.declared.argument.Argument.{Argument}
-use Rattle.arguments.specs.declared.argument.Argument.TheVariants.{Positional, Several, Needed, Default, Free, Repeated, Flag, Letter, Counted}
+use Rattle.arguments.specs.declared.argument.Argument.TheVariants.{Positional, Several, Needed, Default, Defaults, Free, Repeated, Flag, Letter, Counted}
 use Rattle.arguments.specs.declared.command.Subcommand.{Subcommand}
 
 -- a simple argument is not global, nor is a plain command
@@ -36,6 +36,7 @@ rule_simple (Positional name help) = refl
 rule_simple (Several name help) = refl
 rule_simple (Needed name value help) = refl
 rule_simple (Default name value default help) = refl
+rule_simple (Defaults name value default help) = refl
 rule_simple (Free name value help) = refl
 rule_simple (Repeated name value help) = refl
 rule_simple (Flag name help) = refl

@@ -69,27 +69,27 @@ pub record AsksFor (all : Bool) (texts : List (List ℕ)) (transfers : List Tran
 pub record IsServed (serve : Serve) (a : ServeArguments) : Type 0 where
   pub bind : serve.bind.now ≡ a.bind.now
   pub port : Spells 1 65535 a.port.now serve.port
+  pub listen : map (λ t. t.now) serve.listen.items ≡ map (λ t. t.now) a.listen.items
   pub out : serve.out.now ≡ a.out.now
-  pub ae : title_of_text a.ae.now ≡ Some (settings_of serve.config).ae
+  pub called : map (λ t. title_of_text t.now) a.titles.items ≡ map Some (settings_of serve.config).called
+  pub any_called : (settings_of serve.config).any_called ≡ a.any_called
   pub max_pdu : Spells 1024 131_072 a.max_pdu.now (settings_of serve.config).max_pdu
   pub max_data : Spells 1024 (2 ^ 48) a.max_data.now (settings_of serve.config).max_data
   pub classes : map Some (settings_of serve.config).additional.classes ≡ map (λ t. uid_of t.now) a.storage_classes.items ++ map Some (registered a.all_storage)
   pub transfers : AsksFor a.all_syntaxes (map (λ t. t.now) a.transfer_syntaxes.items) (settings_of serve.config).additional.transfers
-  pub artim : SpellsTime a.timeout.now serve.artim
-  pub idle : SpellsTime a.idle.now serve.idle
   pub level : IsLevel a.verbose a.quiet serve.level
   pub form : IsForm serve.form (unwrap_or (option_map (λ t. t.now) a.log) (codes "text"))
   pub layout : IsLayout serve.layout (option_map (λ t. t.now) a.per)
   pub numbers : option_map (λ t. t.now) serve.numbers ≡ option_map (λ t. t.now) a.numbers
   pub sync : serve.sync ≡ not a.no_sync
-  pub once : serve.once ≡ a.once
   pub metrics : option_map (λ t. t.now) serve.metrics ≡ option_map (λ t. t.now) a.metrics
 
 -- what `replay` does is what its arguments say; any title may call, and the limits are the defaults
 pub record IsReplayed (replay : Replay) (a : ReplayArguments) : Type 0 where
   pub file : replay.file.now ≡ a.file.now
   pub out : replay.out.now ≡ a.out.now
-  pub ae : title_of_text a.ae.now ≡ Some (settings_of replay.config).ae
+  pub called : map (λ t. title_of_text t.now) a.titles.items ≡ map Some (settings_of replay.config).called
+  pub any_called : (settings_of replay.config).any_called ≡ false
   pub callers : (settings_of replay.config).callers ≡ []
   pub max_pdu : (settings_of replay.config).max_pdu ≡ default_max_pdu
   pub max_data : (settings_of replay.config).max_data ≡ default_max_data
@@ -104,5 +104,8 @@ pub record IsIndexed (index : Index) (a : IndexArguments) : Type 0 where
   pub uid : IsDirectoryUid index.uid (option_map (λ t. t.now) a.uid) a.new_uid
   pub descriptions : index.descriptions ≡ a.descriptions
   pub all_syntaxes : index.all_syntaxes ≡ a.all_syntaxes
+  pub any_name : index.any_name ≡ a.any_name
   pub keep : index.keep ≡ a.keep
+  pub drop : index.drop ≡ a.drop
   pub replace : index.replace ≡ a.replace
+  pub strict : index.strict ≡ a.strict

@@ -40,6 +40,10 @@ free id = record (new_rule id) { long = Some id; value_names = 1 }
 abbrev pub repeated : Text → Rule
 repeated id = record (new_rule id) { long = Some id; value_names = 1; action = Some Append }
 
+-- an option with a value that may be given more than once, and the value where it is not given
+abbrev pub defaulted : Text → Text → Rule
+defaulted id value = record (repeated id) { defaults = value ∷ [] }
+
 -- an option without a value
 abbrev pub flag_rule : Text → Rule
 flag_rule id = record (new_rule id) { long = Some id; action = Some SetTrue }
@@ -62,14 +66,15 @@ taking_rules = flag_rule (codes "all-storage") ∷ repeated (codes "storage-clas
 
 abbrev pub replay_app : App
 replay_app = with_rules (with_rules (new_app (codes "replay"))
-    (positional (codes "FILE") ∷ needed (codes "out") ∷ optional (codes "ae") (codes "DCMBOX") ∷ optional (codes "cut") (codes "4096") ∷ free (codes "per") ∷ []))
+    (positional (codes "FILE") ∷ needed (codes "out") ∷ defaulted (codes "ae") (codes "DCMBOX") ∷ optional (codes "cut") (codes "4096") ∷ free (codes "per") ∷ []))
     taking_rules
 
 -- `serve`: who is served where, the timeouts and limits, how much is logged and how, how files are kept, and of which classes
 abbrev pub listening_app : App
 listening_app = with_rules (new_app (codes "serve"))
-    (needed (codes "port") ∷ needed (codes "out") ∷ optional (codes "bind") (codes "127.0.0.1") ∷ optional (codes "ae") (codes "DCMBOX")
-    ∷ repeated (codes "caller") ∷ free (codes "callers") ∷ [])
+    (needed (codes "port") ∷ needed (codes "out") ∷ optional (codes "bind") (codes "127.0.0.1")
+    ∷ repeated (codes "listen") ∷ defaulted (codes "ae") (codes "DCMBOX")
+    ∷ flag_rule (codes "any-called") ∷ repeated (codes "caller") ∷ free (codes "callers") ∷ [])
 
 abbrev pub limited_app : App
 limited_app = with_rules listening_app
@@ -99,29 +104,37 @@ abbrev pub files_app : Text → App
 files_app name = with_rules (new_app name) (several (codes "FILE") ∷ letter_rule (codes "recursive") 114 ∷ [])
 
 abbrev pub show_app : App
-show_app = with_rules (files_app (codes "show")) (flag_rule (codes "values") ∷ repeated (codes "tag") ∷ flag_rule (codes "json") ∷ flag_rule (codes "all-syntaxes") ∷ [])
+show_app = with_rules (files_app (codes "show")) (flag_rule (codes "values") ∷ flag_rule (codes "full") ∷ flag_rule (codes "meta") ∷ repeated (codes "tag") ∷ flag_rule (codes "json") ∷ flag_rule (codes "all-syntaxes") ∷ [])
 
 abbrev pub check_app : App
-check_app = with_rules (files_app (codes "check")) (flag_rule (codes "strict") ∷ flag_rule (codes "values") ∷ flag_rule (codes "json") ∷ flag_rule (codes "all-syntaxes") ∷ [])
+check_app = with_rules (files_app (codes "check")) (flag_rule (codes "strict") ∷ flag_rule (codes "values") ∷ flag_rule (codes "ignore-others") ∷ flag_rule (codes "json") ∷ flag_rule (codes "all-syntaxes") ∷ [])
 
 abbrev pub index_app : App
 index_app = with_rules (new_app (codes "index"))
     (positional (codes "DIR") ∷ free (codes "uid") ∷ flag_rule (codes "new-uid") ∷ flag_rule (codes "descriptions")
-    ∷ flag_rule (codes "all-syntaxes") ∷ flag_rule (codes "keep") ∷ flag_rule (codes "replace") ∷ [])
+    ∷ flag_rule (codes "all-syntaxes") ∷ flag_rule (codes "any-name") ∷ flag_rule (codes "keep") ∷ flag_rule (codes "drop")
+    ∷ flag_rule (codes "replace") ∷ flag_rule (codes "strict") ∷ [])
 
 abbrev pub list_app : App
-list_app = with_rules (new_app (codes "list")) (positional (codes "DIR") ∷ flag_rule (codes "series") ∷ flag_rule (codes "instances") ∷ flag_rule (codes "json") ∷ [])
+list_app = with_rules (new_app (codes "list")) (positional (codes "DIR") ∷ flag_rule (codes "series") ∷ flag_rule (codes "instances") ∷ flag_rule (codes "ignore-others") ∷ flag_rule (codes "json") ∷ [])
 
 abbrev pub arrange_app : App
-arrange_app = with_rules (new_app (codes "arrange")) (positional (codes "DIR") ∷ needed (codes "to") ∷ flag_rule (codes "copy") ∷ flag_rule (codes "dry-run") ∷ [])
+arrange_app = with_rules (new_app (codes "arrange")) (positional (codes "DIR") ∷ needed (codes "to") ∷ flag_rule (codes "copy") ∷ flag_rule (codes "dry-run") ∷ flag_rule (codes "ignore-others") ∷ [])
 
 abbrev pub with_subcommands : App → List App → App
 with_subcommands app [] = app
 with_subcommands app (sub ∷ subs) = with_subcommands (with_subcommand app sub.top) subs
 
+-- the commands that receive, and those that read files
+abbrev pub receiving_apps : List App
+receiving_apps = serve_app ∷ replay_app ∷ []
+
+abbrev pub reading_apps : List App
+reading_apps = show_app ∷ check_app ∷ index_app ∷ file_app (codes "checkdir") ∷ list_app ∷ arrange_app ∷ []
+
 abbrev pub the_command : App
-the_command = with_subcommands (on_top (λ s. record s { has_version = true; subcommand_required = true }) (new_app (codes "dcmbox")))
-    (serve_app ∷ replay_app ∷ show_app ∷ check_app ∷ index_app ∷ file_app (codes "checkdir") ∷ list_app ∷ arrange_app ∷ [])
+the_command = with_subcommands (with_subcommands (on_top (λ s. record s { has_version = true; subcommand_required = true }) (new_app (codes "dcmbox")))
+    receiving_apps) reading_apps
 
 -- ---- the arguments
 
@@ -142,6 +155,8 @@ pub record IsShow (a : ShowArguments) (rows : List Row) : Type 0 where
   pub files : map (λ w. w.now) a.files.items ≡ values_of rows (codes "FILE")
   pub recursive : IsFlag rows (codes "recursive") a.recursive
   pub values : IsFlag rows (codes "values") a.values
+  pub full : IsFlag rows (codes "full") a.full
+  pub meta : IsFlag rows (codes "meta") a.meta
   pub tags : map (λ w. w.now) a.tags.items ≡ values_of rows (codes "tag")
   pub json : IsFlag rows (codes "json") a.json
   pub all_syntaxes : IsFlag rows (codes "all-syntaxes") a.all_syntaxes
@@ -151,13 +166,14 @@ pub record IsCheck (a : CheckArguments) (rows : List Row) : Type 0 where
   pub recursive : IsFlag rows (codes "recursive") a.recursive
   pub strict : IsFlag rows (codes "strict") a.strict
   pub values : IsFlag rows (codes "values") a.values
+  pub ignore_others : IsFlag rows (codes "ignore-others") a.ignore_others
   pub json : IsFlag rows (codes "json") a.json
   pub all_syntaxes : IsFlag rows (codes "all-syntaxes") a.all_syntaxes
 
 pub record IsReplay (a : ReplayArguments) (rows : List Row) : Type 0 where
   pub file : first_of (codes "FILE") rows ≡ Some a.file.now
   pub out : first_of (codes "out") rows ≡ Some a.out.now
-  pub ae : first_of (codes "ae") rows ≡ Some a.ae.now
+  pub titles : map (λ w. w.now) a.titles.items ≡ values_of rows (codes "ae")
   pub cut : first_of (codes "cut") rows ≡ Some a.cut.now
   pub per : first_of (codes "per") rows ≡ option_map (λ w. w.now) a.per
   pub all_storage : IsFlag rows (codes "all-storage") a.all_storage
@@ -171,13 +187,17 @@ pub record IsIndex (a : IndexArguments) (rows : List Row) : Type 0 where
   pub new_uid : IsFlag rows (codes "new-uid") a.new_uid
   pub descriptions : IsFlag rows (codes "descriptions") a.descriptions
   pub all_syntaxes : IsFlag rows (codes "all-syntaxes") a.all_syntaxes
+  pub any_name : IsFlag rows (codes "any-name") a.any_name
   pub keep : IsFlag rows (codes "keep") a.keep
+  pub drop : IsFlag rows (codes "drop") a.drop
   pub replace : IsFlag rows (codes "replace") a.replace
+  pub strict : IsFlag rows (codes "strict") a.strict
 
 pub record IsList (a : ListArguments) (rows : List Row) : Type 0 where
   pub dir : first_of (codes "DIR") rows ≡ Some a.dir.now
   pub series : IsFlag rows (codes "series") a.series
   pub instances : IsFlag rows (codes "instances") a.instances
+  pub ignore_others : IsFlag rows (codes "ignore-others") a.ignore_others
   pub json : IsFlag rows (codes "json") a.json
 
 pub record IsArrange (a : ArrangeArguments) (rows : List Row) : Type 0 where
@@ -185,12 +205,15 @@ pub record IsArrange (a : ArrangeArguments) (rows : List Row) : Type 0 where
   pub to : first_of (codes "to") rows ≡ Some a.to.now
   pub copy : IsFlag rows (codes "copy") a.copy
   pub dry_run : IsFlag rows (codes "dry-run") a.dry_run
+  pub ignore_others : IsFlag rows (codes "ignore-others") a.ignore_others
 
 pub record IsServe (a : ServeArguments) (rows : List Row) : Type 0 where
   pub port : first_of (codes "port") rows ≡ Some a.port.now
   pub out : first_of (codes "out") rows ≡ Some a.out.now
   pub bind : first_of (codes "bind") rows ≡ Some a.bind.now
-  pub ae : first_of (codes "ae") rows ≡ Some a.ae.now
+  pub listen : map (λ w. w.now) a.listen.items ≡ values_of rows (codes "listen")
+  pub titles : map (λ w. w.now) a.titles.items ≡ values_of rows (codes "ae")
+  pub any_called : IsFlag rows (codes "any-called") a.any_called
   pub callers : map (λ w. w.now) a.callers.items ≡ values_of rows (codes "caller")
   pub callers_file : first_of (codes "callers") rows ≡ option_map (λ w. w.now) a.callers_file
   pub timeout : first_of (codes "timeout") rows ≡ Some a.timeout.now

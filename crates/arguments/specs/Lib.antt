@@ -1,6 +1,6 @@
 pub mod CommandLine
 pub mod Asked
-pub mod AskedAtOnce
+pub mod AskedService
 pub mod AskedCallers
 pub mod AskedQuarantine
 pub mod machine

@@ -21,6 +21,8 @@ pub enum Argument<'a> {
     Default(&'a str, &'a str, &'a str, &'a str),
     /// An option that may be left out.
     Free(&'a str, &'a str, &'a str),
+    /// An option with a default that may be given more than once.
+    Defaults(&'a str, &'a str, &'a str, &'a str),
     /// An option that may be given more than once.
     Repeated(&'a str, &'a str, &'a str),
     /// An option without a value.
@@ -78,6 +80,9 @@ fn argument_for<'a>(alloc: Global, argument: Argument<'a>) -> Arg<'a>
         Argument::Default(name, value, default, help) => {
             free_option(alloc, name, value, help).default_value(default)
         }
+        Argument::Defaults(name, value, default, help) => free_option(alloc, name, value, help)
+            .default_value(default)
+            .action(ArgAction::Append),
         Argument::Free(name, value, help) => free_option(alloc, name, value, help),
         Argument::Repeated(name, value, help) => {
             free_option(alloc, name, value, help).action(ArgAction::Append)

@@ -1,5 +1,5 @@
-//! The titles that may call.
-ghost use Rattle.std.specs.Prelude.{◌≡◌, ◌<◌, IfOk, IfSome, Some, length, map, nat_eq, option_map};
+//! The titles that a peer may call, and those of peers that may call.
+ghost use Rattle.std.specs.Prelude.{◌≡◌, ◌<◌, ◌≤◌, ◌∷◌, IfOk, IfSome, Some, length, map, nat_eq, option_map};
 ghost use Rattle.std.specs.List.{list_all};
 ghost use Rattle.std.specs.Str.Lines.{lines};
 ghost use Rattle.element.specs.Title.{title_of_text};
@@ -7,12 +7,15 @@ ghost use Rattle.arguments.specs.AskedCallers as asked;
 ghost use Rattle.arguments.specs.AskedCallers.{AreCallers};
 
 use crate::settings::title;
-use crate::values::{MOST_VALUES, ServeArguments};
+use crate::values::{MOST_TITLES, MOST_VALUES, ServeArguments};
 use arrayvec::ArrayVec;
 use element::AeTitle;
 use failures::WordsError;
-use negotiate::MOST_CALLERS;
+use negotiate::MOST_ALSO;
 use std::alloc::{AllocError, Global};
+
+/// How many calling titles can be named that are accepted.
+const MOST_CALLERS: usize = 4096;
 
 /// A file of titles: its path and its text.
 #[derive(Clone, Copy)]
@@ -56,6 +59,12 @@ fn too_many_titles(alloc: Global) -> WordsError {
 fn line_title(alloc: Global, path: &str, number: usize, line: &str) -> Result<AeTitle, WordsError>
     ensures { IfOk result (λ t. title_of_text line.now ≡ Some t.0) }
 {
+    if line.contains(" # ") {
+        let refused = format!(in alloc;
+            "error: --callers names '{path}', whose line {number} has a comment behind a title; it needs a line of its own: {line:?}\n"
+        )?;
+        return Err(WordsError::Refused(refused));
+    }
     match AeTitle::of_text(line) {
         Some(title) => Ok(title),
         None => {
@@ -68,23 +77,20 @@ fn line_title(alloc: Global, path: &str, number: usize, line: &str) -> Result<Ae
 }
 
 /// Reads the titles of a file, at least one.
-fn listed_titles(
-    alloc: Global,
-    file: TitleFile,
-) -> Result<ArrayVec<AeTitle, MOST_CALLERS>, WordsError>
+fn listed_titles(alloc: Global, file: TitleFile) -> Result<Vec<AeTitle>, WordsError>
     ensures read { IfOk result (λ titles. map title_of_text (asked.listed_titles file.entry.text.now) ≡ map Some (map (λ t. t.0) titles.items)) }
     ensures some { IfOk result (λ titles. 0 < length (asked.listed_titles file.entry.text.now)) }
 {
     let found = lines_of(alloc, file.text)?;
     let lines = found.as_slice();
-    let mut titles = ArrayVec::new();
+    let mut titles = Vec::new(alloc);
     for place in 0..lines.len() {
         if is_title_line(lines[place]) {
             let title = line_title(alloc, file.path, place + 1, lines[place])?;
-            if titles.is_full() {
+            if titles.len() >= MOST_CALLERS {
                 return Err(too_many_titles(alloc));
             }
-            titles.push(title);
+            titles.push(title)?;
         }
     }
     if titles.is_empty() {
@@ -96,32 +102,55 @@ fn listed_titles(
 }
 
 /// Reads the titles of the file with this text, where one is named by its path.
-fn file_titles(
-    alloc: Global,
-    path: Option<&str>,
-    text: &str,
-) -> Result<ArrayVec<AeTitle, MOST_CALLERS>, WordsError>
+fn file_titles(alloc: Global, path: Option<&str>, text: &str) -> Result<Vec<AeTitle>, WordsError>
     ensures read { IfOk result (λ titles. map title_of_text (asked.titles_of_file (option_map (λ t. t.now) path.entry) text.now) ≡ map Some (map (λ t. t.0) titles.items)) }
     ensures some { IfOk result (λ _. IfSome path.entry (λ _. 0 < length (asked.listed_titles text.now))) }
 {
     match path {
         Some(path) => listed_titles(alloc, TitleFile { path, text }),
-        None => Ok(ArrayVec::new()),
+        None => Ok(Vec::new(alloc)),
     }
 }
 
-/// Reads the titles of the options.
-fn named_titles(
+/// Reads the titles of an option.
+fn named_titles<const MOST: usize>(
     alloc: Global,
-    callers: &ArrayVec<&str, MOST_VALUES>,
-) -> Result<ArrayVec<AeTitle, MOST_CALLERS>, WordsError>
-    ensures read { IfOk result (λ titles. map (λ t. title_of_text t.now) callers.now.items ≡ map Some (map (λ t. t.0) titles.items)) }
+    option: &str,
+    texts: &[&str],
+) -> Result<ArrayVec<AeTitle, MOST>, WordsError>
+    requires few { length texts.now ≤ MOST }
+    ensures read { IfOk result (λ titles. map (λ t. title_of_text t.now) texts.now ≡ map Some (map (λ t. t.0) titles.items)) }
 {
     let mut titles = ArrayVec::new();
-    for caller in callers.as_slice() {
-        titles.push(title(alloc, "caller", *caller)?);
+    for text in texts {
+        titles.push(title(alloc, option, *text)?);
     }
     Ok(titles)
+}
+
+/// The titles that a peer may call: the receiver's own, which is the first, and those beside it.
+#[derive(Drop)]
+pub(crate) struct Called {
+    pub own: AeTitle,
+    pub also: ArrayVec<AeTitle, MOST_ALSO>,
+}
+
+/// Reads the titles that a peer may call.
+pub(crate) fn called_of(
+    alloc: Global,
+    texts: &ArrayVec<&str, MOST_TITLES>,
+) -> Result<Called, WordsError>
+    ensures read { IfOk result (λ c. map (λ t. title_of_text t.now) texts.now.items ≡ map Some (c.own.0 ∷ map (λ t. t.0) c.also.items)) }
+{
+    let texts = texts.as_slice();
+    if texts.is_empty() {
+        let refused = format!(in alloc; "error: --ae names no title\n")?;
+        return Err(WordsError::Refused(refused));
+    }
+    Ok(Called {
+        own: title(alloc, "ae", texts[0])?,
+        also: named_titles(alloc, "ae", &texts[1..])?,
+    })
 }
 
 /// Reads the titles that may call: those of the file with this text, where the arguments name one, then those of
@@ -130,15 +159,14 @@ pub(crate) fn callers_of(
     alloc: Global,
     arguments: &ServeArguments,
     text: &str,
-) -> Result<ArrayVec<AeTitle, MOST_CALLERS>, WordsError>
+) -> Result<Vec<AeTitle>, WordsError>
     ensures { IfOk result (λ titles. AreCallers (map (λ t. t.0) titles.items) arguments.now text.now) }
 {
     let mut titles = file_titles(alloc, arguments.callers_file, text)?;
-    let named = named_titles(alloc, &arguments.callers)?;
-    if titles.remaining_capacity() < named.len() {
+    let named = named_titles::<MOST_VALUES>(alloc, "caller", arguments.callers.as_slice())?;
+    if MOST_CALLERS.saturating_sub(titles.len()) < named.len() {
         return Err(too_many_titles(alloc));
     }
-    // They fit, as was just seen.
-    let _ = titles.try_extend_from_slice(named.as_slice());
+    titles.extend_from_slice(named.as_slice())?;
     Ok(titles)
 }

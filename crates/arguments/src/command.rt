@@ -1,13 +1,13 @@
 //! The commands that the program knows.
 ghost use Rattle.std.specs.Prelude.{◌≡◌, IfOk, map};
 ghost use Rattle.clap.specs.Simple.{app_of};
-ghost use Rattle.arguments.specs.CommandLine.{the_command, with_subcommands};
+ghost use Rattle.arguments.specs.CommandLine.{reading_apps, receiving_apps, the_command, with_subcommands};
 ghost use Rattle.arguments.specs.machine.Tables.{app_for};
 
 use crate::argument::{Argument, add_arguments};
 use crate::shared::{
-    AE, ALL_STORAGE, ALL_SYNTAXES, FILES, FOLDER, JSON_OF_EACH, OUT, PER, RECURSIVE, STORAGE_CLASS,
-    TRANSFER_SYNTAX,
+    AE, ALL_STORAGE, ALL_SYNTAXES, FILES, FOLDER, IGNORE_OTHERS, JSON_OF_EACH, OUT, PER, RECURSIVE,
+    STORAGE_CLASS, TRANSFER_SYNTAX,
 };
 use clap::Command;
 use std::alloc::{AllocError, Global};
@@ -32,7 +32,13 @@ const SERVE: Subcommand<'static> = Subcommand {
         Argument::Needed("port", "PORT", "The TCP port to listen on, from 1 to 65535"),
         OUT,
         Argument::Default("bind", "ADDRESS", "127.0.0.1", "The address to listen on"),
+        Argument::Repeated(
+            "listen",
+            "ADDRESS:PORT",
+            "A further address and port to listen on, up to 4 times",
+        ),
         AE,
+        Argument::Flag("any-called", "Lets a peer call any AE title"),
         Argument::Repeated(
             "caller",
             "TITLE",
@@ -168,6 +174,8 @@ const SHOW: Subcommand<'static> = Subcommand {
         FILES,
         RECURSIVE,
         Argument::Flag("values", "Shows the value of each element after its line"),
+        Argument::Flag("full", "Shows values of up to 65,536 bytes whole"),
+        Argument::Flag("meta", "Lists the file meta information, group 0002, too"),
         Argument::Repeated(
             "tag",
             "TAG",
@@ -193,6 +201,7 @@ const CHECK: Subcommand<'static> = Subcommand {
             "values",
             "Writes the keyword and the value after each note, and the keyword after a fault",
         ),
+        IGNORE_OTHERS,
         JSON_OF_EACH,
         ALL_SYNTAXES,
     ],
@@ -212,13 +221,19 @@ const INDEX: Subcommand<'static> = Subcommand {
         ),
         ALL_SYNTAXES,
         Argument::Flag(
+            "any-name",
+            "Takes each DICOM file whose path is a file ID, not those named I and seven digits alone",
+        ),
+        Argument::Flag(
             "keep",
             "Takes the files that the folder's DICOMDIR names, not those that are there",
         ),
+        Argument::Flag("drop", "Leaves out records that --keep can't keep"),
         Argument::Flag(
             "replace",
             "Writes over a DICOMDIR that another program wrote",
         ),
+        Argument::Flag("strict", "Ends with status 1 where a file is left out"),
     ],
 };
 
@@ -240,6 +255,7 @@ const LIST: Subcommand<'static> = Subcommand {
             "instances",
             "Lists the series of each study and their files, too",
         ),
+        IGNORE_OTHERS,
         Argument::Flag("json", "Writes one JSON object"),
     ],
 };
@@ -253,12 +269,15 @@ const ARRANGE: Subcommand<'static> = Subcommand {
         Argument::Needed("to", "TREE", "The folder that the tree stands in"),
         Argument::Flag("copy", "Copies the files in place of linking them"),
         Argument::Flag("dry-run", "Prints what is to be done, and writes no file"),
+        IGNORE_OTHERS,
     ],
 };
 
-const SUBCOMMANDS: &[Subcommand<'static>] = &[
-    SERVE, REPLAY, SHOW, CHECK, INDEX, CHECKDIR, LIST, ARRANGE,
-];
+/// The commands that receive.
+const RECEIVING: &[Subcommand<'static>] = &[SERVE, REPLAY];
+
+/// The commands that read files.
+const READING: &[Subcommand<'static>] = &[SHOW, CHECK, INDEX, CHECKDIR, LIST, ARRANGE];
 
 /// Returns clap's command.
 fn command_for<'a>(alloc: Global, subcommand: Subcommand<'a>) -> Result<Command<'a>, AllocError>
@@ -285,6 +304,20 @@ fn add_subcommands<'a>(
     Ok(command)
 }
 
+/// Adds the commands that receive.
+fn add_receiving<'a>(alloc: Global, command: Command<'a>) -> Result<Command<'a>, AllocError>
+    ensures { IfOk result (λ c. app_of c ≡ with_subcommands (app_of command.entry) receiving_apps) }
+{
+    add_subcommands(alloc, command, RECEIVING)
+}
+
+/// Adds the commands that read files.
+fn add_reading<'a>(alloc: Global, command: Command<'a>) -> Result<Command<'a>, AllocError>
+    ensures { IfOk result (λ c. app_of c ≡ with_subcommands (app_of command.entry) reading_apps) }
+{
+    add_subcommands(alloc, command, READING)
+}
+
 /// Returns the commands that the program knows.
 pub fn command<'a>(alloc: Global) -> Result<Command<'a>, AllocError>
     ensures { IfOk result (λ c. app_of c ≡ the_command) }
@@ -294,5 +327,5 @@ pub fn command<'a>(alloc: Global) -> Result<Command<'a>, AllocError>
         .about("A DICOM storage receiver whose behaviour is proved")
         .after_help("Help on a command, with an example: dcmbox help COMMAND")
         .subcommand_required(true);
-    add_subcommands(alloc, command, SUBCOMMANDS)
+    add_reading(alloc, add_receiving(alloc, command)?)
 }

@@ -2,11 +2,11 @@
 #![tactic(auto)]
 
 mod argument;
-mod at_once;
 mod callers;
 mod command;
 mod options;
 mod quarantine;
+mod service;
 mod settings;
 mod shared;
 mod transfers;
@@ -15,10 +15,10 @@ mod words;
 
 pub use command::VERSION;
 pub use failures::WordsError;
-pub use options::{AtOnce, Index, Layout, LogForm, Per, QuarantineOption, Replay, Serve};
+pub use options::{Index, Layout, LogForm, Per, QuarantineOption, Replay, Serve};
 pub use settings::{index_settings, replay_settings, serve_settings};
 pub use values::{
-    ArrangeArguments, CheckArguments, FileArguments, IndexArguments, ListArguments, MOST_SYNTAXES,
-    MOST_VALUES, ReplayArguments, ServeArguments, ShowArguments,
+    ArrangeArguments, CheckArguments, FileArguments, IndexArguments, ListArguments, MOST_ADDRESSES,
+    MOST_SYNTAXES, MOST_TITLES, MOST_VALUES, ReplayArguments, ServeArguments, ShowArguments,
 };
 pub use words::{Job, read_words};

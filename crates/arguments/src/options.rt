@@ -1,10 +1,12 @@
 //! What the commands are to do.
 ghost use Rattle.std.specs.Prelude.{◌<◌, ◌≤◌};
 
+use crate::values::MOST_ADDRESSES;
+use arrayvec::ArrayVec;
+use connection::Service;
 use element::Uid;
 use log::Level;
 use negotiate::Config;
-use std::time::Duration;
 
 /// How lines of the log are written.
 #[derive(Clone, Copy)]
@@ -48,12 +50,11 @@ pub struct Replay<'a> {
 pub struct Serve<'a> {
     pub bind: &'a str,
     pub port: u16,
+    /// Further addresses to listen on, each with its port.
+    pub listen: ArrayVec<&'a str, MOST_ADDRESSES>,
     pub out: &'a str,
     pub config: Config,
-    /// The duration of the ARTIM timer (PS3.8 section 9.1.5).
-    pub artim: Duration,
-    /// How long the peer of an established association may be silent.
-    pub idle: Duration,
+    pub service: Service<'a>,
     /// The least important lines that are logged.
     pub level: Level,
     pub form: LogForm,
@@ -64,10 +65,8 @@ pub struct Serve<'a> {
     pub quarantine: Option<QuarantineOption<'a>>,
     /// Whether a store is answered only once its file is on the disk.
     pub sync: bool,
-    pub once: bool,
     /// The path of the file that has counters, if one does.
     pub metrics: Option<&'a str>,
-    pub at_once: AtOnce<'a>,
 }
 
 /// Where data sets are kept whose stores were refused, and how many of them at most.
@@ -76,28 +75,6 @@ pub struct QuarantineOption<'a> {
     pub dir: &'a str,
     /// 1 to 999,999.
     pub most: u32,
-}
-
-/// How many associations `serve` serves at once, how long, and how that is ended.
-#[derive(Clone, Copy)]
-pub struct AtOnce<'a> {
-    /// How many associations are served at once, 1 to 64.
-    pub associations: usize,
-    /// How many of them one address may have, 1 to 64.
-    pub per_peer: usize,
-    /// How long an association may last, if that has a bound.
-    pub longest: Option<Duration>,
-    /// The path of a file whose appearance ends the program.
-    pub stop_file: Option<&'a str>,
-    /// How long stores that have begun may go on once the program is asked to end (`--grace`).
-    pub grace: Duration,
-}
-
-impl AtOnce<'_> {
-    /// Returns whether one association is served after the other, with no bound and no end.
-    pub fn is_serial(&self) -> bool {
-        self.associations == 1 && self.longest.is_none() && self.stop_file.is_none()
-    }
 }
 
 /// What `index` does.
@@ -110,8 +87,14 @@ pub struct Index<'a> {
     pub descriptions: bool,
     /// Whether files in compressed transfer syntaxes are listed, too.
     pub all_syntaxes: bool,
+    /// Whether each DICOM file is listed whose path is a file ID, not those with names of received files alone.
+    pub any_name: bool,
     /// Whether the files are those that the present directory keeps.
     pub keep: bool,
+    /// Whether records of the present directory that can't be kept are left out.
+    pub drop: bool,
     /// Whether a directory that another implementation wrote is written over.
     pub replace: bool,
+    /// Whether a file that is left out is a fault.
+    pub strict: bool,
 }

@@ -4,22 +4,25 @@ ghost use Rattle.element.specs.Title.{title_of_text};
 ghost use Rattle.element.specs.Uid.{uid_of};
 ghost use Rattle.negotiate.specs.Settings.{registered, settings_of};
 ghost use Rattle.arguments.specs.Asked.{AsksFor, Spells, SpellsTime, IsLevel, IsForm, IsLayout, IsDirectoryUid, IsServed, IsReplayed, IsIndexed};
-ghost use Rattle.arguments.specs.AskedAtOnce.{IsAtOnce};
+ghost use Rattle.arguments.specs.AskedService.{IsService};
 ghost use Rattle.arguments.specs.AskedCallers.{AreCallers};
 ghost use Rattle.arguments.specs.AskedQuarantine.{IsQuarantine};
 
-use crate::at_once::at_once_of;
-use crate::callers::callers_of;
+use crate::callers::{called_of, callers_of};
 use crate::options::{Index, Layout, LogForm, Per, Replay, Serve};
 use crate::quarantine::quarantine_of;
+use crate::service::service_of;
 use crate::transfers::taking_transfers;
-use crate::values::{IndexArguments, MOST_SYNTAXES, MOST_VALUES, ReplayArguments, ServeArguments};
+use crate::values::{
+    IndexArguments, MOST_ADDRESSES, MOST_SYNTAXES, MOST_VALUES, ReplayArguments, ServeArguments,
+};
 use arrayvec::ArrayVec;
 use element::{AeTitle, Uid};
 use failures::WordsError;
 use log::Level;
 use negotiate::Config;
 use std::alloc::Global;
+use std::net::SocketAddr;
 use std::time::Duration;
 
 /// The longest data set that can be asked for, in bytes: 2^48.
@@ -109,10 +112,7 @@ fn with_storage(
     all_syntaxes: bool,
     syntaxes: &ArrayVec<&str, MOST_SYNTAXES>,
 ) -> Result<Config, WordsError>
-    ensures ae { IfOk result (λ c. c.ae ≡ config.ae) }
-    ensures callers { IfOk result (λ c. c.callers ≡ config.callers) }
-    ensures max_pdu { IfOk result (λ c. c.max_pdu ≡ config.max_pdu) }
-    ensures max_data { IfOk result (λ c. c.max_data ≡ config.max_data) }
+    ensures rest { IfOk result (λ c. settings_of c ≡ record (settings_of config) { additional = (settings_of c).additional }) }
     ensures classes { IfOk result (λ c. map Some (settings_of c).additional.classes ≡ map (λ t. uid_of t.now) classes.now.items ++ map Some (registered all_storage)) }
     ensures transfers { IfOk result (λ c. AsksFor all_syntaxes (map (λ t. t.now) syntaxes.now.items) (settings_of c).additional.transfers) }
 {
@@ -128,14 +128,14 @@ pub fn replay_settings<'a>(
 ) -> Result<Replay<'a>, WordsError>
     ensures replayed { IfOk result (λ r. IsReplayed r arguments.now) }
 {
-    let ae = title(alloc, "ae", arguments.ae)?;
+    let called = called_of(alloc, &arguments.titles)?;
     let cut = number(alloc, "cut", arguments.cut, 1, 65536)?;
-    let config = Config::new(
-        ae,
-        ArrayVec::new(),
+    let own = Config::new(
+        called.own,
         Config::DEFAULT_MAX_PDU,
         Config::DEFAULT_MAX_DATA,
     );
+    let config = own.with_called(called.also, false);
     Ok(Replay {
         file: arguments.file,
         out: arguments.out,
@@ -152,6 +152,30 @@ pub fn replay_settings<'a>(
     })
 }
 
+/// Reads the further addresses of `serve`, each with its port.
+fn addresses_of<'a>(
+    alloc: Global,
+    texts: &ArrayVec<&'a str, MOST_ADDRESSES>,
+) -> Result<ArrayVec<&'a str, MOST_ADDRESSES>, WordsError>
+    ensures { IfOk result (λ read. read.items ≡ texts.now.items) }
+{
+    let mut addresses = ArrayVec::new();
+    for text in texts.as_slice() {
+        let is_one = match text.parse::<SocketAddr>() {
+            Ok(address) => address.port() > 0,
+            Err(_) => false,
+        };
+        if !is_one {
+            let refused = format!(in alloc;
+                "error: --listen takes an IP address and a port, as 127.0.0.1:11112 or [::1]:11112, not '{text}'\n"
+            )?;
+            return Err(WordsError::Refused(refused));
+        }
+        addresses.push(*text);
+    }
+    Ok(addresses)
+}
+
 /// Returns what `serve` does with these arguments, and with the text of the file of titles, where they name one.
 pub fn serve_settings<'a>(
     alloc: Global,
@@ -160,16 +184,20 @@ pub fn serve_settings<'a>(
 ) -> Result<Serve<'a>, WordsError>
     ensures served { IfOk result (λ s. IsServed s arguments.now) }
     ensures callers { IfOk result (λ s. AreCallers (settings_of s.config).callers arguments.now listed.now) }
-    ensures at_once { IfOk result (λ s. IsAtOnce s.at_once arguments.now) }
+    ensures service { IfOk result (λ s. IsService s.service arguments.now) }
     ensures quarantine { IfOk result (λ s. IsQuarantine s.quarantine (option_map (λ t. t.now) arguments.now.quarantine) (option_map (λ t. t.now) arguments.now.quarantine_most)) }
 {
     let port = number(alloc, "port", arguments.port, 1, 65535)?;
-    let ae = title(alloc, "ae", arguments.ae)?;
+    let listen = addresses_of(alloc, &arguments.listen)?;
+    let called = called_of(alloc, &arguments.titles)?;
     let callers = callers_of(alloc, arguments, listed)?;
+    let service = service_of(alloc, arguments)?;
     let limits = limits_of(alloc, arguments)?;
-    let config = Config::new(ae, callers, limits.max_pdu, limits.max_data);
+    let own = Config::new(called.own, limits.max_pdu, limits.max_data).with_callers(callers);
+    let config = own.with_called(called.also, arguments.any_called);
     Ok(Serve {
         bind: arguments.bind,
+        listen,
         port: port as u16,
         out: arguments.out,
         config: with_storage(
@@ -180,25 +208,20 @@ pub fn serve_settings<'a>(
             arguments.all_syntaxes,
             &arguments.transfer_syntaxes,
         )?,
-        artim: limits.artim,
-        idle: limits.idle,
+        service,
         level: level_of(alloc, arguments)?,
         form: form_of(alloc, arguments.log)?,
         layout: limits.layout,
         numbers: arguments.numbers,
         quarantine: quarantine_of(alloc, arguments)?,
         sync: !arguments.no_sync,
-        once: arguments.once,
         metrics: arguments.metrics,
-        at_once: at_once_of(alloc, arguments)?,
     })
 }
 
 /// The limits of `serve`, and how it lays out files.
 #[derive(Clone, Copy)]
 struct Limits {
-    artim: Duration,
-    idle: Duration,
     max_pdu: u32,
     max_data: u64,
     layout: Layout,
@@ -209,19 +232,13 @@ struct Limits {
 
 /// Reads the limits of `serve`, and how it lays out files.
 fn limits_of(alloc: Global, arguments: &ServeArguments) -> Result<Limits, WordsError>
-    ensures artim { IfOk result (λ l. SpellsTime arguments.now.timeout.now l.artim) }
-    ensures idle { IfOk result (λ l. SpellsTime arguments.now.idle.now l.idle) }
     ensures max_pdu { IfOk result (λ l. Spells 1024 131_072 arguments.now.max_pdu.now l.max_pdu) }
     ensures max_data { IfOk result (λ l. Spells 1024 (2 ^ 48) arguments.now.max_data.now l.max_data) }
     ensures layout { IfOk result (λ l. IsLayout l.layout (option_map (λ t. t.now) arguments.now.per)) }
 {
-    let artim = seconds(alloc, "timeout", arguments.timeout)?;
-    let idle = seconds(alloc, "idle", arguments.idle)?;
     let max_pdu = number(alloc, "max-pdu", arguments.max_pdu, 1024, 131_072)?;
     let max_data = number(alloc, "max-data", arguments.max_data, 1024, MOST_DATA)?;
     Ok(Limits {
-        artim,
-        idle,
         max_pdu: max_pdu as u32,
         max_data,
         layout: layout_of(alloc, arguments.per)?,
@@ -305,7 +322,10 @@ pub fn index_settings<'a>(
         uid: instance_of(alloc, arguments)?,
         descriptions: arguments.descriptions,
         all_syntaxes: arguments.all_syntaxes,
+        any_name: arguments.any_name,
         keep: arguments.keep,
+        drop: arguments.drop,
         replace: arguments.replace,
+        strict: arguments.strict,
     })
 }

@@ -9,11 +9,11 @@ pub(crate) const OUT: Argument<'static> = Argument::Needed(
 );
 
 /// Of `serve` and `replay`: how the box is called.
-pub(crate) const AE: Argument<'static> = Argument::Default(
+pub(crate) const AE: Argument<'static> = Argument::Defaults(
     "ae",
     "TITLE",
     "DCMBOX",
-    "The AE title that a peer has to call",
+    "An AE title that a peer may call, up to 16 times",
 );
 
 /// Of `serve` and `replay`: how files are laid out.
@@ -66,6 +66,12 @@ pub(crate) const RECURSIVE: Argument<'static> = Argument::Letter(
 pub(crate) const JSON_OF_EACH: Argument<'static> = Argument::Flag(
     "json",
     "Writes a JSON object for each file",
+);
+
+/// Of `check`, `list` and `arrange`: files of other kinds.
+pub(crate) const IGNORE_OTHERS: Argument<'static> = Argument::Flag(
+    "ignore-others",
+    "Passes by files that are no DICOM files, and tells how many",
 );
 
 /// Of `list` and `arrange`: the folder.

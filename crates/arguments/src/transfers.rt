@@ -67,11 +67,7 @@ pub(crate) fn taking_transfers(
     all: bool,
     syntaxes: &ArrayVec<&str, MOST_SYNTAXES>,
 ) -> Result<Config, WordsError>
-    ensures ae { IfOk result (λ c. c.ae ≡ config.ae) }
-    ensures callers { IfOk result (λ c. c.callers ≡ config.callers) }
-    ensures max_pdu { IfOk result (λ c. c.max_pdu ≡ config.max_pdu) }
-    ensures max_data { IfOk result (λ c. c.max_data ≡ config.max_data) }
-    ensures classes { IfOk result (λ c. (settings_of c).additional.classes ≡ (settings_of config).additional.classes) }
+    ensures rest { IfOk result (λ c. settings_of c ≡ record (settings_of config) { additional = record (settings_of config).additional { transfers = (settings_of c).additional.transfers } }) }
     ensures transfers { IfOk result (λ c. AsksFor all (map (λ t. t.now) syntaxes.now.items) (settings_of c).additional.transfers) }
 {
     let named = transfers_of(alloc, syntaxes)?;

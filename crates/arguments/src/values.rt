@@ -12,6 +12,12 @@ use std::alloc::{AllocError, Global};
 /// How many titles may be named, and how many storage classes.
 pub const MOST_VALUES: usize = 64;
 
+/// How often `--ae` may be given.
+pub const MOST_TITLES: usize = 16;
+
+/// How often `--listen` may be given.
+pub const MOST_ADDRESSES: usize = 4;
+
 /// How often `--transfer-syntax` may be given.
 pub const MOST_SYNTAXES: usize = 16;
 
@@ -27,6 +33,8 @@ pub struct ShowArguments<'a> {
     pub files: Vec<&'a str>,
     pub recursive: bool,
     pub values: bool,
+    pub full: bool,
+    pub meta: bool,
     pub tags: Vec<&'a str>,
     pub json: bool,
     pub all_syntaxes: bool,
@@ -39,6 +47,7 @@ pub struct CheckArguments<'a> {
     pub recursive: bool,
     pub strict: bool,
     pub values: bool,
+    pub ignore_others: bool,
     pub json: bool,
     pub all_syntaxes: bool,
 }
@@ -48,7 +57,8 @@ pub struct CheckArguments<'a> {
 pub struct ReplayArguments<'a> {
     pub file: &'a str,
     pub out: &'a str,
-    pub ae: &'a str,
+    /// The titles that a peer may call, of which at most 16 count.
+    pub titles: ArrayVec<&'a str, MOST_TITLES>,
     pub cut: &'a str,
     pub per: Option<&'a str>,
     pub all_storage: bool,
@@ -67,8 +77,11 @@ pub struct IndexArguments<'a> {
     pub new_uid: bool,
     pub descriptions: bool,
     pub all_syntaxes: bool,
+    pub any_name: bool,
     pub keep: bool,
+    pub drop: bool,
     pub replace: bool,
+    pub strict: bool,
 }
 
 /// The arguments of `list`.
@@ -77,6 +90,7 @@ pub struct ListArguments<'a> {
     pub dir: &'a str,
     pub series: bool,
     pub instances: bool,
+    pub ignore_others: bool,
     pub json: bool,
 }
 
@@ -87,6 +101,7 @@ pub struct ArrangeArguments<'a> {
     pub to: &'a str,
     pub copy: bool,
     pub dry_run: bool,
+    pub ignore_others: bool,
 }
 
 /// The arguments of `serve`.
@@ -95,7 +110,11 @@ pub struct ServeArguments<'a> {
     pub port: &'a str,
     pub out: &'a str,
     pub bind: &'a str,
-    pub ae: &'a str,
+    /// Further addresses, each with its port, of which at most 4 count.
+    pub listen: ArrayVec<&'a str, MOST_ADDRESSES>,
+    /// The titles that a peer may call, of which at most 16 count.
+    pub titles: ArrayVec<&'a str, MOST_TITLES>,
+    pub any_called: bool,
     /// At most 64 of them count.
     pub callers: ArrayVec<&'a str, MOST_VALUES>,
     /// The path of a file of further titles.
@@ -176,6 +195,8 @@ pub fn show_arguments<'a>(
 {
     let recursive = matches.get_flag("recursive");
     let values = matches.get_flag("values");
+    let full = matches.get_flag("full");
+    let meta = matches.get_flag("meta");
     let json = matches.get_flag("json");
     let all_syntaxes = matches.get_flag("all-syntaxes");
     let files = all_values(alloc, matches, "FILE")?;
@@ -184,6 +205,8 @@ pub fn show_arguments<'a>(
         files,
         recursive,
         values,
+        full,
+        meta,
         tags,
         json,
         all_syntaxes,
@@ -200,6 +223,7 @@ pub fn check_arguments<'a>(
     let recursive = matches.get_flag("recursive");
     let strict = matches.get_flag("strict");
     let with_values = matches.get_flag("values");
+    let ignore_others = matches.get_flag("ignore-others");
     let json = matches.get_flag("json");
     let all_syntaxes = matches.get_flag("all-syntaxes");
     let files = all_values(alloc, matches, "FILE")?;
@@ -208,25 +232,27 @@ pub fn check_arguments<'a>(
         recursive,
         strict,
         values: with_values,
+        ignore_others,
         json,
         all_syntaxes,
     })
 }
 
-/// Returns the arguments of `replay`, where each has its value and at most 64 storage classes and 16 transfer
-/// syntaxes are named.
+/// Returns the arguments of `replay`, where each has its value and at most 16 titles, 64 storage classes and 16
+/// transfer syntaxes are named.
 pub fn replay_arguments<'a>(matches: &ArgMatches<'a>) -> Option<ReplayArguments<'a>>
     ensures some { IfSome result (λ a. IsReplay a (rows_of (found_of matches.now))) }
     ensures none { IfNone result (fits_replay (rows_of (found_of matches.now)) ≡ false) }
 {
-    let Texts([file, out, ae, cut, ..]) = texts_of(matches, &["FILE", "out", "ae", "cut"])?;
+    let Texts([file, out, cut, ..]) = texts_of(matches, &["FILE", "out", "cut"])?;
+    let titles = values(matches, "ae")?;
     let per = matches.get_str("per");
     let storage_classes = values(matches, "storage-class")?;
     let transfer_syntaxes = values(matches, "transfer-syntax")?;
     Some(ReplayArguments {
         file,
         out,
-        ae,
+        titles,
         cut,
         per,
         all_storage: matches.get_flag("all-storage"),
@@ -243,14 +269,20 @@ pub fn index_arguments<'a>(matches: &ArgMatches<'a>) -> Option<IndexArguments<'a
 {
     let descriptions = matches.get_flag("descriptions");
     let all_syntaxes = matches.get_flag("all-syntaxes");
+    let any_name = matches.get_flag("any-name");
+    let drop = matches.get_flag("drop");
+    let strict = matches.get_flag("strict");
     Some(IndexArguments {
         dir: matches.get_str("DIR")?,
         uid: matches.get_str("uid"),
         new_uid: matches.get_flag("new-uid"),
         descriptions,
         all_syntaxes,
+        any_name,
         keep: matches.get_flag("keep"),
+        drop,
         replace: matches.get_flag("replace"),
+        strict,
     })
 }
 
@@ -262,11 +294,13 @@ pub fn list_arguments<'a>(matches: &ArgMatches<'a>) -> Option<ListArguments<'a>>
     let dir = matches.get_str("DIR")?;
     let series = matches.get_flag("series");
     let instances = matches.get_flag("instances");
+    let ignore_others = matches.get_flag("ignore-others");
     let json = matches.get_flag("json");
     Some(ListArguments {
         dir,
         series,
         instances,
+        ignore_others,
         json,
     })
 }
@@ -280,11 +314,13 @@ pub fn arrange_arguments<'a>(matches: &ArgMatches<'a>) -> Option<ArrangeArgument
     let to = matches.get_str("to")?;
     let copy = matches.get_flag("copy");
     let dry_run = matches.get_flag("dry-run");
+    let ignore_others = matches.get_flag("ignore-others");
     Some(ArrangeArguments {
         dir,
         to,
         copy,
         dry_run,
+        ignore_others,
     })
 }
 
@@ -308,8 +344,8 @@ pub(crate) fn values<'a, const MOST: usize>(
     Some(values)
 }
 
-/// Returns the arguments of `serve`, where each has its value and at most 64 titles, as many storage classes and
-/// 16 transfer syntaxes are named.
+/// Returns the arguments of `serve`, where each has its value and at most 4 further addresses, 16 titles of the receiver, 64 of callers,
+/// as many storage classes and 16 transfer syntaxes are named.
 pub fn serve_arguments<'a>(matches: &ArgMatches<'a>) -> Option<ServeArguments<'a>>
     ensures some { IfSome result (λ a. IsServe a (rows_of (found_of matches.now))) }
     ensures none { IfNone result (fits_serve (rows_of (found_of matches.now)) ≡ false) }
@@ -319,21 +355,22 @@ pub fn serve_arguments<'a>(matches: &ArgMatches<'a>) -> Option<ServeArguments<'a
             port,
             out,
             bind,
-            ae,
             timeout,
             idle,
             max_pdu,
             max_data,
             at_once,
             grace,
+            ..
         ],
     ) = texts_of(
         matches,
         &[
-            "port", "out", "bind", "ae", "timeout", "idle", "max-pdu", "max-data", "at-once",
-            "grace",
+            "port", "out", "bind", "timeout", "idle", "max-pdu", "max-data", "at-once", "grace",
         ],
     )?;
+    let listen = values(matches, "listen")?;
+    let titles = values(matches, "ae")?;
     let callers = values(matches, "caller")?;
     let callers_file = matches.get_str("callers");
     let storage_classes = values(matches, "storage-class")?;
@@ -352,7 +389,9 @@ pub fn serve_arguments<'a>(matches: &ArgMatches<'a>) -> Option<ServeArguments<'a
         port,
         out,
         bind,
-        ae,
+        listen,
+        titles,
+        any_called: matches.get_flag("any-called"),
         timeout,
         idle,
         max_pdu,

@@ -8,10 +8,10 @@ ghost use Rattle.arguments.specs.CommandLine.{the_command, Names};
 
 use crate::command::command;
 use crate::values::{
-    ArrangeArguments, CheckArguments, FileArguments, IndexArguments, ListArguments, MOST_SYNTAXES,
-    MOST_VALUES, ReplayArguments, ServeArguments, ShowArguments, arrange_arguments,
-    check_arguments, file_arguments, index_arguments, list_arguments, replay_arguments,
-    serve_arguments, show_arguments, values,
+    ArrangeArguments, CheckArguments, FileArguments, IndexArguments, ListArguments, MOST_ADDRESSES,
+    MOST_SYNTAXES, MOST_TITLES, MOST_VALUES, ReplayArguments, ServeArguments, ShowArguments,
+    arrange_arguments, check_arguments, file_arguments, index_arguments, list_arguments,
+    replay_arguments, serve_arguments, show_arguments, values,
 };
 use clap::error::ErrorKind;
 use clap::{ArgMatches, Error};
@@ -53,13 +53,17 @@ fn refusal(alloc: Global, error: Error) -> WordsError {
     }
 }
 
-/// The only arguments that clap takes and this program does not: more titles, storage classes or transfer
-/// syntaxes than it keeps.
+/// The only arguments that clap takes and this program does not: more addresses, titles, storage classes
+/// or transfer syntaxes than it keeps.
 fn too_many(alloc: Global, matches: &ArgMatches) -> WordsError {
     let (option, most) = if values::<MOST_VALUES>(matches, "caller").is_none() {
         ("caller", MOST_VALUES)
     } else if values::<MOST_VALUES>(matches, "storage-class").is_none() {
         ("storage-class", MOST_VALUES)
+    } else if values::<MOST_ADDRESSES>(matches, "listen").is_none() {
+        ("listen", MOST_ADDRESSES)
+    } else if values::<MOST_TITLES>(matches, "ae").is_none() {
+        ("ae", MOST_TITLES)
     } else {
         ("transfer-syntax", MOST_SYNTAXES)
     };

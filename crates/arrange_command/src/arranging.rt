@@ -20,6 +20,8 @@ pub struct ArrangeOptions<'a> {
     pub copy: bool,
     /// Whether the actions are only printed, and nothing is written.
     pub dry_run: bool,
+    /// Whether files that are no DICOM files are passed by.
+    pub ignore_others: bool,
 }
 
 /// Creates the folder of the tree, unless it is a dry run.
@@ -74,6 +76,9 @@ where
     make_tree(rt, options)?;
     let _lock = lock_for(rt, options)?;
     let mut visitor = Visitor::new(rt, &ARRANGED, err, counter);
+    if options.ignore_others {
+        visitor.ignore_others();
+    }
     match fs::metadata(rt, options.tree) {
         Ok(tree) => visitor.spare(NodeId::of(&tree)),
         Err(error) if error.kind() == ErrorKind::NotFound => {}

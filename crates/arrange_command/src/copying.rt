@@ -1,4 +1,8 @@
 //! Copies files: to a draft, which gets its name once it is complete.
+ghost use Rattle.std.specs.Prelude.{IfOk, OnOk};
+ghost use Rattle.arrange_command.specs.Placing.{HasGiven, TakesNone};
+
+use crate::tree_calls::TreeCalls;
 use element::interrupted::read_retrying;
 use failures::{Failure, ProgramError};
 use folder_filing::StoredFile;
@@ -65,25 +69,18 @@ fn is_without_links(error: &Error) -> bool {
     error.kind() == ErrorKind::Unsupported || error.raw_os_error() == Some(NOT_PERMITTED)
 }
 
-/// Fails with `AlreadyExists` if something exists at this path, and with the system's error if that
-/// cannot be checked.
-fn check_free<R: Files>(rt: &R, path: &str) -> io::Result<()> {
-    match fs::symlink_metadata(rt, path) {
-        Ok(_) => Err(Error::from(ErrorKind::AlreadyExists)),
-        Err(error) if error.kind() == ErrorKind::NotFound => Ok(()),
-        Err(error) => Err(error),
-    }
-}
-
 /// Gives the draft this path: by a hard link or, on a file system without them, by a rename after a
 /// check that the path is free.
 ///
 /// Fails with `AlreadyExists` if something exists at the path.
-fn name_draft<R: Files>(rt: &R, draft: &str, path: &str) -> io::Result<()> {
-    match fs::hard_link(rt, draft, path) {
+fn name_draft<R: Files>(rt: &R, draft: &str, path: &str, calls: &mut TreeCalls) -> io::Result<()>
+    ensures given { OnOk result (HasGiven calls.new) }
+    ensures none { TakesNone calls.old → TakesNone calls.new }
+{
+    match calls.link(rt, draft, path) {
         Err(error) if is_without_links(&error) => {
-            check_free(rt, path)?;
-            fs::rename(rt, draft, path)
+            calls.check_free(rt, path)?;
+            calls.rename(rt, draft, path)
         }
         named => named,
     }
@@ -97,9 +94,13 @@ pub(crate) fn put_copy<R: Files>(
     file: &str,
     draft: &str,
     path: &str,
-) -> Result<io::Result<()>, ProgramError> {
+    calls: &mut TreeCalls,
+) -> Result<io::Result<()>, ProgramError>
+    ensures given { IfOk result (λ named. OnOk named (HasGiven calls.new)) }
+    ensures none { TakesNone calls.old → TakesNone calls.new }
+{
     let named = match write_draft(rt, file, draft) {
-        Ok(()) => Ok(name_draft(rt, draft, path)),
+        Ok(()) => Ok(name_draft(rt, draft, path, calls)),
         Err(error) => Err(error),
     };
     let _ = fs::remove_file(rt, draft);

@@ -9,6 +9,8 @@ mod counts;
 mod name;
 mod paths;
 mod placing;
+mod planned;
+mod tree_calls;
 
 pub use arranging::{ArrangeOptions, arrange, arrange_folder};
 pub use name::{LONGEST_NAME, name_of};

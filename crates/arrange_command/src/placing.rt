@@ -1,12 +1,19 @@
 //! Gives files their paths in the tree.
+ghost use Rattle.std.specs.Prelude.{◌≡◌, IfOk, OnOk, true, false, nat_eq, if◌then◌else◌};
+ghost use Rattle.arrange_command.specs.Placing.{HasFound, HasGiven, IsPlaced, TakesNone};
+ghost use Rattle.arrange_command.specs.declared.comparing.Present.TheVariants.{Nothing};
+ghost use Rattle.arrange_command.specs.declared.placing.Placed.TheVariants.{Put, Renamed};
+
 use crate::arranging::ArrangeOptions;
-use crate::comparing::{Present, present_at};
+use crate::comparing::Present;
 use crate::copying::put_copy;
 use crate::counts::Counts;
 use crate::paths::{folder_of, path_of};
+use crate::planned::PlannedPaths;
+use crate::tree_calls::TreeCalls;
 use failures::{Failure, ProgramError};
 use inspection::Printable;
-use keyed_files::{FoundFile, Taking};
+use keyed_files::{FoundFile, TREE_DRAFT, Taking};
 use std::alloc::Allocator;
 use std::fs;
 use std::io::{self, ErrorKind, Write};
@@ -23,6 +30,28 @@ pub(crate) enum Placed {
     Renamed,
 }
 
+/// The name that a file is to get.
+#[derive(Clone, Copy)]
+struct TreeFile<'a> {
+    file: FoundFile<'a>,
+    /// The path of the folder in which the name stands.
+    folder: &'a str,
+    path: &'a str,
+    /// The number that is appended to the name, from 2 on.
+    number: u64,
+}
+
+/// Returns what is done with a file that gets the name with this number.
+fn placed_as(number: u64) -> Placed
+    ensures { result ≡ (if nat_eq number 1 then Put else Renamed) }
+{
+    if number == 1 {
+        Placed::Put
+    } else {
+        Placed::Renamed
+    }
+}
+
 /// Gives each file its path in the tree, and counts the outcomes.
 #[derive(Drop)]
 pub(crate) struct Placer<'a, R: Alloc, O: Write> {
@@ -30,6 +59,8 @@ pub(crate) struct Placer<'a, R: Alloc, O: Write> {
     options: ArrangeOptions<'a>,
     /// The path of the draft that files are copied to.
     draft: String<R::A>,
+    /// The paths that are given in a dry run.
+    planned: PlannedPaths<R::A>,
     pub counts: Counts,
     out: &'a mut O,
 }
@@ -48,31 +79,43 @@ where
         Ok(Placer {
             rt,
             options,
-            draft: format!(in rt.alloc(); "{tree}/DRAFT")?,
+            draft: format!(in rt.alloc(); "{tree}/{TREE_DRAFT}")?,
+            planned: PlannedPaths::new(rt.alloc()),
             counts: Counts::new(),
             out,
         })
     }
 
     /// Links or copies a file to a path. The inner result is that of giving the path.
-    fn put_once(&self, file: &str, path: &str) -> Result<io::Result<()>, ProgramError> {
+    fn put_once(
+        &self,
+        target: TreeFile<'_>,
+        calls: &mut TreeCalls,
+    ) -> Result<io::Result<()>, ProgramError>
+        ensures given { IfOk result (λ given. OnOk given (HasGiven calls.new)) }
+        ensures none { TakesNone calls.old → TakesNone calls.new }
+    {
+        let (file, path) = (target.file.path, target.path);
         if self.options.copy {
-            put_copy(self.rt, file, self.draft.as_str(), path)
+            put_copy(self.rt, file, self.draft.as_str(), path, calls)
         } else {
-            Ok(fs::hard_link(self.rt, file, path))
+            Ok(calls.link(self.rt, file, path))
         }
     }
 
     /// Links or copies a file to a path in a folder, which is created if it does not exist. Returns
     /// `false` if something is at the path.
-    fn put(&self, file: &str, folder: &str, path: &str) -> Result<bool, ProgramError> {
-        let mut put = self.put_once(file, path)?;
+    fn put(&self, target: TreeFile<'_>, calls: &mut TreeCalls) -> Result<bool, ProgramError>
+        ensures given { IfOk result (λ is_put. is_put ≡ true → HasGiven calls.new) }
+        ensures none { TakesNone calls.old → TakesNone calls.new }
+    {
+        let mut put = self.put_once(target, calls)?;
         if put
             .as_ref()
             .is_err_and(|error| error.kind() == ErrorKind::NotFound)
         {
-            match fs::create_dir_all(self.rt, folder) {
-                Ok(()) => put = self.put_once(file, path)?,
+            match fs::create_dir_all(self.rt, target.folder) {
+                Ok(()) => put = self.put_once(target, calls)?,
                 Err(error) => return Err(ProgramError::of(Failure::Tree, error)),
             }
         }
@@ -87,25 +130,61 @@ where
         }
     }
 
-    /// Gives a file a path if that is free. Returns what was at the path before; `Nothing` if the file
-    /// has it now, or would get it in a real run.
-    fn place_at(
+    /// Gives a file its name, at which nothing was found.
+    fn place_new(
         &self,
-        file: FoundFile<'_>,
-        folder: &str,
-        path: &str,
-    ) -> Result<Present, ProgramError> {
-        let present = present_at(self.rt, file, path)?;
-        if present != Present::Nothing || self.options.dry_run {
-            return Ok(present);
+        target: TreeFile<'_>,
+        calls: &mut TreeCalls,
+    ) -> Result<Option<Placed>, ProgramError>
+        ensures placed { IfOk result (λ placed. IsPlaced false target.entry.number placed calls.new) }
+        ensures none { TakesNone calls.old → TakesNone calls.new }
+    {
+        if self.put(target, calls)? {
+            return Ok(Some(placed_as(target.number)));
         }
-        if self.put(file.path, folder, path)? {
-            return Ok(Present::Nothing);
+        // Another program used the name in the meantime.
+        match calls.look(self.rt, target.file, target.path)? {
+            Present::Same => Ok(Some(Placed::PassedOver)),
+            Present::Other | Present::Nothing => Ok(None),
         }
-        // Another program used the path in the meantime.
-        match present_at(self.rt, file, path)? {
-            Present::Same => Ok(Present::Same),
-            Present::Other | Present::Nothing => Ok(Present::Other),
+    }
+
+    /// Returns what a real run would do at a name at which nothing was found: it would have put the file there that has the
+    /// name in this dry run, or else it would put this one there.
+    fn plan(
+        &mut self,
+        target: TreeFile<'_>,
+        calls: &mut TreeCalls,
+    ) -> Result<Option<Placed>, ProgramError>
+        ensures placed { HasFound Nothing calls.old → IfOk result (λ placed. IsPlaced true target.entry.number placed calls.new) }
+        ensures none { TakesNone calls.old → TakesNone calls.new }
+    {
+        if let Some(other) = self.planned.file_at(target.path) {
+            return match calls.look(self.rt, target.file, other)? {
+                Present::Same => Ok(Some(Placed::PassedOver)),
+                Present::Other | Present::Nothing => Ok(None),
+            };
+        }
+        self.planned
+            .give(self.rt.alloc(), target.path, target.file.path)?;
+        Ok(Some(placed_as(target.number)))
+    }
+
+    /// Gives a file a name if that is free; in a dry run it is only planned. Returns `None` where something else has the
+    /// name.
+    fn place_at(
+        &mut self,
+        target: TreeFile<'_>,
+        calls: &mut TreeCalls,
+    ) -> Result<Option<Placed>, ProgramError>
+        ensures placed { IfOk result (λ placed. IsPlaced self.old.options.dry_run target.entry.number placed calls.new) }
+        ensures none { TakesNone calls.old → TakesNone calls.new }
+    {
+        match calls.look(self.rt, target.file, target.path)? {
+            Present::Same => Ok(Some(Placed::PassedOver)),
+            Present::Other => Ok(None),
+            Present::Nothing if self.options.dry_run => self.plan(target, calls),
+            Present::Nothing => self.place_new(target, calls),
         }
     }
 
@@ -130,14 +209,16 @@ where
         let folder = folder_of(self.rt.alloc(), self.options.tree, file.keys)?;
         for number in 1..u64::MAX {
             let path = path_of(self.rt.alloc(), folder.as_str(), file.keys, number)?;
-            let placed = match self.place_at(file, folder.as_str(), path.as_str())? {
-                Present::Nothing if number == 1 => Placed::Put,
-                Present::Nothing => Placed::Renamed,
-                Present::Same => Placed::PassedOver,
-                Present::Other => continue,
+            let target = TreeFile {
+                file,
+                folder: folder.as_str(),
+                path: path.as_str(),
+                number,
             };
-            self.counts.add(placed);
-            return self.tell(placed, file.path, path.as_str());
+            if let Some(placed) = self.place_at(target, &mut TreeCalls::new())? {
+                self.counts.add(placed);
+                return self.tell(placed, file.path, path.as_str());
+            }
         }
         Ok(())
     }

@@ -17,6 +17,7 @@ const ALL_LINES: ListOptions = ListOptions {
 
 const ALL_JSON: ListOptions = ListOptions {
     instances: true,
+    ignore_others: false,
     form: OutputForm::Json,
     ..LINES
 };

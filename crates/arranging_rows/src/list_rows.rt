@@ -51,6 +51,7 @@ const JSON: &[u8] =
 pub(crate) const LINES: ListOptions = ListOptions {
     series: false,
     instances: false,
+    ignore_others: false,
     form: OutputForm::Lines,
 };
 

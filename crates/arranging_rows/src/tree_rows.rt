@@ -118,6 +118,7 @@ fn tells(rt: &HostRuntime, folders: &Folders, copy: bool, lines: &[u8]) -> Resul
         tree: folders.tree.as_str(),
         copy,
         dry_run: true,
+        ignore_others: false,
     };
     let (mut out, mut err) = (Vec::new(rt.alloc()), Vec::new(rt.alloc()));
     let told = (&mut err, Counter::hidden());

@@ -109,7 +109,7 @@ impl Folders {
         };
         let has_first = has_image(rt, self.path(rt, "1.2.3.11-2")?.as_str(), FIRST)?;
         let tree = self.tree.as_str();
-        let draft = format!(in rt.alloc(); "{tree}/DRAFT")?;
+        let draft = format!(in rt.alloc(); "{tree}/.DRAFT")?;
         let has_draft = !is_free(rt, draft.as_str());
         let is_due = self.are_untouched(rt)?
             && count(rt, self.series.as_str())? == 1 + u32::from(has_first)
@@ -136,6 +136,7 @@ where
         tree: folders.tree.as_str(),
         copy,
         dry_run: false,
+        ignore_others: false,
     };
     let told = (err, Counter::hidden());
     arrange_folder(rt, folders.dir.as_str(), options, out, told)

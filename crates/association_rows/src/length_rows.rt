@@ -1,7 +1,6 @@
 //! Data sets as long as the limit of a receiver, and longer ones.
 
 use crate::row::Row;
-use arrayvec::ArrayVec;
 use dimse::status;
 use element::AeTitle;
 use engine::{ListSource, ListedInput, Report, Standing, run};
@@ -15,7 +14,7 @@ use std::alloc::{AllocError, Global};
 /// The configuration of a receiver that takes data sets of 1,024 bytes.
 fn config() -> Config {
     let ae = AeTitle(*b"DCMBOX          ");
-    Config::new(ae, ArrayVec::new(), Config::DEFAULT_MAX_PDU, 1024)
+    Config::new(ae, Config::DEFAULT_MAX_PDU, 1024)
 }
 
 /// Whether a row comes so to that receiver in two pieces, of which the first has `cut` bytes, and the association goes on.

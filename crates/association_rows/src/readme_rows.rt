@@ -1,5 +1,4 @@
 //! The example of the README: one association, by hand.
-use arrayvec::ArrayVec;
 use element::AeTitle;
 use engine::Association;
 use negotiate::Config;
@@ -11,7 +10,7 @@ use std::test::Fail;
 fn one_association_by_hand(rt: HostRuntime) -> Result<(), Fail> {
     let ae = AeTitle::of_text("DCMBOX").ok_or("no title")?;
     let (max_pdu, max_data) = (Config::DEFAULT_MAX_PDU, Config::DEFAULT_MAX_DATA);
-    let config = Config::new(ae, ArrayVec::new(), max_pdu, max_data);
+    let config = Config::new(ae, max_pdu, max_data);
     let mut wire = MemoryWire::new(rt.alloc());
     let mut filing = MemoryFiling::new(rt.alloc());
     let mut association = Association::<65536, 1024, 256, 64>::open(&config);

@@ -32,6 +32,15 @@ pub fn cases<'a>(alloc: Global, table: &'a str, count: usize) -> Result<Vec<Case
 }
 
 impl<'a> Case<'a> {
+    /// Returns the case of a line, which has one empty field if it has no bar.
+    pub fn of(line: &'a str) -> Case<'a> {
+        let (name, fields) = line.split_once('|').unwrap_or((line, ""));
+        Case {
+            name: name.trim(),
+            fields,
+        }
+    }
+
     /// Returns the field at this place, counted from 0.
     pub fn field(&self, place: usize) -> Result<&'a str, Fail> {
         match self.fields.split('|').nth(place) {

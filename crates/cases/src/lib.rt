@@ -4,8 +4,9 @@
 //!
 //!     a text that is too long | SH | '12345678901234567 ' | 5
 //!
-//! A field of bytes has pairs of hexadecimal digits (`00 1f ff` or `001fff`), a byte and how often it comes (`00*32`), a
-//! text of one byte a character between apostrophes, and names of `Parts`, in any order.
+//! A field of bytes has pairs of hexadecimal digits (`00 1f ff` or `001fff`), a text of one byte a character between
+//! apostrophes, and names of `Parts`, of which some bytes may be taken (`request[10..26]`, `request[..60]`), in any order;
+//! a word may say how often it comes (`00*32`, `echo*50`).
 #![tactic(auto)]
 
 mod case;

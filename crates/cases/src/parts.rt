@@ -33,6 +33,20 @@ fn byte_of(pair: &[u8]) -> Option<u8> {
     }
 }
 
+/// Returns the bytes of a range as `10..26]`, whose places may be left out.
+fn within<'x>(bytes: &'x [u8], range: &str) -> Option<&'x [u8]> {
+    let (from, to) = range.strip_suffix(']')?.split_once("..")?;
+    let upto = if to.is_empty() {
+        bytes
+    } else {
+        bytes.get(..to.parse::<usize>().ok()?)?
+    };
+    if from.is_empty() {
+        return Some(upto);
+    }
+    upto.get(from.parse::<usize>().ok()?..)
+}
+
 impl<'a> Parts<'a> {
     /// Returns no names.
     pub fn new(alloc: Global) -> Parts<'a> {
@@ -85,22 +99,36 @@ impl<'a> Parts<'a> {
 
     /// Appends the bytes of a word; returns whether it has some.
     fn put(&self, bytes: &mut Vec<u8>, word: &str) -> Result<bool, Fail> {
-        if let Some(part) = self.parts.iter().find(|part| part.name == word) {
-            bytes.extend_from_slice(part.bytes.as_slice())?;
-            return Ok(true);
-        }
-        let (digits, times) = match word.split_once('*') {
-            Some((digits, times)) => (digits, times.parse::<usize>().unwrap_or(0)),
+        let (text, times) = match word.split_once('*') {
+            Some((text, times)) => (text, times.parse::<usize>().unwrap_or(0)),
             None => (word, 1),
         };
         for _ in 0..times {
-            for pair in digits.as_bytes().chunks(2) {
-                match byte_of(pair) {
-                    Some(byte) => bytes.push(byte)?,
-                    None => return Ok(false),
-                }
+            if !self.put_once(bytes, text)? {
+                return Ok(false);
             }
         }
         Ok(times > 0)
+    }
+
+    /// Appends the bytes of a word without a number; returns whether it has some.
+    fn put_once(&self, bytes: &mut Vec<u8>, text: &str) -> Result<bool, Fail> {
+        let (name, range) = text.split_once('[').unwrap_or((text, "..]"));
+        if let Some(part) = self.parts.iter().find(|part| part.name == name) {
+            return match within(part.bytes.as_slice(), range) {
+                Some(some) => {
+                    bytes.extend_from_slice(some)?;
+                    Ok(true)
+                }
+                None => Ok(false),
+            };
+        }
+        for pair in text.as_bytes().chunks(2) {
+            match byte_of(pair) {
+                Some(byte) => bytes.push(byte)?,
+                None => return Ok(false),
+            }
+        }
+        Ok(true)
     }
 }

@@ -5,5 +5,5 @@ mod checkdir;
 mod faults;
 mod texts;
 
-pub use checkdir::{checkdir_over, tell_fault};
+pub use checkdir::{checkdir_named, checkdir_over, tell_fault};
 pub use texts::PathText;

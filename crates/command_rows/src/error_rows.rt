@@ -42,7 +42,7 @@ fn failed_devices_have_their_texts(rt: HostRuntime) -> Result<(), Fail> {
         ),
         Row(
             ProgramError::System(Failure::Folder, failed()),
-            "the folder can't be opened: timed out; check that it is a folder, and that you may read it and write into it",
+            "the folder can't be opened: timed out; check that it is a folder, and that you may read it, or write into it where files go there",
         ),
         Row(
             ProgramError::System(Failure::MissingFolder, failed()),
@@ -50,7 +50,7 @@ fn failed_devices_have_their_texts(rt: HostRuntime) -> Result<(), Fail> {
         ),
         Row(
             ProgramError::System(Failure::BusyFolder, failed()),
-            "the folder can't be opened: timed out; end the other program that receives into it",
+            "the folder can't be opened: timed out; end the other program that writes into it",
         ),
         Row(
             ProgramError::System(Failure::UnwrittenFolder, failed()),

@@ -1,5 +1,4 @@
 //! Settings of an association.
-use arrayvec::ArrayVec;
 use element::AeTitle;
 use negotiate::Config;
 
@@ -7,7 +6,6 @@ use negotiate::Config;
 pub fn config() -> Config {
     Config::new(
         AeTitle(*b"DCMBOX          "),
-        ArrayVec::new(),
         Config::DEFAULT_MAX_PDU,
         Config::DEFAULT_MAX_DATA,
     )

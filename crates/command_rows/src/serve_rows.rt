@@ -1,10 +1,12 @@
 //! Associations over TCP in one process: the log, and what a peer can't do to the box.
 use crate::files::config;
-use arguments::{AtOnce, Layout, LogForm, Serve};
+use arguments::{Layout, LogForm, Serve};
+use arrayvec::ArrayVec;
+use connection::{Service, Timeouts};
 use fixtures::bytes::joined;
 use fixtures::echo;
 use fixtures::folders::fresh;
-use folders::open_folder;
+use folders::open_writer;
 use log::sink::Memory;
 use log::{Level, Logged};
 use serve_command::serve_one;
@@ -20,52 +22,56 @@ fn settings() -> Serve<'static> {
     Serve {
         bind: "127.0.0.1",
         port: 104,
+        listen: ArrayVec::new(),
         out: ".",
         config: config(),
-        artim: Duration::from_secs(1),
-        idle: Duration::from_secs(60),
         level: Level::Info,
         form: LogForm::Text,
         layout: Layout::Flat,
         numbers: None,
         quarantine: None,
         sync: true,
-        once: true,
         metrics: None,
-        at_once: AtOnce {
+        service: Service {
+            timeouts: Timeouts {
+                artim: Duration::from_secs(1),
+                idle: Duration::from_secs(60),
+            },
             associations: 1,
             per_peer: 1,
             longest: None,
             stop_file: None,
             grace: Duration::from_secs(10),
+            once: true,
         },
     }
 }
 
-/// Serves one association into a new folder of this name, which is removed again; returns the line of the log.
-fn served(rt: &HostRuntime, listener: &TcpListener, dir: &str) -> Result<String, Fail> {
+/// Serves one association into a new folder of this name, which is removed again; returns the log's line of it.
+fn served(rt: &HostRuntime, listener: TcpListener, dir: &str) -> Result<String, Fail> {
     let sink = Memory::new(rt.alloc());
     serve_logged(rt, listener, dir, &sink)?;
     fs::remove_dir_all(rt, dir)?;
     let lines = sink.into_lines();
     match lines.as_slice() {
-        [line] => Ok(String::from_str(rt.alloc(), line.as_str())?),
-        _ => Err(Fail::from("not one line")),
+        [_listening, line, _stopped] => Ok(String::from_str(rt.alloc(), line.as_str())?),
+        _ => Err(Fail::from("not three lines")),
     }
 }
 
 /// Serves one association into a new folder of this name, and logs into the sink.
 fn serve_logged(
     rt: &HostRuntime,
-    listener: &TcpListener,
+    listener: TcpListener,
     dir: &str,
     sink: &Memory<Global>,
 ) -> Result<(), Fail> {
     fresh(rt, dir)?;
-    let mut filing = open_folder(*rt, dir, Layout::Flat, true)?;
+    let mut writer = open_writer(*rt, dir, Layout::Flat, true)?;
+    let filing = writer.filing()?;
     let logged = Logged::new(*rt, Level::Info, sink);
-    serve_one(&logged, listener, &settings(), &mut filing)?;
-    Ok(())
+    let (_history, served) = serve_one(&logged, listener, &settings(), rt, (writer, filing));
+    Ok(served?)
 }
 
 /// Sends the recorded echo, and closes the sending side.
@@ -95,7 +101,7 @@ fn the_recorded_echo_is_served(rt: HostRuntime) -> Result<(), Fail> {
     let mut peer = TcpStream::connect(&rt, listener.local_addr()?)?;
     let address = peer.local_addr()?;
     send_echo(alloc, &mut peer)?;
-    let line = served(&rt, &listener, "echo_is_served")?;
+    let line = served(&rt, listener, "echo_is_served")?;
     assert!(rt;
         is_answered(
             alloc,
@@ -117,7 +123,7 @@ fn a_peer_that_closes_its_association(rt: HostRuntime) -> Result<(), Fail> {
     let mut peer = TcpStream::connect(&rt, listener.local_addr()?)?;
     peer.write_all(echo::REQUEST)?;
     peer.shutdown(Shutdown::Write)?;
-    let line = served(&rt, &listener, "peer_that_closes")?;
+    let line = served(&rt, listener, "peer_that_closes")?;
     assert!(rt; is_answered(rt.alloc(), &mut peer, &[echo::ACCEPT])?);
     assert!(rt; line.contains("Ended held 0 files 0 dropped 0 received 170"));
     Ok(())
@@ -127,7 +133,7 @@ fn a_peer_that_closes_its_association(rt: HostRuntime) -> Result<(), Fail> {
 fn a_silent_peer_expires(rt: HostRuntime) -> Result<(), Fail> {
     let listener = TcpListener::bind(&rt, "127.0.0.1:0")?;
     let _peer = TcpStream::connect(&rt, listener.local_addr()?)?;
-    let line = served(&rt, &listener, "silent_peer")?;
+    let line = served(&rt, listener, "silent_peer")?;
     assert!(rt; line.contains("Ended held 0"));
     Ok(())
 }

@@ -2,6 +2,7 @@
 //! status.
 #![tactic(auto)]
 
+mod marked;
 mod perform;
 mod program;
 mod standard;

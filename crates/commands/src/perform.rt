@@ -14,7 +14,12 @@ use replay_command::replay;
 use serve_command::{callers_text, serve_into};
 use std::alloc::Global;
 
+/// A text that a file of titles may have.
+const ONE_TITLE: &str = "A";
+
 fn perform_serve(rt: &HostRuntime, arguments: &ServeArguments) -> Result<Outcome, ProgramError> {
+    // Each word is judged before the file that one names is opened.
+    let _judged = serve_settings(rt.alloc(), arguments, ONE_TITLE)?;
     let listed = callers_text(rt, arguments.callers_file)?;
     let settings = serve_settings(rt.alloc(), arguments, listed.as_str())?;
     serve_into(rt, &settings)?;
@@ -63,13 +68,23 @@ fn syntaxes_of(all_syntaxes: bool) -> Syntaxes {
     }
 }
 
+/// Returns whether a keyword is one of the groups that repeat: 50xx, curves, or 60xx, overlays (PS3.5 section 7.6).
+fn is_repeating(keyword: &str) -> bool {
+    keyword.starts_with("Overlay") || keyword.starts_with("Curve")
+}
+
 /// Reads the tags of the options `--tag`. Fails with a text for the user if one is invalid.
 fn tags_named(alloc: Global, texts: &[&str]) -> Result<Vec<Tag>, WordsError> {
     let mut tags = Vec::new(alloc);
     for text in texts {
         let Some(tag) = tag_named(*text) else {
+            let also = if is_repeating(*text) {
+                ", whose group repeats: name the element of one, as 6000,3000"
+            } else {
+                ""
+            };
             let refused = format!(in alloc;
-                "error: --tag takes a tag as 0010,0020 or its keyword as PatientID, not '{text}'\n"
+                "error: --tag takes a tag as 0010,0020 or its keyword as PatientID, not '{text}'{also}\n"
             )?;
             return Err(WordsError::Refused(refused));
         };
@@ -82,10 +97,13 @@ fn perform_show(rt: &HostRuntime, arguments: &ShowArguments) -> Result<Outcome, 
     let files = Files {
         paths: arguments.files.as_slice(),
         recursive: arguments.recursive,
+        ignore_others: false,
     };
     let tags = tags_named(rt.alloc(), arguments.tags.as_slice())?;
     let options = ShowOptions {
-        values: arguments.values,
+        values: arguments.values || arguments.full,
+        full: arguments.full,
+        meta: arguments.meta,
         tags: tags.as_slice(),
         form: form_of(arguments.json),
         syntaxes: syntaxes_of(arguments.all_syntaxes),
@@ -97,6 +115,7 @@ fn perform_check(rt: &HostRuntime, arguments: &CheckArguments) -> Result<Outcome
     let files = Files {
         paths: arguments.files.as_slice(),
         recursive: arguments.recursive,
+        ignore_others: arguments.ignore_others,
     };
     let options = CheckOptions {
         strict: arguments.strict,
@@ -111,6 +130,7 @@ fn perform_list(rt: &HostRuntime, arguments: &ListArguments) -> Result<Outcome, 
     let options = ListOptions {
         series: arguments.series,
         instances: arguments.instances,
+        ignore_others: arguments.ignore_others,
         form: form_of(arguments.json),
     };
     list(rt, arguments.dir, options)
@@ -124,6 +144,7 @@ fn perform_arrange(
         tree: arguments.to,
         copy: arguments.copy,
         dry_run: arguments.dry_run,
+        ignore_others: arguments.ignore_others,
     };
     arrange(rt, arguments.dir, options)
 }

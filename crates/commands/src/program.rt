@@ -1,12 +1,12 @@
 //! The program: reads its arguments, runs the command, and reports errors.
+use crate::marked::{owned_words, refused_word};
 use crate::perform::perform;
 use crate::standard::open_standard;
 use arguments::{Job, read_words};
 use failures::{Failure, ProgramError, WordsError};
 use inspection::Outcome;
 use std::alloc::{AllocError, Global};
-use std::env;
-use std::io::ErrorKind;
+use std::fmt;
 use std::process::ExitCode;
 
 /// The exit status if a fault was found in a file.
@@ -17,6 +17,25 @@ const REFUSED: u8 = 2;
 
 /// The exit status if the system failed or memory ran out.
 const FAILED: u8 = 3;
+
+/// A text that has what the user gave, without control characters, which might change the terminal: a question mark
+/// stands for each.
+#[derive(Clone, Copy)]
+struct Masked<'a> {
+    text: &'a str,
+    /// Whether the ends of its lines are kept.
+    has_lines: bool,
+}
+
+impl fmt::Display for Masked<'_> {
+    fn fmt<W: fmt::Write>(&self, f: &mut fmt::Formatter<W>) -> fmt::Result {
+        for character in self.text.chars() {
+            let is_kept = !character.is_control() || self.has_lines && character == '\n';
+            f.write_char(if is_kept { character } else { '?' })?;
+        }
+        Ok(())
+    }
+}
 
 /// Returns the only file, or an empty text if there are several.
 fn only<'a>(files: &[&'a str]) -> &'a str {
@@ -32,6 +51,8 @@ fn subject<'a>(job: &Job<'a>, error: &ProgramError) -> &'a str {
     match (job, error.failure()) {
         (Job::Serve(arguments), Some(Failure::Listen | Failure::KeptPort)) => arguments.port,
         (Job::Serve(arguments), Some(Failure::Address)) => arguments.bind,
+        (Job::Serve(arguments), Some(Failure::FurtherAddress)) => only(arguments.listen.as_slice()),
+        (Job::Serve(arguments), Some(Failure::BusyMetrics)) => arguments.metrics.unwrap_or(""),
         (Job::Serve(arguments), Some(Failure::Numbers)) => arguments.numbers.unwrap_or(""),
         (Job::Serve(arguments), Some(Failure::Callers)) => arguments.callers_file.unwrap_or(""),
         (Job::Serve(arguments), Some(failure)) if failure.is_of_folder() => arguments.out,
@@ -54,6 +75,10 @@ fn fail(rt: &HostRuntime, subject: &str, error: &ProgramError) -> ExitCode {
         let _ = if subject.is_empty() {
             eprintln!(rt; "dcmbox: {error}")
         } else {
+            let subject = Masked {
+                text: subject,
+                has_lines: false,
+            };
             eprintln!(rt; "dcmbox: {subject}: {error}")
         };
     }
@@ -73,29 +98,14 @@ fn report(rt: &HostRuntime, subject: &str, error: &ProgramError) -> ExitCode {
     match error {
         ProgramError::Words(WordsError::Shown(text)) => show(rt, text.as_str()),
         ProgramError::Words(WordsError::Refused(text)) => {
+            let text = Masked {
+                text: text.as_str(),
+                has_lines: true,
+            };
             let _ = eprint!(rt; "{text}");
             ExitCode::from(REFUSED)
         }
-        ProgramError::System(Failure::Arguments, error) if error.kind() == ErrorKind::InvalidData =>
-            {
-                let _ = eprintln!(rt; "error: an argument is not UTF-8");
-                ExitCode::from(REFUSED)
-            }
         _ => fail(rt, subject, error),
-    }
-}
-
-/// Returns the arguments of the program. Fails if one is not UTF-8, or memory runs out.
-fn owned_words(rt: &HostRuntime) -> Result<Vec<String, Global>, ProgramError> {
-    let mut owned = Vec::new(rt.alloc());
-    match env::args(rt) {
-        Ok(words) => {
-            for word in words {
-                owned.push(word)?;
-            }
-            Ok(owned)
-        }
-        Err(error) => Err(ProgramError::System(Failure::Arguments, error)),
     }
 }
 
@@ -118,10 +128,14 @@ fn status_of(rt: &HostRuntime, job: &Job) -> ExitCode {
 }
 
 /// Reads the arguments, runs their command, and returns the exit status. Fails if the arguments are
-/// invalid or ask for help.
+/// invalid or ask for help, or if one is not UTF-8 and no file that is read among others.
 fn run_words(rt: &HostRuntime, owned: &[String]) -> Result<ExitCode, ProgramError> {
     let words = words_of(rt.alloc(), owned)?;
     let job = read_words(rt.alloc(), words.as_slice())?;
+    if let Some((number, word)) = refused_word(owned, &job) {
+        let text = format!(in rt.alloc(); "error: argument {number} is not UTF-8: {word}\n")?;
+        return Err(ProgramError::Words(WordsError::Refused(text)));
+    }
     Ok(status_of(rt, &job))
 }
 
@@ -132,7 +146,7 @@ pub fn run_program(rt: &HostRuntime) -> ExitCode {
     open_standard(rt);
     let ran = match owned_words(rt) {
         Ok(owned) => run_words(rt, owned.as_slice()),
-        Err(error) => Err(error),
+        Err(error) => Err(ProgramError::System(Failure::Arguments, error)),
     };
     match ran {
         Ok(status) => status,

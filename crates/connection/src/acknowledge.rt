@@ -3,7 +3,7 @@ use libc::net;
 use std::os::fd::AsRawFd;
 
 /// Sets `TCP_QUICKACK`, so that the system acknowledges received bytes at once. The system clears the
-/// option by itself, so this is called before each read.
+/// option by itself, so this is called each time a read finds nothing more (`WouldBlock`).
 ///
 /// A peer that sends a command and its data set by two writes, with Nagle's algorithm on, sends the
 /// second only after the first is acknowledged: a delayed acknowledgement costs it about 40 ms for each

@@ -1,4 +1,6 @@
 //! The interface of an observer of connections, such as a log.
+ghost use Rattle.std.specs.Prelude.{◌≡◌, ℕ, List, [], ◌∷◌, ◌++◌};
+
 use decisions::Decision;
 use std::io;
 
@@ -25,6 +27,8 @@ pub enum ReadEnd {
 pub struct Taken<'a> {
     /// The bytes.
     pub bytes: &'a [u8],
+    /// They with those that were taken before them, as far as these are kept: all, until something is sent.
+    pub whole: &'a [u8],
     /// The bytes that were read after them and wait to be taken.
     pub ahead: &'a [u8],
     /// Whether the part is complete with them. If not, nothing was decided.
@@ -42,8 +46,12 @@ pub struct Taken<'a> {
 
 /// An observer of a connection. It is told what is sent and received, and cannot change it.
 pub trait Observer {
+    /// The bytes of each piece that it was told of, one after the other.
+    ghost heard: { Self → List (List ℕ) };
+
     /// Called after each part of a PDU, or piece of a part, that the association took.
-    fn took(&self, taken: &Taken<'_>);
+    fn took(&mut self, taken: &Taken<'_>)
+        ensures heard { heard self.new ≡ heard self.old ++ taken.now.bytes.now ∷ [] };
 
     /// Called once the file of a store whose answer is held was settled, with whether it is kept.
     /// If it is lost, nothing more is sent.

@@ -145,7 +145,7 @@ empty folder | quarantine_refused
 empty folder | quarantine_refused_aside
 refuses quarantine | quarantine_refused | quarantine_refused | invalid input
 refuses quarantine | quarantine_refused | ./quarantine_refused/. | invalid input
-refuses quarantine | quarantine_refused | quarantine_missing | not found
+refuses quarantine | quarantine_refused | quarantine_missing/aside | not found
 refuses quarantine | quarantine_refused | quarantine_refused_aside |
 hold | quarantine_refused_aside
 refuses quarantine | quarantine_refused | quarantine_refused_aside | another writer

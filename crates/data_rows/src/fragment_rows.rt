@@ -61,7 +61,20 @@ fn checked(alloc: Global, syntaxes: Syntaxes, strict: bool, data: &[u8]) -> Resu
     checked_in(alloc, syntaxes, strict, OutputForm::Lines, data)
 }
 
-/// Returns what a check writes in this form of the file with this data set.
+/// Returns these lines without the notes that UIDs are missing, as they are in each data set here.
+fn without_missing(alloc: Global, lines: &[u8]) -> Result<Vec<u8>, Fail> {
+    let text = str::from_utf8(lines).map_err(|_| Fail::from("no text"))?;
+    let mut kept = Vec::new(alloc);
+    for line in text.lines() {
+        if !line.ends_with(" 21 MissingUid") {
+            kept.extend_from_slice(line.as_bytes())?;
+            kept.push(b'\n')?;
+        }
+    }
+    Ok(kept)
+}
+
+/// Returns what a check writes in this form of the file with this data set, but for the notes of UIDs in lines.
 pub(crate) fn checked_in(
     alloc: Global,
     syntaxes: Syntaxes,
@@ -79,6 +92,7 @@ pub(crate) fn checked_in(
         syntaxes,
     };
     match check_with(&mut input, options, &mut out) {
+        Ok(_) if form == OutputForm::Lines => without_missing(alloc, out.as_slice()),
         Ok(_) => Ok(out),
         Err(_) => Err(Fail::from("not read")),
     }
@@ -88,6 +102,8 @@ pub(crate) fn checked_in(
 fn fragments_are_shown(rt: HostRuntime) -> Result<(), Fail> {
     let options = ShowOptions {
         values: true,
+        full: false,
+        meta: false,
         tags: &[],
         form: OutputForm::Lines,
         syntaxes: Syntaxes::All,

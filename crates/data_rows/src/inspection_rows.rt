@@ -14,19 +14,25 @@ use std::test::Fail;
 const BROKEN: &[u8] = b"\x08\0\x05\0CS\x0a\0ISO_IR 192\x08\0\x20\0DA\x08\x0020230229\
 \x10\0\x10\0PN\x06\0A=B=C=";
 
-const NOTES: &str = "note 0000000306 0008,0020 DA 7 NoSuchDate
+const NOTES: &str = "note 0000000306 0008,0018 UI 21 MissingUid
+note 0000000306 0008,0020 DA 7 NoSuchDate
 note 0000000322 0010,0010 PN 12 BadName
 note 0000000336 0010,0020 LO 5 LongText
+note 0000000474 0020,000d UI 21 MissingUid
 good 474
 ";
 
 const NOTES_JSON: &str = "\"notes\":[\
+{\"place\":306,\"tag\":\"0008,0018\",\"vr\":\"UI\",\"number\":21,\"name\":\"MissingUid\",\
+\"keyword\":\"SOPInstanceUID\"},\
 {\"place\":306,\"tag\":\"0008,0020\",\"vr\":\"DA\",\"number\":7,\"name\":\"NoSuchDate\",\
 \"keyword\":\"StudyDate\"},\
 {\"place\":322,\"tag\":\"0010,0010\",\"vr\":\"PN\",\"number\":12,\"name\":\"BadName\",\
 \"keyword\":\"PatientName\"},\
 {\"place\":336,\"tag\":\"0010,0020\",\"vr\":\"LO\",\"number\":5,\"name\":\"LongText\",\
-\"keyword\":\"PatientID\"}],\
+\"keyword\":\"PatientID\"},\
+{\"place\":474,\"tag\":\"0020,000d\",\"vr\":\"UI\",\"number\":21,\"name\":\"MissingUid\",\
+\"keyword\":\"StudyInstanceUID\"}],\
 \"result\":\"good\",\"length\":474}\n";
 
 /// A code with ESC, a tag, two numbers, two numbers with a fraction, and two words.
@@ -109,8 +115,8 @@ fn strict_notes(rt: HostRuntime) -> Result<(), Fail> {
     add_text(&mut data, *b"\x10\0\x20\0", 65)?;
     let (lines, json) = (OutputForm::Lines, OutputForm::Json);
     for (strict, form, wanted, count) in [
-        (true, lines, NOTES, 3),
-        (true, json, NOTES_JSON, 3),
+        (true, lines, NOTES, 5),
+        (true, json, NOTES_JSON, 5),
         (false, lines, "good 474\n", 0),
         (
             false,
@@ -142,14 +148,18 @@ fn sets_of_items(rt: HostRuntime) -> Result<(), Fail> {
     data.extend_from_slice(b"\xfe\xff\x0d\xe0\0\0\0\0\xfe\xff\xdd\xe0\0\0\0\0")?;
     add_text(&mut data, *b"\x40\0\x01\x30", 64)?;
     let (strict, form) = (true, OutputForm::Lines);
-    let lines = "note 0000000478 0040,3001 LO 5 LongText\ngood 614\n";
+    let lines = "note 0000000288 0008,0018 UI 21 MissingUid
+note 0000000288 0020,000d UI 21 MissingUid
+note 0000000478 0040,3001 LO 5 LongText
+good 614
+";
     let options = CheckOptions {
         strict,
         values: false,
         form,
         syntaxes: Syntaxes::Native,
     };
-    assert!(rt; notes(alloc, options, data.as_slice(), lines)? == 1);
+    assert!(rt; notes(alloc, options, data.as_slice(), lines)? == 3);
     Ok(())
 }
 
@@ -162,14 +172,18 @@ fn sizes_of_long_values(rt: HostRuntime) -> Result<(), Fail> {
         data.push(0)?;
     }
     let (strict, form) = (true, OutputForm::Lines);
-    let lines = "note 0000000288 7fe0,0008 OF 2 WrongSize\ngood 65838\n";
+    let lines = "note 0000000288 0008,0018 UI 21 MissingUid
+note 0000000288 0020,000d UI 21 MissingUid
+note 0000000288 7fe0,0008 OF 2 WrongSize
+good 65838
+";
     let options = CheckOptions {
         strict,
         values: false,
         form,
         syntaxes: Syntaxes::Native,
     };
-    assert!(rt; notes(alloc, options, data.as_slice(), lines)? == 1);
+    assert!(rt; notes(alloc, options, data.as_slice(), lines)? == 3);
     Ok(())
 }
 
@@ -195,6 +209,8 @@ fn shown_values(rt: HostRuntime) -> Result<(), Fail> {
     ] {
         let options = ShowOptions {
             values: true,
+            full: false,
+            meta: false,
             tags,
             form,
             syntaxes: Syntaxes::Native,

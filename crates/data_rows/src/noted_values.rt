@@ -13,22 +13,30 @@ use std::test::Fail;
 const BROKEN: &[u8] = b"\x08\0\x05\0CS\x0a\0ISO_IR 100\x08\0\x20\0DA\x08\x0020230229\
 \x09\0\x01\x10CS\x02\0ab\x10\0\x10\0PN\x08\0\xc9=B=C=\xe9 ";
 
-const LINES: &str = "note 0000000306 0008,0020 DA 7 NoSuchDate
+const LINES: &str = "note 0000000306 0008,0018 UI 21 MissingUid
+           SOPInstanceUID
+note 0000000306 0008,0020 DA 7 NoSuchDate
            StudyDate = 20230229
 note 0000000322 0009,1001 CS 1 BadCharacter
            ? = ab
 note 0000000332 0010,0010 PN 12 BadName
            PatientName = %c9=B=C=%e9
+note 0000000348 0020,000d UI 21 MissingUid
+           StudyInstanceUID
 good 348
 ";
 
 const JSON: &str = "\"notes\":[\
+{\"place\":306,\"tag\":\"0008,0018\",\"vr\":\"UI\",\"number\":21,\"name\":\"MissingUid\",\
+\"keyword\":\"SOPInstanceUID\"},\
 {\"place\":306,\"tag\":\"0008,0020\",\"vr\":\"DA\",\"number\":7,\"name\":\"NoSuchDate\",\
 \"keyword\":\"StudyDate\",\"value\":\"20230229\"},\
 {\"place\":322,\"tag\":\"0009,1001\",\"vr\":\"CS\",\"number\":1,\"name\":\"BadCharacter\",\
 \"keyword\":null,\"value\":\"ab\"},\
 {\"place\":332,\"tag\":\"0010,0010\",\"vr\":\"PN\",\"number\":12,\"name\":\"BadName\",\
-\"keyword\":\"PatientName\",\"value\":\"\u{c9}=B=C=\u{e9}\"}],\
+\"keyword\":\"PatientName\",\"value\":\"\u{c9}=B=C=\u{e9}\"},\
+{\"place\":348,\"tag\":\"0020,000d\",\"vr\":\"UI\",\"number\":21,\"name\":\"MissingUid\",\
+\"keyword\":\"StudyInstanceUID\"}],\
 \"result\":\"good\",\"length\":348}\n";
 
 /// Returns whether a check of a file of this data set writes these lines.
@@ -101,6 +109,8 @@ fn shows(alloc: Global, data: &[u8], tag: Tag, value: &str) -> Result<bool, Fail
     let tags = [tag];
     let options = ShowOptions {
         values: true,
+        full: false,
+        meta: false,
         tags: tags.as_slice(),
         form: OutputForm::Json,
         syntaxes: Syntaxes::Native,

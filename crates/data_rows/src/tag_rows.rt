@@ -1,7 +1,8 @@
 //! Tags as they are named on a command line.
 use element::Tag;
 use inspection::{tag_named, tag_spelled};
-use keywords::{element_digits, element_keyword};
+use keywords::{element_digits, element_keyword, element_vrs};
+use std::test::Fail;
 
 #[test]
 fn tags_in_hexadecimal(rt: HostRuntime) {
@@ -74,4 +75,41 @@ fn keywords_spell_no_tag(rt: HostRuntime) {
     assert!(rt; tag_spelled(b"PatientID").is_none() && tag_spelled(b"(0010,0020)").is_some());
     assert!(rt; element_digits("PatientID") == Some("00100020"));
     assert!(rt; element_digits("00100020").is_none() && element_digits("").is_none());
+}
+
+/// Tags, the VRs and the keywords of PS3.6, of which `--` says that it has none: the first and the last row of a table, those
+/// in its middle, those that repeat, and what stands beside them.
+static VRS: &str = "0002,0000 UL FileMetaInformationGroupLength
+0008,0001 UL LengthToEnd
+0018,0081 DS EchoTime
+0028,0106 US/SS SmallestImagePixelValue
+0028,3006 US/OW LUTData
+7fe0,0010 OB/OW PixelData
+fffc,fffc OB DataSetTrailingPadding
+fffe,e0dd -- SequenceDelimitationItem
+6000,3000 OB/OW OverlayData
+60fe,3000 OB/OW OverlayData
+6100,3000 none none
+5012,0040 SH AxisLabels
+0020,3155 CS SourceImageIDs
+0020,3200 none none
+0008,0000 none none
+0009,0010 none none
+6001,3000 none none
+ffff,ffff none none";
+
+#[test]
+fn vrs_of_the_standard(rt: HostRuntime) -> Result<(), Fail> {
+    for line in VRS.lines() {
+        let (tag, wanted) = line.split_once(' ').ok_or("no tag")?;
+        let (vrs, keyword) = wanted.split_once(' ').ok_or("no VRs")?;
+        let Tag(group, element) = tag_named(tag).ok_or("no tag")?;
+        let is_right = element_vrs(group, element).unwrap_or("none") == vrs
+            && element_keyword(group, element).unwrap_or("none") == keyword;
+        if !is_right {
+            return Err(Fail::new(format_args!("{line}")));
+        }
+    }
+    assert!(rt; VRS.lines().count() == 18);
+    Ok(())
 }

@@ -2,9 +2,10 @@
 -- (`filed_has_row`). Stands on OtherSyntaxesFail and the laws of `part10` and `sequence`.
 use Rattle.std.proofs.Common.{◌≡◌, ◌≤◌, ◌<◌, ◌+◌, get_or, ℕ, Bool, true, false, cond, List, [], ◌∷◌, map, Some, None, Ok, Err, refl, ap, subst, eqb-true, nat_eq, arith, rules, ◌++◌, length, take, drop, Option, is_some, sym, ◌∙◌, append_assoc, codes, Result}
 use Rattle.std.specs.List.{list_all, find}
-use Rattle.std.specs.Prelude.{filter, nat_le, IfErr}
+use Rattle.std.specs.Prelude.{filter, nat_le, IfErr, IfOk}
 use Rattle.std.proofs.lemmas.Bool.{and_parts, leb-true, le-leb}
 use Rattle.element.specs.Header.{number}
+use Rattle.element.specs.declared.tag.Tag.{Tag}
 use Rattle.sequence.specs.Transfer.{coding_in}
 use Rattle.sequence.specs.declared.coding.Coding.{Coding}
 use Rattle.sequence.specs.Wanted.{Values, value_of, room_of, rooms, are_rising, is_wanted, kept_of}
@@ -326,3 +327,14 @@ filed_has_row additional rules meta file_id rest elements taken class instance t
       header = head_is_read meta class instance title few;
     } in
     of_values is elements set within refl
+
+-- a row that is checked is of its file
+checked_file : (row : Row) → IfOk (checked_row row) (λ checked. checked.file_id ≡ row.file_id)
+checked_file row = by (fits_rooms row) (first_empty row) where
+  by : (fits : Bool) (empty : Option Tag) → IfOk (cond fits (row_unless row empty) (Err (skip.Fault 21))) (λ checked. checked.file_id ≡ row.file_id)
+  by true None = refl
+  by true (Some t) = _
+  by false empty = _
+
+pub file_kept : (row : Row) (result : Result Row Skip) → result ≡ checked_row row → IfOk result (λ checked. checked.file_id ≡ row.file_id)
+file_kept row result is = subst (λ checked. IfOk checked (λ r. r.file_id ≡ row.file_id)) (sym is) (checked_file row)

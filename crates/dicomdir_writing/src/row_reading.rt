@@ -143,6 +143,7 @@ fn row_with<A: Allocator + Copy, R: Read>(
     keys: RecordKeys,
 ) -> Result<Row<A>, Skip>
     ensures row { IfSome (R.remaining reader.old) (λ file. IsBytes file → RowIsRead (RowOf additional.now (keys_read keys) file file_id.now) result) }
+    ensures file { IfOk result (λ row. row.file_id ≡ file_id.now) }
 {
     let meta = match read_taken(reader, additional) {
         Ok(meta) => meta,
@@ -175,6 +176,7 @@ pub fn rows_of<A: Allocator + Copy, R: Read>(
     additional: &[Transfer],
 ) -> Result<Row<A>, Skip>
     ensures row { IfSome (R.remaining reader.old) (λ file. IsBytes file → RowIsRead (RowOf additional.now (keys_read Needed) file file_id.now) result) }
+    ensures file { IfOk result (λ row. row.file_id ≡ file_id.now) }
 {
     row_with(alloc, reader, file_id, additional, RecordKeys::Needed)
 }
@@ -197,6 +199,7 @@ pub fn described_row_of<A: Allocator + Copy, R: Read>(
     additional: &[Transfer],
 ) -> Result<Row<A>, Skip>
     ensures row { IfSome (R.remaining reader.old) (λ file. R.remaining again.old ≡ Some file → IsBytes file → RowIsRead (DescribedRow additional.now file file_id.now) result) }
+    ensures file { IfOk result (λ row. row.file_id ≡ file_id.now) }
 {
     let reason = match row_with(alloc, reader, file_id, additional, RecordKeys::Described) {
         Ok(row) => return Ok(row),

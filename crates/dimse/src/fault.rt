@@ -8,7 +8,7 @@ use std::fmt;
 /// number that is logged.
 #[derive(Clone, Copy, Debug, PartialEq, Eq)]
 pub enum DimseFault {
-    /// 40: the command set has more bytes than the receiver's limit (the `C` of [`Join`](crate::Join)).
+    /// 40: the command set has more bytes than the receiver's limit (1,024 in the program).
     CommandTooLong,
     /// 41: the bytes are not a command set, or a required element is missing or invalid.
     BadCommand,

@@ -48,8 +48,8 @@ fn is_put(rt: &HostRuntime, row: Failing) -> Result<bool, Fail> {
     Ok(is_due && watched.stage.get() == stage && is_old != is_there && count(rt, "failing")? == 2)
 }
 
-/// The draft is created, written and synced before it gets its name, and the folder after that. Until then a failure
-/// leaves the old directory as it was, and no draft.
+/// What has the draft's name is removed; the draft is created, written and synced before it gets its name, and the folder
+/// after that. Until then a failure leaves the old directory as it was, and no draft.
 #[test]
 fn each_call_of_the_disk_fails(rt: HostRuntime) -> Result<(), Fail> {
     for row in FAILING {

@@ -109,7 +109,7 @@ pub(crate) fn put_images(
     Ok(())
 }
 
-/// Returns the settings of `index` for the folder.
+/// Returns the settings of `index` for the folder; records that can't be kept are left out.
 pub(crate) fn settings(dir: &str, keep: bool) -> Result<Index<'_>, Fail> {
     let uid = Uid::read(b"2.25.1").ok_or("no UID")?;
     Ok(Index {
@@ -117,8 +117,11 @@ pub(crate) fn settings(dir: &str, keep: bool) -> Result<Index<'_>, Fail> {
         uid: Some(uid),
         descriptions: false,
         all_syntaxes: false,
+        any_name: false,
         keep,
+        drop: keep,
         replace: false,
+        strict: false,
     })
 }
 
@@ -312,13 +315,19 @@ fn records_of_other_types_are_not_kept(rt: HostRuntime) -> Result<(), Fail> {
     Ok(())
 }
 
-/// A file that a kept record names and that is not there is skipped.
+/// A file that a kept record names and that is not there is skipped, or the directory stays as it is.
 #[test]
 fn a_missing_file_is_skipped(rt: HostRuntime) -> Result<(), Fail> {
     let images = [("missing/I0000001", FIRST), ("missing/I0000002", SECOND)];
     put_images(&rt, "missing", &images)?;
     assert!(rt; prints(&rt, "missing", false, b"records 5\n")?);
     fs::remove_file(&rt, "missing/I0000001")?;
+    let mut out = Vec::new(rt.alloc());
+    let mut whole = settings("missing", true)?;
+    whole.drop = false;
+    assert!(rt; index_dir(&rt, &whole, &mut out)? == Outcome::Faulty);
+    assert!(rt; out.as_slice() == b"skipped I0000001 fault 54\n".as_slice());
+    assert!(rt; has_size(&rt, "missing/DICOMDIR", 950)?);
     assert!(rt;
         prints(
             &rt,

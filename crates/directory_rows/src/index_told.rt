@@ -10,11 +10,11 @@ use std::fs;
 use std::rt::Files;
 use std::test::Fail;
 
-/// Returns whether `index` tells these lines, and counts so.
+/// Returns whether `index` tells these lines, then the counts, and then why files are left out.
 fn tells<R: Files + Alloc + Clone + Drop>(
     rt: &R,
     (dir, keep): (&str, bool),
-    lines: &str,
+    (lines, why): (&str, &str),
     counts: (usize, usize),
 ) -> Result<bool, Fail>
 where
@@ -24,7 +24,8 @@ where
     let indexed = index_folder(rt, &settings(dir, keep)?, u32::MAX, &mut out, &mut err)?;
     let (images, left_out) = counts;
     let wanted = Indexed::Written(IndexCounts { images, left_out });
-    Ok(indexed == wanted && err.as_slice() == lines.as_bytes())
+    let told = format!(in rt.alloc(); "{lines}images {images} left out {left_out}\n{why}")?;
+    Ok(indexed == wanted && err.as_slice() == told.as_str().as_bytes())
 }
 
 /// The first image with another series: its instance is the same.
@@ -38,6 +39,10 @@ dcmbox: doubles/I0000004: a double of I0000002, with the same bytes
 dcmbox: doubles/I0000005: a double of I0000001, with other bytes
 ";
 
+const THREE: &str = "left out: doubles 3\n";
+
+const ONE: &str = "left out: doubles 1\n";
+
 #[test]
 fn doubles_are_compared(rt: HostRuntime) -> Result<(), Fail> {
     let images = [
@@ -48,11 +53,11 @@ fn doubles_are_compared(rt: HostRuntime) -> Result<(), Fail> {
         ("doubles/I0000005", CHANGED),
     ];
     put_images(&rt, "doubles", &images)?;
-    assert!(rt; tells(&rt, ("doubles", false), DOUBLES, (2, 3))?);
+    assert!(rt; tells(&rt, ("doubles", false), (DOUBLES, THREE), (2, 3))?);
     fs::remove_file(&rt, "doubles/I0000003")?;
     fs::remove_file(&rt, "doubles/I0000004")?;
     fs::remove_file(&rt, "doubles/I0000005")?;
-    assert!(rt; tells(&rt, ("doubles", false), "", (2, 0))?);
+    assert!(rt; tells(&rt, ("doubles", false), ("", ""), (2, 0))?);
     Ok(())
 }
 
@@ -66,15 +71,15 @@ fn doubles_that_differ_late(rt: HostRuntime) -> Result<(), Fail> {
     fs::write(&rt, "late/I0000001", bytes.as_slice())?;
     fs::write(&rt, "late/I0000002", bytes.as_slice())?;
     let same = "dcmbox: late/I0000002: a double of I0000001, with the same bytes\n";
-    assert!(rt; tells(&rt, ("late", false), same, (1, 1))?);
+    assert!(rt; tells(&rt, ("late", false), (same, ONE), (1, 1))?);
     if let Some(last) = bytes.as_mut_slice().last_mut() {
         *last = 8;
     }
     fs::write(&rt, "late/I0000002", bytes.as_slice())?;
     let other = "dcmbox: late/I0000002: a double of I0000001, with other bytes\n";
-    assert!(rt; tells(&rt, ("late", false), other, (1, 1))?);
+    assert!(rt; tells(&rt, ("late", false), (other, ONE), (1, 1))?);
     file(&rt, "late/I0000001", FIRST)?;
-    assert!(rt; tells(&rt, ("late", false), other, (1, 1))?);
+    assert!(rt; tells(&rt, ("late", false), (other, ONE), (1, 1))?);
     Ok(())
 }
 
@@ -96,7 +101,7 @@ fn doubles_that_are_not_compared(rt: HostRuntime) -> Result<(), Fail> {
             watched: &watched,
         };
         let line = "dcmbox: opened/I0000002: a double of I0000001, which can't be compared\n";
-        assert!(rt; tells(&recorded, ("opened", false), line, (1, 1))?);
+        assert!(rt; tells(&recorded, ("opened", false), (line, ONE), (1, 1))?);
         assert!(rt; watched.stage.get() == Stage::Durable);
     }
     Ok(())
@@ -107,7 +112,7 @@ fn doubles_that_are_not_compared(rt: HostRuntime) -> Result<(), Fail> {
 fn records_of_other_types(rt: HostRuntime) -> Result<(), Fail> {
     let images = [("kept/I0000001", FIRST), ("kept/I0000002", SECOND)];
     put_images(&rt, "kept", &images)?;
-    assert!(rt; tells(&rt, ("kept", false), "", (2, 0))?);
+    assert!(rt; tells(&rt, ("kept", false), ("", ""), (2, 0))?);
     let mut bytes = fs::read(&rt, "kept/DICOMDIR")?;
     let place = bytes
         .windows(6)
@@ -116,13 +121,17 @@ fn records_of_other_types(rt: HostRuntime) -> Result<(), Fail> {
     bytes.as_mut_slice()[place..place + 6].copy_from_slice(b"RTDOSE");
     fs::write(&rt, "kept/DICOMDIR", bytes.as_slice())?;
     let told = "dcmbox: kept/I0000001: left out: its record is of type RTDOSE, not IMAGE\n";
-    assert!(rt; tells(&rt, ("kept", true), told, (1, 1))?);
-    assert!(rt; tells(&rt, ("kept", true), "", (1, 0))?);
+    let why = "left out: records of other types 1\n";
+    assert!(rt; tells(&rt, ("kept", true), (told, why), (1, 1))?);
+    assert!(rt; tells(&rt, ("kept", true), ("", ""), (1, 0))?);
     Ok(())
 }
 
 /// What `little` has to tell.
-const LITTLE: &[u8] = b"dcmbox: little/I0000002: a double of I0000001, with the same bytes\n";
+const LITTLE: &[u8] = b"dcmbox: little/I0000002: a double of I0000001, with the same bytes
+images 1 left out 1
+left out: doubles 1
+";
 
 /// Runs `index` over an allocator that refuses the call after so many others. Returns whether the call came; `None` where
 /// what is left in the folder, or what is told, is not as it has to be.

@@ -21,6 +21,8 @@ pub enum Call {
 #[derive(Clone, Copy, Debug, PartialEq, Eq)]
 pub enum Stage {
     Nothing,
+    /// What had the name of the draft is removed.
+    Cleared,
     Created,
     Written,
     Synced,
@@ -60,7 +62,7 @@ impl Watched<'_> {
     /// Watches a file that is opened.
     fn open(&self, how: &OpenOptions) -> io::Result<()> {
         if how.asks_write() {
-            return self.step(Call::Create, &[Stage::Nothing], Stage::Created);
+            return self.step(Call::Create, &[Stage::Cleared], Stage::Created);
         }
         match self.opened.get() {
             None => Ok(()),
@@ -197,7 +199,11 @@ impl<'a> Files for Recorded<'a> {
     }
 
     fn remove_file(&self, path: &str) -> io::Result<()> {
-        self.watched.stage.set(Stage::Removed);
+        let stage = &self.watched.stage;
+        stage.set(match stage.get() {
+            Stage::Nothing => Stage::Cleared,
+            _ => Stage::Removed,
+        });
         self.rt.remove_file(path)
     }
 

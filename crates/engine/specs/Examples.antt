@@ -20,7 +20,7 @@ abbrev pub rooms : Rooms
 rooms = record { request = 65536; command = 1024; values = 256; depth = 64 }
 
 abbrev pub settings : Settings
-settings = record { ae = codes "DCMBOX          "; callers = []; max_pdu = 16384; max_data = 2 ^ 40; additional = nothing_additional }
+settings = record { called = codes "DCMBOX          " ∷ []; any_called = false; callers = []; max_pdu = 16384; max_data = 2 ^ 40; additional = nothing_additional }
 
 -- these entries with outcomes in which no device fails
 abbrev pub calm : List Entry → List Happened

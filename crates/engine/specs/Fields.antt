@@ -6,7 +6,6 @@ use Rattle.pdu.specs.Deframing.{bytes_held}
 use Rattle.negotiate.specs.Settings.{Settings, settings_of}
 use Rattle.decisions.specs.declared.decision.Decision.{Decision}
 use Rattle.engine.specs.declared.association.Association.{Association}
-use Rattle.engine.specs.declared.running.Running.{Running}
 use Rattle.engine.specs.Kept.{kept_of, held_by}
 use Rattle.engine.specs.Phases.{state_in, stored_in}
 use Rattle.engine.specs.StoredData.{drafting_in}
@@ -25,7 +24,7 @@ abbrev pub state_of : {A C V D : ℕ} → Association A C V D → State
 state_of a = state_in a.provider.phase
 
 abbrev pub settings_in : {A C V D : ℕ} → Association A C V D → Settings
-settings_in a = settings_of a.provider.config
+settings_in a = settings_of a.provider.config.now
 
 -- what the association has as decided last
 abbrev pub decided_in : {A C V D : ℕ} → Association A C V D → Decision
@@ -34,7 +33,3 @@ decided_in a = a.provider.decided
 -- whether the association has a draft in the filing
 abbrev pub drafting_of : {A C V D : ℕ} → Association A C V D → Bool
 drafting_of a = drafting_in (stored_in a.provider.phase)
-
--- the association inside a `Running`
-abbrev pub association_in : {A C V D : ℕ} → Running A C V D → Association A C V D
-association_in r = r.association

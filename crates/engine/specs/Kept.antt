@@ -69,10 +69,10 @@ kept_in {A} {C} {V} {D} config refused decided phase =
     }
 
 abbrev pub kept_of : {A C V D : ℕ} → Provider A C V D → Kept
-kept_of p = kept_in p.config p.refused p.decided p.phase
+kept_of p = kept_in p.config.now p.refused p.decided p.phase
 
 abbrev pub settings_in : {A C V D : ℕ} → Provider A C V D → Settings
-settings_in p = settings_of p.config
+settings_in p = settings_of p.config.now
 
 -- the values that are kept of an accepted request, with these added storage classes: calling AE title, maximum length
 -- and presentation contexts

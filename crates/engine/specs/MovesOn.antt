@@ -5,9 +5,8 @@ use Rattle.part10.specs.Store.{Store}
 use Rattle.dimse.specs.Joining.{command_bytes}
 use Rattle.engine.specs.declared.association.Association.{Association}
 use Rattle.decisions.specs.declared.decision.Decision.{Decision}
-use Rattle.engine.specs.declared.running.Running.{Running}
 use Rattle.engine.specs.Devices.{Devices}
-use Rattle.engine.specs.Fields.{association_in, fields_of, settings_in, state_of}
+use Rattle.engine.specs.Fields.{fields_of, settings_in, state_of}
 use Rattle.engine.specs.Held.{Held, is_ended}
 use Rattle.engine.specs.Inputs.{Received, Supply}
 use Rattle.engine.specs.Timeline.{Happened}
@@ -59,15 +58,7 @@ EndsWithPart {A} {C} {V} {D} seen most = (inputs : List Received) (story : List 
     → Stands (rooms_of A C V D) (settings_in seen) inputs story failed (fields_of seen) store
     → DecidesNothingBefore (rooms_of A C V D) (settings_in seen) inputs story most × (is_ended (state_of seen) ≡ false → CompletesPart inputs most)
 
--- ---- a run, which is the association inside it
-
-abbrev pub RunsOn : {A C V D : ℕ} → Running A C V D → Running A C V D → Received → Devices → Devices → Type 0
-RunsOn before after input old new = MovesOn (association_in before) (association_in after) input old new
-
-abbrev pub StaysOnceOver : {A C V D : ℕ} → Running A C V D → Running A C V D → Devices → Devices → Type 0
-StaysOnceOver before after old new = StaysOnceEnded (association_in before) (association_in after) old new
-
--- the source gave an input, and that moved the run on
-abbrev pub TakesNext : {A C V D : ℕ} → Running A C V D → Running A C V D → Supply → Supply → Devices → Devices → Type 0
+-- the source gave an input, and that moved the association on
+abbrev pub TakesNext : {A C V D : ℕ} → Association A C V D → Association A C V D → Supply → Supply → Devices → Devices → Type 0
 TakesNext {A} {C} {V} {D} before after given_old given_new old new =
-    TookInput (rooms_of A C V D) (settings_in (association_in before)) given_old given_new (fields_of (association_in before)) (fields_of (association_in after)) old new
+    TookInput (rooms_of A C V D) (settings_in before) given_old given_new (fields_of before) (fields_of after) old new

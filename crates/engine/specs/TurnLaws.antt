@@ -1,4 +1,4 @@
--- Statements by which a caller of `Running::take_next` gets the contract of `run`.
+-- Statements by which a caller of `Association::take_next` gets the contract of `run`.
 use Rattle.std.specs.Prelude.{◌≡◌, ◌≢◌, ℕ, ◌+◌, ◌<◌, ◌≤◌, Bool, true, false, List, []}
 use Rattle.acceptor.specs.declared.state.State.TheVariants.{Sta1}
 use Rattle.negotiate.specs.Settings.{Settings}
@@ -14,7 +14,7 @@ use Rattle.engine.specs.Timeline.{Happened}
 use Rattle.engine.specs.Turns.{TookTurns, TookInput, Reports}
 use Rattle.engine.specs.FrameFields.{Fields}
 
--- a new association has had no turn (call of `Running::take_next`)
+-- a new association has had no turn (call of `Association::take_next`)
 abbrev pub TurnsBegin : Type 0
 TurnsBegin = (rooms : Rooms) (s : Settings) (seen : Fields) (source : Supply) (d : Devices) → Stands rooms s [] [] false seen d.store → TookTurns rooms s 0 source source seen d d
 

@@ -27,16 +27,22 @@ use pdu::{Deframer, Wire};
 /// A-ASSOCIATE-RQ, plus 12; `C` the bytes of a command set; `V`, at least 140, the bytes of the values
 /// kept of a data set, with one header; `D`, at least 2, the open sequences and items of a data set.
 #[derive(Drop)]
-pub struct Association<const A: usize, const C: usize, const V: usize, const D: usize> {
+pub struct Association<'c, const A: usize, const C: usize, const V: usize, const D: usize> {
     /// Divides the stream of the peer into events.
     deframer: Deframer,
-    provider: Provider<A, C, V, D>,
+    provider: Provider<'c, A, C, V, D>,
     ghost body_fits: { BodyFits (A - 12) (kept_of provider) (body_kind (position_of deframer)) (body_due (position_of deframer)) },
     ghost fragment_fits: { FragmentFits (kept_of provider) (fragment_due (position_of deframer)) },
     ghost headless: { takes_pdvs_in (kept_of provider) ≡ false → in_pdv_head (position_of deframer) ≡ false },
 }
 
-impl<const A: usize, const C: usize, const V: usize, const D: usize> Association<A, C, V, D> {
+impl<'c, const A: usize, const C: usize, const V: usize, const D: usize> Association<
+    'c,
+    A,
+    C,
+    V,
+    D,
+> {
     ghost use Rattle.std.specs.Prelude.{Bool, List, [], true, false};
     ghost use Rattle.acceptor.specs.declared.state.State.TheVariants.{Sta1, Sta6};
     ghost use Rattle.acceptor.specs.Effect.{timer_runs};
@@ -61,7 +67,7 @@ impl<const A: usize, const C: usize, const V: usize, const D: usize> Association
 
     /// Creates the association of a transport connection that was just opened: it awaits an
     /// A-ASSOCIATE-RQ, and the ARTIM timer runs.
-    pub fn open(config: &Config) -> Self
+    pub fn open(config: &'c Config) -> Self
         requires least { 256 ≤ A }
         requires greatest { A ≤ 2 ^ 24 }
         requires command_greatest { C ≤ 2 ^ 24 }

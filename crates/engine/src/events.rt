@@ -7,7 +7,7 @@ use decisions::Decision;
 use part10::Filing;
 use pdu::{Event, Wire};
 
-impl<const A: usize, const C: usize, const V: usize, const D: usize> Provider<A, C, V, D> {
+impl<'c, const A: usize, const C: usize, const V: usize, const D: usize> Provider<'c, A, C, V, D> {
     ghost use Rattle.engine.specs.machine.Lent.{before, after, DraftIsThere, KeepsDraft};
     ghost use Rattle.engine.specs.machine.Events.{Takes, HasRoom, LeavesRoom};
     ghost use Rattle.engine.specs.Kept.{kept_of, settings_in};

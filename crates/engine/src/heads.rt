@@ -132,7 +132,7 @@ pub(crate) fn head_event(room: usize, most: u32, state: State, kind: u8, length:
     }
 }
 
-impl<const A: usize, const C: usize, const V: usize, const D: usize> Provider<A, C, V, D> {
+impl<'c, const A: usize, const C: usize, const V: usize, const D: usize> Provider<'c, A, C, V, D> {
     ghost use Rattle.std.specs.Prelude.{◌-◌};
     ghost use Rattle.part10.specs.Store.{Store};
     ghost use Rattle.engine.specs.Kept.{kept_of, settings_in};

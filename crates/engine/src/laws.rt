@@ -45,18 +45,18 @@ pub fn nothing_after_the_end()
 {}
 
 /// An association that was just opened satisfies the invariant of calls of
-/// [`Running::take_next`](crate::Running::take_next), for zero calls.
+/// [`Association::take_next`](crate::Association::take_next), for zero calls.
 pub fn turns_begin()
     ensures { TurnsBegin }
 {}
 
-/// One more call of [`Running::take_next`](crate::Running::take_next) on an association that has not ended
+/// One more call of [`Association::take_next`](crate::Association::take_next) on an association that has not ended
 /// preserves the invariant of these calls.
 pub fn one_turn_more()
     ensures { OneTurnMore }
 {}
 
-/// Calls of [`Running::take_next`](crate::Running::take_next), a given number or fewer if the association ends
+/// Calls of [`Association::take_next`](crate::Association::take_next), a given number or fewer if the association ends
 /// before, have the effect that the contract of [`run`](crate::run) states.
 pub fn turns_are_a_run()
     ensures { TurnsAreARun }
@@ -98,7 +98,7 @@ pub fn entries_of_one_more()
 {}
 
 /// An association that takes fewer bytes than
-/// [`Running::input_limit`](crate::Running::input_limit) keeps what it decided last.
+/// [`Association::input_limit`](crate::Association::input_limit) keeps what it decided last.
 pub fn fewer_bytes_keep_the_decision()
     ensures { FewerKeepTheDecision }
 {}

@@ -25,5 +25,5 @@ pub use association::Association;
 pub use given::Given;
 pub use list_source::{ListSource, ListedInput};
 pub use report::{Report, Standing};
-pub use running::{Running, run};
+pub use running::run;
 pub use source::{Input, Source};

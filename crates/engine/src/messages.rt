@@ -21,9 +21,9 @@ use pdu::{PdvHead, Wire, WireFailed};
 /// The peer and the presentation context ID of a message, with the configuration that the context is
 /// looked up in.
 #[derive(Clone, Copy)]
-struct Origin<'a> {
+struct Origin<'a, 'c> {
     peer: &'a Peer,
-    config: &'a Config,
+    config: &'c Config,
     context: u8,
 }
 
@@ -98,7 +98,7 @@ impl<const C: usize, const V: usize, const D: usize> Message<C, V, D> {
     }
 }
 
-impl<const A: usize, const C: usize, const V: usize, const D: usize> Provider<A, C, V, D> {
+impl<'c, const A: usize, const C: usize, const V: usize, const D: usize> Provider<'c, A, C, V, D> {
     ghost use Rattle.engine.specs.Devices.{devices};
     ghost use Rattle.engine.specs.machine.Lent.{before, after, DraftIsThere, KeepsDraft};
     ghost use Rattle.engine.specs.Kept.{kept_of, settings_in};
@@ -125,7 +125,7 @@ impl<const A: usize, const C: usize, const V: usize, const D: usize> Provider<A,
         let Phase::Established { peer, message } = &mut self.phase else {
             return Reaction::Nothing;
         };
-        let Some(_) = peer.context(&self.config, head.context) else {
+        let Some(_) = peer.context(self.config, head.context) else {
             self.refused = true;
             self.decided = Decision::ContextRefused(head);
             return Reaction::Perform(Event::Invalid, Answering::Abort(INVALID_PARAMETER));
@@ -173,10 +173,11 @@ impl<const A: usize, const C: usize, const V: usize, const D: usize> Provider<A,
         if self.refused {
             return;
         }
+        let config = self.config;
         if let Phase::Established { peer, message } = &mut self.phase {
             let origin = Origin {
                 peer,
-                config: &self.config,
+                config,
                 context: message.join.context(),
             };
             match message.join.end() {

@@ -19,8 +19,8 @@ use pdu::{Deframer, Wire, WireFailed};
 /// An association without the division of its stream into PDUs: its phase, and the reaction of the
 /// service provider and of the local user to each event of the stream.
 #[derive(Drop)]
-pub(crate) struct Provider<const A: usize, const C: usize, const V: usize, const D: usize> {
-    pub(crate) config: Config,
+pub(crate) struct Provider<'c, const A: usize, const C: usize, const V: usize, const D: usize> {
+    pub(crate) config: &'c Config,
     /// Whether the rest of the unfinished PDU is ignored, as it was already answered.
     pub(crate) refused: bool,
     /// What was decided last, since the head of the last PDU.
@@ -37,7 +37,7 @@ pub(crate) struct Provider<const A: usize, const C: usize, const V: usize, const
     ghost room: { taken_in phase ≤ A },
 }
 
-impl<const A: usize, const C: usize, const V: usize, const D: usize> Provider<A, C, V, D> {
+impl<'c, const A: usize, const C: usize, const V: usize, const D: usize> Provider<'c, A, C, V, D> {
     ghost use Rattle.engine.specs.Progress.{at_start};
     ghost use Rattle.engine.specs.machine.Lent.{before, after, DraftIsThere, KeepsDraft};
     ghost use Rattle.engine.specs.machine.Answers.{due_at};
@@ -57,7 +57,7 @@ impl<const A: usize, const C: usize, const V: usize, const D: usize> Provider<A,
 
     /// Creates the association of a transport connection that was just opened: it awaits an
     /// A-ASSOCIATE-RQ.
-    pub(crate) fn open(config: &Config) -> Self
+    pub(crate) fn open(config: &'c Config) -> Self
         requires least { 256 ≤ A }
         requires greatest { A ≤ 2 ^ 24 }
         requires command_greatest { C ≤ 2 ^ 24 }
@@ -71,7 +71,7 @@ impl<const A: usize, const C: usize, const V: usize, const D: usize> Provider<A,
         ensures settings { settings_in result ≡ settings_of config.now }
     {
         Provider {
-            config: config.copied(),
+            config,
             refused: false,
             decided: Decision::Nothing,
             phase: Phase::AwaitingRequest {

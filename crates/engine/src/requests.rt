@@ -103,7 +103,7 @@ fn answer_request<W: Wire>(
     }
 }
 
-impl<const A: usize, const C: usize, const V: usize, const D: usize> Provider<A, C, V, D> {
+impl<'c, const A: usize, const C: usize, const V: usize, const D: usize> Provider<'c, A, C, V, D> {
     ghost use Rattle.engine.specs.Run.{rooms_of};
     ghost use Rattle.engine.specs.machine.Lent.{before, after, DraftIsThere, KeepsDraft};
     ghost use Rattle.engine.specs.Kept.{takes_body_in, kept_of, settings_in};
@@ -152,7 +152,7 @@ impl<const A: usize, const C: usize, const V: usize, const D: usize> Provider<A,
             return;
         };
         let (peer, next, sent, decided) = answer_request(
-            &self.config,
+            self.config,
             body.as_slice(),
             devices.wire,
         );

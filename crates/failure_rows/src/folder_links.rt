@@ -111,15 +111,7 @@ fn no_file_is_renamed_over(rt: HostRuntime) -> Result<(), Fail> {
     )
 }
 
-/// A text is filed in the first folder of files, or not.
-static NAMED: &str = "fresh
-make S0000001
-open 1
-file 1 file
-counted 1 1 0
-holds S0000001/I0000001 file
-count . 1";
-
+/// No text is filed in the first folder of files.
 static NOT_NAMED: &str = "fresh
 make S0000001
 open 1
@@ -150,7 +142,8 @@ fn unsynced<'a>(
     }
 }
 
-/// After a rename both folders are written to the disk, or nothing is filed; after a link only the file's is.
+/// Both folders are written to the disk, or nothing is filed: after a rename, and after a link in a folder that this writer
+/// has not written yet.
 #[test]
 fn names_that_can_not_be_synced(rt: HostRuntime) -> Result<(), Fail> {
     let dir = "names_that_can_not_be_synced";
@@ -162,7 +155,7 @@ fn names_that_can_not_be_synced(rt: HostRuntime) -> Result<(), Fail> {
         NOT_NAMED,
     )?;
     play(&rt, &unsynced(&rt, Some(1), dir, &times), dir, NOT_NAMED)?;
-    play(&rt, &unsynced(&rt, None, dir, &times), dir, NAMED)
+    play(&rt, &unsynced(&rt, None, dir, &times), dir, NOT_NAMED)
 }
 
 /// A runtime that can't open the listing of folders of this name, or fails at its end.

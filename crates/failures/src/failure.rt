@@ -22,7 +22,7 @@ pub enum Failure {
     Numbers,
     /// The file of titles (option `--callers`) cannot be read.
     Callers,
-    /// The quarantine (option `--quarantine`) cannot be opened, or no file can be moved there.
+    /// The quarantine (option `--quarantine`) cannot be created or opened, or no file can be moved there.
     Quarantine,
     /// The DICOMDIR of a folder cannot be read.
     NoDirectory,
@@ -42,6 +42,10 @@ pub enum Failure {
     Serve,
     /// An address cannot be listened on.
     Address,
+    /// A further address (option `--listen`) cannot be listened on.
+    FurtherAddress,
+    /// The file of metrics (option `--metrics`) is locked: another program writes it.
+    BusyMetrics,
     /// A file cannot be linked into a tree of folders, by `arrange`.
     Link,
     /// A tree of folders cannot be written, by `arrange`.
@@ -71,6 +75,8 @@ impl Failure {
             Failure::KeptPort => "can't be listened on",
             Failure::Serve => "associations can't be served any more",
             Failure::Address => "can't be listened on",
+            Failure::FurtherAddress => "an address of --listen can't be listened on",
+            Failure::BusyMetrics => "the file of metrics can't be used",
             Failure::Link => "a file can't be linked into it",
             Failure::Tree => "it can't be written into",
         }
@@ -83,16 +89,16 @@ impl Failure {
             Failure::Open => "check its name, and that you may read it",
             Failure::Read => "give a file, and copy it first if its disk fails",
             Failure::Folder =>
-                "check that it is a folder, and that you may read it and write into it",
+                "check that it is a folder, and that you may read it, or write into it where files go there",
             Failure::MissingFolder => "create it, or check its name",
-            Failure::BusyFolder => "end the other program that receives into it",
+            Failure::BusyFolder => "end the other program that writes into it",
             Failure::UnwrittenFolder =>
                 "check that you may, and that its disk is not read-only or full",
             Failure::Numbers =>
                 "check that you may write it; once it is damaged, put the greatest number that was given into it, as I0000100 S0000007",
             Failure::Callers => "check its name, and that you may read it",
             Failure::Quarantine =>
-                "--quarantine takes a folder other than that of --out, on its file system, that no other program uses",
+                "--quarantine takes a folder other than that of --out, on its file system, that no other program uses; it is made within a folder that is there",
             Failure::NoDirectory => "run index without --keep",
             Failure::UnreadDirectory =>
                 "check that you may read it, or write over it with --replace",
@@ -106,6 +112,9 @@ impl Failure {
             Failure::Serve => "start the program again",
             Failure::Address =>
                 "--bind takes an IP address of this machine, or 0.0.0.0 for all of them, and no name",
+            Failure::FurtherAddress =>
+                "--listen takes IP addresses of this machine, each with a port that nothing uses",
+            Failure::BusyMetrics => "give each program a file of its own",
             Failure::Link =>
                 "where it is on another disk, or the files are another user's, copy them with --copy",
             Failure::Tree => "check that you may, and that its disk has room",

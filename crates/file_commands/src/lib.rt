@@ -6,7 +6,6 @@ mod json_text;
 mod several;
 mod single;
 mod tally;
-mod tree;
 
 pub use several::{Files, inspect_files};
 pub use single::{Inspection, inspect};

@@ -1,12 +1,11 @@
 //! Several files that are inspected, one after the other, and the folders that they are in.
-use crate::single::{Inspection, inspect, inspect_file};
+use crate::single::{Inspection, inspect, inspect_opened, open_input, tell_unjudged};
 use crate::tally::Tally;
-use crate::tree::Visits;
 use failures::{Failure, ProgramError, flushed};
 use inspection::{Outcome, OutputForm, Printable};
-use keyed_files::Counter;
+use keyed_files::{Counter, NO_FILE, Visits, has_vanished, is_dicom, open_file};
 use std::fs;
-use std::io::{self, BufWriter, Write};
+use std::io::{self, BufWriter, Error, ErrorKind, Write};
 
 /// Which files are inspected.
 #[derive(Clone, Copy)]
@@ -15,6 +14,13 @@ pub struct Files<'a> {
     pub paths: &'a [&'a str],
     /// Whether the files in folders are inspected, too.
     pub recursive: bool,
+    /// Whether files that are no DICOM files are passed by, where there are several.
+    pub ignore_others: bool,
+}
+
+/// Returns whether a path is that of a file which can be opened and is no DICOM file.
+fn is_other(rt: &HostRuntime, path: &str) -> bool {
+    path != "-" && open_file(rt, path).is_ok() && !is_dicom(rt, path)
 }
 
 /// Inspects files, and counts them.
@@ -22,6 +28,7 @@ pub struct Files<'a> {
 struct Inspector<'a, O: Write + Drop> {
     rt: &'a HostRuntime,
     inspection: Inspection<'a>,
+    ignores_others: bool,
     counter: Counter,
     tally: Tally,
     out: O,
@@ -48,17 +55,47 @@ impl<O: Write + Drop> Inspector<'_, O> {
         writeln!(self.out, "file {name}").map_err(ProgramError::of_output)
     }
 
-    /// Writes the name of a file and what is asked for of it.
-    fn inspect(&mut self, file: &str) -> Result<(), ProgramError> {
+    /// Writes the name of a file and what is asked for of it. One that was found in a folder and has vanished is only
+    /// counted.
+    fn inspect(&mut self, file: &str, is_found: bool) -> Result<(), ProgramError> {
         self.counter.show(&mut self.rt.stderr());
+        if self.ignores_others && is_other(self.rt, file) {
+            self.tally.add_ignored();
+            return Ok(());
+        }
+        let opened = open_input(self.rt, file);
+        if let Err(error) = &opened {
+            if is_found && has_vanished(self.rt, file, error) {
+                self.tally.add_vanished();
+                return Ok(());
+            }
+        }
         self.tell_name(file)?;
-        match inspect_file(self.rt, self.inspection, file, &mut self.out) {
+        match inspect_opened(self.rt, self.inspection, (file, opened), &mut self.out) {
             Ok(inspected) => {
                 self.tally.add(&inspected);
                 Ok(())
             }
             Err(error) => self.tell_unread(file, error),
         }
+    }
+
+    /// Counts and tells of what can't be opened, since its name is not UTF-8.
+    fn tell_unnamed(&mut self, paths: &[String]) -> Result<(), ProgramError> {
+        for path in paths {
+            let error = Error::from(ErrorKind::InvalidFilename);
+            self.tell_unread(path.as_str(), ProgramError::System(Failure::Open, error))?;
+        }
+        Ok(())
+    }
+
+    /// Counts what was found in a folder and can't be read; what has not vanished is told of, too.
+    fn tell_lost(&mut self, path: &str, error: ProgramError) -> Result<(), ProgramError> {
+        if has_vanished(self.rt, path, &error) {
+            self.tally.add_vanished();
+            return Ok(());
+        }
+        self.tell_unread(path, error)
     }
 
     /// Adds what is in a folder to what is still to be visited.
@@ -68,8 +105,8 @@ impl<O: Write + Drop> Inspector<'_, O> {
         visits: &mut Visits<HostRuntime>,
     ) -> Result<(), ProgramError> {
         match visits.add_folder(self.rt, dir) {
-            Ok(()) => Ok(()),
-            Err(error) => self.tell_unread(dir, error),
+            Ok(unnamed) => self.tell_unnamed(unnamed.as_slice()),
+            Err(error) => self.tell_lost(dir, error),
         }
     }
 
@@ -77,9 +114,14 @@ impl<O: Write + Drop> Inspector<'_, O> {
     fn visit(&mut self, path: &str, visits: &mut Visits<HostRuntime>) -> Result<(), ProgramError> {
         match fs::symlink_metadata(self.rt, path) {
             Ok(found) if found.is_dir() => self.open_folder(path, visits),
-            Ok(found) if found.is_file() => self.inspect(path),
-            Ok(_) => Ok(()),
-            Err(error) => self.tell_unread(path, ProgramError::System(Failure::Open, error)),
+            Ok(found) if found.is_file() => self.inspect(path, true),
+            Ok(found) if found.is_symlink() => Ok(()),
+            Ok(_) => {
+                let path = Printable(path.as_bytes());
+                let _ = eprintln!(self.rt; "dcmbox: {path}: {NO_FILE}");
+                Ok(())
+            }
+            Err(error) => self.tell_lost(path, ProgramError::System(Failure::Open, error)),
         }
     }
 
@@ -104,7 +146,7 @@ impl<O: Write + Drop> Inspector<'_, O> {
             if is_folder {
                 self.inspect_folder(*path)?;
             } else {
-                self.inspect(*path)?;
+                self.inspect(*path, false)?;
             }
         }
         Ok(())
@@ -114,6 +156,8 @@ impl<O: Write + Drop> Inspector<'_, O> {
     fn run(&mut self, files: Files<'_>) -> Result<(), ProgramError> {
         let ran = self.inspect_all(files);
         self.counter.clear(&mut self.rt.stderr());
+        tell_unjudged(self.rt, self.tally.unjudged());
+        self.tally.tell_passed_by(&mut self.rt.stderr());
         ran?;
         if !self.inspection.is_counted() {
             return Ok(());
@@ -133,6 +177,7 @@ fn inspect_several<'a>(
     let mut inspector = Inspector {
         rt,
         inspection,
+        ignores_others: files.ignore_others,
         counter: Counter::new(rt),
         tally: Tally::new(),
         out,

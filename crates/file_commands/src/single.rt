@@ -1,16 +1,21 @@
 //! The commands that read files and print what is in them.
 use crate::json_text::write_file_name;
-use checkdir_command::checkdir_over;
+use checkdir_command::checkdir_named;
 use element::Uid;
 use failures::{Failure, ProgramError, flushed};
 use inspection::{
     CheckOptions, FileFront, Inspected, InspectionError, MetaRule, Outcome, OutputForm, Printable,
-    ShowOptions, Syntaxes, broken_rule_of, check_with, other_syntax_of, show_with,
+    ShowOptions, Syntaxes, broken_rule_of, check_with, class_of, other_syntax_of, show_with,
 };
-use keywords::syntax_keyword;
+use keyed_files::open_file;
+use keywords::{class_keyword, syntax_keyword};
 use std::alloc::Global;
-use std::io::{BufWriter, Read, Write};
-use std::{fs, io};
+use std::fs::File;
+use std::io;
+use std::io::{BufWriter, Error, ErrorKind, Read, Write};
+
+/// The SOP class of a DICOMDIR, Media Storage Directory Storage.
+const DIRECTORY_CLASS: &[u8] = b"1.2.840.10008.1.3.10";
 
 /// What is printed of a file.
 #[derive(Clone, Copy, Debug)]
@@ -73,30 +78,38 @@ fn failed(error: InspectionError) -> ProgramError {
     }
 }
 
-/// Writes what is asked for of a file that the reader gives.
+/// Writes what is asked for of a file of this name that the reader gives.
 fn inspect_over<R: Read, O: Write>(
-    alloc: Global,
+    rt: &HostRuntime,
     inspection: Inspection<'_>,
-    input: &mut R,
+    (file, input): (&str, &mut R),
     out: &mut O,
 ) -> Result<Inspected, ProgramError> {
     match inspection {
         Inspection::Show(options) => show_with(input, options, out).map_err(failed),
         Inspection::Check(options) => check_with(input, options, out).map_err(failed),
         Inspection::Directory => Ok(Inspected {
-            outcome: checkdir_over(alloc, input, out)?,
+            outcome: checkdir_named(rt.alloc(), (file, input), (out, &mut rt.stderr()))?,
             notes: 0,
+            unjudged: 0,
         }),
     }
 }
 
-/// Tells of the transfer syntax of a file that is in one which is not taken.
-fn tell_syntax(rt: &HostRuntime, file: &str, syntax: &Uid) {
+/// Tells of the transfer syntax of a file that is in one which is not taken, and with which option it is.
+fn tell_syntax(rt: &HostRuntime, file: &str, syntax: &Uid, needs_all: bool) {
     let (file, uid) = (Printable(file.as_bytes()), syntax.as_bytes());
     let keyword = syntax_keyword(uid).unwrap_or("unknown");
-    let uid = Printable(uid);
+    let (uid, option) = (
+        Printable(uid),
+        if needs_all {
+            "; --all-syntaxes takes it"
+        } else {
+            ""
+        },
+    );
     let _ = eprintln!(rt;
-        "dcmbox: {file}: its transfer syntax is {keyword} ({uid}), which is not taken"
+        "dcmbox: {file}: its transfer syntax is {keyword} ({uid}), which is not taken{option}"
     );
 }
 
@@ -106,10 +119,23 @@ fn tell_rule(rt: &HostRuntime, file: &str, rule: MetaRule) {
     let _ = eprintln!(rt; "dcmbox: {file}: its file meta information is wrong: {rule}");
 }
 
+/// Tells of a file that is no directory, but a file of another class.
+fn tell_class(rt: &HostRuntime, file: &str, beginning: &[u8]) {
+    let Some(class) = class_of(beginning) else {
+        return;
+    };
+    if class.as_bytes() != DIRECTORY_CLASS {
+        let keyword = class_keyword(class.as_bytes()).unwrap_or("unknown");
+        let (file, uid) = (Printable(file.as_bytes()), Printable(class.as_bytes()));
+        let _ = eprintln!(rt; "dcmbox: {file}: it is no DICOMDIR: its class is {keyword} ({uid})");
+    }
+}
+
 /// Tells what is wrong with the header of a file that has a fault, where that is it.
 fn tell_header(rt: &HostRuntime, file: &str, beginning: &[u8], syntaxes: Syntaxes) {
     if let Some(syntax) = other_syntax_of(beginning, syntaxes) {
-        tell_syntax(rt, file, &syntax);
+        let needs_all = other_syntax_of(beginning, Syntaxes::All).is_none();
+        tell_syntax(rt, file, &syntax, needs_all);
     }
     if let Some(rule) = broken_rule_of(beginning) {
         tell_rule(rt, file, rule);
@@ -128,18 +154,21 @@ fn inspect_named<R: Read, O: Write>(
         write_file_name(rt.alloc(), file, out)?;
     }
     let mut front = FileFront::new(input);
-    let inspected = inspect_over(rt.alloc(), inspection, &mut front, out)?;
+    let inspected = inspect_over(rt, inspection, (file, &mut front), out)?;
     if inspected.outcome == Outcome::Faulty {
-        tell_header(rt, file, front.kept(), inspection.syntaxes());
+        match inspection {
+            Inspection::Directory => tell_class(rt, file, front.kept()),
+            _ => tell_header(rt, file, front.kept(), inspection.syntaxes()),
+        }
     }
     Ok(inspected)
 }
 
-/// Writes that a file can't be opened, where JSON is written, and returns the error.
+/// Writes that a file can't be opened, where JSON is written, and returns the error of that.
 fn unopened<O: Write>(
     rt: &HostRuntime,
     inspection: Inspection<'_>,
-    (file, error): (&str, io::Error),
+    (file, error): (&str, ProgramError),
     out: &mut O,
 ) -> ProgramError {
     if inspection.form() == OutputForm::Json {
@@ -150,22 +179,59 @@ fn unopened<O: Write>(
             return ProgramError::of_output(error);
         }
     }
-    ProgramError::System(Failure::Open, error)
+    error
 }
 
-/// Writes what is asked for of a file, or of standard input, for which `-` stands.
-pub fn inspect_file<O: Write>(
+/// Tells of a file that is shown or checked and can't be read since it is a folder.
+fn tell_folder(rt: &HostRuntime, inspection: Inspection<'_>, (file, error): (&str, &ProgramError)) {
+    let is_of_files = !matches!(inspection, Inspection::Directory);
+    if let ProgramError::System(Failure::Read, error) = error {
+        if is_of_files && error.kind() == ErrorKind::IsADirectory {
+            let file = Printable(file.as_bytes());
+            let _ = eprintln!(rt; "dcmbox: {file}: it is a folder; -r takes the files in it");
+        }
+    }
+}
+
+/// Opens a file; standard input, for which `-` stands, is `None`. A name with a zero byte stands for one that is not UTF-8.
+pub fn open_input(rt: &HostRuntime, file: &str) -> Result<Option<File>, ProgramError> {
+    if file == "-" {
+        return Ok(None);
+    }
+    if file.contains('\0') {
+        let error = Error::from(ErrorKind::InvalidFilename);
+        return Err(ProgramError::System(Failure::Open, error));
+    }
+    match open_file(rt, file) {
+        Ok(input) => Ok(Some(input)),
+        Err(error) => Err(ProgramError::System(Failure::Open, error)),
+    }
+}
+
+/// Writes what is asked for of a file of this name, which was opened, or that it can't be.
+pub fn inspect_opened<O: Write>(
     rt: &HostRuntime,
     inspection: Inspection<'_>,
-    file: &str,
+    (file, opened): (&str, Result<Option<File>, ProgramError>),
     out: &mut O,
 ) -> Result<Inspected, ProgramError> {
-    if file == "-" {
-        return inspect_named(rt, inspection, (file, &mut rt.stdin()), out);
-    }
-    match fs::open(rt, file) {
-        Ok(mut input) => inspect_named(rt, inspection, (file, &mut input), out),
+    match opened {
+        Ok(None) => inspect_named(rt, inspection, (file, &mut rt.stdin()), out),
+        Ok(Some(mut input)) => match inspect_named(rt, inspection, (file, &mut input), out) {
+            Ok(inspected) => Ok(inspected),
+            Err(error) => {
+                tell_folder(rt, inspection, (file, &error));
+                Err(error)
+            }
+        },
         Err(error) => Err(unopened(rt, inspection, (file, error), out)),
+    }
+}
+
+/// Tells how many values were not judged, if any were not.
+pub fn tell_unjudged(rt: &HostRuntime, count: u64) {
+    if count > 0 {
+        let _ = eprintln!(rt; "dcmbox: not judged {count}");
     }
 }
 
@@ -176,8 +242,12 @@ pub fn inspect(
     inspection: Inspection<'_>,
 ) -> Result<Outcome, ProgramError> {
     let mut out = BufWriter::new(rt.alloc(), io::writer(rt)).map_err(ProgramError::of_output)?;
-    let outcome = match inspect_file(rt, inspection, file, &mut out) {
-        Ok(inspected) => Ok(inspection.outcome(&inspected)),
+    let opened = open_input(rt, file);
+    let outcome = match inspect_opened(rt, inspection, (file, opened), &mut out) {
+        Ok(inspected) => {
+            tell_unjudged(rt, inspected.unjudged);
+            Ok(inspection.outcome(&inspected))
+        }
         Err(error) => Err(error),
     };
     flushed(outcome, &mut out)

@@ -1,14 +1,19 @@
 //! What has come of the files that were inspected.
 use inspection::{Inspected, Outcome};
+use keyed_files::tell_passed_by;
 use std::fmt;
+use std::io::Write;
 
-/// Counts files, by what was found in them, and notes.
+/// Counts files, by what was found in them, notes, and values that were not judged.
 #[derive(Clone, Copy)]
 pub struct Tally {
     good: u64,
     faulty: u64,
     unread: u64,
     notes: u64,
+    unjudged: u64,
+    ignored: u64,
+    vanished: u64,
 }
 
 impl Tally {
@@ -19,6 +24,9 @@ impl Tally {
             faulty: 0,
             unread: 0,
             notes: 0,
+            unjudged: 0,
+            ignored: 0,
+            vanished: 0,
         }
     }
 
@@ -30,6 +38,27 @@ impl Tally {
         };
         *count = count.saturating_add(1);
         self.notes = self.notes.saturating_add(inspected.notes);
+        self.unjudged = self.unjudged.saturating_add(inspected.unjudged);
+    }
+
+    /// Returns how many values were not judged.
+    pub fn unjudged(&self) -> u64 {
+        self.unjudged
+    }
+
+    /// Counts a file that is passed by.
+    pub fn add_ignored(&mut self) {
+        self.ignored = self.ignored.saturating_add(1);
+    }
+
+    /// Counts a file or a folder that has vanished.
+    pub fn add_vanished(&mut self) {
+        self.vanished = self.vanished.saturating_add(1);
+    }
+
+    /// Tells how many files were passed by.
+    pub fn tell_passed_by<E: Write>(&self, err: &mut E) {
+        tell_passed_by(self.ignored, self.vanished, err);
     }
 
     /// Counts a file or a folder that can't be read.
@@ -59,6 +88,7 @@ impl fmt::Display for Tally {
             faulty,
             unread,
             notes,
+            ..
         } = *self;
         let files = good.saturating_add(faulty).saturating_add(unread);
         write!(

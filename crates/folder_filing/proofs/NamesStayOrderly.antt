@@ -1,10 +1,10 @@
 -- The names of a filing stay orderly from call to call (`goes_on`, `names_one`, `tries_one`), and along a search for a
 -- free name (`search_begins`, `search_goes_on`, `search_ends`, `search_fails`); places that rise differ (`are_apart`).
 -- Stands on the definitions alone.
-use Rattle.std.proofs.Common.{◌≢◌, inl, inr, Result, Ok, Err, ◌^◌, ◌∙◌, ◌≡◌, ℕ, ◌+◌, ◌<◌, ◌≤◌, true, List, [], ◌∷◌, Option, Some, None, refl, ap, subst, arith, nat_lt, false}
+use Rattle.std.proofs.Common.{◌≢◌, inl, inr, Result, Ok, Err, ◌^◌, ◌∙◌, ◌≡◌, ℕ, ◌+◌, ◌<◌, ◌≤◌, Bool, true, List, [], ◌∷◌, Option, Some, None, refl, ap, subst, arith, nat_lt, false}
 use Rattle.std.specs.Result.{OnOk, OnErr}
 use Rattle.folder_filing.specs.declared.call.Call.{Call}
-use Rattle.folder_filing.specs.declared.call.Call.TheVariants.{Refused}
+use Rattle.folder_filing.specs.declared.call.Call.TheVariants.{Refused, Written}
 use Rattle.std.specs.List.{AllByRecursion}
 use Rattle.std.proofs.lemmas.Bool.{le-leb, le-ltb, leb-true}
 use Rattle.std.specs.declared.io.Error.{Error}
@@ -14,13 +14,13 @@ use Rattle.folder_filing.specs.declared.location.Layout.TheVariants.{Flat, Level
 use Rattle.folder_filing.specs.declared.location.Location.{Location}
 use Rattle.folder_filing.specs.Numbers.{Keeps, is_covered}
 use Rattle.folder_filing.specs.Examples.{WorkedNames}
-use Rattle.folder_filing.specs.Naming.{AreApart, IsKept, IsOrderly, KeepsAll, LeavesNames, LosesNone, WasRefused, Naming, Rises, standing, refusals}
+use Rattle.folder_filing.specs.Naming.{AreApart, IsKept, IsNameSynced, IsOrderly, IsWritten, KeepsAll, LeavesNames, LosesNone, WasRefused, Naming, Rises, standing, refusals}
 use Rattle.folder_filing.specs.Locations.{next_location, order}
+use Rattle.folder_filing.specs.declared.named_file.NamedFile.{NamedFile}
 use Rattle.folder_filing.specs.declared.naming.Attempt.{Attempt}
 use Rattle.folder_filing.specs.declared.naming.Attempt.TheVariants.{Named, Met}
-use Rattle.folder_filing.specs.declared.naming.Named.{Named as How}
 use Rattle.folder_filing.specs.declared.naming.Obstacle.{Obstacle}
-use Rattle.folder_filing.specs.machine.Naming.{PlaceLeaves, SameTerms}
+use Rattle.folder_filing.specs.machine.Naming.{PlaceLeaves, SameTerms, SyncsName}
 
 -- a later last place is behind the same places
 pub behind_more : (last later : Location) → order last ≤ order later → (places : List Location)
@@ -56,7 +56,7 @@ keeps_same (Some kept) = (omega arith, omega arith)
 
 -- A filing goes on: its last place is no earlier, no kept number is missing, and the calls name no file and lose none.
 pub goes_on : (old new : Naming) → new.layout ≡ old.layout → order old.last ≤ order new.last → KeepsAll old.kept new.kept
-    → standing new.calls ≡ standing old.calls → (LosesNone old.calls → LosesNone new.calls) → IsOrderly old → IsOrderly new
+    → standing new.calls ≡ standing old.calls → (LosesNone old.has_sync old.draft old.calls → LosesNone new.has_sync new.draft new.calls) → IsOrderly old → IsOrderly new
 goes_on old new layout last kept same loses was =
     record {
       loses = loses was.loses;
@@ -65,16 +65,21 @@ goes_on old new layout last kept same loses was =
       kept = rw (same, layout) (all_kept_more old.layout old.kept new.kept kept _ was.kept);
     }
 
--- A call that was passed on names no file and loses none.
+-- A call that was passed on, or with which the draft was synced, names no file and loses none.
 pub passed_on : {T E : Type 0} (result : Result T E) (old new : List Call) → OnOk result (new ≡ old) → OnErr result (new ≡ Refused ∷ old)
-    → (standing new ≡ standing old) × (LosesNone old → LosesNone new)
-passed_on (Ok value) old new taken refused = (ap standing taken, λ h. rw taken h)
-passed_on (Err error) old new taken refused = (rw refused refl, λ h. rw refused h)
+    → (standing new ≡ standing old) × ((has_sync : Bool) (own : ℕ) → LosesNone has_sync own old → LosesNone has_sync own new)
+passed_on (Ok value) old new taken refused = (ap standing taken, λ has_sync own h. rw taken h)
+passed_on (Err error) old new taken refused = (rw refused refl, λ has_sync own h. rw refused h)
+
+pub written_on : {T E : Type 0} (result : Result T E) (old new : List Call) → OnOk result (new ≡ Written ∷ old) → OnErr result (new ≡ Refused ∷ old)
+    → (standing new ≡ standing old) × ((has_sync : Bool) (own : ℕ) → LosesNone has_sync own old → LosesNone has_sync own new)
+written_on (Ok value) old new taken refused = (rw taken refl, λ has_sync own h. rw taken h)
+written_on (Err error) old new taken refused = (rw refused refl, λ has_sync own h. rw refused h)
 
 -- It names a file: at a place after the last one, whose number is kept, and which is the last one or before it.
 pub names_one : (old new : Naming) (place : Location) → new.layout ≡ old.layout → new.kept ≡ old.kept → order old.last < order place
     → order place ≤ order new.last → IsKept old.layout old.kept place
-    → standing new.calls ≡ place ∷ standing old.calls → (LosesNone old.calls → LosesNone new.calls) → IsOrderly old → IsOrderly new
+    → standing new.calls ≡ place ∷ standing old.calls → (LosesNone old.has_sync old.draft old.calls → LosesNone new.has_sync new.draft new.calls) → IsOrderly old → IsOrderly new
 names_one old new place layout kept after behind is more loses was =
     record {
       loses = loses was.loses;
@@ -88,7 +93,7 @@ names_one old new place layout kept after behind is more loses was =
 
 -- A try at a place after the last one, whose number is kept, goes on, whatever came of it.
 pub tries_one : {E : Type 0} (result : Result Attempt E) (old new : Naming) (place : Location) → order old.last < order place → IsKept old.layout old.kept place
-    → PlaceLeaves place result old new → SameTerms old new → (LosesNone old.calls → LosesNone new.calls) → IsOrderly old → IsOrderly new
+    → PlaceLeaves place result old new → SameTerms old new → (LosesNone old.has_sync old.draft old.calls → LosesNone new.has_sync new.draft new.calls) → IsOrderly old → IsOrderly new
 tries_one (Ok (Named how)) old new place after is left same loses was =
     names_one old new place same.0 same.1 after (rw left.2 (omega arith)) is left.0 loses was
 tries_one (Ok (Met obstacle)) old new place after is left same loses was =
@@ -102,21 +107,29 @@ tries_one (Err error) old new place after is left same loses was = elim left.0 [
 pub record Searches (old now : Naming) (met : ℕ) : Type 0 where
   pub same : standing now.calls ≡ standing old.calls
   pub refused : refusals now.calls ≡ refusals old.calls
+  pub sync : now.has_sync ≡ old.has_sync
+  pub number : now.draft ≡ old.draft
   pub orderly : IsOrderly old → IsOrderly now
+  pub written : IsWritten now.has_sync now.calls
   pub far : met ≤ order now.last
 
-pub search_begins : (old now : Naming) → now.layout ≡ old.layout → now.kept ≡ old.kept → now.calls ≡ old.calls → order old.last ≤ order now.last → Searches old now 0
-search_begins old now layout kept calls last =
+pub search_begins : (old now : Naming) → SameTerms old now → now.calls ≡ old.calls → order old.last ≤ order now.last → IsWritten old.has_sync old.calls → Searches old now 0
+search_begins old now terms calls last written =
     record {
       same = ap standing calls;
       refused = ap refusals calls;
-      orderly = goes_on old now layout last (rw kept (keeps_same old.kept)) (ap standing calls) (λ h. rw calls h);
+      sync = terms.2;
+      number = terms.3;
+      orderly = goes_on old now terms.0 last (rw terms.1 (keeps_same old.kept)) (ap standing calls) (λ h. rw (calls, terms.2, terms.3) h);
+      written = rw (calls, terms.2) written;
       far = omega arith;
     }
 
 -- the next place, at which a name is tried: it is after the last one, and its number is kept
 pub record Reaches (now next : Naming) (place : Location) : Type 0 where
   pub calls : next.calls ≡ now.calls
+  pub sync : next.has_sync ≡ now.has_sync
+  pub number : next.draft ≡ now.draft
   pub rises : order now.last ≤ order next.last
   pub behind : order next.last < order place
   pub kept : IsKept next.layout next.kept place
@@ -126,7 +139,7 @@ pub record Reaches (now next : Naming) (place : Location) : Type 0 where
 pub record Tries {E : Type 0} (result : Result Attempt E) (place : Location) (next tried : Naming) : Type 0 where
   pub left : PlaceLeaves place result next tried
   pub same : SameTerms next tried
-  pub loses : LosesNone next.calls → LosesNone tried.calls
+  pub loses : LosesNone next.has_sync next.draft next.calls → LosesNone tried.has_sync tried.draft tried.calls
 
 orderly_then : {E : Type 0} (result : Result Attempt E) (old now next tried : Naming) (place : Location) (met : ℕ)
     → Searches old now met → Reaches now next place → Tries result place next tried → IsOrderly old → IsOrderly tried
@@ -138,13 +151,19 @@ same_calls : (old now next : Naming) (place : Location) (met : ℕ) → Searches
 same_calls old now next place met was reaches = (ap standing reaches.calls ∙ was.same, ap refusals reaches.calls ∙ was.refused)
 
 -- the place was given
-pub search_ends : (old now next tried : Naming) (place : Location) (met : ℕ) (attempt : Attempt) (how : How) → attempt ≡ Named how
+pub search_ends : (old now next tried : Naming) (place : Location) (met : ℕ) (attempt : Attempt) (file : NamedFile) → attempt ≡ Named file
     → Searches old now met → Reaches now next place → Tries {E = Error} (Ok attempt) place next tried
     → (standing tried.calls ≡ place ∷ standing old.calls) × (refusals tried.calls ≡ refusals old.calls) × (IsOrderly old → IsOrderly tried)
 search_ends old now next tried place met (Named how) _ is was reaches tries =
     let same = same_calls old now next place met was reaches in
     (tries.left.0 ∙ ap (λ z. place ∷ z) same.0, tries.left.1 ∙ same.1, orderly_then (Ok (Named how)) old now next tried place met was reaches tries)
-search_ends old now next tried place met (Met obstacle) how is was reaches tries = absurd cc
+search_ends old now next tried place met (Met obstacle) file is was reaches tries = absurd cc
+
+-- its name was synced
+pub search_syncs : (old now next : Naming) (calls : List Call) (place : Location) (met : ℕ) (attempt : Attempt) (file : NamedFile) → attempt ≡ Named file
+    → Searches old now met → Reaches now next place → (next.has_sync ≡ true → SyncsName {E = Error} (Ok attempt) calls) → old.has_sync ≡ true → IsNameSynced calls
+search_syncs old now next calls place met attempt file is was reaches syncs has =
+    subst (λ z. SyncsName {E = Error} (Ok z) calls) is (syncs (reaches.sync ∙ was.sync ∙ has))
 
 -- an obstacle was met, and the search goes on behind the place
 pub search_goes_on : (old now next tried over : Naming) (place : Location) (met : ℕ) (attempt : Attempt) (obstacle : Obstacle) → attempt ≡ Met obstacle
@@ -157,8 +176,11 @@ search_goes_on old now next tried over place met (Met obstacle) _ is was reaches
     record {
       same = ap standing calls ∙ tries.left.0 ∙ same.0;
       refused = ap refusals calls ∙ tries.left.1 ∙ same.1;
-      orderly = λ h. goes_on tried over terms.0 last (rw terms.1 (keeps_same tried.kept)) (ap standing calls) (λ l. rw calls l)
+      sync = terms.2 ∙ tries.same.2 ∙ reaches.sync ∙ was.sync;
+      number = terms.3 ∙ tries.same.3 ∙ reaches.number ∙ was.number;
+      orderly = λ h. goes_on tried over terms.0 last (rw terms.1 (keeps_same tried.kept)) (ap standing calls) (λ l. rw (calls, terms.2, terms.3) l)
           (orderly_then (Ok (Met obstacle)) old now next tried place met was reaches tries h);
+      written = rw (calls, terms.2, tries.same.2, tries.left.3, reaches.sync, reaches.calls) was.written;
       far = omega (arith, was.far, reaches.rises, reaches.behind, behind);
     }
 
@@ -212,10 +234,15 @@ worked_names =
     record {
       names = refl;
       count = refl;
-      loses = (refl, (refl, tt));
+      loses = (refl, (refl, (λ synced. refl), (refl, (refl, refl, (λ synced. refl), (refl, (refl, (λ synced. refl), (refl, tt)))))));
+      unwritten = λ loses. absurd (let same = loses.1 refl in cc);
       rises = ((omega arith, tt), (tt, tt));
-      unseen = λ loses. loses.0;
-      other = λ loses. absurd (let same = ap (λ z. z.file) loses.0 in omega (arith, same));
+      unseen = λ loses. loses.1;
+      other = λ loses. absurd (let same = ap (λ z. z.file) loses.1 in omega (arith, same));
       earlier = λ loses. absurd (let same = ap (λ z. z.file) loses.0 in omega (arith, same));
+      again = (refl, (λ synced. refl), (refl, (refl, (λ synced. refl), (refl, tt))));
+      both = λ loses. absurd (let same = loses.1 refl in cc);
+      gone = λ loses. absurd (let same = loses.1 refl in cc);
+      foreign = λ loses. absurd (let same = loses.0 in omega (arith, same));
       twice = λ rises. absurd (omega (arith, rises.0.0));
     }

@@ -12,6 +12,7 @@ use Rattle.folder_filing.specs.declared.location.Location.{Location}
 use Rattle.folder_filing.specs.declared.pending.Pending.{Pending}
 use Rattle.folder_filing.specs.declared.pending.Pending.TheVariants.{Settled, Unnamed, Named}
 use Rattle.folder_filing.specs.Settling.{IsNamedLast}
+use Rattle.folder_filing.specs.machine.Naming.{SameTerms}
 use Rattle.folder_filing.proofs.NamesStayOrderly.{goes_on, keeps_same}
 
 -- The file that waits is the one that was named last, as the same files have names.
@@ -42,25 +43,25 @@ rises_drop [] rises = tt
 rises_drop (place ∷ places) rises = rises.1
 
 -- The name that was given last is removed.
-pub takes_back : (old new : Naming) (place : Location) → new.layout ≡ old.layout → new.last ≡ old.last → new.kept ≡ old.kept
+pub takes_back : (old new : Naming) (place : Location) → SameTerms old new → new.last ≡ old.last
     → new.calls ≡ Removed place ∷ old.calls → IsNewest place (standing old.calls) → IsOrderly old → IsOrderly new
-takes_back old new place layout last kept calls newest was =
+takes_back old new place terms last calls newest was =
     let same : standing new.calls ≡ drop 1 (standing old.calls) = ap standing calls in
     let behind : AllByRecursion (λ other. order other ≤ order new.last) (drop 1 (standing old.calls)) = rw last (all_drop _ _ was.behind) in
-    let all : AllByRecursion (IsKept new.layout new.kept) (drop 1 (standing old.calls)) = rw (layout, kept) (all_drop _ _ was.kept) in
+    let all : AllByRecursion (IsKept new.layout new.kept) (drop 1 (standing old.calls)) = rw (terms.0, terms.1) (all_drop _ _ was.kept) in
     record {
-      loses = rw calls (newest, was.loses);
+      loses = rw (terms.2, terms.3, calls) (newest, was.loses);
       rises = rw same (rises_drop _ was.rises);
       behind = rw same behind;
       kept = rw same all;
     }
 
 -- The name that was given last is removed, or the call failed.
-pub takes_back_or_fails : {T E : Type 0} (result : Result T E) (old new : Naming) (place : Location) (before : List Call) → new.layout ≡ old.layout → new.last ≡ old.last
-    → new.kept ≡ old.kept → before ≡ old.calls → OnOk result (new.calls ≡ Removed place ∷ before) → OnErr result (new.calls ≡ Refused ∷ before)
+pub takes_back_or_fails : {T E : Type 0} (result : Result T E) (old new : Naming) (place : Location) (before : List Call) → SameTerms old new → new.last ≡ old.last
+    → before ≡ old.calls → OnOk result (new.calls ≡ Removed place ∷ before) → OnErr result (new.calls ≡ Refused ∷ before)
     → IsNewest place (standing old.calls) → IsOrderly old → IsOrderly new
-takes_back_or_fails (Ok value) old new place before layout last kept same removed refused newest was =
-    takes_back old new place layout last kept (removed ∙ ap (λ z. Removed place ∷ z) same) newest was
-takes_back_or_fails (Err error) old new place before layout last kept same removed refused newest was =
+takes_back_or_fails (Ok value) old new place before terms last same removed refused newest was =
+    takes_back old new place terms last (removed ∙ ap (λ z. Removed place ∷ z) same) newest was
+takes_back_or_fails (Err error) old new place before terms last same removed refused newest was =
     let calls : new.calls ≡ Refused ∷ old.calls = refused ∙ ap (λ z. Refused ∷ z) same in
-    goes_on old new layout (rw last (omega arith)) (rw kept (keeps_same old.kept)) (rw calls refl) (λ l. rw calls l) was
+    goes_on old new terms.0 (rw last (omega arith)) (rw terms.1 (keeps_same old.kept)) (rw calls refl) (λ l. rw (terms.2, terms.3, calls) l) was

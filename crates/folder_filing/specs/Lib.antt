@@ -1,6 +1,7 @@
 pub mod Locations
 pub mod Numbers
 pub mod Naming
+pub mod Synced
 pub mod Settling
 pub mod States
 pub mod EntryNames

@@ -1,9 +1,9 @@
 -- The system calls of a filing over a folder, the newest first, and what holds of the names that it has given to
 -- files. This product's own profile.
-use Rattle.std.specs.Prelude.{◌≡◌, ◌≢◌, ℕ, ◌+◌, ◌<◌, ◌≤◌, ◌⊎◌, true, List, [], ◌∷◌, drop, Option, Some, None, ⊤}
+use Rattle.std.specs.Prelude.{◌≡◌, ◌≢◌, ℕ, ◌+◌, ◌<◌, ◌≤◌, ◌⊎◌, Bool, true, false, List, [], ◌∷◌, drop, Option, Some, None, ⊤}
 use Rattle.std.specs.List.{AllByRecursion}
 use Rattle.folder_filing.specs.declared.call.Call.{Call}
-use Rattle.folder_filing.specs.declared.call.Call.TheVariants.{Created, Linked, SeenFree, Renamed, Removed, Refused, Replaced}
+use Rattle.folder_filing.specs.declared.call.Call.TheVariants.{Created, Written, Linked, SeenFree, Renamed, Removed, Synced, Refused, Replaced}
 use Rattle.folder_filing.specs.declared.numbers.Numbers.{Numbers}
 use Rattle.folder_filing.specs.declared.location.Layout.{Layout}
 use Rattle.folder_filing.specs.declared.location.Location.{Location}
@@ -14,22 +14,26 @@ use Rattle.folder_filing.specs.Locations.{next_location, order}
 -- that it has removed again
 abbrev pub standing : List Call → List Location
 standing [] = []
-standing (Created ∷ before) = standing before
-standing (Linked place ∷ before) = place ∷ standing before
+standing (Created draft ∷ before) = standing before
+standing (Written ∷ before) = standing before
+standing (Linked draft place ∷ before) = place ∷ standing before
 standing (SeenFree place ∷ before) = standing before
-standing (Renamed place ∷ before) = place ∷ standing before
+standing (Renamed draft place ∷ before) = place ∷ standing before
 standing (Removed place ∷ before) = drop 1 (standing before)
+standing (Synced folder ∷ before) = standing before
 standing (Refused ∷ before) = standing before
 standing (Replaced ∷ before) = standing before
 
 -- how many calls failed, or found another folder at the path
 abbrev pub refusals : List Call → ℕ
 refusals [] = 0
-refusals (Created ∷ before) = refusals before
-refusals (Linked place ∷ before) = refusals before
+refusals (Created draft ∷ before) = refusals before
+refusals (Written ∷ before) = refusals before
+refusals (Linked draft place ∷ before) = refusals before
 refusals (SeenFree place ∷ before) = refusals before
-refusals (Renamed place ∷ before) = refusals before
+refusals (Renamed draft place ∷ before) = refusals before
 refusals (Removed place ∷ before) = refusals before
+refusals (Synced folder ∷ before) = refusals before
 refusals (Refused ∷ before) = refusals before + 1
 refusals (Replaced ∷ before) = refusals before + 1
 
@@ -37,10 +41,12 @@ refusals (Replaced ∷ before) = refusals before + 1
 abbrev pub FoundFree : Location → List Call → Type 0
 FoundFree place [] = ⊥
 FoundFree place (SeenFree free ∷ before) = free ≡ place
-FoundFree place (Created ∷ before) = ⊥
-FoundFree place (Linked other ∷ before) = ⊥
-FoundFree place (Renamed other ∷ before) = ⊥
+FoundFree place (Created draft ∷ before) = ⊥
+FoundFree place (Written ∷ before) = ⊥
+FoundFree place (Linked draft other ∷ before) = ⊥
+FoundFree place (Renamed draft other ∷ before) = ⊥
 FoundFree place (Removed other ∷ before) = ⊥
+FoundFree place (Synced folder ∷ before) = ⊥
 FoundFree place (Refused ∷ before) = ⊥
 FoundFree place (Replaced ∷ before) = ⊥
 
@@ -49,17 +55,70 @@ abbrev pub IsNewest : Location → List Location → Type 0
 IsNewest place [] = ⊥
 IsNewest place (newest ∷ before) = newest ≡ place
 
--- No file is overwritten or lost: a file is renamed only to a name that the call before found free, and no file is
--- removed but the one that was named last, whose commit has not been reported yet.
-abbrev pub LosesNone : List Call → Type 0
-LosesNone [] = ⊤
-LosesNone (Created ∷ before) = LosesNone before
-LosesNone (Linked place ∷ before) = LosesNone before
-LosesNone (SeenFree place ∷ before) = LosesNone before
-LosesNone (Renamed place ∷ before) = FoundFree place before × LosesNone before
-LosesNone (Removed place ∷ before) = IsNewest place (standing before) × LosesNone before
-LosesNone (Refused ∷ before) = LosesNone before
-LosesNone (Replaced ∷ before) = LosesNone before
+-- the draft was synced after it was created, and has not been named since, or only by links that were removed again;
+-- and the same before the last call, by which it was linked
+abbrev mutual
+  pub is_written : List Call → Bool
+  is_written [] = false
+  is_written (Created draft ∷ before) = false
+  is_written (Written ∷ before) = true
+  is_written (Linked draft place ∷ before) = false
+  is_written (SeenFree place ∷ before) = is_written before
+  is_written (Renamed draft place ∷ before) = false
+  is_written (Removed place ∷ before) = was_written before
+  is_written (Synced folder ∷ before) = is_written before
+  is_written (Refused ∷ before) = is_written before
+  is_written (Replaced ∷ before) = is_written before
+
+  pub was_written : List Call → Bool
+  was_written [] = false
+  was_written (Created draft ∷ before) = false
+  was_written (Written ∷ before) = false
+  was_written (Linked draft place ∷ before) = is_written before
+  was_written (SeenFree place ∷ before) = false
+  was_written (Renamed draft place ∷ before) = false
+  was_written (Removed place ∷ before) = false
+  was_written (Synced folder ∷ before) = false
+  was_written (Refused ∷ before) = false
+  was_written (Replaced ∷ before) = false
+
+-- with syncs, the draft was synced
+abbrev pub IsWritten : Bool → List Call → Type 0
+IsWritten has_sync calls = has_sync ≡ true → is_written calls ≡ true
+
+-- the file that was named last is in a folder with this number
+abbrev pub IsNewestIn : ℕ → List Location → Type 0
+IsNewestIn folder [] = ⊥
+IsNewestIn folder (newest ∷ before) = newest.folder ≡ folder
+
+-- the last call synced the folder of the file that was named last
+abbrev pub IsNameSynced : List Call → Type 0
+IsNameSynced [] = ⊥
+IsNameSynced (Created draft ∷ before) = ⊥
+IsNameSynced (Written ∷ before) = ⊥
+IsNameSynced (Linked draft place ∷ before) = ⊥
+IsNameSynced (SeenFree place ∷ before) = ⊥
+IsNameSynced (Renamed draft place ∷ before) = ⊥
+IsNameSynced (Removed place ∷ before) = ⊥
+IsNameSynced (Synced folder ∷ before) = IsNewestIn folder (standing before)
+IsNameSynced (Refused ∷ before) = ⊥
+IsNameSynced (Replaced ∷ before) = ⊥
+
+-- No file is overwritten or lost: with syncs, a file gets its name only after its bytes were synced; a file is renamed
+-- only to a name that the call before found free; no file is removed but the one that was named last, whose commit has
+-- not been reported yet; and no draft is created or named but the filing's own, the one with this number.
+abbrev pub LosesNone : Bool → ℕ → List Call → Type 0
+LosesNone has_sync own [] = ⊤
+LosesNone has_sync own (Created draft ∷ before) = (draft ≡ own) × LosesNone has_sync own before
+LosesNone has_sync own (Written ∷ before) = LosesNone has_sync own before
+LosesNone has_sync own (Linked draft place ∷ before) = (draft ≡ own) × IsWritten has_sync before × LosesNone has_sync own before
+LosesNone has_sync own (SeenFree place ∷ before) = LosesNone has_sync own before
+LosesNone has_sync own (Renamed draft place ∷ before) =
+    (draft ≡ own) × FoundFree place before × IsWritten has_sync before × LosesNone has_sync own before
+LosesNone has_sync own (Removed place ∷ before) = IsNewest place (standing before) × LosesNone has_sync own before
+LosesNone has_sync own (Synced folder ∷ before) = LosesNone has_sync own before
+LosesNone has_sync own (Refused ∷ before) = LosesNone has_sync own before
+LosesNone has_sync own (Replaced ∷ before) = LosesNone has_sync own before
 
 -- each place in this list, the newest first, comes after all older ones in the order of places
 abbrev pub Rises : List Location → Type 0
@@ -83,17 +142,20 @@ KeepsAll None (Some more) = ⊥
 KeepsAll (Some kept) None = ⊥
 KeepsAll (Some kept) (Some more) = Keeps kept more
 
--- the state of a filing's numbering, as contracts see it: the layout of the folder; the place after which the next
--- file comes; the contents of the file of numbers, if one is in use; and the system calls so far, newest first
+-- the state of a filing's numbering, as contracts see it: the number of its draft; the layout of the folder; the place
+-- after which the next file comes; the contents of the file of numbers, if one is in use; whether files and names are
+-- synced; and the system calls so far, newest first
 pub record Naming : Type 0 where
+  pub draft : ℕ
   pub layout : Layout
   pub last : Location
   pub kept : Option Numbers
+  pub has_sync : Bool
   pub calls : List Call
 
 -- the invariant of a filing's numbering
 pub record IsOrderly (naming : Naming) : Type 0 where
-  pub loses : LosesNone naming.calls
+  pub loses : LosesNone naming.has_sync naming.draft naming.calls
   pub rises : Rises (standing naming.calls)
   pub behind : AllByRecursion (λ place. order place ≤ order naming.last) (standing naming.calls)
   pub kept : AllByRecursion (IsKept naming.layout naming.kept) (standing naming.calls)
@@ -107,7 +169,7 @@ NoneIsLeft naming = next_location naming.layout naming.last ≡ None
 pub record Asks (names : List Location) (refused : ℕ) (old new : List Call) : Type 0 where
   pub standing : standing new ≡ names
   pub refusals : refusals new ≡ refused
-  pub loses : LosesNone old → LosesNone new
+  pub loses : (has_sync : Bool) (own : ℕ) → LosesNone has_sync own old → LosesNone has_sync own new
 
 -- why a name was not given: a call failed or found another folder, or all numbers are in use
 abbrev pub WasRefused : Naming → Naming → Type 0

@@ -3,6 +3,7 @@ use Rattle.std.specs.Prelude.{◌≡◌, ◌<◌, ◌⊎◌, Bool, true, false, 
 use Rattle.folder_filing.specs.declared.location.Location.{Location}
 use Rattle.folder_filing.specs.declared.pending.Pending.{Pending}
 use Rattle.folder_filing.specs.declared.pending.Pending.TheVariants.{Settled, Unnamed, Named, Lost}
+use Rattle.folder_filing.specs.Synced.{FolderNames, is_synced}
 use Rattle.folder_filing.specs.Naming.{IsNewest, LeavesNames, Naming, WasRefused, refusals, standing}
 
 -- a commit waits to be settled, or its file was lost
@@ -24,8 +25,9 @@ IsNamedLast Lost places = ⊤
 abbrev pub IsWrittenOut : Pending → Naming → Naming → Type 0
 IsWrittenOut Settled old new = ⊥
 IsWrittenOut Unnamed old new = ⊥
-IsWrittenOut (Named place) old new = (standing new.calls ≡ place ∷ standing old.calls) × (refusals new.calls ≡ refusals old.calls)
-IsWrittenOut Lost old new = LeavesNames (standing old.calls) (standing new.calls) × WasRefused old new
+IsWrittenOut (Named place) old new =
+    (standing new.calls ≡ place ∷ standing old.calls) × (refusals new.calls ≡ refusals old.calls) × (new.has_sync ≡ old.has_sync) × (new.draft ≡ old.draft)
+IsWrittenOut Lost old new = LeavesNames (standing old.calls) (standing new.calls) × WasRefused old new × (new.has_sync ≡ old.has_sync) × (new.draft ≡ old.draft)
 
 -- the effect of writing out the last commit, which was in the first state and is in the second one: nothing, but for a
 -- file that has no name yet
@@ -35,7 +37,14 @@ WritesOut Unnamed pending old new = IsWrittenOut pending old new
 WritesOut (Named place) pending old new = (pending ≡ Named place) × (new ≡ old)
 WritesOut Lost pending old new = (pending ≡ Lost) × (new ≡ old)
 
--- the state of the last commit after it was settled, if the names are on the disk (true) or could not be synced
+-- the file that waits has its name on the disk, by this sync of names
+abbrev pub is_on_disk : Pending → List FolderNames → Bool
+is_on_disk Settled synced = false
+is_on_disk Unnamed synced = false
+is_on_disk (Named place) synced = is_synced place synced
+is_on_disk Lost synced = false
+
+-- the state of the last commit after it was settled, if its name is on the disk (true) or could not be synced
 abbrev pub settled : Bool → Pending → Pending
 settled are_named Settled = Settled
 settled are_named Unnamed = Unnamed
@@ -54,12 +63,5 @@ abbrev pub SettlesNames : Bool → Pending → Naming → Naming → Type 0
 SettlesNames are_named Settled old new = new ≡ old
 SettlesNames are_named Unnamed old new = new ≡ old
 SettlesNames true (Named place) old new = new ≡ old
-SettlesNames false (Named place) old new = TakesBack old new
+SettlesNames false (Named place) old new = TakesBack old new × (new.has_sync ≡ old.has_sync) × (new.draft ≡ old.draft)
 SettlesNames are_named Lost old new = new ≡ old
-
--- the state of the last commit once a file that is lost is given up
-abbrev pub without_lost : Pending → Pending
-without_lost Settled = Settled
-without_lost Unnamed = Unnamed
-without_lost (Named place) = Named place
-without_lost Lost = Settled

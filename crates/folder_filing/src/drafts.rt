@@ -1,8 +1,12 @@
-//! The file names of drafts, the files that are being received.
-ghost use Rattle.std.specs.Prelude.{◌≡◌};
+//! The file names and the paths of drafts, the files that are being received.
+ghost use Rattle.std.specs.Prelude.{◌≡◌, IfOk};
 ghost use Rattle.folder_filing.specs.EntryNames as entry_names;
 
-use std::fmt;
+use crate::folder_calls::remove_left;
+use std::alloc::{AllocError, Allocator};
+use std::marker::Model;
+use std::rt::Files;
+use std::{fmt, io};
 
 /// The file name of a filing's draft: `DRAFT` for the first filing of a folder, `DRAFT2` for the
 /// second, `DRAFT3` and so on.
@@ -18,6 +22,55 @@ impl fmt::Display for DraftName {
             return f.write_str("DRAFT");
         }
         write!(f, "DRAFT{}", self.number)
+    }
+}
+
+/// The path of a draft. Only a draft is removed by it, and no file that was committed. Contracts see the
+/// number of the draft.
+#[derive(Drop)]
+pub(crate) struct DraftPath<A: Allocator> {
+    number: u32,
+    text: String<A>,
+}
+
+impl<A: Allocator> Model for DraftPath<A> {
+    ghost use Rattle.std.specs.Prelude.{ℕ};
+
+    ghost Value = { ℕ };
+
+    ghost view = { λ p. p.number };
+}
+
+impl<A: Allocator> DraftPath<A> {
+    /// Returns the path of the draft with this number in a folder; 0 is that of no filing.
+    pub(crate) fn of(alloc: A, dir: &str, number: u32) -> Result<DraftPath<A>, AllocError>
+        ensures { IfOk result (λ path. path ≡ number) }
+    {
+        let name = DraftName { number };
+        let text = format!(in alloc; "{dir}/{name}")?;
+        Ok(DraftPath { number, text })
+    }
+
+    /// Returns the path of a draft that was found in a folder under this name.
+    pub(crate) fn found(alloc: A, dir: &str, name: &str) -> Result<DraftPath<A>, AllocError> {
+        let text = format!(in alloc; "{dir}/{name}")?;
+        Ok(DraftPath { number: 0, text })
+    }
+
+    pub(crate) fn as_str(&self) -> &str {
+        self.text.as_str()
+    }
+
+    /// Returns the number of the draft.
+    pub(crate) fn number(&self) -> u32
+        ensures { result ≡ self.now }
+    {
+        self.number
+    }
+
+    /// Removes the draft. It is no error if there is none.
+    pub(crate) fn remove<R: Files>(&self, rt: &R) -> io::Result<()> {
+        remove_left(rt, self.as_str())
     }
 }
 

@@ -9,10 +9,12 @@ ghost use Rattle.folder_filing.specs.declared.call.Call.{Call as SeenCall};
 ghost use Rattle.folder_filing.specs.declared.call.Call.TheVariants as seen;
 
 use crate::call::Call;
+use crate::drafts::DraftPath;
 use crate::folder_identity::FolderIdentity;
 use crate::location::{Layout, Location};
 use crate::naming::{Obstacle, Target, check_free, is_without_links, obstacle_of};
 use crate::numbers::NumbersFile;
+use crate::open_folder::OpenFolder;
 use element::history::History;
 use element::traced::Traced;
 use std::alloc::{AllocError, Allocator};
@@ -55,12 +57,11 @@ pub(crate) fn create_draft<R: Files>(rt: &R, path: &str) -> io::Result<R::File> 
     }
 }
 
-/// Creates a folder. Returns `false` if something with this path exists already.
-fn create_folder<R: Files>(rt: &R, path: &str) -> io::Result<bool> {
+/// Creates a folder. It is no error if something with this path exists already.
+fn create_folder<R: Files>(rt: &R, path: &str) -> io::Result<()> {
     match fs::create_dir(rt, path) {
-        Ok(()) => Ok(true),
-        Err(error) if error.kind() == ErrorKind::AlreadyExists => Ok(false),
-        Err(error) => Err(error),
+        Err(error) if error.kind() == ErrorKind::AlreadyExists => Ok(()),
+        result => result,
     }
 }
 
@@ -157,12 +158,16 @@ impl FolderCalls {
     }
 
     /// Creates the file of a draft. A file that an earlier draft left under this name is removed first.
-    pub(crate) fn create_draft<R: Files>(&mut self, rt: &R, path: &str) -> io::Result<R::File>
-        ensures created { OnOk result (self.new ≡ seen.Created ∷ self.old) }
+    pub(crate) fn create_draft<R: Files + Alloc>(
+        &mut self,
+        rt: &R,
+        draft: &DraftPath<R::A>,
+    ) -> io::Result<R::File>
+        ensures created { OnOk result (self.new ≡ seen.Created draft.now ∷ self.old) }
         ensures refused { OnErr result (self.new ≡ seen.Refused ∷ self.old) }
     {
-        let file = self.passed(create_draft(rt, path))?;
-        self.push(&Call::Created);
+        let file = self.passed(create_draft(rt, draft.as_str()))?;
+        self.push(&Call::Created(draft.number()));
         Ok(file)
     }
 
@@ -180,33 +185,31 @@ impl FolderCalls {
         self.passed(draft.write_all(bytes))
     }
 
-    /// Syncs the file of a draft to the disk, and records a failure.
+    /// Syncs the file of a draft to the disk, and records that, or the failure.
     pub(crate) fn sync_draft<F: OpenFile>(&mut self, draft: &Traced<F>) -> io::Result<()>
-        ensures taken { OnOk result (self.new ≡ self.old) }
+        ensures written { OnOk result (self.new ≡ seen.Written ∷ self.old) }
         ensures refused { OnErr result (self.new ≡ seen.Refused ∷ self.old) }
     {
-        self.passed(draft.sync_all())
+        self.passed(draft.sync_all())?;
+        self.push(&Call::Written);
+        Ok(())
     }
 
-    /// Syncs an open folder to the disk, and records a failure.
-    pub(crate) fn sync<F: OpenFile>(&mut self, folder: &F) -> io::Result<()>
-        ensures taken { OnOk result (self.new ≡ self.old) }
+    /// Syncs an open folder to the disk, after files in it were named, and records that, or the failure.
+    pub(crate) fn sync_names<F: OpenFile + Drop>(
+        &mut self,
+        folder: &OpenFolder<F>,
+    ) -> io::Result<()>
+        ensures synced { OnOk result (self.new ≡ seen.Synced folder.now ∷ self.old) }
         ensures refused { OnErr result (self.new ≡ seen.Refused ∷ self.old) }
     {
-        self.passed(folder.sync_all())
+        self.passed(folder.sync())?;
+        self.push(&Call::Synced(folder.number()));
+        Ok(())
     }
 
-    /// Opens a folder, and records a failure.
-    pub(crate) fn open<R: Files>(&mut self, rt: &R, path: &str) -> io::Result<R::File>
-        ensures taken { OnOk result (self.new ≡ self.old) }
-        ensures refused { OnErr result (self.new ≡ seen.Refused ∷ self.old) }
-    {
-        self.passed(fs::open(rt, path))
-    }
-
-    /// Creates a folder for files, and records a failure. Returns `false` if something with this path
-    /// exists already.
-    pub(crate) fn create_folder<R: Files>(&mut self, rt: &R, path: &str) -> io::Result<bool>
+    /// Creates a folder for files, unless something with this path exists already, and records a failure.
+    pub(crate) fn create_folder<R: Files>(&mut self, rt: &R, path: &str) -> io::Result<()>
         ensures taken { OnOk result (self.new ≡ self.old) }
         ensures refused { OnErr result (self.new ≡ seen.Refused ∷ self.old) }
     {
@@ -232,17 +235,21 @@ impl FolderCalls {
 
     /// Gives the file of a draft a second name, the target, by a hard link. Returns `None`, or the
     /// obstacle: `NoLinks` on a file system without hard links. Other errors are recorded and returned.
-    pub(crate) fn link<R: Files>(
+    pub(crate) fn link<R: Files + Alloc>(
         &mut self,
         rt: &R,
-        draft: &str,
+        draft: &DraftPath<R::A>,
         target: Target<'_>,
     ) -> io::Result<Option<Obstacle>>
-        ensures { TriesLeave (seen.Linked target.entry.place) result self.old self.new }
+        ensures { TriesLeave (seen.Linked draft.now target.entry.place) result self.old self.new }
     {
-        match fs::hard_link(rt, draft, target.path) {
+        let call = Call::Linked {
+            draft: draft.number(),
+            place: target.place,
+        };
+        match fs::hard_link(rt, draft.as_str(), target.path) {
             Err(error) if is_without_links(&error) => Ok(Some(Obstacle::NoLinks)),
-            given => self.tried(Call::Linked(target.place), given, target),
+            given => self.tried(call, given, target),
         }
     }
 
@@ -264,16 +271,42 @@ impl FolderCalls {
 
     /// Renames the file of a draft to the target name. Returns `None`, or the obstacle. Other errors
     /// are recorded and returned.
-    pub(crate) fn rename<R: Files>(
+    pub(crate) fn rename<R: Files + Alloc>(
+        &mut self,
+        rt: &R,
+        draft: &DraftPath<R::A>,
+        target: Target<'_>,
+    ) -> io::Result<Option<Obstacle>>
+        ensures { TriesLeave (seen.Renamed draft.now target.entry.place) result self.old self.new }
+    {
+        let call = Call::Renamed {
+            draft: draft.number(),
+            place: target.place,
+        };
+        let given = fs::rename(rt, draft.as_str(), target.path);
+        self.tried(call, given, target)
+    }
+
+    /// Takes the target name back from a file that has its draft name, too. Where another program moved
+    /// its folder away the name has gone with that: another file that is there now stays. Either is
+    /// recorded as a removal, or the failure.
+    pub(crate) fn remove_link<R: Files>(
         &mut self,
         rt: &R,
         draft: &str,
         target: Target<'_>,
-    ) -> io::Result<Option<Obstacle>>
-        ensures { TriesLeave (seen.Renamed target.entry.place) result self.old self.new }
+    ) -> io::Result<()>
+        ensures removed { OnOk result (self.new ≡ seen.Removed target.entry.place ∷ self.old) }
+        ensures refused { OnErr result (self.new ≡ seen.Refused ∷ self.old) }
     {
-        let given = fs::rename(rt, draft, target.path);
-        self.tried(Call::Renamed(target.place), given, target)
+        let own = self.passed(FolderIdentity::at(rt, draft))?;
+        match FolderIdentity::at(rt, target.path) {
+            Ok(found) if found == own => return self.remove(rt, target),
+            Err(error) if error.kind() != ErrorKind::NotFound => return self.passed(Err(error)),
+            _ => {}
+        }
+        self.push(&Call::Removed(target.place));
+        Ok(())
     }
 
     /// Removes the file with the target name, and records that, or the failure.

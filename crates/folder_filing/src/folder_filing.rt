@@ -1,6 +1,6 @@
 //! A [`Filing`] that stores files in a folder.
 ghost use Rattle.std.specs.Prelude.{◌≡◌, ◌≤◌, ◌<◌, ◌+◌, [], ◌∷◌, ◌++◌, None, Some, ◌⊎◌, IfOk, OnOk, OnErr, is_err, is_some, true, false};
-ghost use Rattle.folder_filing.specs.Naming.{IsOneMore, IsOrderly, LeavesNames, WasRefused, refusals, standing};
+ghost use Rattle.folder_filing.specs.Naming.{IsNameSynced, IsOneMore, IsOrderly, IsWritten, LeavesNames, WasRefused, refusals, standing};
 ghost use Rattle.folder_filing.specs.Settling.{is_waiting};
 ghost use Rattle.part10.specs.Store.{LeavesStore, appended, committed, nothing_filed, or_nothing, stepped, store_of, without_draft};
 ghost use Rattle.folder_filing.specs.declared.call.Call.TheVariants as seen;
@@ -13,7 +13,6 @@ use crate::given_names::GivenNames;
 use crate::location::Location;
 use crate::locked_folder::LockedFolder;
 use crate::notes::DraftNotes;
-use crate::numbers::NumbersFile;
 use crate::pending::Pending;
 use crate::quarantine::Quarantine;
 use crate::stored_file::StoredFile;
@@ -53,7 +52,7 @@ const WAITS: &str = "the last file is not settled";
 /// With [`FolderWriter::in_groups`] a commit hands the draft over without a name, to be settled later
 /// (see [`Settling`](part10::Settling)). Until it is settled each `begin` and `commit` fails.
 ///
-/// Contracts see the number of the draft; the bytes that were written to each committed file and to the
+/// Contracts see the bytes that were written to each committed file and to the
 /// draft; whether there is a draft; the number of failed calls; the names given, with the system calls
 /// that gave them; and what has become of the last commit. How a
 /// [`Location`](crate::Location) is spelled as a file name, and that files survive a loss of power, is
@@ -64,8 +63,6 @@ where
     R::File: StoredFile,
 {
     folder: Rc<LockedFolder<R>, R::A>,
-    number: u32,
-    draft_path: String<R::A>,
     draft: Option<Traced<R::File>>,
     /// The file of the last commit, while it has no name.
     handed: Option<Traced<R::File>>,
@@ -97,7 +94,6 @@ where
     ghost Value = { FolderState };
 
     ghost view = { λ f. record {
-      number = f.number;
       contents = record { files = map (λ t. t.bytes) f.kept; draft = option_map (λ d. d.trace.bytes) f.draft; failures = f.failures };
       names = f.names;
       pending = f.pending;
@@ -133,25 +129,21 @@ where
         FolderWriter::open_levels(rt, dir, per)?.filing()
     }
 
-    /// Creates a filing over this folder. `number`, from 1, names its draft; `numbers` is the file of
-    /// numbers, and `quarantine` where discarded drafts are moved to, if there is one.
+    /// Creates a filing over this folder. `names` is the state of its numbering, with its draft, and
+    /// `quarantine` where discarded drafts are moved to, if there is one.
     pub(crate) fn over(
         folder: Rc<LockedFolder<R>, R::A>,
-        number: u32,
-        numbers: Option<NumbersFile<R::A>>,
+        names: GivenNames<R::A>,
         quarantine: Option<Rc<Quarantine<R>, R::A>>,
     ) -> io::Result<FolderFiling<R>>
-        ensures number { IfOk result (λ filing. filing.number ≡ number) }
+        requires orderly { ∥ IsOrderly names ∥₁ }
         ensures empty { IfOk result (λ filing. filing.contents ≡ nothing_filed) }
         ensures settled { IfOk result (λ filing. filing.pending ≡ pending.Settled) }
+        ensures names { IfOk result (λ filing. filing.names ≡ names) }
     {
-        let draft_path = folder.draft_path(number)?;
         let notes = Rc::new(folder.runtime().alloc(), DraftNotes::new())?;
-        let names = folder.names(numbers);
         Ok(FolderFiling {
             folder,
-            number,
-            draft_path,
             draft: None,
             handed: None,
             pending: Pending::Settled,
@@ -167,12 +159,11 @@ where
         })
     }
 
-    /// Turns off syncing to the disk, for all filings of the folder: commits are faster, and a loss of
-    /// power may lose committed files.
-    pub fn without_sync(self) -> FolderFiling<R>
-        ensures same { result ≡ self }
+    /// Turns off syncing to the disk: commits are faster, and a loss of power may lose committed files.
+    pub fn without_sync(mut self) -> FolderFiling<R>
+        ensures same { result ≡ record self { names = record self.names { has_sync = false } } }
     {
-        self.folder.stop_sync();
+        self.names.has_sync = false;
         self
     }
 
@@ -208,7 +199,7 @@ where
         ) else {
             return;
         };
-        match self.folder.set_aside(self.draft_path.as_str(), quarantine) {
+        match self.folder.set_aside(&self.names.draft, quarantine) {
             Ok(Some(number)) => match quarantine.clone() {
                 Ok(quarantine) => self
                     .notes
@@ -231,36 +222,46 @@ where
     {
         if self.draft.take().is_some() {
             self.dropped = self.dropped.saturating_add(1);
-            self.folder.discard_draft(self.draft_path.as_str());
+            self.folder.discard_draft(&self.names.draft);
         }
     }
 
     fn begin_draft(&mut self) -> io::Result<()>
-        ensures created { OnOk result (self.new.names.calls ≡ seen.Created ∷ self.old.names.calls) }
+        ensures created { OnOk result (self.new.names.calls ≡ seen.Created self.old.names.draft ∷ self.old.names.calls) }
         ensures refused { OnErr result (refusals self.old.names.calls < refusals self.new.names.calls) }
+        ensures sync { self.new.names.has_sync ≡ self.old.names.has_sync }
+        ensures number { self.new.names.draft ≡ self.old.names.draft }
         ensures same_names { standing self.new.names.calls ≡ standing self.old.names.calls }
         ensures same_pending { self.new.pending ≡ self.old.pending }
         ensures draft { OnOk result (self.new.contents.draft ≡ Some []) }
         ensures same_files { self.new.contents.files ≡ self.old.contents.files }
         ensures same_count { self.new.contents.failures ≡ self.old.contents.failures }
     {
+        let has_sync = self.names.has_sync;
         self.drop_draft();
-        let path = self.draft_path.as_str();
+        let path = &self.names.draft;
         let file = self.folder.create_draft(path, &mut self.names.calls)?;
-        self.writeback = Writeback::new(file.descriptor());
+        let descriptor = if has_sync { file.descriptor() } else { None };
+        self.writeback = Writeback::new(descriptor);
         self.draft = Some(Traced::new(file));
         self.size = DraftSize::EMPTY;
         Ok(())
     }
 
+    /// Syncs the draft to the disk, unless that is turned off.
     fn sync_draft(&mut self) -> io::Result<()>
+        requires draft { is_some self.old.contents.draft ≡ true }
         ensures same { self.new.contents ≡ self.old.contents }
         ensures same_pending { self.new.pending ≡ self.old.pending }
-        ensures taken { OnOk result (self.new.names ≡ self.old.names) }
-        ensures refused { OnErr result (self.new.names ≡ record self.old.names { calls = seen.Refused ∷ self.old.names.calls }) }
+        ensures same_names { standing self.new.names.calls ≡ standing self.old.names.calls }
+        ensures written { OnOk result (IsWritten self.new.names.has_sync self.new.names.calls) }
+        ensures sync { self.new.names.has_sync ≡ self.old.names.has_sync }
+        ensures number { self.new.names.draft ≡ self.old.names.draft }
+        ensures taken { OnOk result (refusals self.new.names.calls ≡ refusals self.old.names.calls) }
+        ensures refused { OnErr result (refusals self.old.names.calls < refusals self.new.names.calls) }
     {
         match &self.draft {
-            Some(draft) if self.folder.has_sync() => self.names.calls.sync_draft(draft),
+            Some(draft) if self.names.has_sync => self.names.calls.sync_draft(draft),
             _ => Ok(()),
         }
     }
@@ -277,23 +278,32 @@ where
     fn name_draft(&mut self) -> io::Result<()>
         requires draft { is_some self.old.contents.draft ≡ true }
         requires none_waits { self.old.pending ≡ pending.Settled }
+        requires written { IsWritten self.old.names.has_sync self.old.names.calls }
         ensures same_pending { self.new.pending ≡ self.old.pending }
         ensures next { OnOk result (IsOneMore (standing self.old.names.calls) (standing self.new.names.calls)) }
         ensures settled { OnOk result (refusals self.new.names.calls ≡ refusals self.old.names.calls) }
         ensures left { OnErr result (LeavesNames (standing self.old.names.calls) (standing self.new.names.calls)) }
         ensures refused { OnErr result (WasRefused self.old.names self.new.names) }
+        ensures sync { self.new.names.has_sync ≡ self.old.names.has_sync }
+        ensures number { self.new.names.draft ≡ self.old.names.draft }
+        ensures synced { self.old.names.has_sync ≡ true → OnOk result (IsNameSynced self.new.names.calls) }
         ensures named { OnOk result (self.new.contents.files ≡ self.old.contents.files ++ or_nothing self.old.contents.draft ∷ []) }
         ensures failed { OnErr result (self.new.contents.files ≡ self.old.contents.files) }
         ensures same_count { self.new.contents.failures ≡ self.old.contents.failures }
     {
-        let path = self.draft_path.as_str();
-        let place = self.folder.name_draft(path, &mut self.names)?;
+        let place = self.folder.name_draft(false, &mut self.names)?;
         self.note(place);
         self.committed = self.committed.saturating_add(1);
         if let Some(draft) = &self.draft {
             self.kept.push(draft.trace());
         }
         Ok(())
+    }
+
+    /// Removes the draft name of a file that was just committed, if it still has it after a hard link,
+    /// so that nothing is written to a committed file under that name.
+    fn remove_old_name(&self) {
+        let _ = self.names.draft.remove(self.folder.runtime());
     }
 
     fn commit_draft(&mut self) -> io::Result<()>
@@ -304,6 +314,9 @@ where
         ensures settled { OnOk result (refusals self.new.names.calls ≡ refusals self.old.names.calls) }
         ensures left { OnErr result (LeavesNames (standing self.old.names.calls) (standing self.new.names.calls)) }
         ensures refused { OnErr result (WasRefused self.old.names self.new.names) }
+        ensures sync { self.new.names.has_sync ≡ self.old.names.has_sync }
+        ensures number { self.new.names.draft ≡ self.old.names.draft }
+        ensures synced { self.old.names.has_sync ≡ true → OnOk result (IsNameSynced self.new.names.calls) }
         ensures committed { OnOk result (self.new.contents.files ≡ self.old.contents.files ++ or_nothing self.old.contents.draft ∷ []) }
         ensures failed { OnErr result (self.new.contents.files ≡ self.old.contents.files) }
         ensures draft { OnOk result (self.new.contents.draft ≡ None) }
@@ -312,7 +325,7 @@ where
         self.sync_draft()?;
         self.name_draft()?;
         self.draft = None;
-        self.folder.remove_old_name(self.draft_path.as_str());
+        self.remove_old_name();
         Ok(())
     }
 
@@ -340,9 +353,11 @@ where
     /// path of the folder leads to another folder, or the last commit waits to be settled.
     fn begin(&mut self) -> Result<(), FilingFailed>
         ensures leaves { LeavesStore without_draft true result (store_of self.old.contents) (store_of self.new.contents) }
-        ensures created { OnOk result (self.new.names.calls ≡ seen.Created ∷ self.old.names.calls) }
+        ensures created { OnOk result (self.new.names.calls ≡ seen.Created self.old.names.draft ∷ self.old.names.calls) }
         ensures refused { is_waiting self.old.pending ≡ false → OnErr result (refusals self.old.names.calls < refusals self.new.names.calls) }
         ensures waits { is_waiting self.old.pending ≡ true → is_err result ≡ true }
+        ensures sync { self.new.names.has_sync ≡ self.old.names.has_sync }
+        ensures number { self.new.names.draft ≡ self.old.names.draft }
         ensures same_names { standing self.new.names.calls ≡ standing self.old.names.calls }
         ensures same_pending { self.new.pending ≡ self.old.pending }
     {
@@ -363,6 +378,8 @@ where
         ensures leaves { LeavesStore (appended bytes.now) true result (store_of self.old.contents) (store_of self.new.contents) }
         ensures taken { OnOk result (self.new.names ≡ self.old.names) }
         ensures refused { OnErr result (refusals self.old.names.calls < refusals self.new.names.calls) }
+        ensures sync { self.new.names.has_sync ≡ self.old.names.has_sync }
+        ensures number { self.new.names.draft ≡ self.old.names.draft }
         ensures same_names { standing self.new.names.calls ≡ standing self.old.names.calls }
         ensures same_pending { self.new.pending ≡ self.old.pending }
     {
@@ -374,9 +391,7 @@ where
             self.fail(error);
             return Err(FilingFailed);
         }
-        if self.folder.has_sync() {
-            self.writeback.appended(bytes.len());
-        }
+        self.writeback.appended(bytes.len());
         self.size = self.size.with(bytes.len());
         Ok(())
     }
@@ -391,6 +406,9 @@ where
         requires { (store_of self.old.contents).has_draft ≡ true }
         ensures leaves { LeavesStore committed false result (store_of self.old.contents) (store_of self.new.contents) }
         ensures next { self.new.pending ≡ pending.Settled → OnOk result (IsOneMore (standing self.old.names.calls) (standing self.new.names.calls)) }
+        ensures sync { self.new.names.has_sync ≡ self.old.names.has_sync }
+        ensures number { self.new.names.draft ≡ self.old.names.draft }
+        ensures synced { self.old.names.has_sync ≡ true → self.new.pending ≡ pending.Settled → OnOk result (IsNameSynced self.new.names.calls) }
         ensures settled { OnOk result (refusals self.new.names.calls ≡ refusals self.old.names.calls) }
         ensures left { OnErr result (LeavesNames (standing self.old.names.calls) (standing self.new.names.calls)) }
         ensures refused { is_waiting self.old.pending ≡ false → OnErr result (WasRefused self.old.names self.new.names) }
@@ -403,7 +421,7 @@ where
             self.fail(Error::new(ErrorKind::ResourceBusy, WAITS));
             return Err(FilingFailed);
         }
-        if self.folder.has_groups() {
+        if self.has_groups() {
             self.hand_over();
             return Ok(());
         }

@@ -6,7 +6,8 @@ use std::os::unix::fs::MetadataExt;
 use std::rt::Files;
 use std::{fs, io};
 
-/// The device and inode numbers of a folder. While the folder is open, no other folder has the same.
+/// The device and inode numbers of a folder, or of a file that has two names. While it is open, no other
+/// has the same.
 #[derive(Clone, Copy, PartialEq, Eq)]
 pub(crate) struct FolderIdentity {
     device: u64,
@@ -21,7 +22,7 @@ impl FolderIdentity {
         }
     }
 
-    /// Returns the identity of the folder at a path. Fails if its metadata cannot be read.
+    /// Returns the identity of what is at a path. Fails if its metadata cannot be read.
     pub(crate) fn at<R: Files>(rt: &R, path: &str) -> io::Result<FolderIdentity> {
         Ok(FolderIdentity::of(&fs::metadata(rt, path)?))
     }

@@ -1,11 +1,12 @@
 //! The writer of a folder, from which its filings are made.
-ghost use Rattle.std.specs.Prelude.{◌≡◌, ◌≤◌, ◌+◌, IfOk, OnOk, OnErr};
+ghost use Rattle.std.specs.Prelude.{◌≡◌, ◌≤◌, ◌+◌, IfOk, OnOk, OnErr, true, false};
 ghost use Rattle.part10.specs.Store.{nothing_filed};
 ghost use Rattle.folder_filing.specs.declared.pending.Pending.TheVariants as pending;
 
 use crate::folder_filing::FolderFiling;
 use crate::location::Layout;
 use crate::locked_folder::LockedFolder;
+use crate::names_synced::NamesSynced;
 use crate::numbers::NumbersFile;
 use crate::quarantine::Quarantine;
 use crate::stored_file::StoredFile;
@@ -17,7 +18,7 @@ use std::rt::Files;
 
 /// The only writer of a folder. It makes the [`FolderFiling`]s that store files there. Each has a draft
 /// of its own, `DRAFT`, `DRAFT2`, `DRAFT3` and so on, so that several files can be received at a time.
-/// Contracts see how many filings it has made.
+/// Contracts see how many filings it has made, and whether those that it makes sync.
 ///
 /// The files of all filings are numbered in the order of their commits. The folder stays locked until
 /// this value and all of its filings are dropped. Opening the folder removes the drafts that a killed
@@ -34,6 +35,8 @@ where
     /// Where discarded drafts are moved to, if anywhere (see [`FolderWriter::with_quarantine`]).
     quarantine: Option<Rc<Quarantine<R>, R::A>>,
     filings: u32,
+    /// Whether the filings that it makes sync to the disk.
+    has_sync: bool,
 }
 
 /// What a quarantine had when it was opened.
@@ -53,7 +56,7 @@ where
 
     ghost Value = { WriterState };
 
-    ghost view = { λ w. record { filings = w.filings } };
+    ghost view = { λ w. record { filings = w.filings; has_sync = w.has_sync } };
 }
 
 impl<R: Files + Alloc + Clone + Drop> FolderWriter<R>
@@ -64,7 +67,7 @@ where
     ///
     /// Fails with `WouldBlock` if another writer has locked the folder, and as the system does.
     pub fn open(rt: R, dir: &str) -> io::Result<FolderWriter<R>>
-        ensures none { IfOk result (λ writer. writer.filings ≡ 0) }
+        ensures none { IfOk result (λ writer. writer ≡ record { filings = 0; has_sync = true }) }
     {
         FolderWriter::with_layout(rt, dir, Layout::Flat)
     }
@@ -76,13 +79,13 @@ where
     pub fn open_levels(rt: R, dir: &str, per: u32) -> io::Result<FolderWriter<R>>
         requires some { 1 ≤ per }
         requires most { per ≤ 9999 }
-        ensures none { IfOk result (λ writer. writer.filings ≡ 0) }
+        ensures none { IfOk result (λ writer. writer ≡ record { filings = 0; has_sync = true }) }
     {
         FolderWriter::with_layout(rt, dir, Layout::Levels { per })
     }
 
     fn with_layout(rt: R, dir: &str, layout: Layout) -> io::Result<FolderWriter<R>>
-        ensures none { IfOk result (λ writer. writer.filings ≡ 0) }
+        ensures none { IfOk result (λ writer. writer ≡ record { filings = 0; has_sync = true }) }
     {
         let alloc = rt.alloc();
         let folder = Rc::new(alloc, LockedFolder::open(rt, dir, layout)?)?;
@@ -91,16 +94,20 @@ where
             numbers: None,
             quarantine: None,
             filings: 0,
+            has_sync: true,
         })
     }
 
-    /// Turns off syncing to the disk, for all filings of the folder: commits are faster, and a loss of
-    /// power may lose committed files.
+    /// Turns off syncing to the disk, for the filings that are made from now on: commits are faster, and a
+    /// loss of power may lose committed files.
     pub fn without_sync(self) -> FolderWriter<R>
-        ensures same { result ≡ self }
+        ensures same { result ≡ record self { has_sync = false } }
     {
-        self.folder.stop_sync();
-        self
+        self.folder.set_groups(false);
+        FolderWriter {
+            has_sync: false,
+            ..self
+        }
     }
 
     /// Settles commits in groups, for all filings of the folder: each commit waits until it is settled (see
@@ -109,13 +116,13 @@ where
     pub fn in_groups(self) -> FolderWriter<R>
         ensures same { result ≡ self }
     {
-        self.folder.set_groups();
+        self.folder.set_groups(self.has_sync);
         self
     }
 
-    /// Syncs the names that files were given since the last call to the disk. Fails as the system does:
-    /// then no file that was named since the last call is known to keep its name after a loss of power.
-    pub fn sync_names(&self) -> io::Result<()> {
+    /// Syncs the names that files were given since the last call to the disk. Returns which files have their
+    /// names on the disk, and as the failure why others have not: a folder could not be synced.
+    pub fn sync_names(&self) -> NamesSynced<R::A> {
         self.folder.sync_names()
     }
 
@@ -142,7 +149,7 @@ where
 
     /// Moves discarded drafts to the folder at this path, until it has `most` data sets, in place of
     /// removing them: see [`DraftNotes::take_aside`](crate::DraftNotes::take_aside). Says what is there,
-    /// too.
+    /// too. The folder is created if it is missing, with the mode 0770 less the umask.
     ///
     /// Fails if it is the folder of the files, or on another file system; with `WouldBlock` if another
     /// program has locked it; and as the system does.
@@ -173,9 +180,10 @@ where
     ///
     /// Fails if memory runs out, and with `StorageFull` after 4,294,967,295 filings.
     pub fn filing(&mut self) -> io::Result<FolderFiling<R>>
-        ensures counted { OnOk result (self.new.filings ≡ self.old.filings + 1) }
-        ensures failed { OnErr result (self.new.filings ≡ self.old.filings) }
-        ensures number { IfOk result (λ filing. filing.number ≡ self.new.filings) }
+        ensures counted { OnOk result (self.new ≡ record self.old { filings = self.old.filings + 1 }) }
+        ensures failed { OnErr result (self.new ≡ self.old) }
+        ensures sync { IfOk result (λ filing. filing.names.has_sync ≡ self.old.has_sync) }
+        ensures number { IfOk result (λ filing. filing.names.draft ≡ self.new.filings) }
         ensures empty { IfOk result (λ filing. filing.contents ≡ nothing_filed) }
         ensures settled { IfOk result (λ filing. filing.pending ≡ pending.Settled) }
     {
@@ -190,7 +198,8 @@ where
             Some(quarantine) => Some(quarantine.clone()?),
             None => None,
         };
-        let filing = FolderFiling::over(self.folder.clone()?, number, numbers, quarantine)?;
+        let names = self.folder.names(number, numbers, self.has_sync)?;
+        let filing = FolderFiling::over(self.folder.clone()?, names, quarantine)?;
         self.filings = number;
         Ok(filing)
     }

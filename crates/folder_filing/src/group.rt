@@ -1,26 +1,82 @@
 //! What is left to do for the files that were named since the last sync of names.
 
+use crate::named_file::NamedFile;
+use crate::open_folder::OpenFolder;
 use std::alloc::Allocator;
 use std::cell::Cell;
 use std::io;
 
+/// A folder with names that are not synced, and the files that have them.
+#[derive(Drop)]
+pub(crate) struct NamedFolder<F: Drop, A: Allocator> {
+    /// The subfolder, open; `None` for the folder that is locked.
+    pub(crate) open: Option<OpenFolder<F>>,
+    pub(crate) files: Vec<NamedFile, A>,
+}
+
+/// The folders of a group.
+pub(crate) type NamedFolders<F, A> = Vec<NamedFolder<F, A>, A>;
+
 /// A group of commits: the files that were named since the names were last synced.
 #[derive(Drop)]
-pub(crate) struct Group<A: Allocator> {
+pub(crate) struct Group<F: Drop, A: Allocator> {
     /// Whether commits are settled in groups.
     is_used: Cell<bool>,
     /// Whether the path of the folder was checked for this group.
     is_checked: Cell<bool>,
-    /// The numbers of the subfolders that have names that are not synced; 0 is the folder itself.
-    folders: Cell<Vec<u32, A>>,
+    /// Whether a draft was renamed, out of the folder that is locked.
+    has_left: Cell<bool>,
+    folders: Cell<NamedFolders<F, A>>,
 }
 
-impl<A: Allocator> Group<A> {
+impl<F: Drop, A: Allocator> NamedFolder<F, A> {
+    /// Returns the folder of a file that was named: that which is locked, or this subfolder.
+    pub(crate) fn of(
+        alloc: A,
+        open: Option<OpenFolder<F>>,
+        file: NamedFile,
+    ) -> io::Result<NamedFolder<F, A>> {
+        let mut files = Vec::new(alloc);
+        files.push(file)?;
+        Ok(NamedFolder { open, files })
+    }
+
+    /// Returns whether the other is the same folder.
+    fn is(&self, other: &NamedFolder<F, A>) -> bool {
+        match (&self.open, &other.open) {
+            (None, None) => true,
+            (Some(folder), Some(other)) => folder.is(other),
+            _ => false,
+        }
+    }
+
+    fn add(&mut self, files: &[NamedFile]) -> io::Result<()> {
+        Ok(self.files.extend_from_slice(files)?)
+    }
+}
+
+/// Adds a folder to these, or its files to the same one.
+fn add<F: Drop, A: Allocator>(
+    folders: &mut NamedFolders<F, A>,
+    named: NamedFolder<F, A>,
+) -> io::Result<()> {
+    for index in 0..folders.len() {
+        if let Some(folder) = folders.get_mut(index) {
+            if folder.is(&named) {
+                return folder.add(named.files.as_slice());
+            }
+        }
+    }
+    Ok(folders.push(named)?)
+}
+
+impl<F: Drop, A: Allocator> Group<F, A> {
     /// Creates an empty group, which is not in use.
-    pub(crate) fn new(alloc: A) -> Group<A> {
+    pub(crate) fn new(alloc: A) -> Group<F, A> {
         Group {
             is_used: Cell::new(false),
             is_checked: Cell::new(false),
+            has_left: Cell::new(false),
             folders: Cell::new(Vec::new(alloc)),
         }
     }
@@ -30,9 +86,9 @@ impl<A: Allocator> Group<A> {
         self.is_used.get()
     }
 
-    /// Settles commits in groups from now on.
-    pub(crate) fn start(&self) {
-        self.is_used.set(true);
+    /// Sets whether commits are settled in groups from now on.
+    pub(crate) fn set_used(&self, is_used: bool) {
+        self.is_used.set(is_used);
     }
 
     /// Returns whether the path of the folder was checked for this group.
@@ -45,26 +101,26 @@ impl<A: Allocator> Group<A> {
         self.is_checked.set(true);
     }
 
-    /// Records that the subfolder with this number, or the folder itself for 0, has names that are not
-    /// synced. Fails if memory runs out.
-    pub(crate) fn add(&self, alloc: A, folder: u32) -> io::Result<()> {
-        let mut folders = self.folders.replace(Vec::new(alloc));
-        let mut is_there = false;
-        for other in &folders {
-            is_there = is_there || *other == folder;
-        }
-        let added = if is_there {
-            Ok(())
-        } else {
-            folders.push(folder)
-        };
-        self.folders.set(folders);
-        Ok(added?)
+    /// Records that a draft was renamed to a subfolder.
+    pub(crate) fn leave(&self) {
+        self.has_left.set(true);
     }
 
-    /// Ends the group. Returns the numbers of the folders whose names are to be synced.
-    pub(crate) fn end(&self, alloc: A) -> Vec<u32, A> {
+    /// Records a folder with a name that is not synced. Fails if memory runs out.
+    pub(crate) fn add(&self, alloc: A, named: NamedFolder<F, A>) -> io::Result<()> {
+        let mut folders = self.folders.replace(Vec::new(alloc));
+        let added = add(&mut folders, named);
+        self.folders.set(folders);
+        added
+    }
+
+    /// Ends the group. Returns whether a draft was renamed to a subfolder, and the folders whose names are
+    /// to be synced.
+    pub(crate) fn end(&self, alloc: A) -> (bool, NamedFolders<F, A>) {
         self.is_checked.set(false);
-        self.folders.replace(Vec::new(alloc))
+        (
+            self.has_left.replace(false),
+            self.folders.replace(Vec::new(alloc)),
+        )
     }
 }

@@ -1,6 +1,6 @@
 //! Lists a folder of received files, to continue its numbering.
 
-use crate::drafts::is_further_draft;
+use crate::drafts::{DraftPath, is_further_draft};
 use crate::location::{Layout, Location};
 use crate::names::{EntryKind, EntryName};
 use std::alloc::{AllocError, Allocator};
@@ -13,8 +13,8 @@ use std::{fs, io};
 struct Entries<A: Allocator> {
     /// The greatest number among the names of the kind looked for, if there is one.
     highest: Option<u32>,
-    /// The names of the drafts of all filings but the first: `DRAFT2` and so on.
-    drafts: Vec<String<A>, A>,
+    /// The drafts of all filings but the first: `DRAFT2` and so on.
+    drafts: Vec<DraftPath<A>, A>,
 }
 
 /// Lists a folder for the greatest number in a name of this kind and for drafts. Other names are
@@ -33,7 +33,7 @@ fn entries_of<R: Files + Alloc + Clone + Drop>(
             Ok(entry) => {
                 highest = highest.max(kind.number_of(&entry)?);
                 if is_further_draft(entry.file_name()) {
-                    drafts.push(String::from_str(rt.alloc(), entry.file_name())?)?;
+                    drafts.push(DraftPath::found(rt.alloc(), dir, entry.file_name())?)?;
                 }
             }
             // A name that is not UTF-8 is neither a number nor a draft.
@@ -75,8 +75,8 @@ pub(crate) fn file_path<A: Allocator>(
 pub(crate) struct FolderContents<A: Allocator> {
     /// The place of the last file; file number 0 if there is none.
     pub(crate) last: Location,
-    /// The names of the drafts that were left there, except that of the first filing.
-    pub(crate) drafts: Vec<String<A>, A>,
+    /// The drafts that were left there, except that of the first filing.
+    pub(crate) drafts: Vec<DraftPath<A>, A>,
 }
 
 /// Returns the place of the last file of a folder with subfolders of `per` files. `highest` is the

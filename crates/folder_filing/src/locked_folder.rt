@@ -1,27 +1,28 @@
 //! A locked folder, in which the filings of its writer create drafts and give them their names.
-ghost use Rattle.std.specs.Prelude.{◌≡◌, ◌+◌, [], ◌∷◌, OnOk, OnErr};
+ghost use Rattle.std.specs.Prelude.{◌≡◌, ◌+◌, [], ◌∷◌, IfOk, OnOk, OnErr};
 ghost use Rattle.folder_filing.specs.Naming.{Asks, IsOrderly, refusals, standing};
 ghost use Rattle.folder_filing.specs.declared.call.Call.TheVariants as seen;
 
-use crate::drafts::DraftName;
-use crate::folder_calls::{FolderCalls, create_draft, remove_left};
+use crate::drafts::DraftPath;
+use crate::folder_calls::{FolderCalls, create_draft};
 use crate::folder_identity::FolderIdentity;
 use crate::given_names::GivenNames;
 use crate::group::Group;
 use crate::listing::{contents_of, file_path, folder_path};
 use crate::location::{Layout, Location};
 use crate::numbers::{Numbers, NumbersFile};
+use crate::open_folder::{OpenFolder, lock};
 use crate::quarantine::Quarantine;
 use crate::stored_file::StoredFile;
 use std::alloc::{AllocError, Allocator};
 use std::cell::Cell;
-use std::fs::{OpenFile, TryLockError};
-use std::io::{Error, ErrorKind};
+use std::fs;
+use std::io::{self, Error, ErrorKind};
 use std::rt::Files;
-use std::{fs, io};
 
 mod groups;
 mod places;
+mod subfolders;
 
 /// A folder that stays locked until this value is dropped. All filings over it share it, so that each
 /// number is given once, in the order of the commits.
@@ -38,51 +39,40 @@ where
     rt: R,
     dir: String<R::A>,
     /// The open folder, which has the lock.
-    folder: R::File,
-    identity: FolderIdentity,
+    folder: OpenFolder<R::File>,
     layout: Layout,
     /// The place of the last file that was found or committed, by any filing.
     last: Cell<Location>,
     /// The numbers that any filing last wrote to the file of numbers; `NONE` without such a file.
     kept: Cell<Numbers>,
-    has_sync: Cell<bool>,
-    group: Group<R::A>,
+    /// The subfolder that was last synced into the folder.
+    entered: Cell<Option<FolderIdentity>>,
+    group: Group<R::File, R::A>,
     /// Whether the warning that few numbers are left was given.
     has_run_low: Cell<bool>,
+    ghost own: { folder ≡ 0 },
 }
 
-/// Opens a folder and locks it. Fails with `WouldBlock` if another writer has locked it.
-pub(crate) fn lock<R: Files>(rt: &R, dir: &str) -> io::Result<R::File>
-where
-    R::File: StoredFile,
-{
-    let folder = fs::open(rt, dir)?;
-    match folder.try_lock() {
-        Ok(()) => Ok(folder),
-        Err(TryLockError::WouldBlock) => Err(Error::new(
-            ErrorKind::WouldBlock,
-            "the folder is in use by another writer",
+/// Removes a draft that a killed writer has left. Fails with words of its own where that is a folder.
+fn remove_draft<R: Files, A: Allocator>(rt: &R, draft: &DraftPath<A>) -> io::Result<()> {
+    match draft.remove(rt) {
+        Err(error) if error.kind() == ErrorKind::IsADirectory => Err(Error::new(
+            ErrorKind::IsADirectory,
+            "a folder in it has the name of a draft, DRAFT or DRAFT with digits",
         )),
-        Err(TryLockError::Error(error)) => Err(error),
+        removed => removed,
     }
-}
-
-/// Returns the path of the draft with this number.
-fn draft_path<A: Allocator>(alloc: A, dir: &str, number: u32) -> Result<String<A>, AllocError> {
-    let name = DraftName { number };
-    format!(in alloc; "{dir}/{name}")
 }
 
 /// Removes the drafts that a killed writer has left: that of its first filing, and these.
 fn remove_drafts<R: Files + Alloc>(
     rt: &R,
     dir: &str,
-    additional: &[String<R::A>],
+    additional: &[DraftPath<R::A>],
 ) -> io::Result<()> {
-    remove_left(rt, draft_path(rt.alloc(), dir, 1)?.as_str())?;
-    for name in additional {
-        let path = format!(in rt.alloc(); "{dir}/{name}")?;
-        remove_left(rt, path.as_str())?;
+    remove_draft(rt, &DraftPath::of(rt.alloc(), dir, 1)?)?;
+    for draft in additional {
+        remove_draft(rt, draft)?;
     }
     Ok(())
 }
@@ -97,8 +87,6 @@ where
     /// another one before it was locked.
     pub(crate) fn open(rt: R, dir: &str, layout: Layout) -> io::Result<LockedFolder<R>> {
         let folder = lock(&rt, dir)?;
-        let identity = FolderIdentity::of(&folder.metadata()?);
-        identity.check_at(&rt, dir)?;
         let contents = contents_of(&rt, dir, layout)?;
         remove_drafts(&rt, dir, contents.drafts.as_slice())?;
         let dir = String::from_str(rt.alloc(), dir)?;
@@ -107,11 +95,10 @@ where
             rt,
             dir,
             folder,
-            identity,
             layout,
             last: Cell::new(contents.last),
             kept: Cell::new(Numbers::NONE),
-            has_sync: Cell::new(true),
+            entered: Cell::new(None),
             group,
             has_run_low: Cell::new(false),
         })
@@ -123,29 +110,19 @@ where
     }
 
     pub(crate) fn identity(&self) -> FolderIdentity {
-        self.identity
+        self.folder.identity()
     }
 
-    /// Creates a file in the folder, as a draft of no filing, renames it to this path and removes it. Fails
-    /// as the system does; then there is no such file.
+    /// Creates a file in the folder, as a draft of no filing, and renames it to this path. Fails as the
+    /// system does; then there is no such file.
     pub(crate) fn try_rename(&self, path: &str) -> io::Result<()> {
         let draft = self.draft_path(0)?;
         drop(create_draft(&self.rt, draft.as_str())?);
         if let Err(error) = fs::rename(&self.rt, draft.as_str(), path) {
-            let _ = remove_left(&self.rt, draft.as_str());
+            let _ = draft.remove(&self.rt);
             return Err(error);
         }
-        remove_left(&self.rt, path)
-    }
-
-    /// Returns whether commits are synced to the disk.
-    pub(crate) fn has_sync(&self) -> bool {
-        self.has_sync.get()
-    }
-
-    /// Turns off syncing of commits to the disk.
-    pub(crate) fn stop_sync(&self) {
-        self.has_sync.set(false);
+        Ok(())
     }
 
     /// Continues the numbering after the numbers that a file of numbers has.
@@ -154,17 +131,27 @@ where
         self.kept.set(kept);
     }
 
-    /// Returns the numbering state of a new filing.
-    pub(crate) fn names(&self, numbers: Option<NumbersFile<R::A>>) -> GivenNames<R::A>
-        ensures none { result.calls ≡ [] }
-        ensures orderly { IsOrderly result }
+    /// Returns the numbering state of a new filing, whose draft has this number.
+    pub(crate) fn names(
+        &self,
+        number: u32,
+        numbers: Option<NumbersFile<R::A>>,
+        has_sync: bool,
+    ) -> Result<GivenNames<R::A>, AllocError>
+        ensures draft { IfOk result (λ names. names.draft ≡ number) }
+        ensures none { IfOk result (λ names. names.calls ≡ []) }
+        ensures sync { IfOk result (λ names. names.has_sync ≡ has_sync) }
+        ensures orderly { IfOk result IsOrderly }
     {
-        GivenNames::new(self.layout, self.last.get(), numbers)
+        let draft = self.draft_path(number)?;
+        Ok(GivenNames::new(draft, self.layout, self.last.get(), numbers, has_sync))
     }
 
     /// Returns the path of the draft with this number.
-    pub(crate) fn draft_path(&self, number: u32) -> Result<String<R::A>, AllocError> {
-        draft_path(self.rt.alloc(), self.dir.as_str(), number)
+    pub(crate) fn draft_path(&self, number: u32) -> Result<DraftPath<R::A>, AllocError>
+        ensures { IfOk result (λ path. path ≡ number) }
+    {
+        DraftPath::of(self.rt.alloc(), self.dir.as_str(), number)
     }
 
     /// Fails if the path leads to another folder than the one that is locked.
@@ -172,18 +159,24 @@ where
         ensures taken { OnOk result (calls.new ≡ calls.old) }
         ensures refused { OnErr result (Asks (standing calls.old) (refusals calls.old + 1) calls.old calls.new) }
     {
-        calls.check_at(&self.rt, self.identity, self.dir.as_str())
+        calls.check_at(&self.rt, self.identity(), self.dir.as_str())
     }
 
     /// Returns whether the path is known to lead to the folder that is locked.
     fn is_there(&self) -> bool {
-        self.identity.check_at(&self.rt, self.dir.as_str()).is_ok()
+        self.identity()
+            .check_at(&self.rt, self.dir.as_str())
+            .is_ok()
     }
 
     /// Creates the file of a draft. A file that an earlier draft left under this name is removed first.
     /// Fails if the path leads to another folder, or a system call fails.
-    pub(crate) fn create_draft(&self, draft: &str, calls: &mut FolderCalls) -> io::Result<R::File>
-        ensures created { OnOk result (calls.new ≡ seen.Created ∷ calls.old) }
+    pub(crate) fn create_draft(
+        &self,
+        draft: &DraftPath<R::A>,
+        calls: &mut FolderCalls,
+    ) -> io::Result<R::File>
+        ensures created { OnOk result (calls.new ≡ seen.Created draft.now ∷ calls.old) }
         ensures refused { OnErr result (Asks (standing calls.old) (refusals calls.old + 1) calls.old calls.new) }
     {
         self.check_path(calls)?;
@@ -191,10 +184,10 @@ where
     }
 
     /// Removes the file of a draft that is not committed, if the path still leads to this folder.
-    pub(crate) fn discard_draft(&self, draft: &str) {
+    pub(crate) fn discard_draft(&self, draft: &DraftPath<R::A>) {
         if self.is_there() {
             // A file that cannot be removed is removed when the next draft is created.
-            let _ = remove_left(&self.rt, draft);
+            let _ = draft.remove(&self.rt);
         }
     }
 
@@ -203,22 +196,16 @@ where
     /// then the file has its name as before.
     pub(crate) fn set_aside(
         &self,
-        draft: &str,
+        draft: &DraftPath<R::A>,
         quarantine: &Quarantine<R>,
     ) -> io::Result<Option<u32>> {
-        self.identity.check_at(&self.rt, self.dir.as_str())?;
-        quarantine.take_in(draft)
-    }
-
-    /// Removes the draft name of a file that was just committed, if it still has it after a hard link,
-    /// so that nothing is written to a committed file under that name.
-    pub(crate) fn remove_old_name(&self, draft: &str) {
-        let _ = remove_left(&self.rt, draft);
+        self.identity().check_at(&self.rt, self.dir.as_str())?;
+        quarantine.take_in(draft.as_str())
     }
 
     fn path_of(&self, place: Location) -> Result<String<R::A>, AllocError> {
         let dir = self.dir.as_str();
-        if matches!(self.layout, Layout::Flat) {
+        if place.folder == 0 {
             return file_path(self.rt.alloc(), dir, place.file);
         }
         let folder = folder_path(self.rt.alloc(), dir, place.folder)?;

@@ -1,8 +1,11 @@
 //! Gives a committed file its name.
 ghost use Rattle.folder_filing.specs.machine.Naming.{NameLeaves};
 
+use crate::drafts::DraftPath;
 use crate::folder_calls::FolderCalls;
+use crate::folder_identity::FolderIdentity;
 use crate::location::{Layout, Location};
+use crate::named_file::NamedFile;
 use std::io::{Error, ErrorKind};
 use std::rt::Files;
 use std::{fs, io};
@@ -24,7 +27,7 @@ pub(crate) enum Named {
 pub(crate) enum Obstacle {
     /// The name is in use.
     Taken,
-    /// The subfolder in the path does not exist.
+    /// The subfolder in the path does not exist, or was moved away as the file got the name.
     Missing,
     /// The subfolder in the path is no directory.
     Blocked,
@@ -35,7 +38,7 @@ pub(crate) enum Obstacle {
 /// The outcome of an attempt to name a file.
 #[derive(Clone, Copy)]
 pub(crate) enum Attempt {
-    Named(Named),
+    Named(NamedFile),
     Met(Obstacle),
 }
 
@@ -45,7 +48,11 @@ pub(crate) struct Target<'a> {
     pub(crate) place: Location,
     pub(crate) path: &'a str,
     pub(crate) layout: Layout,
-    /// Whether a missing subfolder is an obstacle, after which it is created and the attempt repeated,
+    /// Whether the file and its name are synced to the disk.
+    pub(crate) has_sync: bool,
+    /// The subfolder in the path; `None` if there is none.
+    pub(crate) folder: Option<FolderIdentity>,
+    /// Whether a missing subfolder is an obstacle, after which it is created and another attempt made,
     /// rather than an error.
     pub(crate) may_miss: bool,
 }
@@ -78,28 +85,31 @@ pub(crate) fn check_free<R: Files>(rt: &R, path: &str) -> io::Result<()> {
     }
 }
 
-/// Gives a file the target name: by a hard link or, on a file system without them, by a rename after a
+/// Gives the file of a draft the target name: by a hard link or, on a file system without them, by a rename after a
 /// check that the name is free, which overwrites nothing while the folder has no other writer.
 ///
 /// After an error or an obstacle the file has its old name alone.
-pub(crate) fn name_file<R: Files>(
+pub(crate) fn name_file<R: Files + Alloc>(
     rt: &R,
-    file: &str,
+    draft: &DraftPath<R::A>,
     target: Target<'_>,
     calls: &mut FolderCalls,
 ) -> io::Result<Attempt>
-    ensures left { NameLeaves target.entry.place result calls.old calls.new }
+    ensures left { NameLeaves target.entry.has_sync draft.now target.entry.place result calls.old calls.new }
 {
-    match calls.link(rt, file, target)? {
-        None => return Ok(Attempt::Named(Named::Linked)),
+    match calls.link(rt, draft, target)? {
+        None => {
+            let file = NamedFile::newest(target, Named::Linked, calls);
+            return Ok(Attempt::Named(file));
+        }
         Some(Obstacle::NoLinks) => {}
         Some(obstacle) => return Ok(Attempt::Met(obstacle)),
     }
     if let Some(obstacle) = calls.look(rt, target)? {
         return Ok(Attempt::Met(obstacle));
     }
-    match calls.rename(rt, file, target)? {
-        None => Ok(Attempt::Named(Named::Renamed)),
+    match calls.rename(rt, draft, target)? {
+        None => Ok(Attempt::Named(NamedFile::newest(target, Named::Renamed, calls))),
         Some(obstacle) => Ok(Attempt::Met(obstacle)),
     }
 }

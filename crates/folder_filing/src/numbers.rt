@@ -5,7 +5,7 @@ ghost use Rattle.std.specs.Prelude.{◌≡◌, IfOk, OnOk, OnErr, true, false};
 use crate::location::{GREATEST, Layout, Location};
 use crate::names::{EntryKind, EntryName};
 use std::alloc::{AllocError, Allocator};
-use std::fs::OpenFile;
+use std::fs::{File, OpenFile};
 use std::io::{Error, ErrorKind, Read, Write};
 use std::rt::Files;
 use std::{fmt, fs, io};
@@ -136,11 +136,13 @@ fn folder_of(path: &str) -> &str {
 }
 
 /// Replaces the file by one with these numbers, and syncs it and its folder. It is written beside it,
-/// with `.new` appended to its name, and renamed.
+/// with `.new` appended to its name, and renamed. What has that name is removed first, and is not written to,
+/// since it may be a link.
 fn replace<R: Files + Alloc>(rt: &R, path: &str, numbers: Numbers) -> io::Result<()> {
     let draft = format!(in rt.alloc(); "{path}.new")?;
     let line = format!(in rt.alloc(); "{numbers}")?;
-    let mut file = fs::create(rt, draft.as_str())?;
+    let _ = fs::remove_file(rt, draft.as_str());
+    let mut file = File::create_new(rt, draft.as_str())?;
     file.write_all(line.as_bytes())?;
     file.sync_all()?;
     fs::rename(rt, draft.as_str(), path)?;

@@ -2,15 +2,17 @@
 
 use crate::folder_calls::remove_left;
 use crate::folder_identity::FolderIdentity;
-use crate::locked_folder::{LockedFolder, lock};
+use crate::locked_folder::LockedFolder;
 use crate::naming::check_free;
 use crate::occupancy::Occupancy;
+use crate::open_folder::{OpenFolder, lock};
 use crate::quarantine_names::{QuarantineKind, QuarantineName};
 use crate::stored_file::StoredFile;
 use std::alloc::{AllocError, Allocator};
 use std::cell::Cell;
-use std::fs::{File, OpenFile};
+use std::fs::{DirBuilder, File};
 use std::io::{Error, ErrorKind, Write};
+use std::os::unix::fs::{DirBuilderExt, MetadataExt};
 use std::rt::Files;
 use std::{fs, io};
 
@@ -30,9 +32,10 @@ where
     rt: R,
     dir: String<R::A>,
     /// The open folder, which has the lock.
-    _folder: R::File,
-    identity: FolderIdentity,
+    folder: OpenFolder<R::File>,
     occupancy: Cell<Occupancy>,
+    /// In which second the folder was last counted, by the clock that gives files their times; 0 before.
+    counted: Cell<i64>,
 }
 
 /// What a quarantine has.
@@ -114,6 +117,14 @@ fn create_text<R: Files>(rt: &R, path: &str, text: &str) -> io::Result<()> {
     Ok(())
 }
 
+/// Creates a folder for its owner and the group, unless something with this path exists already.
+fn create<R: Files>(rt: &R, dir: &str) -> io::Result<()> {
+    match DirBuilder::new().mode(0o770).create(rt, dir) {
+        Err(error) if error.kind() == ErrorKind::AlreadyExists => Ok(()),
+        result => result,
+    }
+}
+
 /// Fails if the path leads to the folder that files are stored in.
 fn check_other<R: Files>(rt: &R, dir: &str, folder: FolderIdentity) -> io::Result<()> {
     if FolderIdentity::at(rt, dir)? == folder {
@@ -137,38 +148,38 @@ impl<R: Files + Alloc + Clone + Drop> Quarantine<R>
 where
     R::File: StoredFile,
 {
-    /// Opens and locks an existing folder that keeps at most so many data sets of those that are stored
-    /// in `folder`, and removes the drafts that a killed program has left there. Returns how many those
-    /// were, too.
+    /// Opens and locks a folder that keeps at most so many data sets of those that are stored in `folder`,
+    /// and removes the drafts that a killed program has left there. Returns how many those were, too. A
+    /// folder that is missing is created.
     ///
-    /// Fails if it is that folder, if a file cannot be renamed from there, and with `WouldBlock` if
-    /// another program has locked it.
+    /// Fails if it is that folder, if the one that it is to be in is missing, if a file cannot be renamed
+    /// from there, and with `WouldBlock` if another program has locked it.
     pub(crate) fn open(
         rt: R,
         dir: &str,
         most: u32,
         folder: &LockedFolder<R>,
     ) -> io::Result<(Quarantine<R>, u32)> {
+        create(&rt, dir)?;
         check_other(&rt, dir, folder.identity())?;
         let own = lock(&rt, dir)?;
-        let identity = FolderIdentity::of(&own.metadata()?);
-        identity.check_at(&rt, dir)?;
         let contents = contents_of(&rt, dir)?;
         let removed = remove_pending(&rt, dir, contents.pending.as_slice())?;
         let trial = path_of(rt.alloc(), dir, 0, QuarantineKind::Pending)?;
         folder.try_rename(trial.as_str()).map_err(explained)?;
+        remove_left(&rt, trial.as_str())?;
         let dir = String::from_str(rt.alloc(), dir)?;
         let quarantine = Quarantine {
             rt,
             dir,
-            _folder: own,
-            identity,
+            folder: own,
             occupancy: Cell::new(Occupancy {
                 most,
                 kept: contents.kept,
                 pending: 0,
                 last: contents.last,
             }),
+            counted: Cell::new(0),
         };
         Ok((quarantine, removed))
     }
@@ -184,16 +195,28 @@ where
 
     /// Fails if the path leads to another folder than the one that is locked.
     fn check_path(&self) -> io::Result<()> {
-        self.identity.check_at(&self.rt, self.dir.as_str())
+        self.folder.identity().check_at(&self.rt, self.dir.as_str())
     }
 
-    /// Takes up room for one more draft, and returns its number, or `None` if there is no room. Files
-    /// that were moved away from a full quarantine are noticed.
-    fn take_number(&self) -> io::Result<Option<u32>> {
+    /// Counts what the folder keeps, unless it was not changed since that was counted: in an earlier second. The
+    /// time of the count is that of this draft, which was written last.
+    fn count_anew(&self, draft: &str) -> io::Result<()> {
+        if fs::metadata(&self.rt, self.dir.as_str())?.mtime() < self.counted.get() {
+            return Ok(());
+        }
+        let now = fs::metadata(&self.rt, draft)?.mtime();
+        let contents = contents_of(&self.rt, self.dir.as_str())?;
+        let counted = self.occupancy.get().counted(contents.kept, contents.last);
+        self.occupancy.set(counted);
+        self.counted.set(now);
+        Ok(())
+    }
+
+    /// Takes up room for this draft, and returns its number, or `None` if there is no room. Files that
+    /// were moved away from a full quarantine are noticed.
+    fn take_number(&self, draft: &str) -> io::Result<Option<u32>> {
         if self.is_full() {
-            let contents = contents_of(&self.rt, self.dir.as_str())?;
-            let counted = self.occupancy.get().counted(contents.kept, contents.last);
-            self.occupancy.set(counted);
+            self.count_anew(draft)?;
         }
         match self.occupancy.get().with_pending() {
             Some(occupancy) => {
@@ -220,7 +243,7 @@ where
     /// error the file has its name as before.
     pub(crate) fn take_in(&self, draft: &str) -> io::Result<Option<u32>> {
         self.check_path()?;
-        let Some(number) = self.take_number()? else {
+        let Some(number) = self.take_number(draft)? else {
             return Ok(None);
         };
         if let Err(error) = self.rename_draft(draft, number) {

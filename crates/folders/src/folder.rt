@@ -45,9 +45,9 @@ pub fn numbered<R: Files<File = File> + Alloc + Clone + Drop>(
 }
 
 /// Moves the drafts of refused stores to a quarantine, as [`FolderWriter::with_quarantine`] does. Returns
-/// what is there, or `None` without a quarantine.
+/// what is there, or `None` without a quarantine. It is created if it is missing.
 ///
-/// Fails if it cannot be opened, or a file cannot be moved there from the folder.
+/// Fails if it cannot be created or opened, or a file cannot be moved there from the folder.
 pub fn quarantined<R: Files<File = File> + Alloc + Clone + Drop>(
     writer: FolderWriter<R>,
     quarantine: Option<QuarantineOption<'_>>,

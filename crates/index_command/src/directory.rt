@@ -3,8 +3,10 @@ use crate::contents::{Contents, Skipped, read_rows, tell_skipped};
 use crate::doubles::{list_doubles, tell_doubles};
 use crate::indexed::{IndexCounts, Indexed};
 use crate::kept::{DIRECTORY, IndexedFiles, kept_files};
+use crate::left_out::tell_reasons;
 use crate::names::received_files;
 use crate::new_uid::new_uid;
+use crate::others::{ListedNames, other_files};
 use arguments::Index;
 use checkdir_command::tell_fault;
 use dicomdir::DirFault;
@@ -12,9 +14,9 @@ use dicomdir_writing::{Built, build_within, write_dir};
 use dictionary::{IMPLEMENTATION_CLASS_UID, Transfer};
 use element::Uid;
 use failures::{Failure, ProgramError, flushed};
-use inspection::{Outcome, implementation_of};
+use inspection::{Outcome, Printable, implementation_of};
 use std::alloc::Allocator;
-use std::fs::OpenFile;
+use std::fs::{File, OpenFile};
 use std::io::{BufWriter, ErrorKind, Read, Write};
 use std::rt::Files;
 use std::{fs, io};
@@ -24,6 +26,55 @@ const HEADER_ROOM: u64 = 4096;
 
 /// The name of a directory that is not written whole yet.
 const DRAFT: &str = "DIRDRAFT";
+
+/// Tells how many DICOM files of a folder have names that are not listed, and what helps.
+fn tell_others<E: Write>(dir: &str, count: usize, names: ListedNames, err: &mut E) {
+    if count == 0 {
+        return;
+    }
+    let dir = Printable(dir.as_bytes());
+    let text = match names {
+        ListedNames::Received =>
+            "have other names than I0000001, or S0000001/I0000001; name them so, or take those whose paths are file IDs with --any-name",
+        ListedNames::Any =>
+            "have paths that are no file IDs: up to eight names of at most eight capital letters, digits and underscores; name them so",
+    };
+    let _ = writeln!(
+        err,
+        "dcmbox: {dir}: {count} DICOM files are left out: they {text}"
+    );
+}
+
+/// Returns the files of a folder that are listed, and tells of those that are not.
+fn found_files<R: Files + Alloc + Clone + Drop, E: Write>(
+    rt: &R,
+    settings: &Index,
+    err: &mut E,
+) -> Result<IndexedFiles<R::A>, ProgramError>
+where
+    R::A: Copy,
+{
+    let names = if settings.any_name {
+        ListedNames::Any
+    } else {
+        ListedNames::Received
+    };
+    let received = match names {
+        ListedNames::Received => received_files(rt, settings.dir)?,
+        ListedNames::Any => Vec::new(rt.alloc()),
+    };
+    let others = other_files(rt, settings.dir, names)?;
+    let count = others.count;
+    tell_others(settings.dir, count, names, err);
+    Ok(IndexedFiles {
+        ids: match names {
+            ListedNames::Received => received,
+            ListedNames::Any => others.ids,
+        },
+        left_out: 0,
+        others: count,
+    })
+}
 
 /// Returns the files that the directory is of, or the fault of the present directory.
 fn files_of<R: Files + Alloc + Clone + Drop, E: Write>(
@@ -37,8 +88,7 @@ where
     if settings.keep {
         return kept_files(rt, settings.dir, err);
     }
-    let ids = received_files(rt, settings.dir)?;
-    Ok(Ok(IndexedFiles { ids, left_out: 0 }))
+    Ok(Ok(found_files(rt, settings, err)?))
 }
 
 /// Returns the beginning of a file, as far as a file header goes.
@@ -82,12 +132,14 @@ fn write_built<A: Allocator + Copy, W: Write>(
     writer.flush()
 }
 
-/// Writes the directory to a file of its own, up to the disk.
+/// Writes the directory to a file of its own, up to the disk. What has its path is removed first, and is not written
+/// to, since it may be a link.
 fn write_draft<R: Files + Alloc>(rt: &R, path: &str, built: &Built<'_, R::A>) -> io::Result<()>
 where
     R::A: Copy,
 {
-    let mut file = fs::create(rt, path)?;
+    let _ = fs::remove_file(rt, path);
+    let mut file = File::create_new(rt, path)?;
     write_built(rt.alloc(), &mut file, built)?;
     file.sync_all()
 }
@@ -138,17 +190,46 @@ where
     }
 }
 
-/// Writes a line for each file that has no row, a line for each row that is left out because an earlier one
-/// has the same instance, and the number of records.
-fn tell_built<A: Allocator, O: Write>(
+/// Writes a line for each file that has no row, and a line for each row that is left out because an earlier one
+/// has the same instance.
+fn list_left_out<A: Allocator, O: Write>(
     built: &Built<'_, A>,
     skipped: &[Skipped],
     out: &mut O,
 ) -> io::Result<()> {
     tell_skipped(skipped, out)?;
-    list_doubles(built, out)?;
+    list_doubles(built, out)
+}
+
+/// Writes a line for each file that is left out, and the number of records.
+fn tell_built<A: Allocator, O: Write>(
+    built: &Built<'_, A>,
+    skipped: &[Skipped],
+    out: &mut O,
+) -> io::Result<()> {
+    list_left_out(built, skipped, out)?;
     let records = built.records();
-    writeln!(out, "records {records}")
+    writeln!(out, "records {records}")?;
+    out.flush()
+}
+
+/// Tells what a new directory would leave out of the present one, which stays as it is.
+fn keep_old<A: Allocator, O: Write, E: Write>(
+    dir: &str,
+    built: &Built<'_, A>,
+    contents: &Contents<A>,
+    (out, err): (&mut O, &mut E),
+) -> Result<Indexed, ProgramError> {
+    list_left_out(built, contents.skipped.as_slice(), out).map_err(ProgramError::of_output)?;
+    out.flush().map_err(ProgramError::of_output)?;
+    let doubles = built.doubles().len();
+    let (dir, count) = (Printable(dir.as_bytes()), contents.count(doubles));
+    let _ = writeln!(
+        err,
+        "dcmbox: {dir}: the DICOMDIR stays as it is: {count} of its records would be lost; leave them out with --drop"
+    );
+    tell_reasons(contents, doubles, err);
+    Ok(Indexed::Kept)
 }
 
 /// Compares doubles, puts the directory into the folder, tells what it left out, and counts that.
@@ -164,10 +245,11 @@ where
 {
     tell_doubles(rt, dir, built, err)?;
     put_directory(rt, dir, built)?;
-    match tell_built(built, contents.skipped.as_slice(), out) {
-        Ok(()) => Ok(Indexed::Written(IndexCounts::of(built, contents))),
-        Err(error) => Err(ProgramError::of_output(error)),
-    }
+    tell_built(built, contents.skipped.as_slice(), out).map_err(ProgramError::of_output)?;
+    let counts = IndexCounts::of(built, contents);
+    let _ = writeln!(err, "{counts}");
+    tell_reasons(contents, built.doubles().len(), err);
+    Ok(Indexed::Written(counts))
 }
 
 /// Returns the instance of the directory, which is made where none was given.
@@ -184,6 +266,11 @@ fn refuse<O: Write>(fault: DirFault, out: &mut O) -> Result<Indexed, ProgramErro
     Ok(Indexed::Faulty)
 }
 
+/// Returns whether a new directory would not have records of the present one that are to be kept.
+fn loses<A: Allocator>(settings: &Index, built: &Built<'_, A>, contents: &Contents<A>) -> bool {
+    settings.keep && !settings.drop && contents.count(built.doubles().len()) > 0
+}
+
 /// Writes the directory of these files, of at most `most` bytes, and tells what it left out, or its fault.
 fn index_files<R: Files + Alloc, O: Write, E: Write>(
     rt: &R,
@@ -197,7 +284,13 @@ where
 {
     let uid = uid_of(rt, settings)?;
     match build_within(rt.alloc(), contents.rows.as_slice(), uid, most) {
-        Ok(built) => put_and_tell(rt, settings.dir, &built, contents, (out, err)),
+        Ok(built) => {
+            if loses(settings, &built, contents) {
+                keep_old(settings.dir, &built, contents, (out, err))
+            } else {
+                put_and_tell(rt, settings.dir, &built, contents, (out, err))
+            }
+        }
         Err(fault) => {
             tell_skipped(contents.skipped.as_slice(), out).map_err(ProgramError::of_output)?;
             refuse(fault, out)
@@ -214,10 +307,12 @@ fn additional_syntaxes(all: bool) -> &'static [Transfer] {
 /// images that its present directory keeps. Once it is there, a line tells of each file that gets no row,
 /// and why; then of each double; then how many records there are. Returns how many images it lists and how
 /// many files it leaves out. A directory that is not built, as one of more than `most` bytes, leaves an old one
-/// as it is, and its fault is told.
+/// as it is, and its fault is told. So does one, with `keep` and without `drop`, that would not have each image of the
+/// old one.
 ///
-/// On `err` a line tells of each record of the present directory that names a file and is no image's, and of each double
-/// whether it has the bytes of the file before it.
+/// On `err` a line tells of each record of the present directory that names a file and is no image's, of each file whose
+/// data set has another instance than its header, of how many DICOM files have names that are not listed, and of each double
+/// whether it has the bytes of the file before it; then how many images are listed and files left out, and why.
 ///
 /// Memory for what the files say is the runtime's.
 ///
@@ -242,7 +337,7 @@ where
     match files_of(rt, settings, err)? {
         Ok(files) => {
             let additional = additional_syntaxes(settings.all_syntaxes);
-            let contents = read_rows(rt, settings, files, additional)?;
+            let contents = read_rows(rt, settings, files, additional, err)?;
             index_files(rt, settings, &contents, most, (out, err))
         }
         Err(fault) => refuse(fault, out),
@@ -263,14 +358,13 @@ where
     Ok(indexed.outcome())
 }
 
-/// Writes the directory of a folder, and prints what it left out; how many images it lists and how many files
-/// it leaves out goes to standard error. What was written before an error is printed, too.
+/// Writes the directory of a folder, and prints what it left out; what `index_folder` tells beside it goes to standard
+/// error. With `strict` a file that is left out is a fault. What was written before an error is printed, too.
 pub fn index(rt: &HostRuntime, settings: &Index) -> Result<Outcome, ProgramError> {
     let mut out = BufWriter::new(rt.alloc(), io::writer(rt)).map_err(ProgramError::of_output)?;
     let indexed = index_folder(rt, settings, u32::MAX, &mut out, &mut rt.stderr());
-    let indexed = flushed(indexed, &mut out)?;
-    if let Indexed::Written(counts) = indexed {
-        let _ = eprintln!(rt; "{counts}");
+    match flushed(indexed, &mut out)? {
+        Indexed::Written(counts) if settings.strict && counts.left_out > 0 => Ok(Outcome::Faulty),
+        indexed => Ok(indexed.outcome()),
     }
-    Ok(indexed.outcome())
 }

@@ -11,7 +11,7 @@ use std::fmt::{Display, Formatter};
 pub struct IndexCounts {
     /// The images, each with a record of its own.
     pub images: usize,
-    /// The files without a row, the doubles, and the files whose records are not kept.
+    /// The files without a row, the doubles, the files whose records are not kept, and those of other names.
     pub left_out: usize,
 }
 
@@ -19,10 +19,9 @@ impl IndexCounts {
     /// Returns the counts of a directory, and of the files that are left out.
     pub(crate) fn of<A: Allocator>(built: &Built<'_, A>, contents: &Contents<A>) -> IndexCounts {
         let doubles = built.doubles().len();
-        let unlisted = contents.skipped.len().saturating_add(contents.left_out);
         IndexCounts {
             images: built.rows().len().saturating_sub(doubles),
-            left_out: unlisted.saturating_add(doubles),
+            left_out: contents.count(doubles),
         }
     }
 }
@@ -39,6 +38,8 @@ impl Display for IndexCounts {
 pub enum Indexed {
     /// Its directory is written.
     Written(IndexCounts),
+    /// Its directory stays as it is, since a new one would not have records of it, which are told.
+    Kept,
     /// The directory that is there, or the one that is due, has a fault, which is told.
     Faulty,
 }
@@ -48,7 +49,7 @@ impl Indexed {
     pub fn outcome(self) -> Outcome {
         match self {
             Indexed::Written(_) => Outcome::Good,
-            Indexed::Faulty => Outcome::Faulty,
+            Indexed::Kept | Indexed::Faulty => Outcome::Faulty,
         }
     }
 }

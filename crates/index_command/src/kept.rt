@@ -17,6 +17,8 @@ pub(crate) struct IndexedFiles<A: Allocator> {
     pub ids: Vec<FileId, A>,
     /// How many files the present directory names, and the new one leaves out.
     pub left_out: usize,
+    /// How many DICOM files of the folder have names that are not listed.
+    pub others: usize,
 }
 
 /// Reads the folder's directory whole.
@@ -62,7 +64,11 @@ fn kept_in<A: Allocator + Copy, E: Write>(
     let tree = check(alloc, bytes)?;
     let ids = kept_of(alloc, &tree)?;
     let left_out = tell_left_out(dir, &tree, err);
-    Ok(IndexedFiles { ids, left_out })
+    Ok(IndexedFiles {
+        ids,
+        left_out,
+        others: 0,
+    })
 }
 
 /// Returns the images that the folder's directory keeps, or the fault of the directory. Each record that names a file

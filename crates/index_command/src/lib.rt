@@ -5,9 +5,12 @@ mod contents;
 mod directory;
 mod doubles;
 mod indexed;
+mod instances;
 mod kept;
+mod left_out;
 mod names;
 mod new_uid;
+mod others;
 
 pub use directory::{index, index_dir, index_folder};
 pub use indexed::{IndexCounts, Indexed};

@@ -4,6 +4,7 @@ use checkdir_command::PathText;
 use dicomdir::FileId;
 use failures::ProgramError;
 use folder_filing::EntryKind;
+use keyed_files::has_vanished;
 use std::alloc::{AllocError, Allocator};
 use std::fs::DirEntry;
 use std::io::ErrorKind;
@@ -17,7 +18,12 @@ fn push_name<R: Files + Drop, A: Allocator + Clone>(
     alloc: A,
     entry: &DirEntry<R, A>,
 ) -> Result<(), ProgramError> {
-    let number = kind.number_of(entry).map_err(ProgramError::of_folder)?;
+    let number = match kind.number_of(entry) {
+        Ok(number) => number,
+        // It has gone since it was listed.
+        Err(error) if error.kind() == ErrorKind::NotFound => None,
+        Err(error) => return Err(ProgramError::of_folder(error)),
+    };
     if number.is_some() {
         names.push(String::from_str(alloc, entry.file_name())?)?;
     }
@@ -92,7 +98,7 @@ fn push_files<R: Files + Alloc + Clone + Drop>(
     Ok(())
 }
 
-/// Adds the file IDs of the files in a folder of files.
+/// Adds the file IDs of the files in a folder of files; of none that has vanished.
 fn push_folder<R: Files + Alloc + Clone + Drop>(
     rt: &R,
     ids: &mut Vec<FileId, R::A>,
@@ -101,7 +107,10 @@ fn push_folder<R: Files + Alloc + Clone + Drop>(
 ) -> Result<(), ProgramError> {
     let path = format!(in rt.alloc(); "{dir}/{folder}")?;
     let above = format!(in rt.alloc(); "{folder}\\")?;
-    push_files(rt, ids, path.as_str(), above.as_str())
+    match push_files(rt, ids, path.as_str(), above.as_str()) {
+        Err(error) if has_vanished(rt, path.as_str(), &error) => Ok(()),
+        pushed => pushed,
+    }
 }
 
 /// Adds the file IDs of the files in each folder of files, by its name and theirs.

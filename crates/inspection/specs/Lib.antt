@@ -1,2 +1,3 @@
+pub mod ElementVrs
 pub mod NamedTag
 pub mod MetaRules

@@ -2,7 +2,7 @@
 use crate::error::InspectionError;
 use crate::judgement::Judgement;
 use crate::notes::Notes;
-use crate::options::{CheckOptions, OutputForm, Syntaxes};
+use crate::options::{CheckOptions, OutputForm, Syntaxes, Vocabulary};
 use crate::outcome::{Inspected, Outcome};
 use crate::strict::StrictValues;
 use crate::walk::{Listing, list};
@@ -92,9 +92,20 @@ impl<O: Write> Listing<O> for Values {
         self.notes.add_value(&note, &shown, out)
     }
 
+    fn on_items_fault(&mut self, _place: u64, _tag: Tag, _out: &mut O) -> io::Result<()> {
+        Ok(())
+    }
+
     fn on_end(&mut self, judgement: &Judgement, out: &mut O) -> io::Result<()> {
         self.notes.end(judgement, out)
     }
+}
+
+/// How many notes were written, and how many values were not judged.
+#[derive(Clone, Copy)]
+struct NoteCounts {
+    notes: Notes,
+    unjudged: u64,
 }
 
 /// Checks a file by the usual rules. Returns how many notes were written, too.
@@ -103,26 +114,30 @@ fn check_usual<R: Read, O: Write>(
     syntaxes: Syntaxes,
     notes: Notes,
     out: &mut O,
-) -> (Result<Outcome, InspectionError>, Notes) {
+) -> (Result<Outcome, InspectionError>, NoteCounts) {
     let mut values = Values {
         due: None,
         value: ArrayVec::new(),
         notes,
     };
-    let outcome = list(input, syntaxes, &mut values, out);
-    (outcome, values.notes)
+    let taken = (syntaxes, Vocabulary::Dictionary);
+    let outcome = list(input, taken, &mut values, out);
+    let notes = values.notes;
+    (outcome, NoteCounts { notes, unjudged: 0 })
 }
 
-/// Checks a file by the whole table of VRs. Returns how many notes were written, too.
+/// Checks a file by the whole table of VRs. Returns how many notes were written, too, and how many values were not
+/// judged.
 fn check_all<R: Read, O: Write>(
     input: &mut R,
     syntaxes: Syntaxes,
     notes: Notes,
     out: &mut O,
-) -> (Result<Outcome, InspectionError>, Notes) {
+) -> (Result<Outcome, InspectionError>, NoteCounts) {
     let mut values = StrictValues::new(notes);
-    let outcome = list(input, syntaxes, &mut values, out);
-    (outcome, values.notes())
+    let outcome = list(input, (syntaxes, Vocabulary::Standard), &mut values, out);
+    let (notes, unjudged) = (values.notes(), values.unjudged());
+    (outcome, NoteCounts { notes, unjudged })
 }
 
 /// Ends the output of a file that can't be read, and returns the error.
@@ -136,7 +151,8 @@ fn given_up<O: Write>(error: InspectionError, notes: Notes, out: &mut O) -> Insp
 }
 
 /// Checks the file that the reader gives, as `check_over` does, with these options. With `strict`, each value of
-/// at most 65,536 bytes is held to the table of VRs, too, and a longer one to the size of its numbers. With `values`, a
+/// at most 65,536 bytes is held to the table of VRs, too, and a longer one to the size of its numbers; where a header
+/// has no VR it is that of PS3.6, and those that have none there are counted as not judged. With `values`, a
 /// line after that of a note has the keyword and the value, of more than 256 bytes how many it has, and one after that of
 /// a data set's fault the keyword.
 ///
@@ -148,7 +164,7 @@ pub fn check_with<R: Read, O: Write>(
 ) -> Result<Inspected, InspectionError> {
     let notes = Notes::new(options);
     notes.begin(out).map_err(InspectionError::Write)?;
-    let (outcome, notes) = if options.strict {
+    let (outcome, NoteCounts { notes, unjudged }) = if options.strict {
         check_all(input, options.syntaxes, notes, out)
     } else {
         check_usual(input, options.syntaxes, notes, out)
@@ -157,6 +173,7 @@ pub fn check_with<R: Read, O: Write>(
         Ok(outcome) => Ok(Inspected {
             outcome,
             notes: notes.count(),
+            unjudged,
         }),
         Err(error) => Err(given_up(error, notes, out)),
     }

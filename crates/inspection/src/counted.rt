@@ -23,6 +23,11 @@ impl<'a, R: Read> Counted<'a, R> {
         }
     }
 
+    /// Returns the reader.
+    pub(crate) fn input(&self) -> &R {
+        self.input
+    }
+
     /// Returns how many bytes were read.
     pub fn count(&self) -> u64 {
         self.count

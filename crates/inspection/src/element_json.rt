@@ -8,7 +8,7 @@ use crate::shown_value::{ShownText, ShownValue};
 use crate::texts::{Printable, TagText};
 use crate::walk::Listing;
 use dictionary::vr_of;
-use element::Header;
+use element::{Header, Tag};
 use part10::Meta;
 use std::io::Write;
 use std::{fmt, io};
@@ -70,7 +70,7 @@ impl<'a> ElementsJson<'a> {
     pub(crate) fn new(options: ShowOptions<'a>) -> ElementsJson<'a> {
         ElementsJson {
             options,
-            value: ShownValue::new(options.form),
+            value: ShownValue::new(&options),
             sets: FollowedSets::new(),
             written: Written::Nothing,
         }
@@ -151,6 +151,10 @@ impl<O: Write> Listing<O> for ElementsJson<'_> {
             write!(out, ",\"value\":\"{value}\"")?;
         }
         self.value.forget();
+        Ok(())
+    }
+
+    fn on_items_fault(&mut self, _place: u64, _tag: Tag, _out: &mut O) -> io::Result<()> {
         Ok(())
     }
 

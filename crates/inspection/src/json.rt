@@ -1,5 +1,6 @@
 //! What is found in a file, as members of a JSON object.
-use crate::judgement::{Judgement, place_of};
+use crate::identity::{MISSING_UID, OTHER_INSTANCE, SOP_INSTANCE_UID};
+use crate::judgement::{Judgement, WRONG_ITEMS, place_of};
 use crate::keyword::known_keyword;
 use crate::texts::{TagText, VrText};
 use element::{Tag, Vr};
@@ -94,6 +95,15 @@ impl fmt::Display for JudgementJson<'_> {
             }
             Judgement::TableNote(place, tag, vr, fault) => {
                 write_note(f, place, (tag, vr), (fault.number(), fault.name()))
+            }
+            Judgement::ItemsNote(place, tag) => {
+                write_note(f, place, (tag, Some(Vr::SQ)), WRONG_ITEMS)
+            }
+            Judgement::InstanceNote(place) => {
+                write_note(f, place, (SOP_INSTANCE_UID, Some(Vr::UI)), OTHER_INSTANCE)
+            }
+            Judgement::MissingNote(place, tag) => {
+                write_note(f, place, (tag, Some(Vr::UI)), MISSING_UID)
             }
             Judgement::BadHeader(fault) => write_bad_header(f, fault),
             Judgement::BadData(start, fault) => write_bad_data(f, start, fault),

@@ -18,7 +18,7 @@ pub(crate) fn keyword(tag: Tag) -> Option<&'static str> {
 }
 
 /// Returns the same, and the standard's keyword (PS3.6) where the dictionary has none.
-pub(crate) fn known_keyword(tag: Tag) -> Option<&'static str> {
+pub fn known_keyword(tag: Tag) -> Option<&'static str> {
     match keyword(tag) {
         Some(keyword) => Some(keyword),
         None => element_keyword(tag.0, tag.1),

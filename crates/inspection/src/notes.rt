@@ -4,8 +4,9 @@ use crate::judgement::Judgement;
 use crate::keyword::known_keyword;
 use crate::options::{CheckOptions, OutputForm};
 use crate::shown_value::ShownText;
+use crate::texts::Printable;
 use crate::value_text::ValueText;
-use element::{Tag, Vr};
+use element::{Tag, Uid, Vr};
 use std::io;
 use std::io::Write;
 use values::Repertoire;
@@ -136,6 +137,28 @@ impl Notes {
             OutputForm::Json => {
                 self.open(note, out)?;
                 self.close(value, out)?;
+            }
+        }
+        self.count = self.count.saturating_add(1);
+        Ok(())
+    }
+
+    /// Writes the note that the SOP Instance UID of the data set, whose value this is, is not that of the file's header.
+    pub(crate) fn add_instance<O: Write>(
+        &mut self,
+        place: u64,
+        value: &[u8],
+        header: &Uid,
+        out: &mut O,
+    ) -> io::Result<()> {
+        let note = Judgement::InstanceNote(place);
+        let value = self.shown(Vr::UI, value, Repertoire::Ascii);
+        let header = Printable(header.as_bytes());
+        match self.form {
+            OutputForm::Lines => writeln!(out, "{note} {value} header {header}")?,
+            OutputForm::Json => {
+                self.open(&note, out)?;
+                write!(out, ",\"value\":\"{value}\",\"header\":\"{header}\"}}")?;
             }
         }
         self.count = self.count.saturating_add(1);

@@ -124,7 +124,8 @@ impl NumberTable {
         self.met = self.met.saturating_add(self.size.bytes());
     }
 
-    /// Follows a fragment, so many bytes after the first one: the next offset is its own, or that of a later one.
+    /// Compares the next offset of the table with a fragment that begins so many bytes after the first one: it is this
+    /// fragment's, or that of a later one.
     pub(crate) fn meet_offset(&mut self, at: u64) -> Met {
         match self.next() {
             None => Met::Additional,

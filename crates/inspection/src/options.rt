@@ -1,4 +1,5 @@
 //! How the findings of an inspection are written, and which.
+use crate::limits::{LONGEST, LONGEST_SHOWN};
 use element::Tag;
 
 /// How findings are written.
@@ -19,6 +20,15 @@ pub enum Syntaxes {
     All,
 }
 
+/// Which VRs and sequences are known of elements whose headers have no VR.
+#[derive(Clone, Copy, Debug, PartialEq, Eq)]
+pub(crate) enum Vocabulary {
+    /// Those of the dictionary, by which a data set is walked.
+    Dictionary,
+    /// Those of PS3.6, too.
+    Standard,
+}
+
 /// What a check holds a file to.
 #[derive(Clone, Copy, Debug)]
 pub struct CheckOptions {
@@ -35,6 +45,10 @@ pub struct CheckOptions {
 pub struct ShowOptions<'a> {
     /// Whether values are shown.
     pub values: bool,
+    /// Whether they are shown whole, of up to 65,536 bytes.
+    pub full: bool,
+    /// Whether the file meta information is listed, too.
+    pub meta: bool,
     /// The elements that are shown; all of them where none is named.
     pub tags: &'a [Tag],
     pub form: OutputForm,
@@ -44,7 +58,30 @@ pub struct ShowOptions<'a> {
 impl ShowOptions<'_> {
     /// Returns whether nothing but the elements is asked for.
     pub(crate) fn is_plain(&self) -> bool {
-        !self.values && self.tags.is_empty()
+        !self.values && !self.meta && self.tags.is_empty()
+    }
+
+    /// Returns whether elements of the file meta information are listed.
+    pub(crate) fn has_meta(&self) -> bool {
+        self.meta || self.tags.iter().any(|tag: &Tag| tag.0 == 2)
+    }
+
+    /// Returns how many bytes the longest value has that is shown.
+    pub(crate) fn longest(&self) -> usize {
+        if self.full || self.form == OutputForm::Json {
+            LONGEST
+        } else {
+            LONGEST_SHOWN
+        }
+    }
+
+    /// Returns which VRs are known: those of the dictionary alone where nothing is chosen.
+    pub(crate) fn vocabulary(&self) -> Vocabulary {
+        if self.is_plain() && self.form == OutputForm::Lines {
+            Vocabulary::Dictionary
+        } else {
+            Vocabulary::Standard
+        }
     }
 
     /// Returns whether elements of this tag are shown.

@@ -15,4 +15,6 @@ pub struct Inspected {
     pub outcome: Outcome,
     /// How many values break the rules of their VR.
     pub notes: u64,
+    /// How many values a strict check could not hold to a rule: their VR is not known, or UN.
+    pub unjudged: u64,
 }

@@ -7,9 +7,9 @@ use crate::options::{OutputForm, ShowOptions, Syntaxes};
 use crate::outcome::{Inspected, Outcome};
 use crate::shown_value::ShownValue;
 use crate::texts::{Indent, Printable, TagText, VrText};
-use crate::walk::{Listing, list};
+use crate::walk::{Listing, list, list_with_meta};
 use dictionary::vr_of;
-use element::Header;
+use element::{Header, Tag};
 use part10::Meta;
 use std::io::{Read, Write};
 use std::{fmt, io};
@@ -104,6 +104,10 @@ impl<O: Write> Listing<O> for Elements<'_> {
         Ok(())
     }
 
+    fn on_items_fault(&mut self, _place: u64, _tag: Tag, _out: &mut O) -> io::Result<()> {
+        Ok(())
+    }
+
     fn on_end(&mut self, judgement: &Judgement, out: &mut O) -> io::Result<()> {
         match judgement {
             Judgement::Good(_) if !self.options.tags.is_empty() => Ok(()),
@@ -113,19 +117,30 @@ impl<O: Write> Listing<O> for Elements<'_> {
     }
 }
 
+/// Lists a file, with its file meta information where that is asked for.
+fn list_elements<R: Read, L: Listing<O>, O: Write>(
+    input: &mut R,
+    options: ShowOptions<'_>,
+    listing: &mut L,
+    out: &mut O,
+) -> Result<Outcome, InspectionError> {
+    let taken = (options.syntaxes, options.vocabulary());
+    if options.has_meta() {
+        list_with_meta(input, taken, listing, out)
+    } else {
+        list(input, taken, listing, out)
+    }
+}
+
 /// Lists a file as lines.
 fn show_lines<R: Read, O: Write>(
     input: &mut R,
     options: ShowOptions<'_>,
     out: &mut O,
 ) -> Result<Outcome, InspectionError> {
-    let value = ShownValue::new(options.form);
-    list(
-        input,
-        options.syntaxes,
-        &mut Elements { options, value },
-        out,
-    )
+    let value = ShownValue::new(&options);
+    let mut elements = Elements { options, value };
+    list_elements(input, options, &mut elements, out)
 }
 
 /// Lists a file as members of a JSON object.
@@ -135,7 +150,7 @@ fn show_json<R: Read, O: Write>(
     out: &mut O,
 ) -> Result<Outcome, InspectionError> {
     let mut elements = ElementsJson::new(options);
-    match list(input, options.syntaxes, &mut elements, out) {
+    match list_elements(input, options, &mut elements, out) {
         Err(InspectionError::Read(error)) => match elements.give_up(out) {
             Ok(()) => Err(InspectionError::Read(error)),
             Err(error) => Err(InspectionError::Write(error)),
@@ -145,7 +160,8 @@ fn show_json<R: Read, O: Write>(
 }
 
 /// Lists the file that the reader gives, as `show_over` does, with these options: the elements that are named
-/// alone, after each its value, a value of more than 64 bytes as its length.
+/// alone, after each its value; one of more than 64 bytes, or of more than 65,536 where they are shown whole or as JSON, as
+/// its length.
 ///
 /// Fails if the file can't be read or the output can't be written.
 pub fn show_with<R: Read, O: Write>(
@@ -157,7 +173,11 @@ pub fn show_with<R: Read, O: Write>(
         OutputForm::Lines => show_lines(input, options, out)?,
         OutputForm::Json => show_json(input, options, out)?,
     };
-    Ok(Inspected { outcome, notes: 0 })
+    Ok(Inspected {
+        outcome,
+        notes: 0,
+        unjudged: 0,
+    })
 }
 
 /// Lists the file that the reader gives: its class, instance and transfer syntax, a line for each
@@ -170,6 +190,8 @@ pub fn show_over<R: Read, O: Write>(
 ) -> Result<Inspected, InspectionError> {
     let options = ShowOptions {
         values: false,
+        full: false,
+        meta: false,
         tags: &[],
         form: OutputForm::Lines,
         syntaxes: Syntaxes::Native,

@@ -1,16 +1,14 @@
 //! The value that is shown next.
 use crate::fragments::opens_fragments;
 use crate::keyword::UNDEFINED;
-use crate::options::OutputForm;
+use crate::limits::LONGEST;
+use crate::options::{OutputForm, ShowOptions};
 use crate::value_text::ValueText;
 use arrayvec::ArrayVec;
 use dictionary::vr_of;
 use element::{Header, Tag, Vr};
 use std::fmt;
 use values::Repertoire;
-
-/// The longest value that is shown.
-const LONGEST_SHOWN: usize = 64;
 
 /// Where the offset table of encapsulated Pixel Data is: its first item (PS3.5 section A.4).
 #[derive(Clone, Copy)]
@@ -43,7 +41,9 @@ pub(crate) struct ShownValue {
     levels: usize,
     /// Of a value that is to be shown.
     length: Option<u32>,
-    bytes: ArrayVec<u8, LONGEST_SHOWN>,
+    /// How many bytes the longest value has that is shown.
+    longest: usize,
+    bytes: ArrayVec<u8, LONGEST>,
     has_begun: bool,
     table: Table,
     form: OutputForm,
@@ -67,17 +67,23 @@ impl fmt::Display for ShownText<'_> {
 }
 
 impl ShownValue {
-    pub(crate) fn new(form: OutputForm) -> ShownValue {
+    pub(crate) fn new(options: &ShowOptions<'_>) -> ShownValue {
         ShownValue {
             vr: None,
             levels: 0,
             length: None,
+            longest: options.longest(),
             bytes: ArrayVec::new(),
             has_begun: false,
             table: Table::Elsewhere,
-            form,
+            form: options.form,
             repertoire: Repertoire::Ascii,
         }
+    }
+
+    /// Returns whether a value of this length is longer than what is shown.
+    fn is_long(&self, length: u32) -> bool {
+        length as usize > self.longest
     }
 
     /// Waits for no value.
@@ -119,14 +125,18 @@ impl ShownValue {
     /// Takes bytes of the value.
     pub(crate) fn take(&mut self, bytes: &[u8]) {
         self.has_begun = true;
-        let _ = self.bytes.try_extend_from_slice(bytes);
+        if let Some(length) = self.length {
+            if !self.is_long(length) {
+                let _ = self.bytes.try_extend_from_slice(bytes);
+            }
+        }
     }
 
     /// Returns whether the value can be shown: it is whole, or its length is shown.
     pub(crate) fn is_whole(&self) -> bool {
         match self.length {
             None => false,
-            Some(length) if length as usize > LONGEST_SHOWN => self.has_begun,
+            Some(length) if self.is_long(length) => self.has_begun,
             Some(length) => self.bytes.len() >= length as usize,
         }
     }
@@ -139,7 +149,7 @@ impl ShownValue {
     /// Returns what is shown.
     pub(crate) fn text(&self) -> ShownText<'_> {
         match self.length {
-            Some(length) if length as usize > LONGEST_SHOWN => ShownText::Long(length as usize),
+            Some(length) if self.is_long(length) => ShownText::Long(length as usize),
             _ => ShownText::Value(ValueText {
                 vr: self.vr,
                 value: self.bytes.as_slice(),

@@ -1,6 +1,7 @@
 //! `dcmbox check --strict`: also the values that break the table of VRs.
 use crate::followed_sets::SPECIFIC_CHARACTER_SET;
 use crate::frame_tables::FrameTables;
+use crate::identity::{Identity, MOST_DUE, SOP_INSTANCE_UID};
 use crate::judgement::Judgement;
 use crate::limits::LONGEST;
 use crate::notes::Notes;
@@ -40,7 +41,20 @@ pub(crate) struct StrictValues {
     text: ArrayVec<u8, LONGEST>,
     sets: Sets,
     tables: FrameTables,
+    identity: Identity,
     notes: Notes,
+    /// How many values were not judged.
+    unjudged: u64,
+}
+
+/// Returns whether the value of a header can't be judged: its VR is not known, or UN.
+fn is_opaque(header: &Header) -> bool {
+    let Header { tag, length, vr } = *header;
+    let is_known = match vr {
+        Some(vr) => vr.letters() != *b"UN",
+        None => tag.is_marker() || vr_of(tag).is_some(),
+    };
+    !is_known && 0 < length && length != UNDEFINED
 }
 
 impl StrictValues {
@@ -51,8 +65,15 @@ impl StrictValues {
             text: ArrayVec::new(),
             sets: Sets::new(),
             tables: FrameTables::new(),
+            identity: Identity::new(),
             notes,
+            unjudged: 0,
         }
+    }
+
+    /// Returns how many values were not judged.
+    pub(crate) fn unjudged(&self) -> u64 {
+        self.unjudged
     }
 
     pub(crate) fn notes(&self) -> Notes {
@@ -73,6 +94,26 @@ impl StrictValues {
         }
     }
 
+    /// Writes a note for each UID that had to come before an element with this number.
+    fn tell_missing<O: Write>(&mut self, place: u64, number: u32, out: &mut O) -> io::Result<()> {
+        for _ in 0..MOST_DUE {
+            match self.identity.take_missing(number) {
+                Some(tag) => self.notes.add(&Judgement::MissingNote(place, tag), out)?,
+                None => break,
+            }
+        }
+        Ok(())
+    }
+
+    /// Compares the SOP Instance UID of the data set, whose header is at this place, with that of the file's header.
+    fn compare<O: Write>(&mut self, place: u64, out: &mut O) -> io::Result<()> {
+        let value = self.value.as_slice();
+        match self.identity.other_than(value) {
+            Some(header) => self.notes.add_instance(place, value, header, out),
+            None => Ok(()),
+        }
+    }
+
     /// Checks a value that is whole.
     fn check<O: Write>(&mut self, due: DueText, out: &mut O) -> io::Result<()> {
         if due.tag == SPECIFIC_CHARACTER_SET {
@@ -80,6 +121,9 @@ impl StrictValues {
         }
         if due.tag == NUMBER_OF_FRAMES && due.level == 0 {
             self.tables.set_frames(self.value.as_slice());
+        }
+        if due.tag == SOP_INSTANCE_UID && due.level == 0 {
+            self.compare(due.place, out)?;
         }
         let Some(note) = self.note_of(due) else {
             return Ok(());
@@ -103,7 +147,8 @@ impl StrictValues {
 }
 
 impl<O: Write> Listing<O> for StrictValues {
-    fn on_meta(&mut self, _meta: &Meta, _out: &mut O) -> io::Result<()> {
+    fn on_meta(&mut self, meta: &Meta, _out: &mut O) -> io::Result<()> {
+        self.identity.begin(meta);
         Ok(())
     }
 
@@ -118,8 +163,15 @@ impl<O: Write> Listing<O> for StrictValues {
         self.value.clear();
         self.due = None;
         self.sets.hand_down(levels);
+        if levels == 0 {
+            self.tell_missing(place, tag.number(), out)?;
+            self.identity.meet(header);
+        }
         if let Some(note) = self.tables.on_header(place, levels, header) {
             self.notes.add(&note, out)?;
+        }
+        if is_opaque(header) {
+            self.unjudged = self.unjudged.saturating_add(1);
         }
         let Some(vr) = vr.or(vr_of(tag)) else {
             return Ok(());
@@ -151,7 +203,14 @@ impl<O: Write> Listing<O> for StrictValues {
         self.check(due, out)
     }
 
+    fn on_items_fault(&mut self, place: u64, tag: Tag, out: &mut O) -> io::Result<()> {
+        self.notes.add(&Judgement::ItemsNote(place, tag), out)
+    }
+
     fn on_end(&mut self, judgement: &Judgement, out: &mut O) -> io::Result<()> {
+        if let Judgement::Good(length) = judgement {
+            self.tell_missing(*length, u32::MAX, out)?;
+        }
         self.notes.end(judgement, out)
     }
 }

@@ -1,12 +1,16 @@
 //! A file, walked from its first byte to its last in fixed memory.
 use crate::counted::Counted;
+use crate::entering::{BytesOf, Entering};
 use crate::error::InspectionError;
+use crate::front::FileFront;
+use crate::items::ItemStep;
 use crate::judgement::Judgement;
 use crate::limits::{DEPTH, MOST_DATA, PIECE, VALUES};
-use crate::options::Syntaxes;
+use crate::options::{Syntaxes, Vocabulary};
+use crate::origin::{PREFIX, header_at};
 use crate::outcome::Outcome;
 use dictionary::Transfer;
-use element::Header;
+use element::{Header, Tag};
 use part10::{Meta, MetaFault};
 use sequence::{Fault, Step, Walker, Wanted};
 use std::io;
@@ -30,6 +34,10 @@ pub trait Listing<O: Write> {
     /// At bytes of the value of the last header.
     fn on_bytes(&mut self, bytes: &[u8], out: &mut O) -> io::Result<()>;
 
+    /// At the first fault of the items in a sequence with this tag, whose header is at this place and which the
+    /// data set takes for a value.
+    fn on_items_fault(&mut self, place: u64, tag: Tag, out: &mut O) -> io::Result<()>;
+
     /// At the fault of a file, or at the end of one without a fault.
     fn on_end(&mut self, judgement: &Judgement, out: &mut O) -> io::Result<()>;
 }
@@ -48,16 +56,64 @@ fn tell_header<L: Listing<O>, O: Write>(
     end: u64,
     levels: usize,
     header: &Header,
+    entering: &mut Entering,
     listing: &mut L,
     out: &mut O,
 ) -> io::Result<()> {
     let place = end.saturating_sub(size_of_header(header));
-    listing.on_header(place, levels, header, out)
+    let header = entering.on_header((place, end), levels, header);
+    listing.on_header(place, levels, &header, out)
+}
+
+/// Tells of the items in bytes of a sequence.
+fn tell_items<L: Listing<O>, O: Write>(
+    bytes: &[u8],
+    entering: &mut Entering,
+    listing: &mut L,
+    out: &mut O,
+) -> io::Result<()> {
+    let mut rest = bytes;
+    // Each step takes at least one byte.
+    for _ in 0..bytes.len() {
+        if rest.is_empty() {
+            break;
+        }
+        let (count, step) = entering.step(rest);
+        rest = rest.get(count..).unwrap_or(&[]);
+        match step {
+            ItemStep::More => {}
+            ItemStep::Header(place, levels, header) => {
+                entering.on_inner_header(levels, &header);
+                listing.on_header(place, levels, &header, out)?;
+            }
+            ItemStep::Run(bytes) => {
+                entering.on_inner_bytes(bytes);
+                listing.on_bytes(bytes, out)?;
+            }
+        }
+        if let Some((place, tag)) = entering.take_fault() {
+            listing.on_items_fault(place, tag, out)?;
+        }
+    }
+    Ok(())
+}
+
+/// Tells of bytes of a value.
+fn tell_bytes<L: Listing<O>, O: Write>(
+    bytes: &[u8],
+    entering: &mut Entering,
+    listing: &mut L,
+    out: &mut O,
+) -> io::Result<()> {
+    match entering.on_bytes(bytes) {
+        BytesOf::Value => listing.on_bytes(bytes, out),
+        BytesOf::Items => tell_items(bytes, entering, listing, out),
+    }
 }
 
 /// Walks a piece of a data set that begins at `start` of its file; stops at a fault.
 fn walk_piece<L: Listing<O>, O: Write>(
-    walker: &mut Walker<VALUES, DEPTH>,
+    (walker, entering): (&mut Walker<VALUES, DEPTH>, &mut Entering),
     piece: &[u8],
     start: u64,
     listing: &mut L,
@@ -76,9 +132,9 @@ fn walk_piece<L: Listing<O>, O: Write>(
         match step {
             Step::More => {}
             Step::Element(header) | Step::Opened(header) | Step::Closed(header) => {
-                tell_header(end, levels, &header, listing, out)?;
+                tell_header(end, levels, &header, entering, listing, out)?;
             }
-            Step::Run(bytes) => listing.on_bytes(bytes, out)?,
+            Step::Run(bytes) => tell_bytes(bytes, entering, listing, out)?,
             Step::Refused(fault) => return Ok(Some(fault)),
         }
     }
@@ -88,19 +144,21 @@ fn walk_piece<L: Listing<O>, O: Write>(
 /// Walks the data set that the reader goes on with; returns its first fault.
 fn walk_data_set<R: Read, L: Listing<O>, O: Write>(
     input: &mut Counted<'_, R>,
-    transfer: Transfer,
+    (transfer, vocabulary): (Transfer, Vocabulary),
     listing: &mut L,
     out: &mut O,
 ) -> Result<Option<Fault>, InspectionError> {
     let start = input.count();
     let mut walker = Walker::<VALUES, DEPTH>::in_transfer(transfer, Wanted::none(), MOST_DATA);
+    let mut entering = Entering::new(vocabulary);
     let mut room = [0; PIECE];
     for _ in 0..u64::MAX {
         let len = input.read_some(&mut room)?;
         if len == 0 {
             break;
         }
-        match walk_piece(&mut walker, &room[..len], start, listing, out) {
+        let walk = (&mut walker, &mut entering);
+        match walk_piece(walk, &room[..len], start, listing, out) {
             Ok(None) => {}
             Ok(found) => return Ok(found),
             Err(error) => return Err(InspectionError::Write(error)),
@@ -132,28 +190,73 @@ fn tell_end<L: Listing<O>, O: Write>(
 /// Lists the rest of a file after its header, up to its first fault.
 fn list_data_set<R: Read, L: Listing<O>, O: Write>(
     input: &mut Counted<'_, R>,
-    meta: &Meta,
+    (meta, vocabulary): (&Meta, Vocabulary),
     listing: &mut L,
     out: &mut O,
 ) -> Result<Outcome, InspectionError> {
-    listing.on_meta(meta, out).map_err(InspectionError::Write)?;
     let start = input.count();
-    let found = walk_data_set(input, meta.syntax, listing, out)?;
+    let found = walk_data_set(input, (meta.syntax, vocabulary), listing, out)?;
     tell_end(ending(found, start, input.count()), listing, out)
 }
 
-/// Lists a file in one of these transfer syntaxes that the reader gives, up to its first fault.
+/// Lists the elements of the file meta information in these bytes, which are the beginning of a file.
+fn list_meta<L: Listing<O>, O: Write>(file: &[u8], listing: &mut L, out: &mut O) -> io::Result<()> {
+    let mut place = PREFIX;
+    for _ in 0..file.len() {
+        let Some((header, start)) = header_at(file, place) else {
+            break;
+        };
+        let end = start.saturating_add(header.length as usize);
+        let Some(value) = file.get(start..end) else {
+            break;
+        };
+        listing.on_header(place as u64, 0, &header, out)?;
+        listing.on_bytes(value, out)?;
+        place = end;
+    }
+    Ok(())
+}
+
+/// Lists a file as `list` does, and before its data set the elements of its file meta information that end within 4096
+/// bytes of the file.
+///
+/// Fails if the file can't be read or the output can't be written.
+pub(crate) fn list_with_meta<R: Read, L: Listing<O>, O: Write>(
+    input: &mut R,
+    (syntaxes, vocabulary): (Syntaxes, Vocabulary),
+    listing: &mut L,
+    out: &mut O,
+) -> Result<Outcome, InspectionError> {
+    let mut front = FileFront::new(input);
+    let mut input = Counted::new(&mut front);
+    match syntaxes.read_meta(&mut input) {
+        Ok(meta) => {
+            listing.on_meta(&meta, out).map_err(InspectionError::Write)?;
+            list_meta(input.input().kept(), listing, out).map_err(InspectionError::Write)?;
+            list_data_set(&mut input, (&meta, vocabulary), listing, out)
+        }
+        Err(MetaFault::ReadFailed) => Err(input.into_error()),
+        Err(fault) => tell_end((Judgement::BadHeader(fault), Outcome::Faulty), listing, out),
+    }
+}
+
+/// Lists a file in one of these transfer syntaxes that the reader gives, up to its first fault, which is that of its
+/// walker whatever the vocabulary. With the standard's a header that has no VR gets it, and the items in a sequence of
+/// defined length are listed that the walker takes for a value.
 ///
 /// Fails if the file can't be read or the output can't be written.
 pub fn list<R: Read, L: Listing<O>, O: Write>(
     input: &mut R,
-    syntaxes: Syntaxes,
+    (syntaxes, vocabulary): (Syntaxes, Vocabulary),
     listing: &mut L,
     out: &mut O,
 ) -> Result<Outcome, InspectionError> {
     let mut input = Counted::new(input);
     match syntaxes.read_meta(&mut input) {
-        Ok(meta) => list_data_set(&mut input, &meta, listing, out),
+        Ok(meta) => {
+            listing.on_meta(&meta, out).map_err(InspectionError::Write)?;
+            list_data_set(&mut input, (&meta, vocabulary), listing, out)
+        }
         Err(MetaFault::ReadFailed) => Err(input.into_error()),
         Err(fault) => tell_end((Judgement::BadHeader(fault), Outcome::Faulty), listing, out),
     }

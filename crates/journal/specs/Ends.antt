@@ -65,6 +65,7 @@ reason_for kind = if nat_le 1 kind && nat_le kind 7 then 2 else 1
 -- the A-ABORT for a cause, of an association that is established
 abbrev pub abort_of : Cause → Abort
 abort_of (cause.Pdu kind) = provider (reason_for kind)
+abort_of cause.Tls = provider 1
 abort_of (cause.Length kind length) = provider 6
 abort_of (cause.LongData length limit) = provider 6
 abort_of (cause.ShortData length) = provider 6

@@ -3,3 +3,4 @@ pub mod Outcomes
 pub mod Fragments
 pub mod Ends
 pub mod Told
+pub mod Limits

@@ -1,8 +1,8 @@
 //! What a store was asked for, and how it was answered.
 use crate::refused::shown_class;
 use crate::text::Text;
-use dimse::element_numbers::{CLASS, INSTANCE};
-use dimse::{CommandSet, Detail};
+use dimse::element_numbers::{CLASS, FIELD, INSTANCE};
+use dimse::{Command, CommandSet, Detail};
 use element::unpadded;
 
 /// A unique identifier, or a keyword in its place, as it is shown.
@@ -47,6 +47,35 @@ impl Asked {
     /// Returns the class by its keyword, where it has one, else its UID.
     pub(crate) fn class(&self) -> Value {
         shown_class(self.class.as_str().as_bytes())
+    }
+}
+
+/// An element of a command set that has to be a unique identifier and is none.
+#[derive(Drop)]
+pub(crate) struct BadElement {
+    pub number: u16,
+    /// Its value; empty where it is missing.
+    pub value: Value,
+}
+
+impl BadElement {
+    /// Returns the first such element of a command set, if it is that of a C-ECHO or a C-STORE with these bytes.
+    pub(crate) fn of(command: &[u8]) -> Option<BadElement> {
+        let set = CommandSet::read(command)?;
+        let numbers: &[u16] = match set.number(FIELD) {
+            Ok(Command::C_STORE) => &[CLASS, INSTANCE],
+            Ok(Command::C_ECHO) => &[CLASS],
+            _ => return None,
+        };
+        for number in numbers {
+            if set.uid(*number).is_err() {
+                return Some(BadElement {
+                    number: *number,
+                    value: uid_of(&set, *number),
+                });
+            }
+        }
+        None
     }
 }
 

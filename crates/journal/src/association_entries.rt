@@ -1,8 +1,10 @@
 //! What the lines of the log tell of an association: that it was rejected or aborted, or ended.
-use crate::asked::Value;
+use crate::asked::{BadElement, Reply, Value};
 use crate::end::{End, Rejection};
 use crate::entry::{Entry, Event, Fields, Name};
-use crate::entry_fields::{CALLING, CLASS, END, REASON, Words, end_words, give_calling};
+use crate::entry_fields::{
+    CALLING, CLASS, END, REASON, Words, end_words, give_calling, give_status,
+};
 use crate::outcome::Counts;
 use crate::refused::RefusedClasses;
 use crate::request::Title;
@@ -51,6 +53,8 @@ impl Entry for Rejected<'_> {
 #[derive(Clone, Copy)]
 pub(crate) struct Aborted<'a> {
     pub end: Option<End>,
+    /// What is wrong with the command set for which it was.
+    pub bad: Option<&'a BadElement>,
     pub calling: &'a Title,
 }
 
@@ -68,20 +72,32 @@ impl Entry for Aborted<'_> {
 
     fn fields<F: Fields>(&self, out: &mut F) {
         out.text(Name::new("end", ""), end_words(self.end).as_str());
+        if let Some(bad) = self.bad {
+            let mut element = Text::<9>::new();
+            let _ = write!(element, "0000,{:04x}", bad.number);
+            out.text(Name::new("element", " element "), element.as_str());
+            let value = Name {
+                key: "value",
+                before: " \"",
+                after: "\"",
+            };
+            out.text(value, bad.value.as_str());
+        }
         give_calling(self.calling, out);
     }
 }
 
-/// No context of these classes was accepted: those that are named, and how many others there are.
+/// No context of these classes was accepted: a warning, if one of them may be a storage class.
 #[derive(Clone, Copy)]
 pub(crate) struct ClassesRefused<'a> {
+    pub level: Level,
     pub refused: &'a RefusedClasses,
     pub calling: &'a Title,
 }
 
 impl Entry for ClassesRefused<'_> {
     fn level(&self) -> Level {
-        Level::Warn
+        self.level
     }
 
     fn event(&self) -> Event {
@@ -92,15 +108,76 @@ impl Entry for ClassesRefused<'_> {
     }
 
     fn fields<F: Fields>(&self, out: &mut F) {
-        out.text(Name::new("classes", ": "), self.refused.named.as_str());
-        if self.refused.others > 0 {
-            let others = Name {
-                key: "others",
-                before: " and ",
-                after: " more",
-            };
-            out.number(others, self.refused.others);
+        give_refused(self.refused, out);
+        give_calling(self.calling, out);
+    }
+}
+
+/// Gives the classes that are named, and how many others there are.
+fn give_refused<F: Fields>(refused: &RefusedClasses, out: &mut F) {
+    out.list(Name::new("classes", ": "), refused.named.as_str());
+    if refused.others > 0 {
+        let others = Name {
+            key: "others",
+            before: " and ",
+            after: " more",
+        };
+        out.number(others, refused.others);
+    }
+}
+
+/// Contexts of these classes were accepted, and others refused for their transfer syntaxes; and no store came.
+#[derive(Clone, Copy)]
+pub(crate) struct SyntaxesRefused<'a> {
+    pub refused: &'a RefusedClasses,
+    pub calling: &'a Title,
+}
+
+impl Entry for SyntaxesRefused<'_> {
+    fn level(&self) -> Level {
+        Level::Warn
+    }
+
+    fn event(&self) -> Event {
+        Event {
+            key: "syntaxes refused",
+            words: "syntaxes refused",
         }
+    }
+
+    fn fields<F: Fields>(&self, out: &mut F) {
+        give_refused(self.refused, out);
+        give_calling(self.calling, out);
+    }
+}
+
+/// An echo was not answered with success.
+#[derive(Clone, Copy)]
+pub(crate) struct EchoRefused<'a> {
+    pub status: u16,
+    pub calling: &'a Title,
+}
+
+impl Entry for EchoRefused<'_> {
+    fn level(&self) -> Level {
+        Level::Warn
+    }
+
+    fn event(&self) -> Event {
+        Event {
+            key: "echo refused",
+            words: "an echo was refused:",
+        }
+    }
+
+    fn fields<F: Fields>(&self, out: &mut F) {
+        give_status(
+            Reply {
+                status: self.status,
+                detail: None,
+            },
+            out,
+        );
         give_calling(self.calling, out);
     }
 }
@@ -203,7 +280,8 @@ impl Entry for Ended<'_> {
         out.text(CALLING, state.calling.as_str());
         out.text(CALLED, state.called.as_str());
         out.text(END, end_words(state.end).as_str());
-        out.number(Name::new("accepted", " contexts "), state.accepted);
+        let accepted = state.accepted.len() as u64;
+        out.number(Name::new("accepted", " contexts "), accepted);
         out.number(Name::new("proposed", " of "), state.proposed);
         give_counts(state.counts, out);
     }

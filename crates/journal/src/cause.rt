@@ -14,6 +14,9 @@ use std::fmt;
 /// The bytes of an association request's body before its items.
 const BEFORE_ITEMS: u32 = 68;
 
+/// The type of a TLS record that is part of a handshake (RFC 8446 section 5.1), which is that of no PDU.
+const HANDSHAKE: u8 = 0x16;
+
 /// The bytes of the head of a presentation data value.
 const VALUE_HEAD: u32 = 6;
 
@@ -31,6 +34,8 @@ const INVALID_PARAMETER: u8 = 6;
 pub(crate) enum Cause {
     /// A PDU of this type, which is unknown or out of place.
     Pdu(u8),
+    /// The first bytes of a TLS connection.
+    Tls,
     /// A PDU of this type and length, whose body has to be of four bytes.
     Length(u8, u32),
     /// A P-DATA-TF PDU of this length, above this limit.
@@ -51,6 +56,12 @@ pub(crate) enum Cause {
     Command(DimseFault, Option<u16>),
 }
 
+/// Returns whether the last four of the first six bytes of a TLS connection may be read as this number: the second byte
+/// of its version, at most 4, the length of the record, and the type of the message, ClientHello (1).
+fn is_hello(length: u32) -> bool {
+    length >> 24 <= 4 && length & 0xff == 1
+}
+
 /// Returns why the head of a PDU has an association aborted that is established or not (PS3.8
 /// section 9.2).
 pub(crate) fn head_cause(head: PduHead, is_established: bool, limits: Limits) -> Cause {
@@ -64,6 +75,7 @@ pub(crate) fn head_cause(head: PduHead, is_established: bool, limits: Limits) ->
             Cause::LongData(length, limits.max_pdu)
         }
         P_DATA_TF if is_established && length < VALUE_HEAD => Cause::ShortData(length),
+        HANDSHAKE if !is_established && is_hello(length) => Cause::Tls,
         _ => Cause::Pdu(kind),
     }
 }
@@ -82,7 +94,7 @@ impl Cause {
         match self {
             Cause::Fragment(_) | Cause::Command(_, _) => Abort::of_user(),
             Cause::Pdu(A_ASSOCIATE_RQ..=A_ABORT) => Abort::of_provider(UNEXPECTED),
-            Cause::Pdu(_) => Abort::of_provider(UNRECOGNIZED),
+            Cause::Pdu(_) | Cause::Tls => Abort::of_provider(UNRECOGNIZED),
             _ => Abort::of_provider(INVALID_PARAMETER),
         }
     }
@@ -122,6 +134,7 @@ impl fmt::Display for Cause {
     fn fmt<W: fmt::Write>(&self, f: &mut fmt::Formatter<W>) -> fmt::Result {
         match *self {
             Cause::Pdu(kind) => write!(f, "PDU type {kind:02X}"),
+            Cause::Tls => write!(f, "PDU type {HANDSHAKE:02X}, is it TLS?"),
             Cause::Length(kind, length) => {
                 write!(f, "PDU type {kind:02X} of {length} bytes, not 4")
             }

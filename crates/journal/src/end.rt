@@ -81,7 +81,7 @@ impl Abort {
 impl fmt::Display for Abort {
     fn fmt<W: fmt::Write>(&self, f: &mut fmt::Formatter<W>) -> fmt::Result {
         match self.source {
-            0 => f.write_str("its user"),
+            0 => f.write_str("its application"),
             2 => {
                 let why = provider_words(self.reason);
                 write!(f, "its provider: {why}")
@@ -151,8 +151,7 @@ impl fmt::Display for End {
             End::Read(ReadEnd::Idle) => f.write_str("aborted: the peer was idle"),
             End::Read(ReadEnd::Longest) => f.write_str("aborted: it lasted too long"),
             End::Read(ReadEnd::Stopped) => f.write_str("aborted: the box stops"),
-            End::Read(ReadEnd::Failed) => f.write_str("the wire failed"),
-            End::SendFailed => f.write_str("the wire failed"),
+            End::Read(ReadEnd::Failed) | End::SendFailed => f.write_str("the connection failed"),
             End::FileLost => f.write_str("closed by dcmbox: a file was lost"),
         }
     }

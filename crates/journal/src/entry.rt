@@ -32,6 +32,9 @@ pub trait Fields {
     fn number(&mut self, name: Name, value: u64);
 
     fn text(&mut self, name: Name, value: &str);
+
+    /// Takes a list, whose parts have a comma and a space between them.
+    fn list(&mut self, name: Name, values: &str);
 }
 
 /// What a line of the log tells.

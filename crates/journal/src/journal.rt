@@ -1,40 +1,37 @@
 //! Is shown what goes over one connection, and writes the lines that tell of it.
-use crate::accepted::Results;
-use crate::asked::Reply;
-use crate::association_entries::{
-    Aborted, ClassesRefused, ContextRefused, Ended, Rejected, Served,
-};
+ghost use Rattle.std.specs.Prelude.{◌≡◌, []};
+
+use crate::asked::{BadElement, Reply};
+use crate::association_entries::{Aborted, EchoRefused, Ended, Rejected, Served};
+use crate::cause::Cause;
 use crate::end::End;
 use crate::entry::Entry;
 use crate::limits::Limits;
+use crate::line_limits::Limited;
 use crate::logger::Logger;
 use crate::outcome::Outcome;
-use crate::refusal::{Reason, loss_words, resources_words};
-use crate::refused::{RefusedClasses, shown_class};
+use crate::refusal::{Reason, resources_words};
 use crate::server_entries::NumbersLow;
 use crate::sheet::sheet_of;
-use crate::state::{Phase, State};
+use crate::state::State;
 use crate::store_entries::{Answered, FilingFailed, NotConfirmed, NotStored, Unanswered};
-use crate::text::Text;
 use connection::{Observer, ReadEnd, Taken};
 use decisions::{Decision, ValueEnd};
-use dimse::status;
+use dimse::{DimseFault, status};
+use element::history::History;
 use folder_filing::{DraftNotes, Location, StoredFile};
-use keywords::syntax_keyword;
 use log::{Level, Log};
-use negotiate::{Answer, Config};
-use pdu::{Proposal, Request, read_request};
+use negotiate::Config;
 use std::alloc::{AllocError, Global};
 use std::cell::RefCell;
-use std::fmt::Write;
 use std::io;
 use std::rc::Rc;
 use std::rt::Files;
 use std::time::Clock;
 
 /// Is shown what goes over one connection, and writes the lines that tell of it: at once what an
-/// operator has to act on, and at the end what the association came to.
-#[derive(Drop)]
+/// operator has to act on, and at the end what the association came to. It is not `Drop`: it is given up by `end`
+/// alone, so no association is without the lines of its end.
 pub struct Journal<'a, R: Log + Clock, S: Files + Alloc + Clone + Drop>
 where
     S::File: StoredFile,
@@ -42,25 +39,11 @@ where
     pub(crate) logger: Logger<'a, R>,
     /// What became of the drafts of its filing.
     pub(crate) notes: Rc<DraftNotes<S>, S::A>,
-    config: &'a Config,
+    pub(crate) config: &'a Config,
     state: RefCell<State>,
+    /// What contracts see of the pieces that it was told of.
+    heard: History<History<u8>>,
     alloc: Global,
-}
-
-/// Returns the transfer syntaxes of a proposed context by their keywords, where they have one, else
-/// their identifiers.
-fn shown_syntaxes(proposal: &Proposal) -> Text<300> {
-    let mut syntaxes = Text::new();
-    for uid in proposal.transfer_syntaxes() {
-        if syntaxes.len() > 0 {
-            syntaxes.add(b" ");
-        }
-        match syntax_keyword(uid) {
-            Some(keyword) => syntaxes.add(keyword.as_bytes()),
-            None => syntaxes.add(uid),
-        }
-    }
-    syntaxes
 }
 
 impl<'a, R: Log + Clock, S: Files + Alloc + Clone + Drop> Journal<'a, R, S>
@@ -68,21 +51,21 @@ where
     S::File: StoredFile,
 {
     /// Returns the journal of a new connection that is held to this configuration, whose files
-    /// become what these notes say.
-    ///
-    /// It takes memory for the peer's request, which it gives up once that is answered. Without
-    /// memory it knows neither titles nor contexts.
+    /// become what these notes say. It takes memory for the text beside a data set that is kept in the quarantine.
     pub fn new(
         alloc: Global,
         logger: Logger<'a, R>,
         notes: Rc<DraftNotes<S>, S::A>,
         config: &'a Config,
-    ) -> Journal<'a, R, S> {
+    ) -> Journal<'a, R, S>
+        ensures nothing_heard { result.heard ≡ [] }
+    {
         Journal {
             logger,
             notes,
             config,
-            state: RefCell::new(State::new(alloc)),
+            state: RefCell::new(State::new()),
+            heard: History::new(),
             alloc,
         }
     }
@@ -98,18 +81,53 @@ where
     }
 
     /// Writes the lines of an association that has ended.
-    pub fn end(&self, served: Served) {
+    pub fn end(self, served: Served) {
+        self.tell_association(served);
+        let Journal {
+            logger: _logger,
+            notes: _notes,
+            config: _config,
+            state: _state,
+            heard: _heard,
+            alloc: _alloc,
+        } = self;
+    }
+
+    fn tell_association(&self, served: Served) {
         let Ok(mut state) = self.state.try_borrow_mut() else {
             return;
         };
         self.tell_filing(&mut state);
         self.remove_aside();
-        self.tell_unanswered(&state);
+        self.tell_left_out(&mut state);
+        self.tell_unanswered(&mut state);
+        self.tell_unused(&mut state);
         self.count_end(&state, served.received);
-        self.logger.tell(&Ended {
-            served,
-            state: &state,
-        });
+        if self.has_lines(&mut state, Level::Info) {
+            self.logger.tell(&Ended {
+                served,
+                state: &state,
+            });
+        }
+    }
+
+    /// Returns whether lines of this level tell of the association: of each that stored something, and else of the first ones
+    /// in a second, since a peer may open as many as it likes.
+    pub(crate) fn has_lines(&self, state: &mut State, level: Level) -> bool {
+        if !self.logger.tells(level) {
+            return false;
+        }
+        if state.counts.stored > 0 {
+            return true;
+        }
+        match state.has_lines {
+            Some(has_lines) => has_lines,
+            None => {
+                let has_lines = self.logger.admits(Limited::Association);
+                state.has_lines = Some(has_lines);
+                has_lines
+            }
+        }
     }
 
     /// Counts the association, and the stores without a reply.
@@ -120,10 +138,13 @@ where
         }
     }
 
-    /// Writes of the store that was not answered, or whose reply was not all sent.
-    fn tell_unanswered(&self, state: &State) {
+    /// Writes of the store that was not answered, or whose reply was not all sent. Why a file was lost is told already.
+    fn tell_unanswered(&self, state: &mut State) {
         let count = state.counts.unanswered();
-        if count == 0 && state.unconfirmed.is_none() {
+        if count == 0 && state.unconfirmed.is_none()
+            || state.has_filing_failed && state.end == Some(End::FileLost)
+            || !self.has_lines(state, Level::Warn)
+        {
             return;
         }
         let class = state.asked.class();
@@ -137,13 +158,8 @@ where
                 calling,
             });
         } else {
-            let lost = match state.end {
-                Some(End::FileLost) => Some(loss_words(&state.folder_error)),
-                _ => None,
-            };
             self.logger.tell(&Unanswered {
                 end: state.end,
-                lost: lost.as_ref(),
                 count,
                 class: &class,
                 instance: &state.asked.instance,
@@ -152,19 +168,37 @@ where
         }
     }
 
-    /// Writes the system's error of a failed filing, once.
+    /// Writes the system's error of a failed filing, once, with the store that it failed.
     fn tell_filing(&self, state: &mut State) {
         if let Some(error) = self.notes.take_error() {
-            self.logger.tell(&FilingFailed(&error));
-            state.folder_error = Text::new();
-            let _ = write!(state.folder_error, "{error}");
+            state.has_filing_failed = true;
+            self.logger.tell_limited(
+                Limited::File,
+                &FilingFailed {
+                    error: &error,
+                    class: &state.asked.class(),
+                    instance: &state.asked.instance,
+                    calling: &state.calling,
+                },
+            );
         }
+    }
+
+    /// Takes note of what an association took, and writes the lines of it.
+    fn note(&self, taken: &Taken<'_>) {
+        let Ok(mut state) = self.state.try_borrow_mut() else {
+            return;
+        };
+        self.tell_minute(&mut state);
+        let decision = state.take(taken);
+        self.tell_filing(&mut state);
+        self.tell(&mut state, decision, taken);
     }
 
     /// Takes note of what the association decided, and writes its lines.
     fn tell(&self, state: &mut State, decision: Decision, taken: &Taken<'_>) {
         if let Decision::RequestJudged(answer) = decision {
-            self.judge(state, answer);
+            self.judge(state, answer, taken);
         }
         match decision.value_end() {
             ValueEnd::Replied(status, detail) if state.message.is_store => {
@@ -175,101 +209,58 @@ where
                     self.tell_reply(state, reply);
                 }
             }
+            ValueEnd::Replied(status, _) if status != status::SUCCESS => {
+                self.tell_echo(state, status);
+            }
             _ => {}
         }
         if let Some(end) = state.end_by(decision, self.limits()) {
             state.end(end);
-            self.tell_end(state, end, taken.ahead);
+            self.tell_end(state, end, taken);
         }
     }
 
+    /// Writes that an echo was refused, once.
+    fn tell_echo(&self, state: &mut State, status: u16) {
+        if !state.is_echo_told && self.has_lines(state, Level::Warn) {
+            self.logger.tell(&EchoRefused {
+                status,
+                calling: &state.calling,
+            });
+        }
+        state.is_echo_told = true;
+    }
+
     /// Writes that the association was rejected or aborted with what it decided.
-    fn tell_end(&self, state: &mut State, end: End, ahead: &[u8]) {
+    fn tell_end(&self, state: &mut State, end: End, taken: &Taken<'_>) {
         match end {
             End::Rejected(rejection) => {
-                state.take_titles(ahead);
-                self.logger.tell(&Rejected {
-                    rejection,
-                    called: &state.called,
-                    calling: &state.calling,
-                });
+                state.take_titles(taken.ahead);
+                if self.has_lines(state, Level::Warn) {
+                    self.logger.tell(&Rejected {
+                        rejection,
+                        called: &state.called,
+                        calling: &state.calling,
+                    });
+                }
             }
-            End::Aborted(..) => self.tell_abort(state),
+            End::Aborted(_, Cause::Command(DimseFault::BadCommand, _)) => {
+                self.tell_abort(state, BadElement::of(taken.bytes));
+            }
+            End::Aborted(..) => self.tell_abort(state, None),
             _ => {}
         }
     }
 
-    fn tell_abort(&self, state: &State) {
-        self.logger.tell(&Aborted {
-            end: state.end,
-            calling: &state.calling,
-        });
-    }
-
-    /// Takes note of the answer to the request, and of its contexts.
-    fn judge(&self, state: &mut State, answer: Answer) {
-        let (proposed, accepted) = self.tell_contexts(state, answer);
-        state.proposed = proposed;
-        state.accepted = accepted;
-        if answer == Answer::Accept {
-            state.phase = Phase::Established;
-            state.request.give_up();
-        }
-    }
-
-    /// Returns how many contexts were proposed and how many of them accepted. Writes of the other
-    /// ones, if the request was accepted.
-    fn tell_contexts(&self, state: &State, answer: Answer) -> (u64, u64) {
-        let Some(body) = state.request.body() else {
-            return (0, 0);
-        };
-        let Ok(request) = read_request(body) else {
-            return (0, 0);
-        };
-        let results = Results::of(self.config, &request);
-        let mut proposed: u64 = 0;
-        let mut accepted: u64 = 0;
-        for proposal in request.contexts() {
-            proposed = proposed.saturating_add(1);
-            if results.is_accepted(proposal.id()) {
-                accepted = accepted.saturating_add(1);
-            }
-        }
-        if answer != Answer::Accept {
-            return (proposed, 0);
-        }
-        if accepted < proposed {
-            self.tell_refused(state, &request, &results);
-        }
-        (proposed, accepted)
-    }
-
-    /// Writes of the contexts that were not accepted.
-    fn tell_refused(&self, state: &State, request: &Request, results: &Results) {
-        if self.logger.tells(Level::Trace) {
-            for proposal in request.contexts() {
-                match results.result(proposal.id()) {
-                    None | Some(0) => {}
-                    Some(answer) => self.tell_context(&proposal, answer),
-                }
-            }
-        }
-        let refused = RefusedClasses::of(request, results);
-        if !refused.is_empty() {
-            self.logger.tell(&ClassesRefused {
-                refused: &refused,
+    /// Writes that the association was aborted, and which element was wrong.
+    fn tell_abort(&self, state: &mut State, bad: Option<BadElement>) {
+        if self.has_lines(state, Level::Warn) {
+            self.logger.tell(&Aborted {
+                end: state.end,
+                bad: bad.as_ref(),
                 calling: &state.calling,
             });
         }
-    }
-
-    fn tell_context(&self, proposal: &Proposal, answer: u8) {
-        self.logger.tell(&ContextRefused {
-            id: proposal.id(),
-            answer,
-            class: &shown_class(proposal.abstract_syntax()),
-            syntaxes: &shown_syntaxes(proposal),
-        });
     }
 
     /// Counts a store that is answered, and writes its lines.
@@ -295,21 +286,25 @@ where
     /// Returns what the status of a reply does not tell, if anything.
     pub(crate) fn reason(&self, state: &State, reply: Reply) -> Reason {
         if reply.status == status::OUT_OF_RESOURCES {
-            resources_words(&state.folder_error, state.message.data_size, self.limits())
+            resources_words(state.message.data_size, self.limits())
         } else {
             Reason::new()
         }
     }
 
-    /// Writes the lines of a store that is answered.
-    fn tell_store(&self, state: &State, reply: Reply, place: Option<Location>) {
+    /// Writes the lines of a store that is answered. Why a file could not be written is told already.
+    fn tell_store(&self, state: &mut State, reply: Reply, place: Option<Location>) {
         let class = state.asked.class();
-        if Outcome::of(reply.status) != Outcome::Stored {
+        let syntax = state.syntax();
+        let is_told = state.has_filing_failed && reply.status == status::OUT_OF_RESOURCES;
+        let is_stored = Outcome::of(reply.status) == Outcome::Stored;
+        if !is_stored && !is_told && self.has_line(state, reply) {
             let reason = self.reason(state, reply);
             self.logger.tell(&NotStored {
                 reply,
                 class: &class,
                 instance: &state.asked.instance,
+                syntax: &syntax,
                 reason: &reason,
                 calling: &state.calling,
             });
@@ -318,6 +313,7 @@ where
             reply,
             class: &class,
             instance: &state.asked.instance,
+            syntax: &syntax,
             bytes: state.message.data_size,
             place,
         });
@@ -328,13 +324,13 @@ impl<R: Log + Clock, S: Files + Alloc + Clone + Drop> Observer for Journal<'_, R
 where
     S::File: StoredFile,
 {
-    fn took(&self, taken: &Taken<'_>) {
-        let Ok(mut state) = self.state.try_borrow_mut() else {
-            return;
-        };
-        let decision = state.take(taken);
-        self.tell_filing(&mut state);
-        self.tell(&mut state, decision, taken);
+    ghost heard = { λ journal. journal.heard };
+
+    fn took(&mut self, taken: &Taken<'_>) {
+        let mut bytes = History::new();
+        bytes.append(taken.bytes);
+        self.heard.push(&bytes);
+        self.note(taken);
     }
 
     fn settled(&self, is_kept: bool) {
@@ -364,7 +360,7 @@ where
         state.answer(abort);
         state.end(End::Read(why));
         if abort > 0 {
-            self.tell_abort(&state);
+            self.tell_abort(&mut state, None);
         }
     }
 

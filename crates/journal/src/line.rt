@@ -42,6 +42,10 @@ impl Fields for Line {
     fn text(&mut self, name: Name, value: &str) {
         let _ = write!(self, "{}{value}{}", name.before, name.after);
     }
+
+    fn list(&mut self, name: Name, values: &str) {
+        self.text(name, values);
+    }
 }
 
 /// Returns the time as it is shown.
@@ -108,6 +112,20 @@ impl Fields for Object {
     fn text(&mut self, name: Name, value: &str) {
         self.put_text(name.key, value);
     }
+
+    fn list(&mut self, name: Name, values: &str) {
+        let list = list_of(self.alloc, values);
+        self.put(name.key, list);
+    }
+}
+
+/// Returns the parts of a text between which there are a comma and a space.
+fn list_of(alloc: Global, values: &str) -> Result<Value, AllocError> {
+    let mut list = Vec::new(alloc);
+    for value in values.split(", ") {
+        list.push(Value::try_from_str(alloc, value)?)?;
+    }
+    Ok(Value::Array(list))
 }
 
 /// Returns the members of a line of JSON.

@@ -54,7 +54,7 @@ impl Misplaced {
 pub(crate) struct Message {
     pub stage: Stage,
     /// The context of its first fragment.
-    context: u8,
+    pub context: u8,
     /// How many bytes the fragments of its command set have.
     command_size: u64,
     /// Whether it is a store, and its data set was due.

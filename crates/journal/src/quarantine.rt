@@ -4,6 +4,7 @@ ghost use Rattle.journal.specs.Outcomes as spelling;
 
 use crate::asked::Reply;
 use crate::journal::Journal;
+use crate::line_limits::Limited;
 use crate::quarantine_entries::{NotQuarantined, QuarantineFull, QuarantineSheet, Quarantined};
 use crate::state::State;
 use dimse::status;
@@ -34,7 +35,8 @@ where
     /// Writes why a draft could not be moved to the quarantine, if one could not.
     pub(crate) fn tell_not_aside(&self) {
         if let Some(error) = self.notes.take_aside_error() {
-            self.logger.tell(&NotQuarantined(&error));
+            self.logger
+                .tell_limited(Limited::NotQuarantined, &NotQuarantined(&error));
         }
     }
 
@@ -48,7 +50,8 @@ where
 
     fn tell_failed(&self, done: io::Result<()>) {
         if let Err(error) = done {
-            self.logger.tell(&NotQuarantined(&error));
+            self.logger
+                .tell_limited(Limited::NotQuarantined, &NotQuarantined(&error));
         }
     }
 
@@ -58,8 +61,7 @@ where
         let Some(aside) = self.notes.take_aside() else {
             return;
         };
-        let has_filing_failed = state.folder_error.len() > 0;
-        let done = if is_quarantined(reply.status, has_filing_failed) {
+        let done = if is_quarantined(reply.status, state.has_filing_failed) {
             self.keep(state, reply, aside)
         } else {
             aside.remove()
@@ -87,10 +89,13 @@ where
             return Err(Error::from(ErrorKind::OutOfMemory));
         };
         let done = aside.keep(text.as_str())?;
-        self.logger.tell(&Quarantined {
-            number: done.number,
-            kept,
-        });
+        self.logger.tell_limited(
+            Limited::Quarantined,
+            &Quarantined {
+                number: done.number,
+                kept,
+            },
+        );
         if done.is_full {
             self.logger.tell(&QuarantineFull);
         }

@@ -1,6 +1,5 @@
 //! Why a store was refused for want of resources.
 use crate::limits::Limits;
-use crate::state::FolderError;
 use crate::text::Text;
 use connection::DEPTH;
 use std::fmt::Write;
@@ -15,25 +14,15 @@ const MOST_ANNOUNCED: u64 = 0xffff_ffff + 12;
 /// Why a store was refused, in words.
 pub(crate) type Reason = Text<140>;
 
-/// Returns why a file was lost: the system's error.
-pub(crate) fn loss_words(error: &FolderError) -> Reason {
-    let mut words = Reason::new();
-    let _ = write!(words, "the folder: {}", error.as_str());
-    words
-}
-
-/// Returns why a store was answered with A700 (PS3.4 annex B.2.3): a call of the system failed, or its data
+/// Returns why a store was answered with A700 (PS3.4 annex B.2.3) where no call of the system failed: its data
 /// set, of which so many bytes came, has too many bytes or levels.
 ///
 /// A data set has too many bytes also where the header of an element announces them, though they never
 /// come; then the log may not know which of the two it was.
-pub(crate) fn resources_words(error: &FolderError, bytes: u64, limits: Limits) -> Reason {
+pub(crate) fn resources_words(bytes: u64, limits: Limits) -> Reason {
     let mut words = Reason::new();
-    let error = error.as_str();
     let is_shallow = bytes < LEVEL * (DEPTH as u64 + 1);
-    let written = if !error.is_empty() {
-        write!(words, "the folder: {error}")
-    } else if bytes > limits.max_data || is_shallow {
+    let written = if bytes > limits.max_data || is_shallow {
         write!(words, "longer than --max-data")
     } else if bytes.saturating_add(MOST_ANNOUNCED) <= limits.max_data {
         write!(words, "deeper than {DEPTH} levels")

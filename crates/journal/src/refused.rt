@@ -1,11 +1,13 @@
-//! The classes of a request of which no context was accepted.
+//! The classes of a request that have refused presentation contexts.
 use crate::accepted::Results;
 use crate::asked::Value;
+use crate::entry_fields::Words;
 use crate::text::Text;
 use dictionary::{Transfer, storage_class, syntax_of};
 use element::Uid;
-use keywords::class_keyword;
+use keywords::{class_keyword, syntax_keyword};
 use pdu::{Proposal, Request};
+use std::fmt::Write;
 
 /// How many classes are named.
 const MOST_NAMED: u64 = 4;
@@ -16,13 +18,19 @@ const MOST_CLASSES: usize = 1024;
 /// The result of a context whose class is not taken: abstract-syntax-not-supported (PS3.8 Table 9-18).
 const CLASS_REFUSED: u8 = 3;
 
-/// The classes of a request of which no context was accepted: the first of them, each with the options
-/// that would take it, and how many there are beside those.
+/// The most transfer syntaxes that are named of a class.
+const MOST_SYNTAXES: u64 = 3;
+
+/// Classes of a request that have refused contexts: the first of them, each with why, and with the options that would take it,
+/// and how many there are beside those.
 #[derive(Drop)]
 pub(crate) struct RefusedClasses {
-    pub named: Text<480>,
+    /// Those that are named, with a comma and a space between them.
+    pub named: Text<560>,
     named_count: u64,
     pub others: u64,
+    /// Whether one of them is a storage class, or may be.
+    pub has_storage: bool,
 }
 
 /// Returns a class by its keyword, where it has one, else its identifier.
@@ -61,70 +69,133 @@ fn class_option(uid: &[u8]) -> &'static str {
     }
 }
 
-/// Which transfer syntaxes are proposed for a class.
-#[derive(Clone, Copy)]
-struct Proposed {
-    /// One that is always taken.
+/// The transfer syntaxes of a class in contexts that were refused.
+#[derive(Drop)]
+struct RefusedSyntaxes {
+    /// The first of them by their keywords, with spaces between them.
+    named: Text<160>,
+    count: u64,
+    /// Whether one is always taken.
     has_native: bool,
-    /// One that is taken where that is asked for.
+    /// Whether one is taken where that is asked for.
     has_compressed: bool,
 }
 
-impl Proposed {
-    /// Returns which are proposed for the class by any context of the request.
-    fn of(request: &Request, class: &[u8]) -> Proposed {
-        let mut proposed = Proposed {
+/// Returns a transfer syntax by its keyword, where it has one, else its identifier.
+pub(crate) fn shown_syntax(uid: &[u8]) -> Value {
+    let mut syntax = Value::new();
+    match syntax_keyword(uid) {
+        Some(keyword) => syntax.add(keyword.as_bytes()),
+        None => syntax.add(uid),
+    }
+    syntax
+}
+
+impl RefusedSyntaxes {
+    /// Returns those of a class.
+    fn of(request: &Request, results: &Results, class: &[u8]) -> RefusedSyntaxes {
+        let mut syntaxes = RefusedSyntaxes {
+            named: Text::new(),
+            count: 0,
             has_native: false,
             has_compressed: false,
         };
         for proposal in request.contexts() {
-            if proposal.abstract_syntax() == class {
+            if proposal.abstract_syntax() == class && !results.is_accepted(proposal.id()) {
                 for uid in proposal.transfer_syntaxes() {
-                    proposed.has_native |= syntax_of(uid).is_some();
-                    proposed.has_compressed |= Transfer::of(uid).is_some();
+                    syntaxes.add(uid);
                 }
             }
         }
-        proposed
+        syntaxes
+    }
+
+    /// Adds one.
+    fn add(&mut self, uid: &[u8]) {
+        self.has_native |= syntax_of(uid).is_some();
+        self.has_compressed |= Transfer::of(uid).is_some();
+        let shown = shown_syntax(uid);
+        if self
+            .named
+            .as_str()
+            .split(' ')
+            .any(|name| name == shown.as_str())
+        {
+            return;
+        }
+        self.count = self.count.saturating_add(1);
+        if self.count <= MOST_SYNTAXES {
+            if self.count > 1 {
+                self.named.add(b" ");
+            }
+            self.named.add(shown.as_str().as_bytes());
+        }
+    }
+
+    /// Returns the options that would take a context of the class with this result, or an empty text if none would.
+    fn options(&self, class: &[u8], answer: u8) -> Words {
+        let mut options = Words::new();
+        if answer == CLASS_REFUSED {
+            options.add(class_option(class).as_bytes());
+            if options.len() == 0 || !self.has_native && !self.has_compressed {
+                return Words::new();
+            }
+            if !self.has_native {
+                options.add(b" --all-syntaxes");
+            }
+        } else if self.has_compressed {
+            options.add(b"--all-syntaxes");
+        }
+        options
     }
 }
 
-/// Returns whether this is the first context of its class, and none of the class was accepted.
-fn is_first_refused(request: &Request, results: &Results, proposal: &Proposal) -> bool {
-    let mut is_first = true;
+/// Returns whether a context of its class was accepted, or `None` if this is not the first of the class that was refused.
+fn accepts_class(request: &Request, results: &Results, proposal: &Proposal) -> Option<bool> {
+    let mut is_accepted = false;
     let mut is_before = true;
     for other in request.contexts() {
         if other.id() == proposal.id() {
             is_before = false;
-        }
-        if other.abstract_syntax() == proposal.abstract_syntax() {
+        } else if other.abstract_syntax() == proposal.abstract_syntax() {
             if results.is_accepted(other.id()) {
-                return false;
-            }
-            if is_before {
-                is_first = false;
+                is_accepted = true;
+            } else if is_before {
+                return None;
             }
         }
     }
-    is_first
+    Some(is_accepted)
 }
 
 impl RefusedClasses {
-    /// Returns those of a request whose contexts have these results.
-    pub(crate) fn of(request: &Request, results: &Results) -> RefusedClasses {
-        let mut refused = RefusedClasses {
+    /// Returns none.
+    pub(crate) fn new() -> RefusedClasses {
+        RefusedClasses {
             named: Text::new(),
             named_count: 0,
             others: 0,
-        };
+            has_storage: false,
+        }
+    }
+
+    /// Returns those of a request whose contexts have these results: the classes of which none was accepted, and the storage
+    /// classes of which one was, and others were not.
+    pub(crate) fn of(request: &Request, results: &Results) -> (RefusedClasses, RefusedClasses) {
+        let mut refused = RefusedClasses::new();
+        let mut in_part = RefusedClasses::new();
         for proposal in request.contexts() {
-            if let Some(result) = results.result(proposal.id()) {
-                if result != 0 && is_first_refused(request, results, &proposal) {
-                    refused.add(request, &proposal, result);
+            if let Some(answer @ 1..) = results.result(proposal.id()) {
+                match accepts_class(request, results, &proposal) {
+                    Some(false) => refused.add(request, results, &proposal, answer),
+                    Some(true) if !class_option(proposal.abstract_syntax()).is_empty() => {
+                        in_part.add(request, results, &proposal, answer);
+                    }
+                    _ => {}
                 }
             }
         }
-        refused
+        (refused, in_part)
     }
 
     /// Returns whether there is none.
@@ -133,7 +204,9 @@ impl RefusedClasses {
     }
 
     /// Adds the class of a context with this result.
-    fn add(&mut self, request: &Request, proposal: &Proposal, answer: u8) {
+    fn add(&mut self, request: &Request, results: &Results, proposal: &Proposal, answer: u8) {
+        let class = proposal.abstract_syntax();
+        self.has_storage |= !class_option(class).is_empty();
         if self.named_count == MOST_NAMED {
             self.others = self.others.saturating_add(1);
             return;
@@ -142,35 +215,20 @@ impl RefusedClasses {
             self.named.add(b", ");
         }
         self.named_count = self.named_count.saturating_add(1);
-        let class = proposal.abstract_syntax();
-        self.named.add(shown_class(class).as_str().as_bytes());
-        self.add_options(class, answer, Proposed::of(request, class));
-    }
-
-    /// Adds the options that would take a context of the class, if there are any.
-    fn add_options(&mut self, class: &[u8], answer: u8, proposed: Proposed) {
-        let storage = if answer == CLASS_REFUSED {
-            class_option(class)
+        let syntaxes = RefusedSyntaxes::of(request, results, class);
+        let _ = write!(self.named, "{} (", shown_class(class));
+        if answer == CLASS_REFUSED {
+            self.named.add(b"class");
         } else {
-            ""
-        };
-        if answer == CLASS_REFUSED && storage.is_empty() {
-            return;
+            let _ = write!(self.named, "syntaxes {}", syntaxes.named);
+            if syntaxes.count > MOST_SYNTAXES {
+                let _ = write!(self.named, " and {} more", syntaxes.count - MOST_SYNTAXES);
+            }
         }
-        if !proposed.has_native && !proposed.has_compressed {
-            return;
+        let options = syntaxes.options(class, answer);
+        if options.len() > 0 {
+            let _ = write!(self.named, ": {options}");
         }
-        let syntaxes = if proposed.has_native {
-            ""
-        } else {
-            "--all-syntaxes"
-        };
-        self.named.add(b" (");
-        self.named.add(storage.as_bytes());
-        if !storage.is_empty() && !syntaxes.is_empty() {
-            self.named.add(b" ");
-        }
-        self.named.add(syntaxes.as_bytes());
         self.named.add(b")");
     }
 }

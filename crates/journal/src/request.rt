@@ -1,11 +1,9 @@
-//! The body of an association request, as far as a log keeps it.
+//! The titles of an association request.
 ghost use Rattle.std.specs.Prelude.{◌+◌, ◌≤◌, length};
 
 use crate::text::Text;
 use arrayvec::ArrayVec;
-use connection::REQUEST;
 use element::AeTitle;
-use std::alloc::Global;
 
 /// An AE title, as it is shown.
 pub(crate) type Title = Text<16>;
@@ -35,59 +33,32 @@ pub(crate) struct Titles {
     pub calling: Title,
 }
 
-/// A copy of the body of an association request. It takes memory until it is given up, at most the
-/// room of a request.
+/// The first bytes of the body of an association request, which have its titles, as far as they have come.
 #[derive(Drop)]
-pub(crate) struct RequestCopy {
-    /// The body as far as it was received. `None` once it was given up, or where it got no memory.
-    body: Option<Vec<u8>>,
+pub(crate) struct RequestFront {
+    bytes: ArrayVec<u8, TITLES>,
 }
 
-impl RequestCopy {
-    /// Returns a copy of no bytes.
-    pub(crate) fn new(alloc: Global) -> RequestCopy {
-        RequestCopy {
-            body: Some(Vec::new(alloc)),
+impl RequestFront {
+    /// Returns those of a request of which none has come.
+    pub(crate) fn new() -> RequestFront {
+        RequestFront {
+            bytes: ArrayVec::new(),
         }
     }
 
-    /// Returns the body as far as it was kept, or `None` if it was given up or got no memory.
-    pub(crate) fn body(&self) -> Option<&[u8]> {
-        match &self.body {
-            Some(body) => Some(body.as_slice()),
-            None => None,
-        }
-    }
-
-    /// Gives up the body.
-    pub(crate) fn give_up(&mut self) {
-        self.body = None;
-    }
-
-    /// Keeps a part of the body; without memory, none of it.
+    /// Keeps the next bytes of the body, as far as they are of these.
     pub(crate) fn keep(&mut self, part: &[u8]) {
-        let is_kept = match &mut self.body {
-            Some(body) => {
-                let count = REQUEST.saturating_sub(body.len()).min(part.len());
-                body.extend_from_slice(&part[..count]).is_ok()
-            }
-            None => true,
-        };
-        if !is_kept {
-            self.body = None;
-        }
+        let count = self.bytes.remaining_capacity().min(part.len());
+        let _ = self.bytes.try_extend_from_slice(&part[..count]);
     }
 
     /// Returns the titles, or `None` if they are not all in what was kept and in what follows it.
     pub(crate) fn titles(&self, ahead: &[u8]) -> Option<Titles> {
-        let mut front = ArrayVec::<u8, TITLES>::new();
-        if let Some(body) = self.body() {
-            let count = body.len().min(TITLES);
-            let _ = front.try_extend_from_slice(&body[..count]);
-        }
-        let count = front.remaining_capacity().min(ahead.len());
-        let _ = front.try_extend_from_slice(&ahead[..count]);
-        let front = front.as_slice();
+        let mut front = RequestFront::new();
+        front.keep(self.bytes.as_slice());
+        front.keep(ahead);
+        let front = front.bytes.as_slice();
         if front.len() < TITLES {
             return None;
         }

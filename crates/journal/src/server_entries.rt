@@ -1,9 +1,9 @@
 //! What the lines of the log tell of the box itself, and not of one association.
 use crate::entry::{Entry, Event, Fields, Name};
 use crate::entry_fields::{Words, give_error};
-use crate::limits::Limits;
 use folder_filing::Location;
 use log::Level;
+use negotiate::Config;
 use std::fmt::Write;
 use std::io;
 use std::net::SocketAddr;
@@ -19,6 +19,12 @@ const LOW: Name = Name {
     before: ": ",
     after: " of 9999999",
 };
+
+/// How many storage classes are taken where nothing else is asked for.
+const OWN_CLASSES: u64 = 11;
+
+/// How many transfer syntaxes are always taken.
+const NATIVE_SYNTAXES: u64 = 2;
 
 /// The box listens: `listening on ADDRESS:PORT`.
 #[derive(Clone, Copy)]
@@ -43,15 +49,15 @@ impl Entry for Listening {
     }
 }
 
-/// The box begins: what it is, whom it serves, where its files go, and how many drafts it found and
-/// removed there.
+/// The box begins: what it is, whom it serves, where its files go, how many drafts it found and
+/// removed there, and what it takes.
 #[derive(Clone, Copy)]
 pub struct Started<'a> {
     pub version: &'a str,
-    /// The AE title that a peer has to call.
-    pub title: &'a [u8],
+    pub config: &'a Config,
     pub folder: &'a str,
-    pub limits: Limits,
+    /// The folder of refused data sets, if there is one.
+    pub quarantine: Option<&'a str>,
     /// How many associations are served at once.
     pub at_once: u64,
     pub drafts: u64,
@@ -70,8 +76,9 @@ impl Entry for Started<'_> {
     }
 
     fn fields<F: Fields>(&self, out: &mut F) {
+        let config = self.config;
         let mut title = Words::new();
-        title.add(self.title);
+        title.add(config.ae.trimmed());
         let mut folder = Words::new();
         folder.add(self.folder.as_bytes());
         let titled = Name {
@@ -82,12 +89,51 @@ impl Entry for Started<'_> {
         out.text(Name::new("version", " "), self.version);
         out.text(titled, title.as_str());
         out.text(Name::new("folder", " folder "), folder.as_str());
-        let max_pdu = u64::from(self.limits.max_pdu);
+        let max_pdu = u64::from(config.max_pdu);
         out.number(Name::new("max-pdu", " limits max-pdu "), max_pdu);
-        out.number(Name::new("max-data", " max-data "), self.limits.max_data);
+        out.number(Name::new("max-data", " max-data "), config.max_data);
         out.number(Name::new("at-once", " at-once "), self.at_once);
         out.number(Name::new("drafts", " removed drafts "), self.drafts);
+        give_taken(config, out);
+        if let Some(path) = self.quarantine {
+            let mut quarantine = Words::new();
+            quarantine.add(path.as_bytes());
+            out.text(Name::new("quarantine", " quarantine "), quarantine.as_str());
+        }
     }
+}
+
+/// Gives how many titles may be called, if not the first alone, and how many may call, if not all; and how many storage
+/// classes and transfer syntaxes are taken.
+fn give_taken<F: Fields>(config: &Config, out: &mut F) {
+    let titles = Name::new("titles", " titles ");
+    if config.any_called {
+        out.text(titles, "any");
+    } else if !config.also.is_empty() {
+        out.number(titles, (config.also.len() as u64).saturating_add(1));
+    }
+    let callers = Name::new("callers", " callers ");
+    if config.callers().is_empty() {
+        out.text(callers, "any");
+    } else {
+        out.number(callers, config.callers().len() as u64);
+    }
+    let classes = Name::new("classes", " classes ");
+    if config.all_storage {
+        out.text(classes, "all");
+    } else {
+        out.number(classes, OWN_CLASSES);
+    }
+    let named = Name {
+        key: "further-classes",
+        before: " and ",
+        after: " named",
+    };
+    if !config.named.is_empty() {
+        out.number(named, config.named.len() as u64);
+    }
+    let syntaxes = (config.transfers.len() as u64).saturating_add(NATIVE_SYNTAXES);
+    out.number(Name::new("syntaxes", " syntaxes "), syntaxes);
 }
 
 /// The box ends.
@@ -311,7 +357,7 @@ impl Entry for NumbersLow {
     fn event(&self) -> Event {
         Event {
             key: "numbers low",
-            words: "few numbers are left, so move the files away and start anew, or file with --per",
+            words: "few numbers are left, so file with --per, or start anew without the files and that of --numbers",
         }
     }
 
@@ -340,5 +386,30 @@ impl Entry for ConnectionFailed<'_> {
 
     fn fields<F: Fields>(&self, out: &mut F) {
         give_error(self.0, out);
+    }
+}
+
+/// Lines were left out, since there would have been more than a log takes of what they tell: how many, and of what.
+#[derive(Clone, Copy)]
+pub(crate) struct LinesLeftOut {
+    pub count: u64,
+    pub of: &'static str,
+}
+
+impl Entry for LinesLeftOut {
+    fn level(&self) -> Level {
+        Level::Warn
+    }
+
+    fn event(&self) -> Event {
+        Event {
+            key: "lines left out",
+            words: "lines left out:",
+        }
+    }
+
+    fn fields<F: Fields>(&self, out: &mut F) {
+        out.number(Name::new("lines", " "), self.count);
+        out.text(Name::new("of", " of "), self.of);
     }
 }

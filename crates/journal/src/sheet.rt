@@ -38,6 +38,10 @@ impl Fields for Sheet {
     fn text(&mut self, name: Name, value: &str) {
         self.put(name.key, value);
     }
+
+    fn list(&mut self, name: Name, values: &str) {
+        self.put(name.key, values);
+    }
 }
 
 /// Returns the text of an entry, with the time and the peer before its fields. Fails if memory runs out.

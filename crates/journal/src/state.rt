@@ -1,24 +1,22 @@
 //! What a log knows of an association.
-ghost use Rattle.std.specs.Prelude.{◌≡◌};
+ghost use Rattle.std.specs.Prelude.{◌≡◌, ◌<◌, ◌+◌, Some, true, false, min};
 
-use crate::asked::{Asked, Reply};
+use crate::asked::{Asked, Reply, Value};
 use crate::cause::{Cause, head_cause};
 use crate::end::{Abort, About, End, Rejection};
 use crate::limits::Limits;
+use crate::line_limits::LineLimit;
 use crate::message::Message;
 use crate::outcome::{Counts, Outcome};
-use crate::request::{RequestCopy, Title};
-use crate::text::Text;
+use crate::refused::{RefusedClasses, shown_syntax};
+use crate::request::{RequestFront, Title};
+use arrayvec::ArrayVec;
 use connection::Taken;
 use decisions::{Decision, ValueEnd};
 use folder_filing::Location;
 use metrics::{CountedEnd, CountedStatus};
-use negotiate::{Answer, rejection};
-use pdu::read_request;
-use std::alloc::Global;
-
-/// Why a file could not be written, as it is shown.
-pub(crate) type FolderError = Text<100>;
+use negotiate::{Answer, ContextRow, rejection};
+use std::time::Instant;
 
 /// How far an association has come.
 #[derive(Clone, Copy, Debug, PartialEq, Eq)]
@@ -36,18 +34,31 @@ pub(crate) enum Phase {
 #[derive(Drop)]
 pub(crate) struct State {
     pub phase: Phase,
-    pub request: RequestCopy,
+    pub request: RequestFront,
+    /// The maximum length of a P-DATA-TF PDU that the request names, once it was read.
+    pub maximum: Option<u32>,
     pub message: Message,
     /// What was asked for in the last store.
     pub asked: Asked,
     pub counts: Counts,
+    /// The lines that tell of stores which were not filed.
+    pub lines: LineLimit,
+    /// The reply to the last of them that had none.
+    pub last_left_out: Option<Reply>,
+    /// Whether lines tell of the association while it stored nothing, once that was asked.
+    pub has_lines: Option<bool>,
     pub called: Title,
     pub calling: Title,
-    pub accepted: u64,
+    /// The contexts that were accepted.
+    pub accepted: ArrayVec<ContextRow, 128>,
     pub proposed: u64,
+    /// The storage classes of which some contexts were accepted, and others not for their transfer syntaxes.
+    pub refused_in_part: RefusedClasses,
     pub end: Option<End>,
-    /// Why a file could not be written, since a store was asked for last; empty where none failed.
-    pub folder_error: FolderError,
+    /// Whether it was told that an echo was refused.
+    pub is_echo_told: bool,
+    /// Whether a file could not be written, since a store was asked for last.
+    pub has_filing_failed: bool,
     /// The reply to a store whose file waits to be settled.
     pub held: Option<Reply>,
     /// Where the file stands of a store whose reply was not all sent.
@@ -68,19 +79,25 @@ impl State {
     ghost use Rattle.metrics.specs.declared.ends.CountedEnd.TheVariants.{AbortedByBox};
 
     /// Returns what is known before anything has come.
-    pub(crate) fn new(alloc: Global) -> State {
+    pub(crate) fn new() -> State {
         State {
             phase: Phase::Awaited,
-            request: RequestCopy::new(alloc),
+            request: RequestFront::new(),
+            maximum: None,
             message: Message::new(),
             asked: Asked::nothing(),
             counts: Counts::default(),
+            lines: LineLimit::new(),
+            last_left_out: None,
+            has_lines: None,
             called: Title::new(),
             calling: Title::new(),
-            accepted: 0,
+            accepted: ArrayVec::new(),
             proposed: 0,
+            refused_in_part: RefusedClasses::new(),
             end: None,
-            folder_error: Text::new(),
+            is_echo_told: false,
+            has_filing_failed: false,
             held: None,
             unconfirmed: None,
             last: (0, 0),
@@ -127,7 +144,7 @@ impl State {
             Phase::Awaited | Phase::Established => {}
             Phase::InRequest => self.request.keep(bytes),
             Phase::Over => {
-                if self.request.body().is_some() {
+                if matches!(self.end, Some(End::Rejected(_))) {
                     self.request.keep(bytes);
                     self.take_titles(&[]);
                 }
@@ -136,7 +153,7 @@ impl State {
     }
 
     /// Takes the titles of the request, as far as they have come: what was taken, and what is read
-    /// ahead of that. The body of a request that is over is given up then.
+    /// ahead of that.
     pub(crate) fn take_titles(&mut self, ahead: &[u8])
         ensures phase { self.new.phase ≡ self.old.phase }
         ensures counts { self.new.counts ≡ self.old.counts }
@@ -144,9 +161,6 @@ impl State {
         if let Some(titles) = self.request.titles(ahead) {
             self.called = titles.called;
             self.calling = titles.calling;
-            if self.phase == Phase::Over {
-                self.request.give_up();
-            }
         }
     }
 
@@ -171,8 +185,33 @@ impl State {
         ensures { self.new.counts ≡ asked_more self.old.counts }
     {
         self.counts.ask();
-        self.folder_error = Text::new();
+        self.has_filing_failed = false;
         self.asked = Asked::read(command);
+    }
+
+    /// Returns the transfer syntax of the context of the message, as it is shown; empty where it is not known.
+    pub(crate) fn syntax(&self) -> Value {
+        for row in &self.accepted {
+            if row.id == self.message.context {
+                return shown_syntax(row.syntax.uid());
+            }
+        }
+        Value::new()
+    }
+
+    /// Takes note of a store that was not filed, with this reply. Returns whether it is among the first of its minute, so many at
+    /// most; else it is counted, and the reply kept.
+    pub(crate) fn admit(&mut self, now: Option<Instant>, most: u64, reply: Reply) -> bool
+        ensures line { result ≡ true → self.old.lines.lines < most }
+        ensures none_more { result ≡ true → (self.new.lines.left_out ≡ self.old.lines.left_out) × (self.new.last_left_out ≡ self.old.last_left_out) }
+        ensures counted { result ≡ false → self.new.lines.left_out ≡ min (self.old.lines.left_out + 1) 18446744073709551615 }
+        ensures last { result ≡ false → self.new.last_left_out ≡ Some reply }
+    {
+        let is_told = self.lines.admit(now, most);
+        if !is_told {
+            self.last_left_out = Some(reply);
+        }
+        is_told
     }
 
     /// Counts the reply to a store, by its status. Returns as what the status is counted.
@@ -191,9 +230,6 @@ impl State {
         self.phase = Phase::Over;
         if self.end.is_none() {
             self.end = Some(end);
-        }
-        if !matches!(self.end, Some(End::Rejected(_))) {
-            self.request.give_up();
         }
     }
 
@@ -274,12 +310,9 @@ impl State {
 
     /// Returns the maximum length that the request names.
     fn maximum(&self) -> About {
-        let Some(body) = self.request.body() else {
-            return About::Nothing;
-        };
-        match read_request(body) {
-            Ok(request) => About::Maximum(request.maximum()),
-            Err(_) => About::Nothing,
+        match self.maximum {
+            Some(maximum) => About::Maximum(maximum),
+            None => About::Nothing,
         }
     }
 }

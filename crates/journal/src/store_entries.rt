@@ -2,7 +2,7 @@
 use crate::asked::{Reply, Value};
 use crate::end::End;
 use crate::entry::{Entry, Event, Fields, Name};
-use crate::entry_fields::{CLASS, END, REASON, end_words, give_calling, give_error, give_status};
+use crate::entry_fields::{CLASS, END, end_words, give_calling, give_error, give_status};
 use crate::refusal::Reason;
 use crate::request::Title;
 use crate::text::Text;
@@ -29,9 +29,14 @@ const FILE: Name = Name {
     after: "",
 };
 
-/// A file could not be written: the system's error.
+/// A file could not be written: the system's error, and the store, if one was asked for.
 #[derive(Clone, Copy)]
-pub(crate) struct FilingFailed<'a>(pub &'a io::Error);
+pub(crate) struct FilingFailed<'a> {
+    pub error: &'a io::Error,
+    pub class: &'a Value,
+    pub instance: &'a Value,
+    pub calling: &'a Title,
+}
 
 impl Entry for FilingFailed<'_> {
     fn level(&self) -> Level {
@@ -46,7 +51,24 @@ impl Entry for FilingFailed<'_> {
     }
 
     fn fields<F: Fields>(&self, out: &mut F) {
-        give_error(self.0, out);
+        give_error(self.error, out);
+        give_store(self.class, self.instance, out);
+        give_calling(self.calling, out);
+    }
+}
+
+/// Gives the class and the instance of a store, if one was asked for.
+fn give_store<F: Fields>(class: &Value, instance: &Value, out: &mut F) {
+    if class.len() > 0 {
+        out.text(CLASS, class.as_str());
+        out.text(INSTANCE, instance.as_str());
+    }
+}
+
+/// Gives the transfer syntax of a store, if it is known.
+fn give_syntax<F: Fields>(syntax: &Value, out: &mut F) {
+    if syntax.len() > 0 {
+        out.text(Name::new("syntax", " syntax "), syntax.as_str());
     }
 }
 
@@ -65,6 +87,7 @@ pub(crate) struct Answered<'a> {
     pub reply: Reply,
     pub class: &'a Value,
     pub instance: &'a Value,
+    pub syntax: &'a Value,
     /// How many bytes its data set has.
     pub bytes: u64,
     pub place: Option<Location>,
@@ -85,6 +108,7 @@ impl Entry for Answered<'_> {
     fn fields<F: Fields>(&self, out: &mut F) {
         out.text(CLASS, self.class.as_str());
         out.text(INSTANCE, self.instance.as_str());
+        give_syntax(self.syntax, out);
         out.number(BYTES, self.bytes);
         give_status(self.reply, out);
         give_place(self.place, out);
@@ -97,6 +121,7 @@ pub(crate) struct NotStored<'a> {
     pub reply: Reply,
     pub class: &'a Value,
     pub instance: &'a Value,
+    pub syntax: &'a Value,
     /// What its status does not tell, if anything.
     pub reason: &'a Reason,
     pub calling: &'a Title,
@@ -121,6 +146,40 @@ impl Entry for NotStored<'_> {
         }
         out.text(CLASS, self.class.as_str());
         out.text(INSTANCE, self.instance.as_str());
+        give_syntax(self.syntax, out);
+        give_calling(self.calling, out);
+    }
+}
+
+/// Further stores of the association were not answered with success, and have no lines of their own: how many, and
+/// the reply to the last of them.
+#[derive(Clone, Copy)]
+pub(crate) struct MoreNotStored<'a> {
+    pub count: u64,
+    pub reply: Reply,
+    pub calling: &'a Title,
+}
+
+impl Entry for MoreNotStored<'_> {
+    fn level(&self) -> Level {
+        Level::Warn
+    }
+
+    fn event(&self) -> Event {
+        Event {
+            key: "more not stored",
+            words: "not stored:",
+        }
+    }
+
+    fn fields<F: Fields>(&self, out: &mut F) {
+        let stores = Name {
+            key: "stores",
+            before: " ",
+            after: " more, the last with",
+        };
+        out.number(stores, self.count);
+        give_status(self.reply, out);
         give_calling(self.calling, out);
     }
 }
@@ -129,8 +188,6 @@ impl Entry for NotStored<'_> {
 #[derive(Clone, Copy)]
 pub(crate) struct Unanswered<'a> {
     pub end: Option<End>,
-    /// Why its file was lost, if it was.
-    pub lost: Option<&'a Reason>,
     pub count: u64,
     pub class: &'a Value,
     pub instance: &'a Value,
@@ -151,13 +208,7 @@ impl Entry for Unanswered<'_> {
 
     fn fields<F: Fields>(&self, out: &mut F) {
         out.text(END, end_words(self.end).as_str());
-        if let Some(reason) = self.lost {
-            out.text(REASON, reason.as_str());
-        }
-        if self.class.len() > 0 {
-            out.text(CLASS, self.class.as_str());
-            out.text(INSTANCE, self.instance.as_str());
-        }
+        give_store(self.class, self.instance, out);
         out.number(Name::new("stores", " stores "), self.count);
         give_calling(self.calling, out);
     }

@@ -4,17 +4,23 @@
 
 mod counter;
 mod drafts;
+mod folder_names;
 mod keys;
+mod kinds;
 mod node_id;
 mod reading;
 mod same_bytes;
 mod tally;
 mod visiting;
+mod visits;
 
 pub use counter::Counter;
+pub use drafts::{TREE_DRAFT, is_draft};
 pub use keys::FileKeys;
+pub use kinds::{NO_FILE, has_vanished, is_dicom, open_file};
 pub use node_id::NodeId;
 pub use reading::{NoKeys, read_keys};
 pub use same_bytes::have_the_same;
-pub use tally::Tally;
+pub use tally::{Tally, tell_passed_by};
 pub use visiting::{FoundFile, Taking, Visitor};
+pub use visits::Visits;

@@ -1,41 +1,42 @@
 //! Whether two files have the same bytes.
+ghost use Rattle.std.specs.Prelude.{◌≡◌, IfOk, true};
+ghost use Rattle.keyed_files.specs.SameBytes.{GiveTheSame};
+
 use element::interrupted::read_retrying;
 use std::fs;
-use std::io::{self, Read};
+use std::io::{self, ErrorKind, Read};
 use std::rt::Files;
 
 /// The bytes that are compared at a time.
 const PIECE: usize = 8192;
 
-/// Fills the room, and returns how many bytes the reader had for it.
-fn fill<R: Read>(reader: &mut R, room: &mut [u8]) -> io::Result<usize> {
-    let mut count = 0;
-    for _ in 0..room.len() {
-        let Some(rest) = room.get_mut(count..) else {
-            break;
-        };
-        let more = read_retrying(reader, rest)?;
-        if more == 0 {
-            break;
-        }
-        count = count.saturating_add(more);
-    }
-    Ok(count)
+#[tactic(auto, using(crate::proofs::FrontsAreSame::same_text))]
+fn are_same(one: &[u8], other: &[u8]) -> bool
+    ensures { result ≡ true → one.now ≡ other.now }
+{
+    one == other
 }
 
-/// Returns whether two readers give the same bytes.
-fn give_the_same<R: Read>(one: &mut R, other: &mut R) -> io::Result<bool> {
+/// Returns whether two readers give the same bytes, up to the end of both. Fails if one can't be read.
+#[tactic(auto, using(crate::proofs::FrontsAreSame::at_end))]
+fn give_the_same<R: Read>(one: &mut R, other: &mut R) -> io::Result<bool>
+    ensures same { IfOk result (λ same. same ≡ true → GiveTheSame (R.remaining one.old) (R.remaining other.old)) }
+{
     let (mut first, mut second) = ([0; PIECE], [0; PIECE]);
     for _ in 0..u64::MAX {
-        let (count, other_count) = (fill(one, &mut first)?, fill(other, &mut second)?);
-        if first.get(..count) != second.get(..other_count) {
-            return Ok(false);
+        let count = read_retrying(one, &mut first)?;
+        if count == 0 {
+            return Ok(read_retrying(other, &mut second)? == 0);
         }
-        if count < PIECE {
-            break;
+        let found = &mut second[..count];
+        match other.read_exact(found) {
+            Ok(()) if are_same(&first[..count], found) => {}
+            Ok(()) => return Ok(false),
+            Err(error) if error.kind() == ErrorKind::UnexpectedEof => return Ok(false),
+            Err(error) => return Err(error),
         }
     }
-    Ok(true)
+    Ok(false)
 }
 
 /// Returns whether the files of two paths have the same bytes. Fails if one can't be read.

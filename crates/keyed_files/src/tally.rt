@@ -1,6 +1,7 @@
-//! Counts the files of a folder that were left out.
+//! Counts the files of a folder that were left out or passed by.
 use failures::ProgramError;
 use inspection::Outcome;
+use std::io::Write;
 
 /// The number of files that a visit has left out, and why.
 #[derive(Clone, Copy)]
@@ -9,6 +10,10 @@ pub struct Tally {
     pub left_out: u64,
     /// Files and folders that cannot be read.
     pub unread: u64,
+    /// Files that are no DICOM files, where these are passed by.
+    pub ignored: u64,
+    /// Files and folders that were found, and were gone when they were to be read.
+    pub vanished: u64,
 }
 
 impl Tally {
@@ -17,6 +22,8 @@ impl Tally {
         Tally {
             left_out: 0,
             unread: 0,
+            ignored: 0,
+            vanished: 0,
         }
     }
 
@@ -32,6 +39,16 @@ impl Tally {
         Ok(Outcome::Good)
     }
 
+    /// Counts a file that is passed by.
+    pub(crate) fn add_ignored(&mut self) {
+        self.ignored = self.ignored.saturating_add(1);
+    }
+
+    /// Counts a file or a folder that has vanished.
+    pub(crate) fn add_vanished(&mut self) {
+        self.vanished = self.vanished.saturating_add(1);
+    }
+
     /// Counts a file that was left out.
     pub(crate) fn add_left_out(&mut self) {
         self.left_out = self.left_out.saturating_add(1);
@@ -41,5 +58,14 @@ impl Tally {
     pub(crate) fn add_unread(&mut self) {
         self.unread = self.unread.saturating_add(1);
         self.add_left_out();
+    }
+}
+
+/// Tells how many files were passed by, if any were: those that are no DICOM files, and those that have vanished.
+pub fn tell_passed_by<E: Write>(ignored: u64, vanished: u64, err: &mut E) {
+    for (count, what) in [(ignored, "ignored"), (vanished, "vanished")] {
+        if count > 0 {
+            let _ = writeln!(err, "dcmbox: {what} {count}");
+        }
     }
 }

@@ -1,5 +1,6 @@
-//! The keywords of data elements. A row of a table is a line with a tag of eight hexadecimal digits,
-//! where `x` stands for any digit, a space and the keyword.
+//! The VRs and the keywords of data elements. A row of a table is a line with a tag of eight hexadecimal digits, where
+//! `x` stands for any digit, a space, the VRs, a space and the keyword. Where the VR depends on other elements, a slash
+//! stands between those that it may be; for an item and its end there is none, which is `--`.
 mod part_1;
 mod part_10;
 mod part_11;
@@ -54,30 +55,61 @@ fn digits_of(group: u16, element: u16) -> Digits {
     ]
 }
 
-/// Returns whether a row is that of the tag.
-fn are_of(row: &[u8], tag: &Digits) -> bool {
-    row.len() == 8
-        && row
+/// Rows that were cut at the one in their middle.
+#[derive(Clone, Copy)]
+struct Halves {
+    before: &'static str,
+    row: &'static str,
+    after: &'static str,
+}
+
+/// Cuts rows at the one in their middle.
+fn middle_of(rows: &'static str) -> Option<Halves> {
+    let (front, _) = rows.split_at_checked(rows.len() / 2)?;
+    let (before, start) = match front.rsplit_once('\n') {
+        Some((before, _)) => (before, before.len().checked_add(1)?),
+        None => ("", 0),
+    };
+    let rest = rows.get(start..)?;
+    let (row, after) = rest.split_once('\n').unwrap_or((rest, ""));
+    Some(Halves { before, row, after })
+}
+
+/// Returns what the row of a tag has after the digits, in rows in ascending order, or `None` if none is that of the
+/// tag.
+fn found_in(rows: &'static str, tag: &Digits) -> Option<&'static str> {
+    let mut rows = rows;
+    // Each turn leaves half of the rows.
+    for _ in 0..64 {
+        let Halves { before, row, after } = middle_of(rows)?;
+        let (digits, found) = row.split_once(' ')?;
+        if digits.as_bytes() == tag.as_slice() {
+            return Some(found);
+        }
+        rows = if digits.as_bytes() < tag.as_slice() {
+            after
+        } else {
+            before
+        };
+    }
+    None
+}
+
+/// Returns whether a row with these digits is that of the tag.
+fn are_of(digits: &[u8], tag: &Digits) -> bool {
+    digits.len() == 8
+        && digits
             .iter()
             .zip(tag)
-            .all(|(row, tag)| row == tag || *row == b'x')
+            .all(|(digit, wanted)| digit == wanted || *digit == b'x')
 }
 
-/// Returns the keyword of a row, or `None` if it is not that of the tag.
-fn keyword_of(row: &'static str, tag: &Digits) -> Option<&'static str> {
-    let (digits, keyword) = row.split_once(' ')?;
-    if are_of(digits.as_bytes(), tag) {
-        Some(keyword)
-    } else {
-        None
-    }
-}
-
-/// Returns the keyword of a tag in a table, or `None` if the table does not have it.
-fn keyword_in(rows: &'static str, tag: &Digits) -> Option<&'static str> {
+/// Returns what the first row of a tag has after the digits, or `None` if none is that of the tag.
+fn found_among(rows: &'static str, tag: &Digits) -> Option<&'static str> {
     for row in rows.split('\n') {
-        if let Some(keyword) = keyword_of(row, tag) {
-            return Some(keyword);
+        let (digits, found) = row.split_once(' ')?;
+        if are_of(digits.as_bytes(), tag) {
+            return Some(found);
         }
     }
     None
@@ -103,19 +135,39 @@ fn table_of(tag: &Digits) -> &'static str {
     table
 }
 
+/// Returns the VRs and the keyword of the data element with this group and element number, or `None` if the standard
+/// has none, as of each odd group.
+fn row_of(group: u16, element: u16) -> Option<(&'static str, &'static str)> {
+    if group % 2 == 1 {
+        return None;
+    }
+    let tag = digits_of(group, element);
+    let found = match found_in(table_of(&tag), &tag) {
+        Some(found) => found,
+        None => found_among(repeaters::ROWS, &tag)?,
+    };
+    found.split_once(' ')
+}
+
 /// Returns the keyword of the data element with this group and element number (PS3.6 sections 6 to 9),
 /// or `None` if the standard has none.
 pub fn element_keyword(group: u16, element: u16) -> Option<&'static str> {
-    let tag = digits_of(group, element);
-    match keyword_in(table_of(&tag), &tag) {
-        Some(keyword) => Some(keyword),
-        None => keyword_in(repeaters::ROWS, &tag),
-    }
+    let (_, keyword) = row_of(group, element)?;
+    Some(keyword)
+}
+
+/// Returns the VR of the data element with this group and element number (PS3.6 sections 6 to 9), or `None` if the
+/// standard has none. Where the VR depends on other elements, a slash stands between those that it may be; for an item
+/// and its end there is none, which is `--`.
+pub fn element_vrs(group: u16, element: u16) -> Option<&'static str> {
+    let (vrs, _) = row_of(group, element)?;
+    Some(vrs)
 }
 
 /// Returns the digits of a row that has this keyword, if they are those of one tag.
 fn digits_in(row: &'static str, keyword: &str) -> Option<&'static str> {
-    let (digits, named) = row.split_once(' ')?;
+    let (digits, found) = row.split_once(' ')?;
+    let (_, named) = found.split_once(' ')?;
     if named == keyword && !digits.as_bytes().contains(&b'x') {
         Some(digits)
     } else {

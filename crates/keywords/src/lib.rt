@@ -1,12 +1,12 @@
-//! The keywords of data elements, SOP classes and transfer syntaxes (PS3.6), for output that people
-//! read. Nothing is decided by them.
+//! The keywords of data elements, SOP classes and transfer syntaxes, and the VRs of data elements (PS3.6), for output
+//! that people read. No verdict is decided by them.
 #![tactic(auto)]
 
 mod classes;
 mod elements;
 mod syntaxes;
 
-pub use elements::{element_digits, element_keyword};
+pub use elements::{element_digits, element_keyword, element_vrs};
 
 /// A row of a table: the part of a UID after [`ROOT`], and the keyword.
 type Row = (&'static str, &'static str);

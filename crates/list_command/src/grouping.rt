@@ -1,11 +1,14 @@
 //! Groups the files of a folder by study and series.
-use crate::studies::{Instance, Series, Study};
+ghost use Rattle.std.specs.Prelude.{◌≡◌, ◌∷◌, [], ℕ, List, None, true, OnOk, IfOk, IfSome, IfNone, IsPermutation};
+ghost use Rattle.indexmap.specs.IndexMap.{get_by};
+ghost use Rattle.list_command.specs.Tree.{files_in, files_of, paths_in, paths_of, is_uid, HasPath, HasUid, IsAdded};
+
+use crate::studies::{ByUid, Instance, Series, Study};
 use element::Tag;
 use failures::ProgramError;
-use indexmap::IndexSet;
+use indexmap::IndexMap;
 use keyed_files::{FileKeys, FoundFile, Taking};
 use std::alloc::{AllocError, Allocator};
-use std::hash::{BuildHasherDefault, FoldHasher};
 use values::Repertoire;
 
 const CHARACTER_SET: Tag = Tag(0x0008, 0x0005);
@@ -45,21 +48,6 @@ pub(crate) const LISTED: [Tag; 11] = [
     INSTANCE_NUMBER,
 ];
 
-/// A set of keys, in the order in which they are first seen.
-type Seen<A> = IndexSet<Vec<u8, A>, BuildHasherDefault<FoldHasher>, A>;
-
-/// The studies and series of the files found so far.
-#[derive(Drop)]
-pub(crate) struct Grouping<A: Allocator> {
-    alloc: A,
-    has_instances: bool,
-    seen_studies: Seen<A>,
-    pub studies: Vec<Study<A>, A>,
-    /// The key of a series is the index of its study and its own UID.
-    seen_series: Seen<A>,
-    pub series: Vec<Series<A>, A>,
-}
-
 /// Returns a copy of the value with this tag, without padding. Fails if memory runs out.
 fn text_of<A: Allocator>(alloc: A, keys: &FileKeys, tag: Tag) -> Result<Vec<u8, A>, AllocError> {
     Vec::from_slice(alloc, keys.text(tag))
@@ -71,22 +59,24 @@ fn repertoire_of(keys: &FileKeys) -> Repertoire {
 }
 
 /// Returns a study with the values of this file, and without series.
-fn new_study<A: Allocator + Copy>(alloc: A, keys: &FileKeys) -> Result<Study<A>, AllocError> {
+fn new_study<A: Allocator + Copy>(alloc: A, keys: &FileKeys) -> Result<Study<A>, AllocError>
+    ensures empty { IfOk result (λ study. study.series.entries ≡ []) }
+{
     Ok(Study {
-        uid: text_of(alloc, keys, STUDY_UID)?,
         date: text_of(alloc, keys, STUDY_DATE)?,
         patient_id: text_of(alloc, keys, PATIENT_ID)?,
         patient_name: text_of(alloc, keys, PATIENT_NAME)?,
         repertoire: repertoire_of(keys),
-        series: Vec::new(alloc),
-        images: 0,
+        has_several_patients: false,
+        series: IndexMap::new(alloc),
     })
 }
 
 /// Returns a series with the values of this file, and without files.
-fn new_series<A: Allocator + Copy>(alloc: A, keys: &FileKeys) -> Result<Series<A>, AllocError> {
+fn new_series<A: Allocator + Copy>(alloc: A, keys: &FileKeys) -> Result<Series<A>, AllocError>
+    ensures empty { IfOk result (λ series. (series.images ≡ 0) × (series.instances.items ≡ [])) }
+{
     Ok(Series {
-        uid: text_of(alloc, keys, SERIES_UID)?,
         number: text_of(alloc, keys, SERIES_NUMBER)?,
         modality: text_of(alloc, keys, MODALITY)?,
         description: text_of(alloc, keys, SERIES_DESCRIPTION)?,
@@ -96,16 +86,67 @@ fn new_series<A: Allocator + Copy>(alloc: A, keys: &FileKeys) -> Result<Series<A
     })
 }
 
-/// Returns the values that are listed of a file.
-fn new_instance<A: Allocator + Copy>(
+/// Returns the index of the study or series with this UID, if there is one.
+fn place_of<T, A: Allocator>(all: &ByUid<T, A>, uid: &[u8]) -> Option<usize>
+    ensures at { IfSome result (λ place. HasUid uid.now place all.now.entries) }
+    ensures absent { IfNone result (get_by (is_uid uid.now) all.now ≡ None) }
+{
+    all.get_index_of(uid)
+}
+
+/// Adds a study or a series with this UID, which none has, and returns its index. Fails if memory runs out.
+fn add_new<T: Drop, A: Allocator + Copy>(
     alloc: A,
-    file: FoundFile<'_>,
-) -> Result<Instance<A>, AllocError> {
-    Ok(Instance {
-        uid: text_of(alloc, file.keys, INSTANCE_UID)?,
-        number: text_of(alloc, file.keys, INSTANCE_NUMBER)?,
-        path: String::from_str(alloc, file.path)?,
-    })
+    all: &mut ByUid<T, A>,
+    uid: &[u8],
+    new: T,
+) -> Result<usize, AllocError>
+    requires absent { get_by (is_uid uid.now) all.old ≡ None }
+    ensures at { IfOk result (λ place. HasUid uid.now place all.new.entries) }
+    ensures added { OnOk result (IsAdded uid.now new all.old.entries all.new.entries) }
+{
+    let (place, _) = all.insert_full(Vec::from_slice(alloc, uid)?, new)?;
+    Ok(place)
+}
+
+impl<A: Allocator + Copy> Study<A> {
+    /// Returns the index of the series with this UID, which is added if it is new. Fails if memory runs out.
+    fn series_of(&mut self, alloc: A, uid: &[u8], keys: &FileKeys) -> Result<usize, AllocError>
+        ensures at { IfOk result (λ place. HasUid uid.now place self.new.series.entries) }
+        ensures same { OnOk result ((study : List ℕ) → files_in study self.new.series.entries ≡ files_in study self.old.series.entries) }
+        ensures listed { OnOk result ((study : List ℕ) → paths_in study self.new.series.entries ≡ paths_in study self.old.series.entries) }
+    {
+        if let Some(place) = place_of(&self.series, uid) {
+            return Ok(place);
+        }
+        add_new(alloc, &mut self.series, uid, new_series(alloc, keys)?)
+    }
+
+    /// Counts a file in its series. Fails if memory runs out.
+    fn add(
+        &mut self,
+        alloc: A,
+        uid: &[u8],
+        file: FoundFile<'_>,
+        instance: Option<Instance<A>>,
+    ) -> Result<(), AllocError>
+        ensures counted { OnOk result ((study : List ℕ) → IsPermutation ((study, uid.now) ∷ files_in study self.old.series.entries) (files_in study self.new.series.entries)) }
+        ensures listed { OnOk result ((study path : List ℕ) → HasPath path instance
+            → IsPermutation ((study, (uid.now, path)) ∷ paths_in study self.old.series.entries) (paths_in study self.new.series.entries)) }
+    {
+        let place = self.series_of(alloc, uid, file.keys)?;
+        self.series[place].add(instance)?;
+        self.has_several_patients |= self.patient_id.as_slice() != file.keys.text(PATIENT_ID);
+        Ok(())
+    }
+}
+
+/// The studies and series of the files found so far.
+#[derive(Drop)]
+pub(crate) struct Grouping<A: Allocator> {
+    alloc: A,
+    has_instances: bool,
+    pub studies: ByUid<Study<A>, A>,
 }
 
 impl<A: Allocator + Copy> Grouping<A> {
@@ -114,66 +155,54 @@ impl<A: Allocator + Copy> Grouping<A> {
         Grouping {
             alloc,
             has_instances,
-            seen_studies: IndexSet::new(alloc),
-            studies: Vec::new(alloc),
-            seen_series: IndexSet::new(alloc),
-            series: Vec::new(alloc),
+            studies: IndexMap::new(alloc),
         }
     }
 
-    /// Returns the index of a file's study, which is added if it is new. Fails if memory runs out.
-    fn study_of(&mut self, keys: &FileKeys) -> Result<usize, AllocError> {
-        if let Some(place) = self.seen_studies.get_index_of(keys.text(STUDY_UID)) {
+    /// Returns the index of the study with this UID, which is added if it is new. Fails if memory runs out.
+    fn study_of(&mut self, uid: &[u8], keys: &FileKeys) -> Result<usize, AllocError>
+        ensures at { IfOk result (λ place. HasUid uid.now place self.new.studies.entries) }
+        ensures same { OnOk result (files_of self.new.studies.entries ≡ files_of self.old.studies.entries) }
+        ensures listed { OnOk result (paths_of self.new.studies.entries ≡ paths_of self.old.studies.entries) }
+    {
+        if let Some(place) = place_of(&self.studies, uid) {
             return Ok(place);
         }
-        self.studies.push(new_study(self.alloc, keys)?)?;
-        let key = text_of(self.alloc, keys, STUDY_UID)?;
-        let (place, _) = self.seen_studies.insert_full(key)?;
-        Ok(place)
+        let study = new_study(self.alloc, keys)?;
+        add_new(self.alloc, &mut self.studies, uid, study)
     }
 
-    /// Returns the index of a file's series, which is added to the study with this index if it is new.
-    /// Fails if memory runs out.
-    fn series_of(&mut self, study: usize, keys: &FileKeys) -> Result<usize, AllocError> {
-        let mut key = Vec::from_slice(self.alloc, &study.to_le_bytes())?;
-        key.extend_from_slice(keys.text(SERIES_UID))?;
-        if let Some(place) = self.seen_series.get_index_of(key.as_slice()) {
-            return Ok(place);
+    /// Returns the values that are listed of a file, if files are listed. Fails if memory runs out.
+    fn instance_of(&self, file: FoundFile<'_>) -> Result<Option<Instance<A>>, AllocError>
+        ensures path { self.now.has_instances ≡ true → IfOk result (HasPath file.entry.path.now) }
+    {
+        if !self.has_instances {
+            return Ok(None);
         }
-        self.series.push(new_series(self.alloc, keys)?)?;
-        let (place, _) = self.seen_series.insert_full(key)?;
-        if let Some(study) = self.studies.get_mut(study) {
-            study.series.push(place)?;
-        }
-        Ok(place)
+        Ok(Some(Instance {
+            uid: text_of(self.alloc, file.keys, INSTANCE_UID)?,
+            number: text_of(self.alloc, file.keys, INSTANCE_NUMBER)?,
+            path: String::from_str(self.alloc, file.path)?,
+        }))
     }
 
     /// Counts a file in its study and series, and keeps it if files are listed. Fails if memory runs
     /// out.
-    fn add(&mut self, file: FoundFile<'_>) -> Result<(), AllocError> {
-        let place = self.study_of(file.keys)?;
-        let series_place = self.series_of(place, file.keys)?;
-        if let Some(study) = self.studies.get_mut(place) {
-            study.images = study.images.saturating_add(1);
-        }
-        let instance = if self.has_instances {
-            Some(new_instance(self.alloc, file)?)
-        } else {
-            None
-        };
-        if let Some(series) = self.series.get_mut(series_place) {
-            series.images = series.images.saturating_add(1);
-            if let Some(instance) = instance {
-                series.instances.push(instance)?;
-            }
-        }
+    fn add(&mut self, study: &[u8], series: &[u8], file: FoundFile<'_>) -> Result<(), AllocError>
+        ensures counted { OnOk result (IsPermutation ((study.now, series.now) ∷ files_of self.old.studies.entries) (files_of self.new.studies.entries)) }
+        ensures listed { self.old.has_instances ≡ true
+            → OnOk result (IsPermutation ((study.now, (series.now, file.entry.path.now)) ∷ paths_of self.old.studies.entries) (paths_of self.new.studies.entries)) }
+    {
+        let instance = self.instance_of(file)?;
+        let place = self.study_of(study, file.keys)?;
+        self.studies[place].add(self.alloc, series, file, instance)?;
         Ok(())
     }
 }
 
 impl<A: Allocator + Copy> Taking for Grouping<A> {
     fn take(&mut self, file: FoundFile<'_>) -> Result<(), ProgramError> {
-        self.add(file)?;
+        self.add(file.keys.text(STUDY_UID), file.keys.text(SERIES_UID), file)?;
         Ok(())
     }
 }

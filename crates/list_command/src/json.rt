@@ -15,18 +15,16 @@ fn separate<O: Write>(is_first: bool, out: &mut O) -> io::Result<()> {
 
 /// Writes the members of a study's object, except its series and the closing brace.
 fn write_study<A: Allocator, O: Write>(
+    uid: &[u8],
     study: &Study<A>,
     modalities: &[&[u8]],
     out: &mut O,
 ) -> io::Result<()> {
-    let (date, uid) = (
-        JsonText::ascii(study.date.as_slice()),
-        JsonText::ascii(study.uid.as_slice()),
-    );
+    let (date, uid) = (JsonText::ascii(study.date.as_slice()), JsonText::ascii(uid));
     let id = JsonText(study.patient_id.as_slice(), study.repertoire);
     let name = JsonText(study.patient_name.as_slice(), study.repertoire);
     let modalities = JsonTexts(modalities);
-    let (series, images) = (study.series.len(), study.images);
+    let (series, images) = (study.series.len(), study.images());
     write!(
         out,
         "{{\"study\":{uid},\"date\":{date},\"patient_id\":{id},\"patient_name\":{name},"
@@ -34,14 +32,22 @@ fn write_study<A: Allocator, O: Write>(
     write!(
         out,
         "\"modalities\":{modalities},\"series_count\":{series},\"image_count\":{images}"
-    )
+    )?;
+    if study.has_several_patients {
+        write!(out, ",\"several_patients\":true")?;
+    }
+    Ok(())
 }
 
 /// Writes the members of a series's object, except its files and the closing brace.
-fn write_series<A: Allocator, O: Write>(series: &Series<A>, out: &mut O) -> io::Result<()> {
+fn write_series<A: Allocator, O: Write>(
+    uid: &[u8],
+    series: &Series<A>,
+    out: &mut O,
+) -> io::Result<()> {
     let (number, uid) = (
         JsonText::ascii(series.number.as_slice()),
-        JsonText::ascii(series.uid.as_slice()),
+        JsonText::ascii(uid),
     );
     let modality = JsonText::ascii(series.modality.as_slice());
     let description = JsonText(series.description.as_slice(), series.repertoire);
@@ -91,16 +97,16 @@ fn write_instances<A: Allocator + Copy, O: Write>(
 /// Writes the member `series` of a study: the array of its series.
 fn write_all_series<A: Allocator + Copy, O: Write>(
     alloc: A,
-    (study, series): (&Study<A>, &[Series<A>]),
+    study: &Study<A>,
     options: ListOptions,
     out: &mut O,
 ) -> Result<(), ProgramError> {
     let mut is_first = true;
     write!(out, ",\"series\":[").map_err(ProgramError::of_output)?;
-    for place in order_of_series(alloc, study, series)? {
-        if let Some(series) = series.get(place) {
+    for place in order_of_series(alloc, &study.series)? {
+        if let Some((uid, series)) = study.series.get_index(place) {
             separate(is_first, out).map_err(ProgramError::of_output)?;
-            write_series(series, out).map_err(ProgramError::of_output)?;
+            write_series(uid.as_slice(), series, out).map_err(ProgramError::of_output)?;
             if options.instances {
                 write_instances(alloc, series, out)?;
             }
@@ -118,15 +124,16 @@ fn write_studies<A: Allocator + Copy, O: Write>(
     options: ListOptions,
     out: &mut O,
 ) -> Result<(), ProgramError> {
-    let series = grouping.series.as_slice();
     let mut is_first = true;
-    for place in order_of_studies(alloc, grouping.studies.as_slice())? {
-        if let Some(study) = grouping.studies.as_slice().get(place) {
-            let modalities = modalities_of(alloc, study, series)?;
+    for place in order_of_studies(alloc, &grouping.studies)? {
+        if let Some((uid, study)) = grouping.studies.get_index(place) {
+            let modalities = modalities_of(alloc, study)?;
             separate(is_first, out).map_err(ProgramError::of_output)?;
-            write_study(study, modalities.as_slice(), out).map_err(ProgramError::of_output)?;
+            write_study(uid.as_slice(), study, modalities.as_slice(), out).map_err(
+                ProgramError::of_output,
+            )?;
             if options.has_series() {
-                write_all_series(alloc, (study, series), options, out)?;
+                write_all_series(alloc, study, options, out)?;
             }
             write!(out, "}}").map_err(ProgramError::of_output)?;
             is_first = false;

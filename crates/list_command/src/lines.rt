@@ -12,18 +12,16 @@ use std::io::{self, Write};
 /// Writes the line of a study: date, Patient ID, patient's name, modalities, number of series, number
 /// of files, UID.
 fn write_study<A: Allocator, O: Write>(
+    uid: &[u8],
     study: &Study<A>,
     modalities: &[&[u8]],
     out: &mut O,
 ) -> io::Result<()> {
-    let (date, uid) = (
-        LineText(study.date.as_slice()),
-        LineText(study.uid.as_slice()),
-    );
+    let (date, uid) = (LineText(study.date.as_slice()), LineText(uid));
     let id = LineText(study.patient_id.as_slice());
     let name = LineText(study.patient_name.as_slice());
     let modalities = LineTexts(modalities);
-    let (series, images) = (study.series.len(), study.images);
+    let (series, images) = (study.series.len(), study.images());
     writeln!(
         out,
         "{date}\t{id}\t{name}\t{modalities}\t{series}\t{images}\t{uid}"
@@ -31,11 +29,15 @@ fn write_study<A: Allocator, O: Write>(
 }
 
 /// Writes the line of a series: number, modality, description, number of files, UID.
-fn write_series<A: Allocator, O: Write>(series: &Series<A>, out: &mut O) -> io::Result<()> {
+fn write_series<A: Allocator, O: Write>(
+    uid: &[u8],
+    series: &Series<A>,
+    out: &mut O,
+) -> io::Result<()> {
     let number = LineText(series.number.as_slice());
     let modality = LineText(series.modality.as_slice());
     let description = LineText(series.description.as_slice());
-    let (images, uid) = (series.images, LineText(series.uid.as_slice()));
+    let (images, uid) = (series.images, LineText(uid));
     writeln!(
         out,
         "  {number}\t{modality}\t{description}\t{images}\t{uid}"
@@ -64,12 +66,11 @@ fn write_instances<A: Allocator + Copy, O: Write>(
 fn write_all_series<A: Allocator + Copy, O: Write>(
     alloc: A,
     study: &Study<A>,
-    series: &[Series<A>],
     out: &mut O,
 ) -> Result<(), ProgramError> {
-    for place in order_of_series(alloc, study, series)? {
-        if let Some(series) = series.get(place) {
-            write_series(series, out).map_err(ProgramError::of_output)?;
+    for place in order_of_series(alloc, &study.series)? {
+        if let Some((uid, series)) = study.series.get_index(place) {
+            write_series(uid.as_slice(), series, out).map_err(ProgramError::of_output)?;
             write_instances(alloc, series, out)?;
         }
     }
@@ -83,13 +84,14 @@ pub(crate) fn write_lines<A: Allocator + Copy, O: Write>(
     options: ListOptions,
     out: &mut O,
 ) -> Result<(), ProgramError> {
-    let series = grouping.series.as_slice();
-    for place in order_of_studies(alloc, grouping.studies.as_slice())? {
-        if let Some(study) = grouping.studies.as_slice().get(place) {
-            let modalities = modalities_of(alloc, study, series)?;
-            write_study(study, modalities.as_slice(), out).map_err(ProgramError::of_output)?;
+    for place in order_of_studies(alloc, &grouping.studies)? {
+        if let Some((uid, study)) = grouping.studies.get_index(place) {
+            let modalities = modalities_of(alloc, study)?;
+            write_study(uid.as_slice(), study, modalities.as_slice(), out).map_err(
+                ProgramError::of_output,
+            )?;
             if options.has_series() {
-                write_all_series(alloc, study, series, out)?;
+                write_all_series(alloc, study, out)?;
             }
         }
     }

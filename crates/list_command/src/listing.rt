@@ -2,9 +2,12 @@
 use crate::grouping::{Grouping, LISTED};
 use crate::json::write_json;
 use crate::lines::write_lines;
+use crate::studies::{ByUid, Study};
+use crate::texts::LineText;
 use failures::{ProgramError, flushed};
 use inspection::{Outcome, OutputForm};
 use keyed_files::{Counter, Visitor};
+use std::alloc::Allocator;
 use std::io::{self, BufWriter, Write};
 use std::rt::Files;
 
@@ -15,6 +18,8 @@ pub struct ListOptions {
     pub series: bool,
     /// Whether the files of each series are listed, and so the series, too.
     pub instances: bool,
+    /// Whether files that are no DICOM files are passed by.
+    pub ignore_others: bool,
     pub form: OutputForm,
 }
 
@@ -25,10 +30,23 @@ impl ListOptions {
     }
 }
 
+/// Tells of each study whose files have several Patient IDs.
+fn tell_several_patients<A: Allocator, E: Write>(studies: &ByUid<Study<A>, A>, err: &mut E) {
+    for (uid, study) in studies {
+        if study.has_several_patients {
+            let uid = LineText(uid.as_slice());
+            let _ = writeln!(
+                err,
+                "dcmbox: study {uid}: its files have several Patient IDs"
+            );
+        }
+    }
+}
+
 /// Writes the studies of the files in a folder and its subfolders, ordered by date and then by UID: as
 /// a line each, or as one JSON object. Files that are no DICOM files, or have a fault before the listed
 /// values, are reported on `err`; the outcome is `Faulty` then. Files that cannot be read are reported,
-/// too, and the error is `Unread` then.
+/// too, and the error is `Unread` then. So is each study whose files have several Patient IDs; its object says so.
 ///
 /// Memory grows with the number of studies and series, and with that of files if these are listed.
 ///
@@ -44,7 +62,13 @@ where
     R::A: Copy,
 {
     let mut grouping = Grouping::new(rt.alloc(), options.instances);
-    let tally = Visitor::new(rt, &LISTED, err, counter).visit_all(dir, &mut grouping)?;
+    let mut err = err;
+    let mut visitor = Visitor::new(rt, &LISTED, &mut err, counter);
+    if options.ignore_others {
+        visitor.ignore_others();
+    }
+    let tally = visitor.visit_all(dir, &mut grouping)?;
+    tell_several_patients(&grouping.studies, &mut err);
     match options.form {
         OutputForm::Lines => write_lines(rt.alloc(), &grouping, options, out)?,
         OutputForm::Json => write_json(rt.alloc(), &grouping, options, tally.left_out, out)?,

@@ -1,5 +1,5 @@
 //! The order in which studies, series and files are listed.
-use crate::studies::{Instance, Series, Study};
+use crate::studies::{ByUid, Instance, Series, Study};
 use std::alloc::{AllocError, Allocator};
 use std::str;
 
@@ -31,12 +31,13 @@ fn number_in(text: &[u8]) -> i64 {
 /// Returns the indices of the studies, ordered by date and then by UID. Fails if memory runs out.
 pub(crate) fn order_of_studies<A: Allocator + Copy>(
     alloc: A,
-    studies: &[Study<A>],
+    studies: &ByUid<Study<A>, A>,
 ) -> Result<Vec<usize, A>, AllocError> {
     let mut ranks = Vec::new(alloc);
     for place in 0..studies.len() {
-        let study = &studies[place];
-        ranks.push((study.date.as_slice(), study.uid.as_slice(), place))?;
+        if let Some((uid, study)) = studies.get_index(place) {
+            ranks.push((study.date.as_slice(), uid.as_slice(), place))?;
+        }
     }
     places_of(alloc, ranks)
 }
@@ -45,14 +46,13 @@ pub(crate) fn order_of_studies<A: Allocator + Copy>(
 /// runs out.
 pub(crate) fn order_of_series<A: Allocator + Copy>(
     alloc: A,
-    study: &Study<A>,
-    series: &[Series<A>],
+    series: &ByUid<Series<A>, A>,
 ) -> Result<Vec<usize, A>, AllocError> {
     let mut ranks = Vec::new(alloc);
-    for place in &study.series {
-        if let Some(series) = series.get(*place) {
+    for place in 0..series.len() {
+        if let Some((uid, series)) = series.get_index(place) {
             let number = number_in(series.number.as_slice());
-            ranks.push((number, series.uid.as_slice(), *place))?;
+            ranks.push((number, uid.as_slice(), place))?;
         }
     }
     places_of(alloc, ranks)
@@ -77,15 +77,12 @@ pub(crate) fn order_of_instances<A: Allocator + Copy>(
 /// out.
 pub(crate) fn modalities_of<'a, A: Allocator + Copy>(
     alloc: A,
-    study: &Study<A>,
-    series: &'a [Series<A>],
+    study: &'a Study<A>,
 ) -> Result<Vec<&'a [u8], A>, AllocError> {
     let mut modalities = Vec::new(alloc);
-    for place in &study.series {
-        if let Some(series) = series.get(*place) {
-            if !series.modality.is_empty() {
-                modalities.push(series.modality.as_slice())?;
-            }
+    for series in study.series.values() {
+        if !series.modality.is_empty() {
+            modalities.push(series.modality.as_slice())?;
         }
     }
     modalities.sort()?;

@@ -1,6 +1,14 @@
 //! Studies, their series and their files, with the values that are listed.
-use std::alloc::Allocator;
+ghost use Rattle.std.specs.Prelude.{◌≡◌, ℕ, ◌+◌, ◌-◌, ◌^◌, List, ◌++◌, length, min, OnOk};
+ghost use Rattle.list_command.specs.Tree.{files_in, one_or_none};
+
+use indexmap::IndexMap;
+use std::alloc::{AllocError, Allocator};
+use std::hash::{BuildHasherDefault, FoldHasher};
 use values::Repertoire;
+
+/// Studies or series by their UIDs, in the order in which these are first seen.
+pub(crate) type ByUid<T, A> = IndexMap<Vec<u8, A>, T, BuildHasherDefault<FoldHasher>, A>;
 
 /// A file, with the values that are listed of it, without padding; a value that it does not have is
 /// empty.
@@ -16,7 +24,6 @@ pub(crate) struct Instance<A: Allocator> {
 /// empty.
 #[derive(Drop)]
 pub(crate) struct Series<A: Allocator> {
-    pub uid: Vec<u8, A>,
     pub number: Vec<u8, A>,
     pub modality: Vec<u8, A>,
     pub description: Vec<u8, A>,
@@ -28,17 +35,45 @@ pub(crate) struct Series<A: Allocator> {
     pub instances: Vec<Instance<A>, A>,
 }
 
+impl<A: Allocator> Series<A> {
+    /// Counts a file, and keeps it if files are listed. Fails if memory runs out, and at 2^64 files.
+    pub(crate) fn add(&mut self, instance: Option<Instance<A>>) -> Result<(), AllocError>
+        ensures counted { OnOk result (self.new.images ≡ self.old.images + 1) }
+        ensures listed { OnOk result (self.new.instances.items ≡ self.old.instances.items ++ one_or_none instance) }
+    {
+        let images = self.images.checked_add(1).ok_or(AllocError)?;
+        if let Some(instance) = instance {
+            self.instances.push(instance)?;
+        }
+        self.images = images;
+        Ok(())
+    }
+}
+
 /// A study, with the values of its first file, without padding; a value that it does not have is empty.
 #[derive(Drop)]
 pub(crate) struct Study<A: Allocator> {
-    pub uid: Vec<u8, A>,
     pub date: Vec<u8, A>,
     pub patient_id: Vec<u8, A>,
     pub patient_name: Vec<u8, A>,
     /// The character repertoire of the patient's ID and name.
     pub repertoire: Repertoire,
-    /// The indices of its series in `Grouping::series`.
-    pub series: Vec<usize, A>,
-    /// The number of its files.
-    pub images: u64,
+    /// Whether a file of it has another Patient ID.
+    pub has_several_patients: bool,
+    pub series: ByUid<Series<A>, A>,
+}
+
+impl<A: Allocator> Study<A> {
+    /// Returns the number of the files of all its series.
+    pub(crate) fn images(&self) -> u64
+        ensures { (study : List ℕ) → result ≡ min (length (files_in study self.now.series.entries)) (2 ^ 64 - 1) }
+    {
+        let mut images = 0u64;
+        for place in 0..self.series.len() {
+            if let Some((_, series)) = self.series.get_index(place) {
+                images = images.saturating_add(series.images);
+            }
+        }
+        images
+    }
 }

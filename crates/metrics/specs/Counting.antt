@@ -9,7 +9,7 @@ use Rattle.metrics.specs.declared.counters.Counters.{Counters}
 
 -- of a box that has done nothing
 abbrev pub no_counts : Counters
-no_counts = record { ends = no_ends; stores = no_statuses; received = 0 }
+no_counts = record { ends = no_ends; stores = no_statuses; received = 0; refused_contexts = 0 }
 
 -- an association ended so, after it had received so many bytes
 abbrev pub after_end : CountedEnd → ℕ → Counters → Counters
@@ -22,3 +22,7 @@ after_answer status c = record c { stores = with_status status c.stores }
 -- so many stores got no reply
 abbrev pub after_unanswered : ℕ → Counters → Counters
 after_unanswered stores c = record c { stores = more_without_reply stores c.stores }
+
+-- so many presentation contexts were refused
+abbrev pub after_refused : ℕ → Counters → Counters
+after_refused contexts c = record c { refused_contexts = raised contexts c.refused_contexts }

@@ -1,6 +1,6 @@
 //! What a box has done, in numbers.
 ghost use Rattle.std.specs.Prelude.{◌≡◌};
-ghost use Rattle.metrics.specs.Counting.{after_answer, after_end, after_unanswered, no_counts};
+ghost use Rattle.metrics.specs.Counting.{after_answer, after_end, after_refused, after_unanswered, no_counts};
 
 use crate::ends::{CountedEnd, EndCounts};
 use crate::statuses::{CountedStatus, StatusCounts};
@@ -14,6 +14,8 @@ pub struct Counters {
     pub stores: StatusCounts,
     /// Bytes that associations received that have ended.
     pub received: u64,
+    /// Presentation contexts that were refused, of requests that were accepted.
+    pub refused_contexts: u64,
 }
 
 impl Counters {
@@ -46,6 +48,7 @@ impl Counters {
                 without_reply: 0,
             },
             received: 0,
+            refused_contexts: 0,
         }
     }
 
@@ -69,5 +72,12 @@ impl Counters {
         ensures { self.new ≡ after_unanswered stores self.old }
     {
         self.stores.add_without_reply(stores);
+    }
+
+    /// Counts so many presentation contexts that were refused.
+    pub fn refuse_contexts(&mut self, contexts: u64)
+        ensures { self.new ≡ after_refused contexts self.old }
+    {
+        self.refused_contexts = self.refused_contexts.saturating_add(contexts);
     }
 }

@@ -82,6 +82,10 @@ impl fmt::Display for Figures<'_> {
             "counter",
             "Bytes that associations received that have ended.",
         )?;
-        writeln!(f, "{name} {}", self.counters.received)
+        writeln!(f, "{name} {}", self.counters.received)?;
+        let name = "dcmbox_refused_contexts_total";
+        let help = "Presentation contexts that were refused, of accepted associations.";
+        write_head(f, name, "counter", help)?;
+        writeln!(f, "{name} {}", self.counters.refused_contexts)
     }
 }

@@ -7,9 +7,10 @@ use crate::pace::Pace;
 use crate::statuses::CountedStatus;
 use std::alloc::{AllocError, Global};
 use std::cell::Cell;
+use std::fs::{self, File, OpenFile};
+use std::io::{self, Write};
 use std::rt::Files;
 use std::time::{Clock, Duration, Instant, SystemTime, UNIX_EPOCH};
-use std::{fs, io};
 
 /// What is to be told of a file that was to be written.
 #[derive(Drop)]
@@ -96,6 +97,16 @@ impl MetricsFile {
         }
     }
 
+    /// Counts so many presentation contexts that were refused.
+    pub fn count_refused_contexts(&self, contexts: u64) {
+        if contexts > 0 {
+            let mut counters = self.counters.get();
+            counters.refuse_contexts(contexts);
+            self.counters.set(counters);
+            self.change();
+        }
+    }
+
     /// Takes note of how many connections are open.
     pub fn set_open(&self, open: u64) {
         if self.open.replace(open) != open {
@@ -118,11 +129,13 @@ impl MetricsFile {
         }
     }
 
-    /// Writes the numbers to a draft beside the file, and gives that its name.
+    /// Writes the numbers to a draft beside the file, and gives that its name. What has the draft's path is removed
+    /// first, and is not written to, since it may be a link.
     fn replace<R: Files + Alloc>(&self, rt: &R) -> io::Result<()> {
         let text = format!(in rt.alloc(); "{}", self.figures())?;
         let draft = self.draft.as_str();
-        fs::write(rt, draft, text.as_bytes())?;
+        let _ = fs::remove_file(rt, draft);
+        File::create_new(rt, draft)?.write_all(text.as_bytes())?;
         fs::rename(rt, draft, self.path.as_str())
     }
 

@@ -17,12 +17,16 @@ same_bytes a b = pointwise nat_eq a b
 abbrev pub same_title : List ℕ → List ℕ → Bool
 same_title a b = same_bytes (title_text a) (title_text b)
 
-abbrev pub is_among : (callers : List (List ℕ)) → (calling : List ℕ) → Bool
-is_among callers calling = list_any (λ caller. same_title caller calling) callers
+abbrev pub is_among : (titles : List (List ℕ)) → (title : List ℕ) → Bool
+is_among titles title = list_any (λ other. same_title other title) titles
 
 -- no callers means any
 abbrev pub may_call : (callers : List (List ℕ)) → (calling : List ℕ) → Bool
 may_call callers calling = nat_eq (length callers) 0 || is_among callers calling
+
+-- the called title is one of the receiver's, or it accepts any
+abbrev pub may_be_called : Settings → (called : List ℕ) → Bool
+may_be_called s called = s.any_called || is_among s.called called
 
 -- bit 0 is version 1
 abbrev pub has_version_1 : RequestRecord → Bool
@@ -34,7 +38,7 @@ abbrev pub judged : Settings → RequestRecord → Answer
 judged s r =
     if not (has_version_1 r) then Reject rejected_permanent service_provider_acse protocol_version_not_supported
     else (if not (same_bytes r.application_context application_context) then Reject rejected_permanent service_user application_context_name_not_supported
-    else (if not (same_title r.called s.ae) then Reject rejected_permanent service_user called_ae_title_not_recognized
+    else (if not (may_be_called s r.called) then Reject rejected_permanent service_user called_ae_title_not_recognized
     else (if not (may_call s.callers r.calling) then Reject rejected_permanent service_user calling_ae_title_not_recognized
     else (if nat_le 1 r.maximum && nat_le r.maximum 7 then Reject rejected_permanent service_user no_reason_given
     else Accept))))

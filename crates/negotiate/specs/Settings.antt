@@ -1,13 +1,14 @@
 -- The settings of the receiver (this product's own profile).
-use Rattle.std.specs.Prelude.{ℕ, ◌^◌, Bool, true, false, List, [], ◌++◌, map}
+use Rattle.std.specs.Prelude.{ℕ, ◌^◌, Bool, true, false, List, [], ◌∷◌, ◌++◌, map, option_map, unwrap_or}
 use Rattle.dictionary.specs.StorageClasses.{storage_classes}
 use Rattle.negotiate.specs.declared.config.Config.{Config}
-use Rattle.negotiate.specs.Taken.{Taken}
+use Rattle.negotiate.specs.Taken.{Taken, nothing_additional}
 
--- the receiver's own title and those that may call, each of 16 bytes; the greatest P-DATA length that it announces; the
--- greatest data set that it takes; and what it takes further
+-- the called titles, the receiver's own first, and whether any other is accepted, too; the titles that may call; each of
+-- 16 bytes; the greatest P-DATA length that it announces; the greatest data set that it takes; and what it takes further
 pub record Settings : Type 0 where
-  pub ae : List ℕ
+  pub called : List (List ℕ)
+  pub any_called : Bool
   pub callers : List (List ℕ)
   pub max_pdu : ℕ
   pub max_data : ℕ
@@ -20,8 +21,9 @@ registered false = []
 
 abbrev pub settings_of : Config → Settings
 settings_of c = record {
-  ae = c.ae.0;
-  callers = map (λ t. t.0) c.callers.items;
+  called = c.ae.0 ∷ map (λ t. t.0) c.also.items;
+  any_called = c.any_called;
+  callers = unwrap_or (option_map (λ titles. map (λ t. t.0) titles.items) c.callers) [];
   max_pdu = c.max_pdu;
   max_data = c.max_data;
   additional = record { classes = map (λ t. t.items) c.named.items ++ registered c.all_storage; transfers = c.transfers.items };
@@ -33,3 +35,14 @@ default_max_pdu = 16384
 
 abbrev pub default_max_data : ℕ
 default_max_data = 2 ^ 40
+
+-- those of a receiver of this title that anyone may call, and that takes nothing further
+abbrev pub settings_by_default : (ae : List ℕ) → (max_pdu : ℕ) → (max_data : ℕ) → Settings
+settings_by_default ae max_pdu max_data = record {
+  called = ae ∷ [];
+  any_called = false;
+  callers = [];
+  max_pdu = max_pdu;
+  max_data = max_data;
+  additional = nothing_additional;
+}

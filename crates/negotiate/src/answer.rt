@@ -20,10 +20,10 @@ pub enum Answer {
     Reject(u8, u8, u8),
 }
 
-fn is_among(callers: &[AeTitle], calling: AeTitle) -> bool
-    ensures { result ≡ spelling.is_among (map (λ t. t.0) callers.now) calling.0 }
+fn is_among(titles: &[AeTitle], title: AeTitle) -> bool
+    ensures { result ≡ spelling.is_among (map (λ t. t.0) titles.now) title.0 }
 {
-    callers.contains(&calling)
+    titles.contains(&title)
 }
 
 /// Whether an application entity of this title may call.
@@ -33,9 +33,16 @@ fn may_call(callers: &[AeTitle], calling: AeTitle) -> bool
     callers.is_empty() || is_among(callers, calling)
 }
 
+/// Whether a request may have this called title.
+fn may_be_called(config: &Config, called: AeTitle) -> bool
+    ensures { result ≡ spelling.may_be_called (settings_of config.now) called.0 }
+{
+    config.any_called || config.ae == called || is_among(config.also.as_slice(), called)
+}
+
 /// Returns the answer to a request: the rejection of the first of these that fails, or else an
 /// acceptance. The protocol version is 1; the application context is DICOM's; the called title is
-/// the receiver's own; the calling title may call; and the peer's maximum length leaves room for a
+/// one of the receiver's; the calling title may call; and the peer's maximum length leaves room for a
 /// fragment, so it is 0 or at least 8 (this product's own profile). The first rejection is the
 /// service provider's, the others are the local user's.
 pub fn judge(config: &Config, request: &Request) -> Answer
@@ -51,10 +58,10 @@ pub fn judge(config: &Config, request: &Request) -> Answer
     if request.application_context() != APPLICATION_CONTEXT {
         return user_rejection(rejection::APPLICATION_CONTEXT_NAME_NOT_SUPPORTED);
     }
-    if request.called() != config.ae {
+    if !may_be_called(config, request.called()) {
         return user_rejection(rejection::CALLED_AE_TITLE_NOT_RECOGNIZED);
     }
-    if !may_call(config.callers.as_slice(), request.calling()) {
+    if !may_call(config.callers(), request.calling()) {
         return user_rejection(rejection::CALLING_AE_TITLE_NOT_RECOGNIZED);
     }
     if (1..=7).contains(&request.maximum()) {

@@ -8,8 +8,8 @@ use arrayvec::ArrayVec;
 use dictionary::{Transfer, storage_class};
 use element::{AeTitle, Uid};
 
-/// How many calling titles can be named that are accepted.
-pub const MOST_CALLERS: usize = 64;
+/// How many called titles can be named that are accepted beside the receiver's own.
+pub const MOST_ALSO: usize = 15;
 
 /// How many additional storage classes can be named that are taken.
 pub const MOST_NAMED: usize = 64;
@@ -23,10 +23,14 @@ const MOST_TRANSFERS: usize = 24;
 /// The settings of the receiver: who may associate with it, and how much it accepts.
 #[derive(Drop)]
 pub struct Config {
-    /// Its own title, which has to be the called title of a request.
+    /// Its own title; the called title of a request has to be this one, or one of those below.
     pub ae: AeTitle,
-    /// The calling titles that are accepted; if empty, any is.
-    pub callers: ArrayVec<AeTitle, MOST_CALLERS>,
+    /// Further called titles that are accepted.
+    pub also: ArrayVec<AeTitle, MOST_ALSO>,
+    /// Whether any called title is accepted.
+    pub any_called: bool,
+    /// The calling titles that are accepted; if there are none, any is.
+    callers: Option<Vec<AeTitle>>,
     /// The maximum length of a P-DATA-TF PDU that it accepts, in bytes, as it announces it
     /// (PS3.8 annex D.1); at least 1024.
     pub max_pdu: u32,
@@ -72,19 +76,6 @@ fn texts_of(uids: &[Uid]) -> ArrayVec<ArrayVec<u8, 64>, MOST_NAMED>
     texts
 }
 
-/// Copies of texts.
-fn copied_texts(texts: &[ArrayVec<u8, 64>]) -> ArrayVec<ArrayVec<u8, 64>, MOST_NAMED>
-    requires few { length texts.now ≤ 64 }
-    ensures texts { map (λ t. t.items) result.items ≡ map (λ t. t.items) texts.now }
-    ensures few { array_vec_len result ≤ 64 }
-{
-    let mut copies = ArrayVec::new();
-    for text in texts {
-        copies.push(text_of(text.as_slice()));
-    }
-    copies
-}
-
 /// A copy of a list of transfer syntaxes.
 fn copied_transfers(transfers: &[Transfer]) -> ArrayVec<Transfer, MOST_TRANSFERS>
     requires few { length transfers.now ≤ 24 }
@@ -105,11 +96,10 @@ fn is_among(transfers: &[Transfer], transfer: Transfer) -> bool
 }
 
 impl Config {
-    ghost use Rattle.std.specs.Prelude.{◌++◌, Some};
+    ghost use Rattle.std.specs.Prelude.{◌++◌, ◌∷◌, Some};
     ghost use Rattle.negotiate.specs.Contexts.{is_taken};
-    ghost use Rattle.negotiate.specs.Taken.{nothing_additional};
     ghost use Rattle.negotiate.specs.ContextRows.{place_of};
-    ghost use Rattle.negotiate.specs.Settings.{registered, settings_of};
+    ghost use Rattle.negotiate.specs.Settings.{registered, settings_by_default, settings_of};
 
     /// The default of `max_pdu`.
     pub const DEFAULT_MAX_PDU: u32 = 16384;
@@ -117,25 +107,18 @@ impl Config {
     /// The default of `max_data`, 2^40.
     pub const DEFAULT_MAX_DATA: u64 = 1_099_511_627_776;
 
-    /// Creates the settings.
-    pub fn new(
-        ae: AeTitle,
-        callers: ArrayVec<AeTitle, MOST_CALLERS>,
-        max_pdu: u32,
-        max_data: u64,
-    ) -> Config
+    /// Creates the settings of a receiver that accepts any calling title.
+    pub fn new(ae: AeTitle, max_pdu: u32, max_data: u64) -> Config
         requires least_pdu { 1024 ≤ max_pdu }
         requires least_data { 1024 ≤ max_data }
         requires most_data { max_data ≤ 2 ^ 48 }
-        ensures ae { result.ae ≡ ae }
-        ensures callers { result.callers ≡ callers }
-        ensures max_pdu { result.max_pdu ≡ max_pdu }
-        ensures max_data { result.max_data ≡ max_data }
-        ensures additional { (settings_of result).additional ≡ nothing_additional }
+        ensures { settings_of result ≡ settings_by_default ae.0 max_pdu max_data }
     {
         Config {
             ae,
-            callers,
+            also: ArrayVec::new(),
+            any_called: false,
+            callers: None,
             max_pdu,
             max_data,
             all_storage: false,
@@ -144,46 +127,50 @@ impl Config {
         }
     }
 
+    /// Returns the settings with these calling titles accepted alone, or any if there are none.
+    pub fn with_callers(mut self, callers: Vec<AeTitle>) -> Config
+        ensures { settings_of result ≡ record (settings_of self) { callers = map (λ t. t.0) callers.items } }
+    {
+        self.callers = Some(callers);
+        self
+    }
+
+    /// Returns the settings with these called titles accepted beside its own, or any.
+    pub fn with_called(mut self, also: ArrayVec<AeTitle, MOST_ALSO>, any_called: bool) -> Config
+        ensures { settings_of result ≡ record (settings_of self) { called = self.ae.0 ∷ map (λ t. t.0) also.items; any_called = any_called } }
+    {
+        self.also = also;
+        self.any_called = any_called;
+        self
+    }
+
     /// Returns the settings with these storage classes taken beside the dictionary's own: every one of the
     /// standard's table or none, and those that are named.
-    pub fn with_storage(self, all_storage: bool, named: &[Uid]) -> Config
+    pub fn with_storage(mut self, all_storage: bool, named: &[Uid]) -> Config
         requires few { length named.now ≤ 64 }
-        ensures ae { result.ae ≡ self.ae }
-        ensures callers { result.callers ≡ self.callers }
-        ensures max_pdu { result.max_pdu ≡ self.max_pdu }
-        ensures max_data { result.max_data ≡ self.max_data }
-        ensures additional { (settings_of result).additional.classes ≡ named.now ++ registered all_storage }
-        ensures transfers { result.transfers ≡ self.transfers }
+        ensures { settings_of result ≡ record (settings_of self) { additional = record { classes = named.now ++ registered all_storage; transfers = self.transfers.items } } }
     {
-        Config {
-            ae: self.ae,
-            callers: self.callers,
-            max_pdu: self.max_pdu,
-            max_data: self.max_data,
-            all_storage,
-            named: texts_of(named),
-            transfers: self.transfers,
-        }
+        self.all_storage = all_storage;
+        self.named = texts_of(named);
+        self
     }
 
     /// Returns the settings with these transfer syntaxes taken beside Explicit and Implicit VR Little Endian.
-    pub fn with_transfers(self, transfers: &[Transfer]) -> Config
+    pub fn with_transfers(mut self, transfers: &[Transfer]) -> Config
         requires few { length transfers.now ≤ 24 }
-        ensures ae { result.ae ≡ self.ae }
-        ensures callers { result.callers ≡ self.callers }
-        ensures max_pdu { result.max_pdu ≡ self.max_pdu }
-        ensures max_data { result.max_data ≡ self.max_data }
-        ensures classes { (settings_of result).additional.classes ≡ (settings_of self).additional.classes }
-        ensures transfers { (settings_of result).additional.transfers ≡ transfers.now }
+        ensures { settings_of result ≡ record (settings_of self) { additional = record (settings_of self).additional { transfers = transfers.now } } }
     {
-        Config {
-            ae: self.ae,
-            callers: self.callers,
-            max_pdu: self.max_pdu,
-            max_data: self.max_data,
-            all_storage: self.all_storage,
-            named: self.named,
-            transfers: copied_transfers(transfers),
+        self.transfers = copied_transfers(transfers);
+        self
+    }
+
+    /// Returns the calling titles that are accepted; if there are none, any is.
+    pub fn callers(&self) -> &[AeTitle]
+        ensures { map (λ t. t.0) result.now ≡ (settings_of self.now).callers }
+    {
+        match &self.callers {
+            Some(callers) => callers.as_slice(),
+            None => &[],
         }
     }
 
@@ -226,24 +213,5 @@ impl Config {
             }
         }
         None
-    }
-
-    /// Returns a copy of the settings. Unlike `Clone` it allocates nothing and cannot fail.
-    pub fn copied(&self) -> Config
-        ensures { settings_of result ≡ settings_of self.now }
-    {
-        let mut callers = ArrayVec::new();
-        for caller in self.callers.as_slice() {
-            callers.push(*caller);
-        }
-        Config {
-            ae: self.ae,
-            callers,
-            max_pdu: self.max_pdu,
-            max_data: self.max_data,
-            all_storage: self.all_storage,
-            named: copied_texts(self.named.as_slice()),
-            transfers: copied_transfers(self.transfers.as_slice()),
-        }
     }
 }

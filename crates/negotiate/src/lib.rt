@@ -13,7 +13,7 @@ mod table;
 mod writing;
 
 pub use answer::{Answer, judge};
-pub use config::{Config, MOST_CALLERS, MOST_NAMED};
+pub use config::{Config, MOST_ALSO, MOST_NAMED};
 pub use contexts::context;
 pub use proposals::{Context, Service, result_of};
 pub use table::{ContextRow, RowClass, compact, context_of};

@@ -94,9 +94,13 @@ impl<A: Allocator + Copy> Filing for MemoryFiling<A> {
 
 /// Nothing waits: each commit is settled at once.
 impl<A: Allocator + Copy> Settling for MemoryFiling<A> {
-    ghost use Rattle.std.specs.Prelude.{false};
+    ghost use Rattle.std.specs.Prelude.{false, true};
+
+    type Synced = ();
 
     ghost waits = { λ f. false };
+
+    ghost covers = { λ f synced. true };
 
     fn waits(&self) -> bool {
         false
@@ -106,7 +110,7 @@ impl<A: Allocator + Copy> Settling for MemoryFiling<A> {
 
     fn write_out(&mut self) {}
 
-    fn settle(&mut self, _are_named: bool) -> Result<(), FilingFailed> {
+    fn settle(&mut self, _synced: &()) -> Result<(), FilingFailed> {
         Ok(())
     }
 }

@@ -1,5 +1,5 @@
 //! Storage whose commits may be settled later, several at once.
-ghost use Rattle.std.specs.Prelude.{◌≡◌, Bool, OnOk, OnErr, true, false};
+ghost use Rattle.std.specs.Prelude.{◌≡◌, ◌&&◌, Bool, OnOk, OnErr, not, true, false};
 
 use crate::filing::{Filing, FilingFailed};
 
@@ -7,10 +7,16 @@ use crate::filing::{Filing, FilingFailed};
 /// its file, so nobody may be told that the file was committed.
 ///
 /// A file that waits is settled in three steps: `write_out` syncs its bytes and names it; the names of
-/// all files that wait are synced together; and `settle` ends the waiting.
+/// all files that wait are synced together; and `settle` ends the waiting, by what that sync gave.
 pub trait Settling: Filing {
+    /// What a sync of names gives: which files have their names on the disk. Nothing else can make one.
+    type Synced;
+
     /// For contracts: whether the last commit waits to be settled, or its file was lost before that.
     ghost waits: { Self → Bool };
+
+    /// For contracts: whether a sync of names has the file that waits.
+    ghost covers: { Self → Self.Synced → Bool };
 
     /// Returns whether the last commit waits to be settled, or its file was lost before that.
     fn waits(&self) -> bool
@@ -24,12 +30,12 @@ pub trait Settling: Filing {
         ensures store { Self.store self.new ≡ Self.store self.old }
         ensures waits { waits self.new ≡ waits self.old };
 
-    /// Settles the last commit, if it waits. `are_named` says whether the names that files were given
-    /// are on the disk.
+    /// Settles the last commit, if it waits and a sync of names has its file.
     ///
-    /// Fails if the file is lost.
-    fn settle(&mut self, are_named: bool) -> Result<(), FilingFailed>
+    /// Fails if the file is lost: it was lost before, or this sync does not have it.
+    fn settle(&mut self, synced: &Self::Synced) -> Result<(), FilingFailed>
         ensures store { Self.store self.new ≡ Self.store self.old }
+        ensures waits { waits self.new ≡ (waits self.old && not (covers self.old synced.now)) }
         ensures settled { OnOk result (waits self.new ≡ false) }
         ensures lost { OnErr result (waits self.new ≡ true) };
 }

@@ -11,6 +11,7 @@ mod lives;
 mod lost_power;
 mod mounted;
 mod name;
+mod numbers;
 mod powered_wire;
 mod stored;
 mod stores;

@@ -6,8 +6,8 @@ use cases::{Case, Parts, cases};
 use dictionary::{Transfer, storage_class};
 use element::{AeTitle, Uid};
 use negotiate::{
-    Config, Context, ContextRow, MOST_CALLERS, MOST_NAMED, Service, answer_size, compact, context,
-    context_of, judge, write_answer,
+    Config, Context, ContextRow, MOST_NAMED, Service, answer_size, compact, context, context_of,
+    judge, write_answer,
 };
 use pdu::{Request, read_request};
 use std::alloc::{AllocError, Global};
@@ -136,6 +136,14 @@ rejected for its version | SCANNER1 | 00 02 00 00 'OTHER           SCANNER1     
 rejected for its application context | SCANNER1 | 00 01 00 00 \
     'OTHER           SCANNER1        ' 00*32 10 00 00 11 '1.2.840.10008.1.1' echo-context 50 \
     00 00 11 51 00 00 04 00 00 00 01 52 00 00 05 '1.2.3' | Reject(1, 1, 2) | | | |
+called by a further title | SCANNER1 also | 00 01 00 00 'ARCHIVE         SCANNER1        ' 00*32 \
+    application echo-context 50 00 00 11 51 00 00 04 00 00 40 00 52 00 00 05 '1.2.3' | Accept | | | |
+called by its own title beside another | SCANNER1 also | echo | Accept | | | |
+rejected for its called title | SCANNER1 also | 00 01 00 00 'OTHER           SCANNER1        ' 00*32 \
+    application echo-context 50 00 00 11 51 00 00 04 00 00 40 00 52 00 00 05 '1.2.3' | \
+    Reject(1, 1, 7) | | | |
+called by any title | SCANNER1 any-called | 00 01 00 00 'OTHER           SCANNER1        ' 00*32 \
+    application echo-context 50 00 00 11 51 00 00 04 00 00 40 00 52 00 00 05 '1.2.3' | Accept | | | |
 rejected for its calling title | SCANNER2 | 00 01 00 00 'DCMBOX          SCANNER1        ' \
     00*32 application echo-context 50 00 00 11 51 00 00 04 00 00 00 01 52 00 00 05 '1.2.3' | \
     Reject(1, 1, 3) | | | |
@@ -161,21 +169,17 @@ fn taking(config: Config, all_storage: bool, named: &[Uid]) -> Config {
     config.with_storage(all_storage, named)
 }
 
-/// Returns the title that alone may call, if it is not `any`.
-fn callers_of(caller: &str) -> Result<ArrayVec<AeTitle, MOST_CALLERS>, Fail> {
-    let mut callers = ArrayVec::new();
-    if caller != "any" {
-        callers.push(AeTitle::of_text(caller).ok_or("title")?);
-    }
-    Ok(callers)
-}
-
-/// Returns DCMBOX with this caller and this maximum.
-fn box_of(caller: &str, max_pdu: u32) -> Result<Config, Fail> {
-    let callers = callers_of(caller)?;
+/// Returns DCMBOX with this caller, if it is not `any`, and this maximum.
+fn box_of(alloc: Global, caller: &str, max_pdu: u32) -> Result<Config, Fail> {
     let max_data = Config::DEFAULT_MAX_DATA;
     let ae = AeTitle(*b"DCMBOX          ");
-    Ok(Config::new(ae, callers, max_pdu.max(1024), max_data))
+    let config = Config::new(ae, max_pdu.max(1024), max_data);
+    if caller == "any" {
+        return Ok(config);
+    }
+    let mut callers = Vec::new(alloc);
+    callers.push(AeTitle::of_text(caller).ok_or("title")?)?;
+    Ok(config.with_callers(callers))
 }
 
 /// The private class, twice.
@@ -187,11 +191,15 @@ fn private_twice() -> Result<[Uid; 2], Fail> {
 }
 
 /// Returns DCMBOX with these settings.
-fn config_of(settings: &str) -> Result<Config, Fail> {
+fn config_of(alloc: Global, settings: &str) -> Result<Config, Fail> {
     let caller = settings.split_whitespace().next().unwrap_or("any");
     let last = settings.split_whitespace().last().unwrap_or("");
     let twice = private_twice()?;
-    let known = box_of(caller, last.parse().unwrap_or(Config::DEFAULT_MAX_PDU))?;
+    let known = box_of(
+        alloc,
+        caller,
+        last.parse().unwrap_or(Config::DEFAULT_MAX_PDU),
+    )?;
     let all = settings.contains(" all");
     Ok(if settings.contains(" private private") {
         taking(known, all, &twice)
@@ -199,6 +207,12 @@ fn config_of(settings: &str) -> Result<Config, Fail> {
         taking(known, all, &twice[..1])
     } else if all || settings.contains(" none") {
         taking(known, all, &[])
+    } else if settings.contains(" also") {
+        let mut also = ArrayVec::new();
+        also.push(AeTitle(*b"ARCHIVE         "));
+        known.with_called(also, false)
+    } else if settings.contains(" any-called") {
+        known.with_called(ArrayVec::new(), true)
     } else if settings.contains(" jpeg") {
         known.with_transfers(&[Transfer::JpegBaseline8Bit])
     } else {
@@ -335,20 +349,19 @@ fn all_parts(alloc: Global) -> Result<Parts<'static>, Fail> {
     Ok(parts)
 }
 
-/// Fails by the case's name unless its request comes to what it says, under its settings and under a copy of them.
+/// Fails by the case's name unless its request comes to what it says, under its settings.
 fn comes(alloc: Global, parts: &Parts, case: &Case) -> Result<(), Fail> {
-    let config = config_of(case.field(0)?)?;
+    let config = config_of(alloc, case.field(0)?)?;
     let body = parts.bytes(case, 1)?;
     let request = read_request(body.as_slice())?;
     is_judged(alloc, case, &config, &request)?;
-    is_judged(alloc, case, &config.copied(), &request)?;
     is_answered(alloc, parts, case, &config, &request)
 }
 
 #[test]
 fn requests(rt: HostRuntime) -> Result<(), Fail> {
     let parts = all_parts(rt.alloc())?;
-    for case in cases(rt.alloc(), REQUESTS, 22)?.as_slice() {
+    for case in cases(rt.alloc(), REQUESTS, 26)?.as_slice() {
         comes(rt.alloc(), &parts, case)?;
     }
     Ok(())

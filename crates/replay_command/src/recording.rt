@@ -12,7 +12,6 @@ use negotiate::Config;
 use part10::Filing;
 use pdu::MemoryWire;
 use std::alloc::{AllocError, Allocator, Global};
-use std::fs::File;
 use std::io::{BufWriter, Read, Write};
 use std::{fs, io};
 
@@ -96,10 +95,10 @@ pub fn replay_over<A: Allocator + Copy, R: Read, F: Filing, O: Write>(
 
 /// Runs the recording, and writes the sent bytes and a last line: the state of the association, the
 /// number of held bytes and of stored files.
-fn write_replay<O: Write>(
+fn write_replay<R: Read, O: Write>(
     alloc: Global,
     settings: &Replay,
-    input: &mut File,
+    input: &mut R,
     filing: &mut FolderFiling<HostRuntime>,
     out: &mut O,
 ) -> Result<(), ProgramError> {
@@ -108,27 +107,28 @@ fn write_replay<O: Write>(
     writeln!(out, "{standing} held {held} files {files}").map_err(ProgramError::of_output)
 }
 
-/// Runs the recording, and prints the sent bytes and the last line to the standard output.
-fn print_replay(
+/// Runs the recording over a folder, and prints the sent bytes and the last line to the standard output.
+fn print_replay<R: Read>(
     rt: &HostRuntime,
     settings: &Replay,
-    input: &mut File,
-    filing: &mut FolderFiling<HostRuntime>,
+    input: &mut R,
 ) -> Result<(), ProgramError> {
+    let mut filing = open_folder(*rt, settings.out, settings.layout, true)?;
     let mut out = BufWriter::new(rt.alloc(), io::writer(rt)).map_err(ProgramError::of_output)?;
-    write_replay(rt.alloc(), settings, input, filing, &mut out)?;
+    write_replay(rt.alloc(), settings, input, &mut filing, &mut out)?;
     out.flush().map_err(ProgramError::of_output)
 }
 
-/// Runs an association with the recorded file of the settings. Prints the sent bytes in hexadecimal,
-/// and the state in which it ended.
+/// Runs an association with the recorded file of the settings, or with standard input, for which `-`
+/// stands. Prints the sent bytes in hexadecimal, and the state in which it ended.
 ///
 /// Fails if the file or the folder cannot be opened, the output cannot be written, or memory runs out.
 pub fn replay(rt: &HostRuntime, settings: &Replay) -> Result<(), ProgramError> {
-    let mut input = match fs::open(rt, settings.file) {
-        Ok(input) => input,
-        Err(error) => return Err(ProgramError::System(Failure::Open, error)),
-    };
-    let mut filing = open_folder(*rt, settings.out, settings.layout, true)?;
-    print_replay(rt, settings, &mut input, &mut filing)
+    if settings.file == "-" {
+        return print_replay(rt, settings, &mut rt.stdin());
+    }
+    match fs::open(rt, settings.file) {
+        Ok(mut input) => print_replay(rt, settings, &mut input),
+        Err(error) => Err(ProgramError::System(Failure::Open, error)),
+    }
 }

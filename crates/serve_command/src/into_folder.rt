@@ -1,11 +1,14 @@
 //! `dcmbox serve` into a folder.
 use crate::serve::{form_of, serve};
 use arguments::{Serve, VERSION};
-use failures::{ProgramError, WordsError};
+use failures::{Failure, ProgramError, WordsError};
 use folder_filing::QuarantineFound;
 use folders::{numbered, open_writer, quarantined, try_draft};
-use journal::{Limits, Logger, Output, QuarantineCleared, QuarantineFull, Started};
+use journal::{Logger, Output, QuarantineCleared, QuarantineFull, Started};
 use log::{Log, Logged};
+use std::fs::{File, TryLockError};
+use std::io::{Error, ErrorKind};
+use std::os::unix::fs::MetadataExt;
 use std::time::Clock;
 use std::{env, fs};
 
@@ -55,10 +58,26 @@ fn drafts_in(rt: &HostRuntime, folder: &str) -> u64 {
     count
 }
 
+/// Returns whether standard error is systemd's journal: its device and its inode are those that systemd says.
+fn is_journal(rt: &HostRuntime) -> bool {
+    let (Ok(stream), Ok(own)) = (
+        env::var(rt, "JOURNAL_STREAM"),
+        fs::metadata(rt, "/proc/self/fd/2"),
+    ) else {
+        return false;
+    };
+    match stream.split_once(':') {
+        Some((device, inode)) => {
+            device.parse::<u64>() == Ok(own.dev()) && inode.parse::<u64>() == Ok(own.ino())
+        }
+        None => false,
+    }
+}
+
 /// Returns where the lines of the log go. Where standard error is systemd's journal, each has its priority.
 fn output_of(rt: &HostRuntime, settings: &Serve) -> Output<HostRuntime> {
     let output = Output::new(*rt, form_of(rt.alloc(), settings));
-    if env::var(rt, "JOURNAL_STREAM").is_ok() {
+    if is_journal(rt) {
         output.with_priorities()
     } else {
         output
@@ -75,10 +94,35 @@ fn tell_quarantine<R: Log + Clock>(logger: &Logger<'_, R>, found: QuarantineFoun
     }
 }
 
+/// Locks a file beside that of the metrics, `.NAME.lock`, until what is returned is dropped. Returns `None` without
+/// metrics, or where that file can't be made: the metrics can't be written there either, and the log says so.
+///
+/// Fails if another program has locked it.
+fn lock_metrics(rt: &HostRuntime, path: Option<&str>) -> Result<Option<File>, ProgramError> {
+    let Some(path) = path else {
+        return Ok(None);
+    };
+    let name = match path.rsplit_once('/') {
+        Some((folder, name)) => format!(in rt.alloc(); "{folder}/.{name}.lock")?,
+        None => format!(in rt.alloc(); ".{path}.lock")?,
+    };
+    let Ok(file) = File::create(rt, name.as_str()) else {
+        return Ok(None);
+    };
+    match file.try_lock() {
+        Err(TryLockError::WouldBlock) => {
+            let error = Error::new(ErrorKind::WouldBlock, "it is in use by another program");
+            Err(ProgramError::System(Failure::BusyMetrics, error))
+        }
+        _ => Ok(Some(file)),
+    }
+}
+
 /// Serves into the folder until the program is ended, or only one association. Logs first what it is, with
 /// the drafts that it removes from the folder.
 pub fn serve_into(rt: &HostRuntime, settings: &Serve) -> Result<(), ProgramError> {
-    check_stop_file(rt, settings.at_once.stop_file)?;
+    check_stop_file(rt, settings.service.stop_file)?;
+    let _lock = lock_metrics(rt, settings.metrics)?;
     let drafts = drafts_in(rt, settings.out);
     let writer = open_writer(*rt, settings.out, settings.layout, settings.sync)?;
     let writer = numbered(writer, settings.numbers)?;
@@ -86,14 +130,16 @@ pub fn serve_into(rt: &HostRuntime, settings: &Serve) -> Result<(), ProgramError
     let mut filing = writer.filing().map_err(ProgramError::of_folder)?;
     try_draft(&mut filing)?;
     let logged = Logged::new(rt, settings.level, output_of(rt, settings));
-    let config = &settings.config;
     let logger = Logger::new(&logged, form_of(rt.alloc(), settings));
     logger.tell(&Started {
         version: VERSION,
-        title: config.ae.trimmed(),
+        config: &settings.config,
         folder: settings.out,
-        limits: Limits::of(config),
-        at_once: settings.at_once.associations as u64,
+        quarantine: match settings.quarantine {
+            Some(quarantine) => Some(quarantine.dir),
+            None => None,
+        },
+        at_once: settings.service.associations as u64,
         drafts,
     });
     if let Some(found) = found {

@@ -1,43 +1,87 @@
 -- What a connection left that has ended is kept, once, beside what those before it left.
-use Rattle.std.proofs.Common.{◌≡◌, sym, ap, subst, ◌∙◌, List, [], ◌∷◌, ◌++◌, map, Option, Some}
-use Rattle.std.specs.Prelude.{Box}
+use Rattle.std.proofs.Common.{◌≡◌, ℕ, ◌≤◌, Bool, true, refl, sym, ap, subst, ◌∙◌, List, [], ◌∷◌, ◌++◌, length, map, Option, None, Some}
 use Rattle.std.proofs.Math.Logic.{∥∥₁_map}
-use Rattle.std.proofs.lemmas.List.{map-append}
+use Rattle.std.proofs.lemmas.List.{append-nil, map-append}
 use Rattle.std.proofs.lemmas.List.Elements.{All-push}
 use Rattle.std.specs.List.{All}
-use Rattle.negotiate.specs.Settings.{Settings}
 use Rattle.part10.specs.Store.{Store}
+use Rattle.negotiate.specs.Settings.{Settings}
 use Rattle.serving.specs.Served.{IsServed}
+use Rattle.serving.specs.Timed.{GivenInTime, asked_at}
+use Rattle.serving.specs.Waits.{Waits, had_reasons, opened_at}
 use Rattle.serving.specs.declared.open_connection.ConnectionEnd.{ConnectionEnd}
 use Rattle.server.specs.declared.socket.Socket.{Socket}
 use Rattle.server.specs.declared.server.opening.history.SlotHistory.{SlotHistory}
+use Rattle.server.specs.Terms.{Terms}
 use Rattle.server.specs.Histories.{LeftBy, ended_in, opened_in, opened_over}
-use Rattle.server.specs.machine.Slots.{HaveEnded, seen_in, seen_of}
+use Rattle.server.specs.machine.Slots.{HaveEnded, seen_of}
 
--- one connection has ended, of a server whose settings these are
-pub one_ended : {F : Type 0} (store : F → Store) (s t : Settings) (old new : SlotHistory F) (e : ConnectionEnd Socket F) (filing : F)
-    → t ≡ s → opened_in new ≡ opened_in old → ended_in new ≡ ended_in old ++ e ∷ [] → e.opened.value ≡ filing
-    → ∥ IsServed t e.exchange (store filing) (store e.filing) ∥₁ → HaveEnded store s (filing ∷ []) old new
-one_ended store s t old new e filing same opened ended over left =
-    let by : LeftBy store s e = subst (λ t. ∥ IsServed t e.exchange (store e.opened.value) (store e.filing) ∥₁) same (subst (λ f. ∥ IsServed t e.exchange (store f) (store e.filing) ∥₁) (sym over) left) in
+-- what is seen of the connection that is there
+pub seen_there : {T A : Type 0} (there : Option T) (x : T) (see other : T → A) → there ≡ Some x → seen_of there see ≡ seen_of there other → see x ≡ other x
+seen_there there x see other is e = ap (first_or (see x)) (subst (λ o. seen_of o see ≡ seen_of o other) is e)
+  where
+    first_or : {A : Type 0} → A → List A → A
+    first_or x [] = x
+    first_or x (y ∷ ys) = y
+
+-- none is there that is held to anything
+pub none_held : {T A : Type 0} (now : Option T) (see other : T → A) → now ≡ None → seen_of now see ≡ seen_of now other
+none_held now see other is = subst (λ o. seen_of o see ≡ seen_of o other) (sym is) refl
+
+-- the one that was opened is held to these terms
+pub held_now : {T : Type 0} (now : Option T) (connection : T) (see : T → Terms) (t : Terms) → now ≡ Some connection → see connection ≡ t → seen_of now see ≡ seen_of now (λ c. t)
+held_now now connection see t is e = subst (λ o. seen_of o see ≡ seen_of o (λ c. t)) (sym is) (ap (λ (u : Terms). u ∷ []) e)
+
+pub terms_as : (t : Terms) (settings s : Settings) (begun : Waits) (artim idle : ℕ) (longest : Option ℕ) (now : ℕ) → settings ≡ s → begun ≡ opened_at artim idle longest now → record { settings = s; artim = artim; idle = idle; longest = longest } ≡ t
+    → record { settings = settings; artim = begun.artim; idle = begun.idle; longest = begun.longest } ≡ t
+terms_as t settings s begun artim idle longest now e f h = rw (e, f) h
+
+-- a connection left what its terms give, where it was closed so
+pub left_by : {F : Type 0} (store : F → Store) (t : Terms) (e : ConnectionEnd Socket F) (filing : F) (s : Settings) (begun : Waits) (stopped : Bool)
+    → record { settings = s; artim = begun.artim; idle = begun.idle; longest = begun.longest } ≡ t → e.opened.value ≡ filing → e.begun.value ≡ begun → e.is_stopped ≡ stopped
+    → begun ≡ opened_at begun.artim begun.idle begun.longest begun.opened → ∥ IsServed s e.exchange (store filing) (store e.filing) ∥₁ → ∥ GivenInTime s e.exchange (store filing) (store e.filing) begun e.moments ∥₁
+    → length (asked_at e.moments) ≤ 1 → had_reasons stopped begun.longest begun.opened (asked_at e.moments) ≡ true → LeftBy store t e
+left_by store t e filing s begun stopped is opened from stop begins left in_time once reasons = subst (λ (u : Terms). LeftBy store u e) is (record {
+  left = rw opened left;
+  begun = rw from begins;
+  in_time = rw (opened, from) in_time;
+  once = once;
+  reasons = rw (from, stop) reasons;
+})
+
+-- one connection has ended
+pub one_ended : {F : Type 0} (store : F → Store) (t : Terms) (old new : SlotHistory F) (e : ConnectionEnd Socket F) (filing : F)
+    → opened_in new ≡ opened_in old → ended_in new ≡ ended_in old ++ e ∷ [] → e.opened.value ≡ filing
+    → LeftBy store t e → HaveEnded store t (filing ∷ []) old new
+one_ended store t old new e filing opened ended over by =
     record {
       opened = opened;
       ended = ap (map opened_over) ended ∙ (map-append opened_over (ended_in old) (e ∷ []) ∙ ap (λ f. map opened_over (ended_in old) ++ f ∷ []) over);
-      left = λ was. ∥∥₁_map was (λ all. subst (All (LeftBy store s)) (sym ended) (All-push (LeftBy store s) (ended_in old) e all by));
+      left = λ was. ∥∥₁_map was (λ all. subst (All (LeftBy store t)) (sym ended) (All-push (LeftBy store t) (ended_in old) e all by));
     }
 
 -- one connection more was opened, after the one before it has ended
-pub opened_next : {F T A : Type 0} (see : T → F) (store : F → Store) (s : Settings) (old noted new : SlotHistory F) (filing : F) (memory : Option (Box (Option T) A)) (empty : Box (Option T) A) (had now : Option T) (occupant : T)
-    → opened_in old ≡ map opened_over (ended_in old) ++ seen_in memory see → memory ≡ Some empty → had ≡ empty.value
+pub opened_next : {F T : Type 0} (see : T → F) (store : F → Store) (t : Terms) (old noted new : SlotHistory F) (filing : F) (there had now : Option T) (connection : T)
+    → opened_in old ≡ map opened_over (ended_in old) ++ seen_of there see → had ≡ there
     → opened_in noted ≡ opened_in old ++ filing ∷ [] → ended_in noted ≡ ended_in old
-    → HaveEnded store s (seen_of had see) noted new → now ≡ Some occupant → see occupant ≡ filing → opened_in new ≡ map opened_over (ended_in new) ++ seen_of now see
-opened_next see store s old noted new filing memory empty had now occupant none there value opened ended ends is over =
-    let before : seen_in memory see ≡ seen_of had see = ap (λ m. seen_in m see) there ∙ ap (λ o. seen_of o see) (sym value) in
+    → HaveEnded store t (seen_of had see) noted new → now ≡ Some connection → see connection ≡ filing → opened_in new ≡ map opened_over (ended_in new) ++ seen_of now see
+opened_next see store t old noted new filing there had now connection none same opened ended ends is over =
+    let before : seen_of there see ≡ seen_of had see = ap (λ o. seen_of o see) (sym same) in
     let all : opened_in old ≡ map opened_over (ended_in new) = none ∙ (ap (λ fs. map opened_over (ended_in old) ++ fs) before ∙ sym (ends.ended ∙ ap (λ es. map opened_over es ++ seen_of had see) ended)) in
     let last : seen_of now see ≡ filing ∷ [] = ap (λ o. seen_of o see) is ∙ ap (λ f. f ∷ []) over in
     ends.opened ∙ (opened ∙ (ap (λ fs. fs ++ filing ∷ []) all ∙ ap (λ fs. map opened_over (ended_in new) ++ fs) (sym last)))
 
 -- and each has left what the settings give
-pub still_left : {F : Type 0} (store : F → Store) (s : Settings) (openings : List F) (old noted new : SlotHistory F)
-    → ended_in noted ≡ ended_in old → HaveEnded store s openings noted new → ∥ All (LeftBy store s) (ended_in old) ∥₁ → ∥ All (LeftBy store s) (ended_in new) ∥₁
-still_left store s openings old noted new ended ends was = ends.left (subst (λ es. ∥ All (LeftBy store s) es ∥₁) (sym ended) was)
+pub still_left : {F : Type 0} (store : F → Store) (t : Terms) (openings : List F) (old noted new : SlotHistory F)
+    → ended_in noted ≡ ended_in old → HaveEnded store t openings noted new → ∥ All (LeftBy store t) (ended_in old) ∥₁ → ∥ All (LeftBy store t) (ended_in new) ∥₁
+still_left store t openings old noted new ended ends was = ends.left (subst (λ es. ∥ All (LeftBy store t) es ∥₁) (sym ended) was)
+
+-- none is there any more, and the one that was has ended
+pub none_left : {F T : Type 0} (see : T → F) (store : F → Store) (t : Terms) (old new : SlotHistory F) (there had now : Option T)
+    → opened_in old ≡ map opened_over (ended_in old) ++ seen_of there see → had ≡ there → HaveEnded store t (seen_of had see) old new → now ≡ None
+    → opened_in new ≡ map opened_over (ended_in new) ++ seen_of now see
+none_left see store t old new there had now none same ends is =
+    let before : seen_of there see ≡ seen_of had see = ap (λ o. seen_of o see) (sym same) in
+    let all : opened_in old ≡ map opened_over (ended_in new) = none ∙ (ap (λ fs. map opened_over (ended_in old) ++ fs) before ∙ sym ends.ended) in
+    let empty : [] ≡ seen_of now see = ap (λ o. seen_of o see) (sym is) in
+    ends.opened ∙ (all ∙ (sym (append-nil (map opened_over (ended_in new))) ∙ ap (λ fs. map opened_over (ended_in new) ++ fs) empty))

@@ -1,7 +1,7 @@
 //! The loop: it waits for any socket, and gives each connection its turn.
 ghost use Rattle.std.specs.Prelude.{◌≡◌, ◌+◌, length, vec_len};
-ghost use Rattle.negotiate.specs.Settings.{settings_of};
 ghost use Rattle.server.specs.Histories.{slots_in};
+ghost use Rattle.server.specs.Terms.{terms_of};
 
 mod accepting;
 mod group;
@@ -11,32 +11,37 @@ mod settling;
 mod waiting;
 
 use crate::arrivals::Arrivals;
+use crate::listeners::Listeners;
 use crate::policy::Policy;
 use crate::slot::Slot;
 use crate::socket::{AcceptedStream, watched};
 use crate::stopping::is_asked;
-use crate::terms::ServerTerms;
+use crate::terms::{MOST_AT_ONCE, ServerTerms};
 use accepting::PAUSE_MILLISECONDS;
 use admitting::{Notice, Queue, Slots};
+use connection::Observer;
 use folder_filing::{FolderFiling, FolderWriter};
 use group::Group;
-pub(crate) use group::Waiting;
-use journal::{ConnectionFailed, Journal, Logger, Stopping};
+use journal::{ConnectionFailed, Journal, Limited, Logger, Stopping};
 use log::Log;
-use mio::net::TcpListener;
 use mio::{Events, Poll, Token};
 use opening::{ClosedSlots, close_all};
 pub use opening::{ServerHistory, SlotHistory, serve_many};
 use part10::Settling;
-use std::alloc::{AllocError, Global};
+use serving::Stop;
+use std::alloc::Global;
 use std::fs::File;
 use std::io;
-use std::net::SocketAddr;
 use std::rt::Files;
 use std::time::{Clock, Duration, Instant};
 
-/// The token of the listener. Those of connections are the indices of their slots.
-const LISTENER: usize = usize::MAX;
+/// The token of the listeners. Those of connections are the indices of their slots.
+const LISTENERS: usize = usize::MAX;
+
+/// The tokens of connections that wait for a slot, beyond the indices of all slots.
+const FIRST_WAITER: usize = MOST_AT_ONCE;
+
+const LAST_WAITER: usize = LISTENERS - 1;
 
 /// The longest wait of one poll, in seconds.
 const MOST_SECONDS: u64 = 60;
@@ -50,25 +55,30 @@ struct Server<
     R: Log + Clock,
     S: Files<File = File> + Alloc<A = Global> + Clone + Drop,
     P: Policy,
+    B: Observer,
 >
 where
     FolderFiling<S>: Settling,
 {
     rt: &'a R,
     poll: Poll,
-    listener: TcpListener,
+    listeners: Listeners,
     terms: ServerTerms<'a>,
     folder: FolderWriter<S>,
     /// Which slots are occupied, and by which peers.
     occupancy: Slots<Global>,
     /// Those that have had a connection keep its memory and its filing for the next one, and the first has
     /// both from the start. So it takes no memory once the server has begun.
-    slots: Vec<Slot<'a, R, S, P>>,
+    slots: Vec<Slot<'a, B, S, P>>,
     /// Those whose peers have as many slots as one may have.
     queue: Queue<AcceptedStream, Global>,
+    /// The number of the next connection that waits: its token.
+    next_waiter: usize,
     /// Whether connections are accepted yet.
     is_open: bool,
-    /// When its last round began.
+    /// The number of its last round.
+    round: u64,
+    /// When that began.
     now: Instant,
     /// Whether a connection may be there to be accepted.
     may_accept: bool,
@@ -79,13 +89,14 @@ where
     paused: Option<Instant>,
     /// When it was last looked whether the server is to end.
     looked: Option<Instant>,
-    /// When the server was asked to end.
-    asked: Option<Instant>,
+    /// Whether the server was asked to end.
+    stop: Option<Stop>,
     slots_told: Notice,
     peer_told: Notice,
+    closed_told: Notice,
     accept_told: Notice,
     /// All connections are held to these terms.
-    ghost policed: { settings_of terms.config.now ≡ P.settings },
+    ghost policed: { terms_of terms ≡ P.terms },
     /// There is a slot for each connection that there can be at once.
     ghost all: { vec_len slots ≡ P.at_once },
 }
@@ -95,27 +106,26 @@ impl<
     R: Log + Clock,
     S: Files<File = File> + Alloc<A = Global> + Clone + Drop,
     P: Policy,
-> Server<'a, R, S, P> {
-    /// Takes the memory of a slot, unless it has it.
-    fn make_slot(&mut self, index: usize) -> Result<(), AllocError> {
-        let alloc = *self.slots.allocator();
-        match self.slots.get_mut(index) {
-            Some(slot) => slot.make(alloc, self.terms.config, self.now),
-            None => Ok(()),
+> Server<'a, R, S, P, Journal<'a, R, S>> {
+    /// Returns how many slots have a connection.
+    fn open_connections(&self) -> usize {
+        let mut open: usize = 0;
+        for slot in &self.slots {
+            if slot.connection.is_some() {
+                open = open.saturating_add(1);
+            }
         }
+        open
     }
 
-    /// Returns whether a slot has a connection.
-    fn is_taken(&self, index: usize) -> bool {
-        match self.slots.get(index) {
-            Some(slot) => slot.is_taken(),
-            None => false,
-        }
+    /// Returns whether a slot is free.
+    fn has_vacancy(&self) -> bool {
+        self.open_connections() < self.slots.len()
     }
 
     /// Returns what writes lines about no connection.
     fn logger(&self) -> Logger<'a, R> {
-        Logger::new(self.rt, self.terms.form)
+        self.terms.logger(self.rt)
     }
 
     /// Takes note of what the poll reported.
@@ -123,34 +133,27 @@ impl<
         self.group.polled(!events.is_empty());
         for event in events.iter() {
             let Token(index) = event.token();
-            if index == LISTENER {
+            if index == LISTENERS {
                 self.may_accept = true;
                 self.arrivals.come();
             } else if let Some(slot) = self.slots.get_mut(index) {
-                slot.wake();
+                if let Some(connection) = &mut slot.connection {
+                    connection.wake();
+                }
+            } else if event.is_read_closed() || event.is_error() {
+                self.queue.leave(index);
             }
         }
     }
 
-    /// Returns the filing of a slot: that of its last connection, or a new one.
-    fn filing(&mut self, index: usize) -> io::Result<FolderFiling<S>> {
-        if let Some(slot) = self.slots.get_mut(index) {
-            if let Some(filing) = slot.take_filing() {
-                return Ok(filing);
-            }
+    /// Takes what a slot needs for its next connection. Returns its filing: that of its last connection, or a new
+    /// one.
+    fn prepare(&mut self, index: usize) -> io::Result<FolderFiling<S>> {
+        let alloc = *self.slots.allocator();
+        match self.slots.get_mut(index) {
+            Some(slot) => slot.prepare(alloc, self.terms.config, &mut self.folder),
+            None => self.folder.filing(),
         }
-        self.folder.filing()
-    }
-
-    /// Returns the journal of a connection to this peer, whose files go to this filing.
-    fn journal(
-        &self,
-        peer: SocketAddr,
-        filing: &FolderFiling<S>,
-    ) -> Result<Journal<'a, R, S>, AllocError> {
-        let notes = filing.notes()?;
-        let logger = self.logger().about(peer).counting(self.terms.metrics);
-        Ok(Journal::new(*self.slots.allocator(), logger, notes, self.terms.config))
     }
 
     /// Opens an association over a connection, in a slot that its peer got.
@@ -158,11 +161,11 @@ impl<
     fn occupy(&mut self, accepted: AcceptedStream, index: usize, now: Instant) -> io::Result<()> {
         let AcceptedStream { stream, peer } = accepted;
         let socket = watched(&self.poll, stream, index)?;
-        self.make_slot(index)?;
-        let filing = self.filing(index)?;
-        let journal = self.journal(peer, &filing)?;
+        let filing = self.prepare(index)?;
+        let logger = self.logger().about(peer).counting(self.terms.metrics);
+        let alloc = *self.slots.allocator();
         if let Some(slot) = self.slots.get_mut(index) {
-            slot.open((socket, filing, journal), self.terms, now);
+            slot.open(alloc, (socket, filing, logger), &self.terms, now)?;
         }
         Ok(())
     }
@@ -171,67 +174,87 @@ impl<
     fn occupy_or_tell(&mut self, accepted: AcceptedStream, index: usize, now: Instant) {
         let peer = accepted.peer;
         if let Err(failure) = self.occupy(accepted, index, now) {
-            self.logger().about(peer).tell(&ConnectionFailed(&failure));
-            self.leave(index);
+            self.logger()
+                .about(peer)
+                .tell_limited(Limited::Connection, &ConnectionFailed(&failure));
+            self.free(index);
         }
     }
 
-    /// Frees a slot.
-    fn leave(&mut self, index: usize) {
+    /// Returns the peer of a slot.
+    fn peer(&self, index: usize) -> Option<u128> {
+        if index < self.occupancy.len() {
+            return self.occupancy.peer(index);
+        }
+        None
+    }
+
+    /// Frees a slot that has no connection.
+    fn free(&mut self, index: usize) {
         if index < self.occupancy.len() {
             self.occupancy.leave(index);
         }
     }
 
-    /// Returns whether a slot is free.
-    fn has_vacancy(&self) -> bool {
-        for index in 0..self.slots.len() {
-            if !self.is_taken(index) {
-                return true;
+    /// Gives the connection of a slot its turn, if it has one, and returns whether its association has ended.
+    fn turn(&mut self, index: usize, now: Instant) -> bool {
+        let (round, stop) = (self.round, self.stop);
+        if let Some(slot) = self.slots.get_mut(index) {
+            let is_ready = slot.is_ready();
+            if let Some(connection) = &mut slot.connection {
+                if is_ready {
+                    slot.turned = round;
+                }
+                return connection.round(now, stop);
             }
         }
         false
     }
 
-    /// Returns whether each slot is free.
-    fn is_vacant(&self) -> bool {
-        for index in 0..self.slots.len() {
-            if self.is_taken(index) {
-                return false;
+    /// Returns whether a slot may have a turn in this round: its connection is not ready, or it is the one of its peer
+    /// whose last turn was first. So a peer with many connections has as many turns as one with a single connection.
+    fn is_next(&self, index: usize) -> bool {
+        let Some(slot) = self.slots.get(index) else {
+            return false;
+        };
+        if !slot.is_ready() {
+            return true;
+        }
+        let peer = self.peer(index);
+        for (place, other) in self.slots.iter().enumerate() {
+            if self.peer(place) == peer {
+                let is_earlier = other.turned < slot.turned
+                    || (other.turned == slot.turned && place < index);
+                if other.turned == self.round || (is_earlier && other.is_ready()) {
+                    return false;
+                }
             }
         }
         true
     }
 
-    /// Gives the connection of a slot its turn, if it has one, and returns whether its association has ended.
-    fn turn(&mut self, index: usize, now: Instant) -> bool {
-        match self.slots.get_mut(index) {
-            Some(slot) => slot.turn(self.asked, now),
-            None => false,
-        }
-    }
-
-    /// Gives each connection its turn, and lets those go whose association has ended.
+    /// Gives one connection of each peer its turn, and closes those whose association has ended.
     fn turn_each(&mut self, now: Instant) {
+        self.round = self.round.saturating_add(1);
         for index in 0..self.slots.len() {
-            if self.turn(index, now) {
-                self.end(index, now);
+            if self.is_next(index) && self.turn(index, now) {
+                self.close_connection(index, now);
             }
         }
     }
 
-    /// Lets the connection of a slot go, if it has one, and frees the slot.
-    fn end(&mut self, index: usize, now: Instant) {
+    /// Closes the connection of a slot, if it has one, and frees the slot.
+    fn close_connection(&mut self, index: usize, now: Instant) {
         if let Some(slot) = self.slots.get_mut(index) {
-            slot.leave(now);
+            slot.close_connection(now);
         }
-        self.leave(index);
+        self.free(index);
     }
 
     /// Returns how long the next poll may wait.
     fn patience(&self, now: Instant) -> Duration {
         let mut most = Duration::from_secs(MOST_SECONDS);
-        if self.terms.stop_file.is_some() {
+        if self.terms.service.stop_file.is_some() {
             most = Duration::from_millis(LOOK_MILLISECONDS);
         }
         if self.is_open && self.may_accept && self.has_vacancy() {
@@ -244,7 +267,9 @@ impl<
             most = most.min(metrics.left(now));
         }
         for slot in &self.slots {
-            most = slot.patience(now, most);
+            if let Some(connection) = &slot.connection {
+                most = connection.left(now, most);
+            }
         }
         most
     }
@@ -257,13 +282,16 @@ impl<
             }
             None => true,
         };
-        if self.asked.is_some() || !is_due {
+        if self.stop.is_some() || !is_due {
             return;
         }
         self.looked = Some(now);
-        if is_asked(files, self.terms.stop_file) {
+        if is_asked(files, self.terms.service.stop_file) {
             self.logger().tell(&Stopping);
-            self.asked = Some(now);
+            self.stop = Some(Stop {
+                asked: now,
+                grace: self.terms.service.grace,
+            });
             self.is_open = false;
             self.queue.clear();
         }
@@ -271,7 +299,7 @@ impl<
 
     /// Returns whether nothing is accepted and no association is left.
     fn is_done(&self) -> bool {
-        !self.is_open && self.queue.is_empty() && self.is_vacant()
+        !self.is_open && self.queue.is_empty() && self.open_connections() == 0
     }
 
     /// Serves associations until the server is to end.
@@ -288,6 +316,7 @@ impl<
             // A slot that was freed is given on before the poll, which may wait long.
             self.admit_all(now);
             self.measure(files, now);
+            self.logger().tell_left_out(Some(now));
             if self.is_done() {
                 return Ok(());
             }
@@ -298,7 +327,7 @@ impl<
         Ok(())
     }
 
-    /// Settles the files that wait, and lets each connection go. Returns what there was of all, beside what
+    /// Settles the files that wait, and closes each connection. Returns what there was of all, beside what
     /// there was before.
     fn close(self, closed: ClosedSlots<FolderFiling<S>, P>) -> ClosedSlots<FolderFiling<S>, P>
         ensures { length (slots_in result.history) ≡ length (slots_in closed.history) + P.at_once }
@@ -309,22 +338,25 @@ impl<
         let Server {
             rt: _rt,
             poll: _poll,
-            listener: _listener,
+            listeners: _listeners,
             terms: _terms,
             folder: _folder,
             occupancy: _occupancy,
             slots,
             queue: _queue,
+            next_waiter: _next_waiter,
             is_open: _is_open,
+            round: _round,
             now: _now,
             may_accept: _may_accept,
             arrivals: _arrivals,
             group: _group,
             paused: _paused,
             looked: _looked,
-            asked: _asked,
+            stop: _stop,
             slots_told: _slots_told,
             peer_told: _peer_told,
+            closed_told: _closed_told,
             accept_told: _accept_told,
         } = server;
         close_all(slots, closed, now)

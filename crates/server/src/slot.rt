@@ -1,304 +1,237 @@
 //! A slot: the memory and the filing for one connection, the connection that it has, and what those left that had it.
-ghost use Rattle.std.specs.Prelude.{◌≡◌, [], ◌++◌, map, None};
+ghost use Rattle.std.specs.Prelude.{◌≡◌, [], ◌++◌, map, IfSome, false};
 ghost use Rattle.std.specs.List.{All};
-ghost use Rattle.negotiate.specs.Settings.{settings_of};
 ghost use Rattle.serving.specs.Connections.{opening_of};
+ghost use Rattle.folder_filing.specs.Settling.{is_waiting};
 ghost use Rattle.server.specs.FolderStore.{folder_store};
 ghost use Rattle.server.specs.Histories.{AllEnded, LeftBy, ended_in, opened_in, opened_over};
-ghost use Rattle.server.specs.machine.Slots.{HaveEnded, seen_in, seen_of};
+ghost use Rattle.server.specs.Terms.{terms_at, terms_of};
+ghost use Rattle.server.specs.machine.Slots.{HaveEnded, seen_of};
 
-use crate::occupant::{Occupant, OccupantParts, turned};
 use crate::policy::Policy;
-use crate::server::{SlotHistory, Waiting};
+use crate::server::SlotHistory;
+use crate::socket::Socket;
 use crate::terms::ServerTerms;
-use folder_filing::FolderFiling;
+use connection::Observer;
+use engine::Standing;
+use folder_filing::{FolderFiling, FolderWriter};
+use journal::{Journal, Logger, Served};
 use log::Log;
 use negotiate::Config;
 use part10::Settling;
-use serving::ConnectionMemory;
-use std::alloc::{AllocError, AllocFailed, Global};
+use serving::{Connection, ConnectionMemory, ConnectionTerms};
+use std::alloc::{AllocError, Global};
 use std::fs::File;
+use std::io;
+use std::marker::PhantomData;
 use std::rt::Files;
-use std::time::{Clock, Duration, Instant};
+use std::time::{Clock, Instant};
 
-/// A slot for one connection after the other. Like an [`Occupant`] it is not `Drop`: it is given up by `close`
-/// alone.
+/// A slot for one connection after the other. It is not `Drop`: it is given up by `close` alone. Nor is a connection,
+/// as its journal is not.
 pub(crate) struct Slot<
     'a,
-    R: Log + Clock,
+    B: Observer,
     S: Files<File = File> + Alloc<A = Global> + Clone + Drop,
     P: Policy,
 >
 where
     FolderFiling<S>: Settling,
 {
-    /// The memory, once it was taken, with the connection that it has.
-    occupant: Option<Box<Option<Occupant<'a, R, S, P>>>>,
+    /// The connection that it has.
+    pub(crate) connection: Option<Connection<'a, Socket, FolderFiling<S>, B>>,
+    /// The round in which its connection, or the one before, had its last turn.
+    pub(crate) turned: u64,
+    /// How many files the filing of that had committed before it.
+    committed: u32,
     /// The memory of its next connection, once it was taken, while it has none.
-    memory: Option<ConnectionMemory>,
+    memory: Option<ConnectionMemory<'a>>,
     /// The filing of its next connection, if it has one already, while it has none.
     filing: Option<FolderFiling<S>>,
     history: SlotHistory<FolderFiling<S>>,
-    ghost left: { ∥ All (LeftBy folder_store P.settings) (ended_in history) ∥₁ },
+    policy: PhantomData<P>,
+    /// None of it waits to be settled, or was lost before that.
+    ghost rested: { ∥ IfSome filing (λ f. is_waiting f.pending ≡ false) ∥₁ },
+    ghost left: { ∥ All (LeftBy folder_store P.terms) (ended_in history) ∥₁ },
+    /// Its connection is held to what its server is.
+    ghost held: { seen_of connection (λ c. terms_at c) ≡ seen_of connection (λ c. P.terms) },
     /// Each connection that was opened has ended, except the one that it has.
-    ghost none_missing: { opened_in history ≡ map opened_over (ended_in history) ++ seen_in occupant (λ s. opening_of s.connection) },
+    ghost none_missing: { opened_in history ≡ map opened_over (ended_in history) ++ seen_of connection (λ c. opening_of c) },
 }
 
-impl<'a, R: Log + Clock, S: Files<File = File> + Alloc<A = Global> + Clone + Drop, P: Policy> Slot<
+impl<'a, B: Observer, S: Files<File = File> + Alloc<A = Global> + Clone + Drop, P: Policy> Slot<
     'a,
-    R,
+    B,
     S,
     P,
 > {
     /// Creates a slot without memory. Its first connection files by this filing, if there is one.
-    pub(crate) fn new(filing: Option<FolderFiling<S>>) -> Slot<'a, R, S, P> {
+    pub(crate) fn new(filing: Option<FolderFiling<S>>) -> Slot<'a, B, S, P> {
         Slot {
-            occupant: None,
+            connection: None,
+            turned: 0,
+            committed: 0,
             memory: None,
-            filing,
+            filing: match filing {
+                Some(filing) => at_rest(filing),
+                None => None,
+            },
             history: SlotHistory::new(),
+            policy: PhantomData,
         }
     }
 
-    /// Returns whether it has a connection.
-    pub(crate) fn is_taken(&self) -> bool {
-        match &self.occupant {
-            Some(occupant) => occupant.is_some(),
+    /// Returns whether its connection may have something to read, or its peer takes something.
+    pub(crate) fn is_ready(&self) -> bool {
+        match &self.connection {
+            Some(connection) => connection.is_ready(),
             None => false,
         }
     }
 
     /// Takes its memory, unless it has it, for connections that are held to this configuration.
-    pub(crate) fn make(
-        &mut self,
-        alloc: Global,
-        config: &Config,
-        now: Instant,
-    ) -> Result<(), AllocError> {
-        if self.occupant.is_some() {
-            return Ok(());
+    pub(crate) fn make(&mut self, alloc: Global, config: &'a Config) -> Result<(), AllocError> {
+        if self.connection.is_none() && self.memory.is_none() {
+            self.memory = Some(ConnectionMemory::new(alloc, config)?);
         }
-        let memory = ConnectionMemory::new(alloc, config)?;
-        make(alloc, &mut self.occupant, &mut self.history, now)?;
-        self.memory = Some(memory);
         Ok(())
     }
 
-    /// Returns the filing of its next connection, if there is one already.
-    pub(crate) fn take_filing(&mut self) -> Option<FolderFiling<S>> {
-        self.filing.take()
+    /// Takes what its next connection needs: its memory, unless it has it. Returns the filing of the connection,
+    /// which is a new one of this folder if it has none.
+    pub(crate) fn prepare(
+        &mut self,
+        alloc: Global,
+        config: &'a Config,
+        folder: &mut FolderWriter<S>,
+    ) -> io::Result<FolderFiling<S>> {
+        self.make(alloc, config)?;
+        match self.filing.take() {
+            Some(filing) => Ok(filing),
+            None => folder.filing(),
+        }
     }
+}
 
-    /// Opens an association over a connection that was accepted at this instant, if it has its memory.
+impl<'a, R: Log + Clock, S: Files<File = File> + Alloc<A = Global> + Clone + Drop, P: Policy> Slot<
+    'a,
+    Journal<'a, R, S>,
+    S,
+    P,
+> {
+    /// Opens a connection over a socket that was accepted at this instant, if it has its memory. The logger is of its
+    /// journal.
+    // Not inlined, as is what ends one: its frame has copies of a connection, and is left before the first turn.
+    #[inline(never)]
     pub(crate) fn open(
         &mut self,
-        parts: OccupantParts<'a, R, S>,
-        terms: ServerTerms<'a>,
+        alloc: Global,
+        parts: (Socket, FolderFiling<S>, Logger<'a, R>),
+        terms: &ServerTerms<'a>,
         now: Instant,
-    )
-        requires { settings_of terms.config.now ≡ P.settings }
+    ) -> Result<(), AllocError>
+        requires terms { terms_of terms.now ≡ P.terms }
     {
-        if let Some(memory) = self.memory.take() {
-            self.open_in(memory, parts, terms, now);
+        let (socket, filing, logger) = parts;
+        let notes = filing.notes()?;
+        let Some(memory) = self.memory.take() else {
+            return Ok(());
+        };
+        let held = ConnectionTerms {
+            config: terms.config,
+            timeouts: terms.service.timeouts,
+            longest: terms.service.longest,
+        };
+        let journal = Journal::new(alloc, logger, notes, terms.config);
+        let before = self.committed;
+        self.committed = filing.committed();
+        self.history.open(&filing);
+        let connection = Connection::open(held, (socket, filing, journal), memory, now);
+        let last = self.connection.replace(connection);
+        let _left = closed::<R, S, P>(last, before, &mut self.history, now);
+        Ok(())
+    }
+
+    /// Closes its connection, if it has one. Its filing serves the next one, unless a file of it was lost.
+    pub(crate) fn close_connection(&mut self, now: Instant) {
+        let last = self.connection.take();
+        if let Some((filing, memory)) = closed::<R, S, P>(
+            last,
+            self.committed,
+            &mut self.history,
+            now,
+        ) {
+            self.memory = Some(memory);
+            self.filing = at_rest(filing);
         }
     }
 
-    /// Opens an association, in this memory, over a connection that was accepted at this instant.
-    // Not inlined, as is what ends one: its frame has copies of an occupant, and is left before the first turn.
-    #[inline(never)]
-    fn open_in(
-        &mut self,
-        memory: ConnectionMemory,
-        parts: OccupantParts<'a, R, S>,
-        terms: ServerTerms<'a>,
-        now: Instant,
-    )
-        requires { settings_of terms.config.now ≡ P.settings }
-    {
-        let (socket, filing, journal) = parts;
-        if let Some(empty) = &mut self.occupant {
-            self.history.open(&filing);
-            let occupant = Occupant::open((socket, filing, journal), memory, terms, now);
-            end(empty.replace(occupant), &mut self.history, now);
-        }
-    }
-
-    /// The socket of its connection may have something to read, or take something.
-    pub(crate) fn wake(&mut self) {
-        if let Some(occupant) = &mut self.occupant {
-            if let Some(occupant) = &mut **occupant {
-                occupant.wake();
-            }
-        }
-    }
-
-    /// Gives its connection its turn, if it has one, and returns whether its association has ended.
-    pub(crate) fn turn(&mut self, asked: Option<Instant>, now: Instant) -> bool {
-        if let Some(occupant) = &mut self.occupant {
-            if let Some(occupant) = &mut **occupant {
-                return turned(occupant, asked, now);
-            }
-        }
-        false
-    }
-
-    /// Counts its connection, if it has one: whether a file of it waits to be settled, or another may come
-    /// to wait.
-    pub(crate) fn count(&self, waiting: &mut Waiting) {
-        if let Some(occupant) = &self.occupant {
-            if let Some(occupant) = &**occupant {
-                waiting.count(occupant.waits(), occupant.is_ready());
-            }
-        }
-    }
-
-    /// Advises the system to start to write the file that waits, if one does.
-    pub(crate) fn start_writing(&self) {
-        if let Some(occupant) = &self.occupant {
-            if let Some(occupant) = &**occupant {
-                if occupant.waits() {
-                    occupant.start_writing();
-                }
-            }
-        }
-    }
-
-    /// Writes the file that waits to the disk, if one does, and gives it its name.
-    pub(crate) fn write_out(&mut self) {
-        if let Some(occupant) = &mut self.occupant {
-            if let Some(occupant) = &mut **occupant {
-                if occupant.waits() {
-                    occupant.write_out();
-                }
-            }
-        }
-    }
-
-    /// Settles the file that waits, if one does, and sends the reply to its store. Returns whether its
-    /// connection is to be let go, since the file is lost.
-    pub(crate) fn settle(&mut self, are_named: bool, now: Instant) -> bool {
-        if let Some(occupant) = &mut self.occupant {
-            if let Some(occupant) = &mut **occupant {
-                if occupant.waits() {
-                    occupant.settle(are_named, now);
-                    return occupant.is_over();
-                }
-            }
-        }
-        false
-    }
-
-    /// Returns how long its connection may be left alone, at most so long.
-    pub(crate) fn patience(&self, now: Instant, most: Duration) -> Duration {
-        if let Some(occupant) = &self.occupant {
-            if let Some(occupant) = &**occupant {
-                return occupant.patience(now, most);
-            }
-        }
-        most
-    }
-
-    /// Lets its connection go, if it has one, and returns its filing.
-    #[inline(never)]
-    fn vacate(&mut self, now: Instant) -> Option<FolderFiling<S>> {
-        match &mut self.occupant {
-            Some(occupant) => left_by(occupant.take(), &mut self.memory, &mut self.history, now),
-            None => None,
-        }
-    }
-
-    /// Lets its connection go, if it has one. Its filing serves the next one, unless a file of it was lost.
-    pub(crate) fn leave(&mut self, now: Instant) {
-        if let Some(filing) = self.vacate(now) {
-            if !filing.waits() {
-                self.filing = Some(filing);
-            }
-        }
-    }
-
-    /// Lets its connection go, if it has one, and its memory. Returns what its connections left.
+    /// Closes its connection, if it has one. Returns what its connections left.
     pub(crate) fn close(self, now: Instant) -> SlotHistory<FolderFiling<S>>
-        ensures { AllEnded folder_store P.settings result }
+        ensures { AllEnded folder_store P.terms result }
     {
         let Slot {
-            occupant,
+            connection,
+            turned: _turned,
+            committed,
             memory: _memory,
             filing: _filing,
             history,
+            policy: _policy,
         } = self;
         let mut history = history;
-        let_go(occupant, &mut history, now);
+        let _left = closed::<R, S, P>(connection, committed, &mut history, now);
         history
     }
 }
 
-/// Lets a connection go, if there is one, whose memory becomes that of the next one. Returns its filing.
-fn left_by<R: Log + Clock, S: Files<File = File> + Alloc<A = Global> + Clone + Drop, P: Policy>(
-    occupant: Option<Occupant<'_, R, S, P>>,
-    memory: &mut Option<ConnectionMemory>,
+/// Returns a filing for the next connection, unless a file of it waits to be settled, or was lost before that.
+fn at_rest<S: Files<File = File> + Alloc<A = Global> + Clone + Drop>(
+    filing: FolderFiling<S>,
+) -> Option<FolderFiling<S>>
+    ensures { IfSome result (λ f. is_waiting f.pending ≡ false) }
+{
+    if filing.waits() {
+        return None;
+    }
+    Some(filing)
+}
+
+/// Closes a connection, if there is one, over a filing that had committed so many files before it, and writes the
+/// lines of its end. Returns its filing and its memory.
+#[inline(never)]
+fn closed<'a, R: Log + Clock, S: Files<File = File> + Alloc<A = Global> + Clone + Drop, P: Policy>(
+    connection: Option<Connection<'a, Socket, FolderFiling<S>, Journal<'a, R, S>>>,
+    committed: u32,
     history: &mut SlotHistory<FolderFiling<S>>,
     now: Instant,
-) -> Option<FolderFiling<S>>
-    ensures { HaveEnded folder_store P.settings (seen_of occupant.entry (λ s. opening_of s.connection)) history.old history.new }
+) -> Option<(FolderFiling<S>, ConnectionMemory<'a>)>
+    requires held { seen_of connection (λ c. terms_at c) ≡ seen_of connection (λ c. P.terms) }
+    ensures { HaveEnded folder_store P.terms (seen_of connection.entry (λ c. opening_of c)) history.old history.new }
 {
-    match occupant {
-        Some(occupant) => {
-            let left = occupant.end(now);
+    match connection {
+        Some(connection) => {
+            let (left, journal, memory) = connection.close(now);
+            let report = left.exchange.report;
+            journal.end(Served {
+                standing: standing_name(report.standing),
+                held: report.held,
+                files: left.filing.committed().saturating_sub(committed),
+                received: left.exchange.received,
+                seconds: left.lasted.as_secs(),
+            });
             history.end(&left);
-            let (filing, kept) = left.into_parts();
-            *memory = Some(kept);
-            Some(filing)
+            Some(left.into_parts(memory))
         }
         None => None,
     }
 }
 
-/// Lets a connection go, if there is one.
-fn end<R: Log + Clock, S: Files<File = File> + Alloc<A = Global> + Clone + Drop, P: Policy>(
-    occupant: Option<Occupant<'_, R, S, P>>,
-    history: &mut SlotHistory<FolderFiling<S>>,
-    now: Instant,
-)
-    ensures { HaveEnded folder_store P.settings (seen_of occupant.entry (λ s. opening_of s.connection)) history.old history.new }
-{
-    if let Some(occupant) = occupant {
-        let left = occupant.end(now);
-        history.end(&left);
+/// Returns how an association stands, as its line shows it.
+fn standing_name(standing: Standing) -> &'static str {
+    match standing {
+        Standing::Open => "Open",
+        Standing::Closing => "Closing",
+        Standing::Ended => "Ended",
     }
-}
-
-/// Gives up the memory of a slot, if it has any, and lets its connection go.
-#[inline(never)]
-fn let_go<R: Log + Clock, S: Files<File = File> + Alloc<A = Global> + Clone + Drop, P: Policy>(
-    occupant: Option<Box<Option<Occupant<'_, R, S, P>>>>,
-    history: &mut SlotHistory<FolderFiling<S>>,
-    now: Instant,
-)
-    ensures { HaveEnded folder_store P.settings (seen_in occupant.entry (λ s. opening_of s.connection)) history.old history.new }
-{
-    if let Some(occupant) = occupant {
-        end(Box::into_inner(occupant), history, now);
-    }
-}
-
-/// Takes the memory of a slot that has none.
-#[inline(never)]
-fn make<'a, R: Log + Clock, S: Files<File = File> + Alloc<A = Global> + Clone + Drop, P: Policy>(
-    alloc: Global,
-    occupant: &mut Option<Box<Option<Occupant<'a, R, S, P>>>>,
-    history: &mut SlotHistory<FolderFiling<S>>,
-    now: Instant,
-) -> Result<(), AllocError>
-    requires { occupant.old ≡ None }
-    ensures ended { HaveEnded folder_store P.settings [] history.old history.new }
-    ensures empty { seen_in occupant.new (λ s. opening_of s.connection) ≡ [] }
-{
-    match Box::new(alloc, None) {
-        Ok(empty) => let_go(occupant.replace(empty), history, now),
-        Err(AllocFailed { value }) => {
-            end(value, history, now);
-            return Err(AllocError);
-        }
-    }
-    Ok(())
 }

@@ -1,6 +1,6 @@
 -- What was read is what was taken followed by what waits in the inbox, as more is read (`read_behind`) and taken
 -- (`front_taken`, `taken_on`).
-use Rattle.std.proofs.Common.{◌≡◌, ℕ, ◌≤◌, ◌+◌, ◌-◌, min, List, [], ◌++◌, length, take, drop, slice_range, ap, sym, ◌∙◌, append_assoc, arith, refl}
+use Rattle.std.proofs.Common.{◌≡◌, ℕ, ◌≤◌, ◌+◌, ◌-◌, min, List, [], ◌++◌, length, take, drop, slice_range, ap, sym, ◌∙◌, append_assoc, append-nil, arith, refl}
 use Rattle.std.proofs.Math.Nat.{min-le_left}
 use Rattle.std.proofs.lemmas.List.{take_at, drop_at, take-append-drop, take-append-le, drop-append-le, drop-drop, drop-take, length-drop, length-take, length-take-le}
 use borrow.Rule.Slice.PartMut.{put_mid, post_of}
@@ -23,6 +23,12 @@ read_behind bytes room taken read k n ordered within fits =
     let after = room ++ post_of read k bytes in
     ap (take (read + n - taken)) (drop-append-le taken (take read bytes) after (omega (arith, length-take-le read bytes within))) ∙ ap (λ (j : ℕ). take j (held ++ after)) sum ∙ take-add (read - taken) n (held ++ after)
     ∙ (rw (take_at held after _ len, drop_at held after _ len, take-append-le n room (post_of read k bytes) fits, same) refl)
+
+-- what waits is the same where nothing is read behind it
+pub nothing_behind : (bytes room : List ℕ) (taken read k : ℕ) → taken ≤ read → read ≤ length bytes → slice_range (put_mid read k bytes room) taken read ≡ slice_range bytes taken read
+nothing_behind bytes room taken read k ordered within =
+    let same : read ≡ read + 0 = omega arith in
+    ap (λ (j : ℕ). slice_range (put_mid read k bytes room) taken j) same ∙ read_behind bytes room taken read k 0 ordered within (omega arith) ∙ append-nil (slice_range bytes taken read)
 
 -- what was read is what was taken followed by what waits, once the front of that was taken, too
 pub front_taken : (taken lent untaken untaken_new read : List ℕ) (n : ℕ) → lent ≡ untaken → untaken_new ≡ drop n untaken → taken ++ untaken ≡ read → (taken ++ take n lent) ++ untaken_new ≡ read

@@ -4,4 +4,7 @@ pub mod ClosesWithItsSocket
 pub mod TakenInputsAreARun
 pub mod InboxLosesNothing
 pub mod SentIsSettledFirst
+pub mod GivenAreTimed
 pub mod EachPieceIsTold
+pub mod InputsAreTimed
+pub mod AskedForAReason

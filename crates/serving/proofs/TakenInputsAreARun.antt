@@ -131,9 +131,10 @@ module _ (s : Settings) (named : List (Input × List ℕ)) (kind : Input) (bytes
   pub unfailed : (0 < n → length pending_new ≡ outbox_size) → length pending_new < outbox_size → n ≡ 0
   unfailed full few = elim (cases_lt 0 n) [ inl lt ↦ absurd (let e = full lt in omega (arith, e, few)) | inr none ↦ omega (arith, none) ]
 
+  -- a portion leaves room for an A-ABORT
   pub piece_fits : (most : ℕ) → kind ≡ Piece → pending ≡ [] → length bytes ≤ most → IsBytes (stream_of (inputs_of named) ++ bytes)
       → ((inputs : List Received) (story : List Happened) (failed : Bool) → Stands served_rooms s inputs story failed seen old → SendsFew served_rooms s inputs story most)
-      → HasTaken s named seen (socket ++ pending) opened old → length pending_new < outbox_size
+      → HasTaken s named seen (socket ++ pending) opened old → length pending_new + most_beside_answers < outbox_size
   piece_fits most is none few are portion h =
       let g = grew h in
       let input : input_of kind bytes ≡ Bytes bytes = ap (λ (k : Input). input_of k bytes) is in
@@ -141,18 +142,19 @@ module _ (s : Settings) (named : List (Input × List ℕ)) (kind : Input) (bytes
       let sent = portion g.inputs g.story g.failed g.stands bytes g.more few (subst (λ (xs : List Received). IsBytes (stream_of xs ++ bytes)) (sym g.inputs_are) are) told in
       omega (arith, ap length g.waits, length-append pending (sent_of served_rooms s (progress_of served_rooms s at_start g.story) g.more), ap length none, sent)
 
-  pub silent_fits : IsSilent (input_of kind bytes) → length pending < outbox_size → HasTaken s named seen (socket ++ pending) opened old → length pending_new < outbox_size
-  silent_fits silent few h =
+  -- of an input that has no bytes, an abort alone adds to what waits
+  pub silent_adds : IsSilent (input_of kind bytes) → HasTaken s named seen (socket ++ pending) opened old → length pending_new ≤ length pending
+  silent_adds silent h =
       let g = grew h in
       let nothing = silent_sends_nothing served_rooms s (progress_of served_rooms s at_start g.story) (stream_of g.inputs) (input_of kind bytes) g.more silent g.told in
-      omega (arith, ap length g.waits, length-append pending (sent_of served_rooms s (progress_of served_rooms s at_start g.story) g.more), ap length nothing, few)
+      omega (arith, ap length g.waits, length-append pending (sent_of served_rooms s (progress_of served_rooms s at_start g.story) g.more), ap length nothing)
 
-  pub abort_fits : input_of kind bytes ≡ UserAbort → length pending + most_beside_answers < outbox_size → HasTaken s named seen (socket ++ pending) opened old → length pending_new < outbox_size
-  abort_fits is few h =
+  pub abort_adds : input_of kind bytes ≡ UserAbort → HasTaken s named seen (socket ++ pending) opened old → length pending_new ≤ length pending + most_beside_answers
+  abort_adds is h =
       let g = grew h in
       let told : entries_of g.more ≡ entries (stream_of g.inputs) (UserAbort ∷ []) = g.told ∙ ap (λ (x : Received). entries (stream_of g.inputs) (x ∷ [])) is in
       let sent = aborts_shortly served_rooms s (progress_of served_rooms s at_start g.story) (stream_of g.inputs) g.more told in
-      omega (arith, ap length g.waits, length-append pending (sent_of served_rooms s (progress_of served_rooms s at_start g.story) g.more), sent, few)
+      omega (arith, ap length g.waits, length-append pending (sent_of served_rooms s (progress_of served_rooms s at_start g.story) g.more), sent)
 
   -- what waits still does
   pub still_waits : HasTaken s named seen (socket ++ pending) opened old → pending ≢ [] → pending_new ≢ []
@@ -162,15 +164,15 @@ module _ (s : Settings) (named : List (Input × List ℕ)) (kind : Input) (bytes
       nothing_before [] ys e = refl
       nothing_before (x ∷ xs) ys e = absurd cc
 
--- an input that has no bytes
-pub other_fits : (s : Settings) (named : List (Input × List ℕ)) (kind : Input) (bytes : List ℕ) (seen seen_new : Fields) (socket pending pending_new : List ℕ) (m n : ℕ) (opened old new : Store)
-    → m ≡ 0 → OnInput s kind bytes seen seen_new (devices (line pending m) old) (devices (line pending_new n) new) → kind ≢ Piece → (kind ≡ LocalAbort → length pending + most_beside_answers < outbox_size) → length pending < outbox_size
-    → HasTaken s named seen (socket ++ pending) opened old → length pending_new < outbox_size
-other_fits s named Piece bytes seen seen_new socket pending pending_new m n opened old new never moved no_piece room few h = absurd (no_piece refl)
-other_fits s named Closed bytes seen seen_new socket pending pending_new m n opened old new never moved no_piece room few h = silent_fits s named Closed bytes seen seen_new socket pending pending_new m n opened old new never moved tt few h
-other_fits s named Expired bytes seen seen_new socket pending pending_new m n opened old new never moved no_piece room few h = silent_fits s named Expired bytes seen seen_new socket pending pending_new m n opened old new never moved tt few h
-other_fits s named LocalAbort bytes seen seen_new socket pending pending_new m n opened old new never moved no_piece room few h =
-    abort_fits s named LocalAbort bytes seen seen_new socket pending pending_new m n opened old new never moved refl (room refl) h
+-- after an input that has no bytes there is room for so many more
+pub other_fits : (s : Settings) (named : List (Input × List ℕ)) (kind : Input) (bytes : List ℕ) (seen seen_new : Fields) (socket pending pending_new : List ℕ) (m n : ℕ) (opened old new : Store) (more : ℕ)
+    → m ≡ 0 → OnInput s kind bytes seen seen_new (devices (line pending m) old) (devices (line pending_new n) new) → kind ≢ Piece → (kind ≡ LocalAbort → length pending + most_beside_answers + more < outbox_size) → length pending + more < outbox_size
+    → HasTaken s named seen (socket ++ pending) opened old → length pending_new + more < outbox_size
+other_fits s named Piece bytes seen seen_new socket pending pending_new m n opened old new more never moved no_piece room few h = absurd (no_piece refl)
+other_fits s named Closed bytes seen seen_new socket pending pending_new m n opened old new more never moved no_piece room few h = omega (arith, silent_adds s named Closed bytes seen seen_new socket pending pending_new m n opened old new never moved tt h, few)
+other_fits s named Expired bytes seen seen_new socket pending pending_new m n opened old new more never moved no_piece room few h = omega (arith, silent_adds s named Expired bytes seen seen_new socket pending pending_new m n opened old new never moved tt h, few)
+other_fits s named LocalAbort bytes seen seen_new socket pending pending_new m n opened old new more never moved no_piece room few h =
+    omega (arith, abort_adds s named LocalAbort bytes seen seen_new socket pending pending_new m n opened old new never moved refl h, room refl)
 
 -- ---- what a connection keeps
 
@@ -216,11 +218,17 @@ module _ (s set : Settings) (named named_new : List (Input × List ℕ)) (kind :
         taken = ∥∥₁_map was.taken (λ h. rw (pushed, settings) (one_more s named kind bytes seen seen_new socket pending pending_new m n opened old new was.never moved open_still none h));
       }
 
+  pub room_for : (more : ℕ) → kind ≢ Piece → (kind ≡ LocalAbort → length pending + most_beside_answers + more < outbox_size) → length pending + more < outbox_size → length pending_new + more < outbox_size
+  room_for more no_piece room few = ∥∥₁_elim was.taken le_prop (λ h. other_fits s named kind bytes seen seen_new socket pending pending_new m n opened old new more was.never moved no_piece room few h)
+
+  -- room for an A-ABORT, unless this is one and others wait
+  pub keeps_spare : kind ≢ Piece → (kind ≡ LocalAbort → pending ≡ []) → length pending + most_beside_answers < outbox_size → length pending_new + most_beside_answers < outbox_size
+  keeps_spare no_piece none few = room_for most_beside_answers no_piece (λ is. omega (arith, ap length (none is))) few
+
   -- with an input that has no bytes
   pub keeps_other : kind ≢ Piece → (kind ≡ LocalAbort → length pending + most_beside_answers < outbox_size) → Keeps set named_new seen_new read socket pending_new n opened new
   keeps_other no_piece room =
-      keeps_on (∥∥₁_elim was.taken le_prop (λ h. other_fits s named kind bytes seen seen_new socket pending pending_new m n opened old new was.never moved no_piece room was.fits h)) read
-      (still_whole named kind bytes read no_piece was.whole)
+      keeps_on (omega (arith, room_for 0 no_piece (λ is. omega (arith, room is)) (omega (arith, was.fits)))) read (still_whole named kind bytes read no_piece was.whole)
 
   -- the transport's close where the socket has closed
   pub keeps_closed : (untaken : List ℕ) (ends refusals : ℕ) → (kind ≡ Closed → ∥ HasClosed untaken ends pending refusals ∥₁) → ∥ ClosesWithSocket (inputs_of named_new) untaken ends pending_new refusals ∥₁
@@ -229,11 +237,11 @@ module _ (s set : Settings) (named named_new : List (Input × List ℕ)) (kind :
 
   -- with a portion of a piece
   pub keeps_piece : (most : ℕ) (read_new : List ℕ) → kind ≡ Piece → pending ≡ [] → length bytes ≤ most → read_new ≡ read ++ bytes → IsBytes read_new → ((inputs : List Received) (story : List Happened) (failed : Bool) → Stands served_rooms s inputs story failed seen old → SendsFew served_rooms s inputs story most)
-      → Keeps set named_new seen_new read_new socket pending_new n opened new
+      → Keeps set named_new seen_new read_new socket pending_new n opened new × (length pending_new + most_beside_answers < outbox_size)
   keeps_piece most read_new is none few grown are portion =
       let all : IsBytes (stream_of (inputs_of named) ++ bytes) = subst (λ (xs : List ℕ). IsBytes (xs ++ bytes)) (sym was.whole) (subst IsBytes grown are) in
-      keeps_on (∥∥₁_elim was.taken le_prop (λ h. piece_fits s named kind bytes seen seen_new socket pending pending_new m n opened old new was.never moved most is none few all portion h)) read_new
-      (subst (λ (k : Input). stream_of (inputs_of (named ++ (k, bytes) ∷ [])) ≡ read_new) (sym is) (whole_more named bytes read was.whole ∙ sym grown))
+      let fits = ∥∥₁_elim was.taken le_prop (λ h. piece_fits s named kind bytes seen seen_new socket pending pending_new m n opened old new was.never moved most is none few all portion h) in
+      (keeps_on (omega (arith, fits)) read_new (subst (λ (k : Input). stream_of (inputs_of (named ++ (k, bytes) ∷ [])) ≡ read_new) (sym is) (whole_more named bytes read was.whole ∙ sym grown)), fits)
 
 -- ---- the end
 

@@ -5,6 +5,8 @@ pub mod Rooms
 pub mod Capacities
 pub mod Taken
 pub mod Told
+pub mod Own
 pub mod Connections
 pub mod Served
 pub mod Settled
+pub mod Timed

@@ -3,10 +3,10 @@ use Rattle.std.specs.Prelude.{◌≡◌, ℕ, ◌≤◌, ◌<◌, List, [], ◌+
 use Rattle.engine.specs.Inputs.{Received}
 use Rattle.pdu.specs.Sent.{Line}
 use Rattle.serving.specs.Closes.{ClosesWithSocket, HasClosed}
+use Rattle.serving.specs.declared.buffered_socket.BufferedSocket.{BufferedSocket}
 use Rattle.serving.specs.declared.inbox.Inbox.{Inbox}
 use Rattle.serving.specs.declared.inbox.Arrival.{Arrival}
 use Rattle.serving.specs.declared.inbox.Arrival.TheVariants as arrival
-use Rattle.serving.specs.declared.link.Link.{Link}
 use Rattle.serving.specs.declared.outbox.Outbox.{Outbox}
 
 -- the bytes that wait until the socket takes them
@@ -18,24 +18,24 @@ abbrev pub line_of : Outbox → Line
 line_of outbox = record { sent = Some (pending_in outbox); failures = outbox.failures }
 
 -- what an association has sent: what its socket took, and what waits
-abbrev pub sent_over : {S : Type 0} → Link S → List ℕ
-sent_over link = link.stream.traced.written.bytes ++ pending_in link.outbox
+abbrev pub sent_over : {S : Type 0} → BufferedSocket S → List ℕ
+sent_over socket = socket.traced.written.bytes ++ pending_in socket.outbox
 
 -- the bytes that were read and wait until the association takes them
 abbrev pub untaken_in : Inbox → List ℕ
 untaken_in inbox = slice_range inbox.bytes.value inbox.taken inbox.read
 
 -- what was read is these bytes, which were taken, followed by what waits
-abbrev pub IsTakenOf : {S : Type 0} → List ℕ → Link S → Type 0
-IsTakenOf taken link = taken ++ untaken_in link.inbox ≡ link.stream.traced.read.bytes
+abbrev pub IsTakenOf : {S : Type 0} → List ℕ → BufferedSocket S → Type 0
+IsTakenOf taken socket = taken ++ untaken_in socket.inbox ≡ socket.traced.read.bytes
 
 -- its socket has closed
-abbrev pub IsClosed : {S : Type 0} → Link S → Type 0
-IsClosed link = HasClosed (untaken_in link.inbox) link.stream.ends (pending_in link.outbox) link.stream.refusals
+abbrev pub IsClosed : {S : Type 0} → BufferedSocket S → Type 0
+IsClosed socket = HasClosed (untaken_in socket.inbox) socket.ends (pending_in socket.outbox) socket.refusals
 
 -- where the last of the inputs is the transport's close, its socket has closed
-abbrev pub ClosesWith : {S : Type 0} → List Received → Link S → Type 0
-ClosesWith inputs link = ClosesWithSocket inputs (untaken_in link.inbox) link.stream.ends (pending_in link.outbox) link.stream.refusals
+abbrev pub ClosesWith : {S : Type 0} → List Received → BufferedSocket S → Type 0
+ClosesWith inputs socket = ClosesWithSocket inputs (untaken_in socket.inbox) socket.ends (pending_in socket.outbox) socket.refusals
 
 -- so the bytes that were read grow, and those that wait by the same
 abbrev pub ReadsMore : Arrival → List ℕ → List ℕ → List ℕ → List ℕ → Type 0
@@ -50,12 +50,12 @@ CountsEnd arrival.Nothing old new = new ≡ old
 CountsEnd (arrival.End end) old new = 0 < new
 
 -- nothing more was read, and all that was read was taken
-abbrev pub NothingMore : {S : Type 0} → Link S → Link S → Type 0
-NothingMore old new = (new.stream.traced.read.bytes ≡ old.stream.traced.read.bytes) × (untaken_in old.inbox ≡ []) × (untaken_in new.inbox ≡ [])
+abbrev pub NothingMore : {S : Type 0} → BufferedSocket S → BufferedSocket S → Type 0
+NothingMore old new = (new.traced.read.bytes ≡ old.traced.read.bytes) × (untaken_in old.inbox ≡ []) × (untaken_in new.inbox ≡ [])
 
 -- so many bytes are to be taken of those that wait, at most as many as was asked for; the socket has nothing, or nothing more,
 -- where all that was read was taken
-abbrev pub Arrives : {S : Type 0} → ℕ → Arrival → Link S → Link S → Type 0
+abbrev pub Arrives : {S : Type 0} → ℕ → Arrival → BufferedSocket S → BufferedSocket S → Type 0
 Arrives most (arrival.Bytes n) old new = (n ≤ length (untaken_in new.inbox)) × (n ≤ most) × ((taken : List ℕ) → IsTakenOf taken old → IsTakenOf taken new)
 Arrives most arrival.Nothing old new = NothingMore old new
 Arrives most (arrival.End end) old new = NothingMore old new

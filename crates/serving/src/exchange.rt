@@ -1,7 +1,6 @@
 //! What went over one connection.
 use crate::inbox::Inbox;
 use crate::outbox::Outbox;
-use crate::told::ToldPortions;
 use crate::traces::SocketTrace;
 use engine::Report;
 
@@ -16,8 +15,6 @@ pub struct Exchange<S> {
     pub read: SocketTrace<S>,
     /// What contracts see of the bytes that the socket took.
     pub sent: SocketTrace<S>,
-    /// The portions of what was read that its observer was told of.
-    pub told: ToldPortions,
     /// What was read and the association did not take.
     pub untaken: Inbox,
     /// What the association sent and the socket did not take.

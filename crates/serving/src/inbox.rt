@@ -2,8 +2,9 @@
 ghost use Rattle.std.specs.Prelude.{◌≡◌, ◌≤◌, ◌<◌, [], drop, length, true};
 ghost use Rattle.serving.specs.Capacities.{inbox_size};
 
-use crate::counted_stream::CountedStream;
 use connection::ReadEnd;
+use element::count::Count;
+use element::traced_stream::TracedStream;
 use std::io::{ErrorKind, Read};
 
 /// The maximum length of a P-DATA-TF that most peers keep to (`negotiate::Config::DEFAULT_MAX_PDU`), and the
@@ -79,6 +80,24 @@ impl Inbox {
         waits == 0 || (waits < most && waits < self.read && self.read == INBOX)
     }
 
+    /// Returns what is still there of the bytes that were taken, followed by the first of those that wait.
+    pub(crate) fn kept(&self, count: usize) -> &[u8]
+        requires within { count ≤ length (untaken_in self.now) }
+    {
+        &self.bytes[..self.taken + count]
+    }
+
+    /// Makes room behind what waits. Bytes that were taken are kept, if they are to be and there is room without that.
+    fn make_room(&mut self, keeps: bool)
+        requires room { length (untaken_in self.old) < inbox_size }
+        ensures same { untaken_in self.new ≡ untaken_in self.old }
+        ensures room { self.new.read < inbox_size }
+    {
+        if !keeps || self.read == INBOX {
+            self.move_to_front();
+        }
+    }
+
     /// Moves the bytes that wait to the front.
     fn move_to_front(&mut self)
         ensures same { untaken_in self.new ≡ untaken_in self.old }
@@ -91,25 +110,38 @@ impl Inbox {
         self.read = read - taken;
     }
 
-    /// Reads what has come behind what waits, as many bytes as there is capacity for.
-    pub(crate) fn fill<S: Read>(&mut self, stream: &mut CountedStream<S>) -> Arrival
+    /// Reads what has come behind what waits, as many bytes as there is capacity for. Counts the reads that gave
+    /// the socket's end since its last byte: it gives its end where it gives no byte, or fails otherwise than
+    /// that none has come yet. Bytes that were taken are kept, if they are to be and may.
+    pub(crate) fn fill<S: Read>(
+        &mut self,
+        socket: &mut TracedStream<S>,
+        ends: &mut Count,
+        keeps: bool,
+    ) -> Arrival
         requires room { length (untaken_in self.old) < inbox_size }
-        ensures reads { ReadsMore result (untaken_in self.old) (untaken_in self.new) stream.old.traced.read.bytes stream.new.traced.read.bytes }
-        ensures ends { CountsEnd result stream.old.ends stream.new.ends }
-        ensures same_written { stream.new.traced.written ≡ stream.old.traced.written }
-        ensures same_refusals { stream.new.refusals ≡ stream.old.refusals }
+        ensures reads { ReadsMore result (untaken_in self.old) (untaken_in self.new) socket.old.read.bytes socket.new.read.bytes }
+        ensures ends { CountsEnd result ends.old ends.new }
+        ensures same_written { socket.new.written ≡ socket.old.written }
     {
-        self.move_to_front();
+        self.make_room(keeps);
         let end = self.read;
         let room = &mut self.bytes[..];
-        match stream.read(&mut room[end..]) {
-            Ok(0) => Arrival::End(ReadEnd::Closed),
+        match socket.read(&mut room[end..]) {
+            Ok(0) => {
+                ends.add_one();
+                Arrival::End(ReadEnd::Closed)
+            }
             Ok(len) => {
+                *ends = Count::new();
                 self.read = end + len;
                 Arrival::Bytes(len)
             }
             Err(error) if error.kind() == ErrorKind::WouldBlock => Arrival::Nothing,
-            Err(_) => Arrival::End(ReadEnd::Failed),
+            Err(_) => {
+                ends.add_one();
+                Arrival::End(ReadEnd::Failed)
+            }
         }
     }
 }

@@ -2,22 +2,23 @@
 //! with its filing, how long its peer is waited for, and what went over it.
 #![tactic(auto)]
 
-mod counted_stream;
+mod buffered_socket;
+mod deadlines;
 mod exchange;
 mod inbox;
-mod link;
 mod memory;
+mod moment;
 mod open_connection;
 mod outbox;
-mod told;
+mod stop;
 mod traces;
-mod waiting;
 
+pub use deadlines::{Deadlines, Wait};
 pub use exchange::Exchange;
 pub use inbox::{INBOX, Inbox};
-pub use memory::ConnectionMemory;
+pub use memory::{AssociationMemory, ConnectionMemory};
+pub use moment::Moment;
 pub use open_connection::{Connection, ConnectionEnd, ConnectionTerms, Turn};
 pub use outbox::{OUTBOX, Outbox};
-pub use told::ToldPortions;
+pub use stop::Stop;
 pub use traces::SocketTrace;
-pub use waiting::{Wait, Waiting};

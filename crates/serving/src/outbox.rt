@@ -9,13 +9,13 @@ use pdu::{Wire, WireFailed};
 
 /// The most bytes that an event has an association send beside an A-ASSOCIATE-AC or a reply, an A-ABORT among
 /// them.
-pub(crate) const MOST_BESIDE_ANSWERS: usize = 30;
+const MOST_BESIDE_ANSWERS: usize = 30;
 
 /// The longest A-ASSOCIATE-AC, which is longer than any reply.
 const LONGEST_ACCEPT: usize = 140 + 35 * 128;
 
 /// The most bytes that an association sends for a portion of what it receives
-/// (`engine::Running::input_limit`), 18,600: at most four events come of it.
+/// (`engine::Association::input_limit`), 18,600: at most four events come of it.
 const MOST_SENT: usize = 4 * (MOST_BESIDE_ANSWERS + LONGEST_ACCEPT);
 
 /// How many bytes may wait for a peer to take them, 18,631: what is sent for a portion, then an A-ABORT, and
@@ -51,13 +51,6 @@ impl Outbox {
         ensures { result.now ≡ pending_in self.now }
     {
         self.bytes.as_slice()
-    }
-
-    /// Returns how many more bytes may wait.
-    pub fn room(&self) -> usize
-        ensures { result + length (pending_in self.now) ≡ outbox_size }
-    {
-        self.bytes.remaining_capacity()
     }
 
     /// Removes the first of the bytes that wait, which the socket took.

@@ -1,13 +1,13 @@
 //! What contracts see of a socket that was traced.
 //!
-//! What stands here is generic in the type `S` of the socket: only a `CountedStream<S>` becomes traces of
+//! What stands here is generic in the type `S` of the socket: only a `TracedStream<S>` becomes traces of
 //! type `S`. So a function that is generic in `S`, too, and has one socket, can return no traces but that
 //! one's.
 ghost use Rattle.std.specs.Prelude.{◌≡◌};
 
-use crate::counted_stream::CountedStream;
 use element::count::Count;
 use element::trace::Trace;
+use element::traced_stream::TracedStream;
 use std::marker::PhantomData;
 
 /// What contracts see of the bytes that went one way over a socket of type `S`. Only what traced such a
@@ -32,15 +32,14 @@ pub(crate) struct SocketTraces<S> {
 }
 
 impl<S: Drop> SocketTraces<S> {
-    /// Gives up a socket that was traced both ways.
-    pub(crate) fn of(stream: CountedStream<S>) -> SocketTraces<S>
-        ensures read { result.read.trace ≡ stream.traced.read }
-        ensures ends { result.read.stops ≡ stream.ends }
-        ensures sent { result.sent.trace ≡ stream.traced.written }
-        ensures refusals { result.sent.stops ≡ stream.refusals }
+    /// Gives up a socket that was traced both ways, with its ends and its refusals.
+    pub(crate) fn of(socket: TracedStream<S>, ends: Count, refusals: Count) -> SocketTraces<S>
+        ensures read { result.read.trace ≡ socket.read }
+        ensures ends { result.read.stops ≡ ends }
+        ensures sent { result.sent.trace ≡ socket.written }
+        ensures refusals { result.sent.stops ≡ refusals }
     {
-        let (traced, ends, refusals) = stream.into_parts();
-        let (read, written) = traced.into_traces();
+        let (read, written) = socket.into_traces();
         SocketTraces {
             read: SocketTrace {
                 trace: read,

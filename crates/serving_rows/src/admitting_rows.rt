@@ -56,13 +56,20 @@ fn peers_wait_in_their_order(rt: HostRuntime) -> Result<(), Fail> {
     let mut slots = Slots::new(rt.alloc(), 3, 1)?;
     let mut queue = Queue::new(rt.alloc(), 4)?;
     assert!(rt; slots.len() == 3 && slots.admit(7) == Admission::Slot(0));
-    let rows = [(7, 'a'), (8, 'b'), (7, 'c'), (9, 'd')];
-    for (peer, waiting) in rows {
-        assert!(rt; queue.push(Waiter { peer, waiting }));
+    let rows = [(7, 'a', 64), (8, 'b', 65), (7, 'c', 66), (9, 'd', 67)];
+    for (peer, waiting, number) in rows {
+        assert!(rt;
+            queue.push(Waiter {
+                peer,
+                number,
+                waiting
+            })
+        );
     }
     assert!(rt;
         !queue.push(Waiter {
             peer: 10,
+            number: 68,
             waiting: 'e'
         })
     );
@@ -74,6 +81,13 @@ fn peers_wait_in_their_order(rt: HostRuntime) -> Result<(), Fail> {
     }
     assert!(rt; next(&mut queue, &mut slots) == Some(('a', 0)));
     assert!(rt; next(&mut queue, &mut slots) == None && !queue.is_empty());
+    assert!(rt; !queue.leave(64) && queue.leave(66) && !queue.leave(66) && queue.is_empty());
+    let last = Waiter {
+        peer: 7,
+        number: 69,
+        waiting: 'f',
+    };
+    assert!(rt; queue.push(last) && !queue.leave(68) && !queue.is_empty());
     queue.clear();
     assert!(rt; queue.is_empty());
     Ok(())
@@ -89,12 +103,22 @@ fn told_once_a_minute(rt: HostRuntime) -> Result<(), Fail> {
     Ok(())
 }
 
+/// Returns the number of the IPv6 peer with these segments.
+fn peer_of_segments(s: [u16; 8]) -> u128 {
+    peer_number(IpAddr::V6(Ipv6Addr::new(s[0], s[1], s[2], s[3], s[4], s[5], s[6], s[7])))
+}
+
 #[test]
 fn addresses_of_one_peer(rt: HostRuntime) {
     let four = peer_number(IpAddr::V4(Ipv4Addr::new(10, 0, 0, 7)));
-    let mapped = peer_number(IpAddr::V6(Ipv6Addr::new(0, 0, 0, 0, 0, 0xffff, 0x0a00, 7)));
-    let six = peer_number(IpAddr::V6(Ipv6Addr::new(0, 0, 0, 0, 0, 0, 0x0a00, 7)));
-    assert!(rt; four == mapped && four != six);
+    let mapped = peer_of_segments([0, 0, 0, 0, 0, 0xffff, 0x0a00, 7]);
+    let next = peer_of_segments([0, 0, 0, 0, 0, 0xffff, 0x0a00, 8]);
+    let six = peer_of_segments([0, 0, 0, 0, 0, 0, 0x0a00, 7]);
+    assert!(rt; four == mapped && four != next && four != six);
+    let one = peer_of_segments([0x2001, 0xdb8, 0, 1, 0, 0, 0, 1]);
+    let same = peer_of_segments([0x2001, 0xdb8, 0, 1, 0xffff, 0xffff, 0xffff, 0xffff]);
+    let other = peer_of_segments([0x2001, 0xdb8, 0, 2, 0, 0, 0, 1]);
+    assert!(rt; one == same && one != other);
 }
 
 /// Returns the time `seconds` seconds after another one.

@@ -9,6 +9,8 @@ mod association_lines;
 #[cfg(test)]
 mod chance;
 #[cfg(test)]
+mod give_up_rows;
+#[cfg(test)]
 mod json_lines;
 #[cfg(test)]
 mod message_lines;
@@ -18,6 +20,8 @@ mod metrics_rows;
 mod mixed_rows;
 #[cfg(test)]
 mod peer;
+#[cfg(test)]
+mod play;
 #[cfg(test)]
 mod scripted;
 #[cfg(test)]
@@ -36,3 +40,5 @@ mod turn_rows;
 mod waiting_filing;
 #[cfg(test)]
 mod waiting_rows;
+#[cfg(test)]
+mod words;

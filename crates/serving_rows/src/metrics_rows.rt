@@ -41,6 +41,9 @@ dcmbox_stores_total{status=\"none\"} 70
 # HELP dcmbox_received_bytes_total Bytes that associations received that have ended.
 # TYPE dcmbox_received_bytes_total counter
 dcmbox_received_bytes_total 7800
+# HELP dcmbox_refused_contexts_total Presentation contexts that were refused, of accepted associations.
+# TYPE dcmbox_refused_contexts_total counter
+dcmbox_refused_contexts_total 80
 ";
 
 /// Returns counters of which each differs from its neighbours: the first way to end once, the second twice, and so on.
@@ -61,6 +64,7 @@ fn counted() -> Counters {
         }
     }
     counters.leave_unanswered(70);
+    counters.refuse_contexts(80);
     counters
 }
 
@@ -100,6 +104,9 @@ fn counters_stop_at_the_greatest_number(rt: HostRuntime) {
     counters.end(CountedEnd::Idle, u64::MAX);
     counters.end(CountedEnd::Idle, 2);
     assert!(rt; counters.stores.without_reply == u64::MAX && counters.received == u64::MAX);
+    counters.refuse_contexts(u64::MAX);
+    counters.refuse_contexts(1);
+    assert!(rt; counters.refused_contexts == u64::MAX);
     assert!(rt; counters.ends.idle == 2);
 }
 

@@ -1,11 +1,12 @@
 //! Associations mixed by generated turns: each sends, files and ends as it does alone.
 
 use crate::chance::Chance;
-use crate::peer::{Audience, FickleSocket};
+use crate::peer::{Audience, FickleSocket, Viewer};
 use crate::scripted::over;
 use crate::streams::{Traffic, stream_of};
 use engine::Standing;
-use fixtures::{Step, over_memory};
+use fixtures::{Step, config, over_memory};
+use negotiate::Config;
 use part10::MemoryFiling;
 use serving::{Connection, Turn};
 use std::alloc::Global;
@@ -14,14 +15,13 @@ use std::test::Fail;
 use std::time::{Clock, Instant};
 
 /// One connection of a test.
-type Mixed<'a> = Connection<FickleSocket<'a>, MemoryFiling<Global>>;
+type Mixed<'a> = Connection<'a, FickleSocket<'a>, MemoryFiling<Global>, Viewer<'a>>;
 
 /// What one peer sends, and what it took.
 #[derive(Drop)]
 struct Side {
     stream: Vec<u8>,
     taken: RefCell<Vec<u8>>,
-    shown: Audience,
 }
 
 fn sides(alloc: Global, count: usize, from: usize) -> Result<Vec<Side>, Fail> {
@@ -30,46 +30,60 @@ fn sides(alloc: Global, count: usize, from: usize) -> Result<Vec<Side>, Fail> {
         sides.push(Side {
             stream: stream_of(alloc, Traffic::of(from.saturating_add(number)))?,
             taken: RefCell::new(Vec::new(alloc)),
-            shown: Audience::new(alloc),
         })?;
     }
     Ok(sides)
 }
 
+fn audiences(alloc: Global, count: usize) -> Result<Vec<Audience>, Fail> {
+    let mut audiences = Vec::new(alloc);
+    for _ in 0..count {
+        audiences.push(Audience::new(alloc))?;
+    }
+    Ok(audiences)
+}
+
 fn connections<'a>(
     alloc: Global,
-    sides: &'a [Side],
+    config: &'a Config,
+    (sides, audiences): (&'a [Side], &'a [Audience]),
     chance: &mut Chance,
     now: Instant,
 ) -> Result<Vec<Box<Mixed<'a>>>, Fail> {
     let mut all = Vec::new(alloc);
-    for side in sides {
+    for (side, audience) in sides.iter().zip(audiences) {
         let most = chance.below(40).saturating_add(1);
         let seed = chance.below(1_000_000) as u64;
         let peer = FickleSocket::new(side.stream.as_slice(), most, seed, &side.taken);
         let filing = MemoryFiling::new(alloc);
-        let one = over(alloc, peer, filing, now)?;
+        let one = over(
+            alloc,
+            config,
+            (peer, filing, Viewer::new(audience)),
+            None,
+            now,
+        )?;
         all.push(Box::new(alloc, one)?)?;
     }
     Ok(all)
 }
 
 /// Gives the connections generated turns until all are over. Returns whether they are.
-fn mix(all: &mut [Box<Mixed<'_>>], sides: &[Side], chance: &mut Chance, now: Instant) -> bool {
+fn mix(all: &mut [Box<Mixed<'_>>], chance: &mut Chance, now: Instant) -> bool {
     let mut over = 0usize;
     for _ in 0..1_000_000 {
         let place = chance.below(all.len());
         let most = chance.below(512);
-        let (Some(one), Some(side)) = (all.get_mut(place), sides.get(place)) else {
+        let Some(one) = all.get_mut(place) else {
             return false;
         };
         if one.is_over() {
             continue;
         }
-        if one.turn(now, most, &side.shown) == Turn::Over {
+        if one.turn(now, most) == Turn::Over {
             over = over.saturating_add(1);
         }
-        if over >= sides.len() {
+        if over >= all.len() {
             return true;
         }
     }
@@ -77,10 +91,16 @@ fn mix(all: &mut [Box<Mixed<'_>>], sides: &[Side], chance: &mut Chance, now: Ins
 }
 
 /// Returns whether a connection did what its association does alone.
-fn is_as_alone(alloc: Global, one: Mixed<'_>, side: &Side) -> bool {
+fn is_as_alone(
+    alloc: Global,
+    one: Mixed<'_>,
+    side: &Side,
+    audience: &Audience,
+    now: Instant,
+) -> bool {
     let alone = over_memory(alloc, &[Step::Piece(side.stream.as_slice()), Step::Closed]);
-    let end = one.end();
-    let (Ok(taken), Ok(shown)) = (side.taken.try_borrow(), side.shown.sent.try_borrow()) else {
+    let (end, _viewer, _memory) = one.close(now);
+    let (Ok(taken), Ok(shown)) = (side.taken.try_borrow(), audience.sent.try_borrow()) else {
         return false;
     };
     taken.as_slice() == alone.wire.sent()
@@ -99,15 +119,23 @@ fn each_is_as_alone<R: Clock>(
     (count, from): (usize, usize),
     seed: u64,
 ) -> Result<bool, Fail> {
-    let now = Instant::now(rt)?;
+    let (config, now) = (config(), Instant::now(rt)?);
     let mut chance = Chance::new(seed);
     let sides = sides(alloc, count, from)?;
-    let mut all = connections(alloc, sides.as_slice(), &mut chance, now)?;
-    if !mix(all.as_mut_slice(), sides.as_slice(), &mut chance, now) {
+    let audiences = audiences(alloc, count)?;
+    let mut all = connections(
+        alloc,
+        &config,
+        (sides.as_slice(), audiences.as_slice()),
+        &mut chance,
+        now,
+    )?;
+    if !mix(all.as_mut_slice(), &mut chance, now) {
         return Ok(false);
     }
-    for (one, side) in all.into_iter().zip(sides.as_slice()) {
-        if !is_as_alone(alloc, Box::into_inner(one), side) {
+    let all_sides = sides.as_slice().iter().zip(audiences.as_slice());
+    for (one, (side, audience)) in all.into_iter().zip(all_sides) {
+        if !is_as_alone(alloc, Box::into_inner(one), side, audience, now) {
             return Ok(false);
         }
     }

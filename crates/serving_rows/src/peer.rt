@@ -1,8 +1,9 @@
 //! A socket of a test, which blocks and is interrupted as it likes.
-ghost use Rattle.std.specs.Prelude.{◌≤◌, length};
+ghost use Rattle.std.specs.Prelude.{◌≡◌, ◌≤◌, [], length};
 
 use crate::chance::Chance;
 use connection::{Observer, ReadEnd, Taken};
+use element::history::History;
 use std::alloc::Global;
 use std::cell::{Cell, RefCell};
 use std::io;
@@ -73,7 +74,7 @@ impl Write for FickleSocket<'_> {
     }
 }
 
-/// Is shown what goes over a connection, and keeps it.
+/// What an observer was shown of a connection.
 #[derive(Drop)]
 pub struct Audience {
     pub received: RefCell<Vec<u8>>,
@@ -93,7 +94,7 @@ pub struct Audience {
 }
 
 impl Audience {
-    /// Returns an observer that was shown nothing.
+    /// Returns that of an observer that was shown nothing.
     pub fn new(alloc: Global) -> Audience {
         Audience {
             received: RefCell::new(Vec::new(alloc)),
@@ -120,30 +121,64 @@ fn keep(kept: &RefCell<Vec<u8>>, bytes: &[u8]) {
     }
 }
 
-impl Observer for Audience {
-    fn took(&self, taken: &Taken<'_>) {
-        keep(&self.received, taken.bytes);
-        self.answer(taken.answered);
+/// Is shown what goes over a connection, and keeps it.
+#[derive(Drop)]
+pub struct Viewer<'a> {
+    audience: &'a Audience,
+    /// What contracts see of the pieces that it was told of.
+    heard: History<History<u8>>,
+}
+
+impl<'a> Viewer<'a> {
+    /// Returns an observer that keeps there what it is shown.
+    pub fn new(audience: &'a Audience) -> Viewer<'a>
+        ensures { result.heard ≡ [] }
+    {
+        Viewer {
+            audience,
+            heard: History::new(),
+        }
+    }
+}
+
+impl Observer for Viewer<'_> {
+    ghost heard = { λ viewer. viewer.heard };
+
+    fn took(&mut self, taken: &Taken<'_>) {
+        let mut bytes = History::new();
+        bytes.append(taken.bytes);
+        self.heard.push(&bytes);
+        let audience = self.audience;
+        keep(&audience.received, taken.bytes);
+        audience.answer(taken.answered);
         let ahead = taken.ahead.len();
-        self.most_ahead.set(self.most_ahead.get().max(ahead));
-        self.is_held.set(taken.is_held);
+        audience
+            .most_ahead
+            .set(audience.most_ahead.get().max(ahead));
+        audience.is_held.set(taken.is_held);
     }
 
     fn settled(&self, is_kept: bool) {
-        let count = if is_kept { &self.kept } else { &self.lost };
+        let audience = self.audience;
+        let count = if is_kept {
+            &audience.kept
+        } else {
+            &audience.lost
+        };
         count.set(count.get().saturating_add(1));
     }
 
     fn sent(&self, bytes: &[u8]) {
-        keep(&self.sent, bytes);
+        keep(&self.audience.sent, bytes);
     }
 
     fn read_ended(&self, why: ReadEnd, abort: usize) {
-        self.end.set(Some(why));
-        self.answer(abort);
+        self.audience.end.set(Some(why));
+        self.audience.answer(abort);
     }
 
     fn send_failed(&self, _error: &io::Error) {
-        self.failures.set(self.failures.get().saturating_add(1));
+        let failures = &self.audience.failures;
+        failures.set(failures.get().saturating_add(1));
     }
 }

@@ -1,9 +1,10 @@
 //! A socket of a test that gives and takes as much as it is told.
+ghost use Rattle.std.specs.Prelude.{◌≡◌, []};
 
-use connection::Timeouts;
-use fixtures::config;
-use part10::{MemoryFiling, Settling};
-use serving::{Connection, ConnectionMemory, ConnectionTerms};
+use connection::{Observer, Timeouts};
+use negotiate::Config;
+use part10::Settling;
+use serving::{Connection, ConnectionMemory, ConnectionTerms, Stop};
 use std::alloc::{AllocError, Global};
 use std::cell::{Cell, RefCell};
 use std::io;
@@ -47,14 +48,6 @@ impl Script {
         };
         arriving.extend_from_slice(bytes)?;
         Ok(())
-    }
-
-    /// Returns whether the peer took just these bytes.
-    pub fn took(&self, bytes: &[u8]) -> bool {
-        match self.taken.try_borrow() {
-            Ok(taken) => taken.as_slice() == bytes,
-            Err(_) => false,
-        }
     }
 }
 
@@ -103,36 +96,40 @@ impl Write for ScriptedSocket<'_> {
     }
 }
 
-/// A connection over such a socket.
-pub type Scripted<'a> = Connection<ScriptedSocket<'a>, MemoryFiling<Global>>;
-
-/// 30 seconds of the ARTIM timer and 600 of silence.
-fn timeouts() -> Timeouts {
-    Timeouts {
-        artim: Duration::from_secs(30),
-        idle: Duration::from_secs(600),
+/// 30 seconds of the ARTIM timer and 600 of silence, and so long a connection.
+pub fn terms(config: &Config, longest: Option<Duration>) -> ConnectionTerms<'_> {
+    ConnectionTerms {
+        config,
+        timeouts: Timeouts {
+            artim: Duration::from_secs(30),
+            idle: Duration::from_secs(600),
+        },
+        longest,
     }
 }
 
-/// Opens one at this instant, with 30 seconds of the ARTIM timer and 600 of silence.
-pub fn scripted(alloc: Global, script: &Script, now: Instant) -> Result<Scripted<'_>, AllocError> {
-    over(alloc, ScriptedSocket(script), MemoryFiling::new(alloc), now)
+/// Opens a connection over this socket and this filing, which this observer is shown, with memory of its own, 30 seconds of
+/// the ARTIM timer and 600 of silence, that may last so long.
+pub fn over<'c, S: Drop, F: Settling + Drop, B: Observer + Drop>(
+    alloc: Global,
+    config: &'c Config,
+    parts: (S, F, B),
+    longest: Option<Duration>,
+    now: Instant,
+) -> Result<Connection<'c, S, F, B>, AllocError>
+    requires nothing_heard { B.heard parts.2 ≡ [] }
+{
+    let memory = ConnectionMemory::new(alloc, config)?;
+    Ok(Connection::open(terms(config, longest), parts, memory, now))
 }
 
-/// Opens a connection over this socket and this filing, with memory of its own and those times.
-pub fn over<S: Drop, F: Settling + Drop>(
-    alloc: Global,
-    socket: S,
-    filing: F,
-    now: Instant,
-) -> Result<Connection<S, F>, AllocError> {
-    let config = config();
-    let memory = ConnectionMemory::new(alloc, &config)?;
-    let terms = ConnectionTerms {
-        config: &config,
-        timeouts: timeouts(),
-    };
-    Ok(Connection::open(terms, socket, filing, memory, now))
+/// Returns the last time before that which is so many seconds after another one.
+pub fn just_before(time: Instant, seconds: u64) -> Instant {
+    let less = Duration::from_secs(seconds).saturating_sub(Duration::from_nanos(1));
+    match time.checked_add(less) {
+        Some(time) => time,
+        None => time,
+    }
 }
 
 /// Returns the time so many seconds after another one.
@@ -140,5 +137,23 @@ pub fn after(time: Instant, seconds: u64) -> Instant {
     match time.checked_add(Duration::from_secs(seconds)) {
         Some(time) => time,
         None => time,
+    }
+}
+
+/// Returns how long the connection of a script may last: it has a line `longest | SECONDS`, or there is no bound.
+pub fn longest_of(script: &str) -> Option<Duration> {
+    for line in script.lines() {
+        if let Some(seconds) = line.strip_prefix("longest | ") {
+            return Some(Duration::from_secs(seconds.parse::<u64>().unwrap_or(0)));
+        }
+    }
+    None
+}
+
+/// Returns that a server is to end at once.
+pub fn at_once(now: Instant) -> Stop {
+    Stop {
+        asked: now,
+        grace: Duration::ZERO,
     }
 }

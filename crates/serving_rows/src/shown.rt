@@ -1,6 +1,9 @@
-//! Runs a connection by a script, and gathers the lines of its journal.
-use crate::scripted::{Script, ScriptedSocket, after, over};
-use connection::ReadEnd;
+//! Runs a connection by a script, and holds the lines of its journal against those of the script: a further one costs no
+//! proof.
+use crate::scripted::{Script, ScriptedSocket, after, at_once, longest_of, terms};
+use crate::words::{names, number, parts, peer_does};
+use cases::{Case, Parts};
+use connection::Observer;
 use fixtures::config;
 use fixtures::folders::fresh;
 use folder_filing::FolderFiling;
@@ -8,30 +11,12 @@ use journal::{Form, Journal, Logger, Served};
 use log::sink::Memory;
 use log::{Level, Logged};
 use metrics::{CountedEnd, Counters, MetricsFile};
+use serving::{Connection, ConnectionMemory};
 use std::alloc::Global;
 use std::fs;
 use std::net::{IpAddr, Ipv4Addr, SocketAddr};
 use std::test::Fail;
 use std::time::Instant;
-
-/// What happens on a connection.
-#[derive(Clone, Copy)]
-pub enum Step<'a> {
-    /// The peer sends, and the connection has its turn.
-    Peer(&'a [u8]),
-    /// The peer takes no more than so many bytes from now on.
-    Takes(usize),
-    /// Each write to the peer fails from now on.
-    Resets,
-    /// The peer closes the connection.
-    Closes,
-    /// So many seconds go by.
-    Waits(u64),
-    /// The box aborts the association.
-    Aborts(ReadEnd),
-    /// The folder is removed.
-    FolderGoes,
-}
 
 /// What an association came to, that the journal is told.
 fn served() -> Served {
@@ -44,48 +29,129 @@ fn served() -> Served {
     }
 }
 
-/// Runs a connection by these steps, of a box that files into a new folder of this name. Returns what was counted.
-fn run(
-    rt: &HostRuntime,
-    dir: &str,
-    sink: &Memory<Global>,
-    log: Log,
-    steps: &[Step],
-) -> Result<Counters, Fail> {
-    let Log(level, form) = log;
-    fresh(rt, dir)?;
-    let filing = FolderFiling::open(*rt, dir)?;
+/// A connection that files into a folder.
+type Journaled<'c, 'a, B> = Connection<'c, ScriptedSocket<'a>, FolderFiling<HostRuntime>, B>;
+
+/// The script of a run, and what it has.
+#[derive(Clone, Copy)]
+struct Scene<'a> {
+    rt: &'a HostRuntime,
+    /// The name of the folder.
+    dir: &'a str,
+    text: &'a str,
+    /// How many bytes each piece has that the peer sends.
+    size: usize,
+}
+
+/// Runs a connection by a script, of a box that files into a new folder. Returns what was counted.
+fn counted(scene: Scene, sink: &Memory<Global>) -> Result<Counters, Fail> {
+    let rt = scene.rt;
+    fresh(rt, scene.dir)?;
+    let filing = FolderFiling::open(*rt, scene.dir)?;
     let notes = filing.notes()?;
-    let logged = Logged::new(*rt, level, sink);
+    let logged = Logged::new(*rt, level_of(scene.text)?, sink);
     let peer = SocketAddr::new(IpAddr::V4(Ipv4Addr::new(192, 0, 2, 7)), 51234);
     let metrics = MetricsFile::new(rt, rt.alloc(), "box.prom", "1.0.0")?;
-    let logger = Logger::new(&logged, form)
+    let logger = Logger::new(&logged, Form::Text)
         .about(peer)
         .counting(Some(&metrics));
     let config = config();
-    let journal = Journal::new(rt.alloc(), logger, notes, &config);
     let script = Script::new(rt.alloc());
-    let mut now = Instant::now(rt)?;
-    let mut one = over(rt.alloc(), ScriptedSocket(&script), filing, now)?;
-    for step in steps {
-        match *step {
-            Step::Peer(bytes) => script.send(bytes)?,
-            Step::Takes(count) => script.takes.set(count),
-            Step::Resets => script.fails.set(true),
-            Step::Closes => script.is_closed.set(true),
-            Step::Waits(seconds) => now = after(now, seconds),
-            Step::Aborts(why) => one.abort(now, why, &journal),
-            Step::FolderGoes => fs::remove_dir_all(rt, dir)?,
+    let mut parts = parts(rt.alloc())?;
+    let memory = ConnectionMemory::new(rt.alloc(), &config)?;
+    let begin = Instant::now(rt)?;
+    let journal = Journal::new(rt.alloc(), logger, notes, &config);
+    let mut one = Connection::open(
+        terms(&config, longest_of(scene.text)),
+        (ScriptedSocket(&script), filing, journal),
+        memory,
+        begin,
+    );
+    let played = perform(&mut one, scene, &script, &mut parts, begin);
+    let (_end, journal, _memory) = one.close(begin);
+    journal.end(served());
+    let _ = fs::remove_dir_all(rt, scene.dir);
+    played?;
+    Ok(metrics.figures().counters)
+}
+
+/// Does the steps of a script.
+fn perform<'a, B: Observer>(
+    one: &mut Journaled<'_, '_, B>,
+    scene: Scene<'a>,
+    script: &Script,
+    parts: &mut Parts<'a>,
+    begin: Instant,
+) -> Result<(), Fail> {
+    let mut now = begin;
+    for line in scene.text.lines() {
+        step(one, scene, script, parts, &mut now, &Case::of(line))?;
+    }
+    Ok(())
+}
+
+/// Does a step.
+fn step<'a, B: Observer>(
+    one: &mut Journaled<'_, '_, B>,
+    scene: Scene,
+    script: &Script,
+    parts: &mut Parts<'a>,
+    now: &mut Instant,
+    case: &Case<'a>,
+) -> Result<(), Fail> {
+    if names(scene.rt.alloc(), parts, case)? {
+        return Ok(());
+    }
+    match case.name {
+        "log" | "line" | "longest" | "pieces" => return Ok(()),
+        "send" => return send(one, script, *now, scene, parts.bytes(case, 0)?.as_slice()),
+        "later" => *now = after(*now, number(case, 0)? as u64),
+        "stop" => {
+            let _done = one.stop(at_once(*now), *now);
         }
-        one.expire(now, &journal);
-        for _ in 0..4 {
-            let _ = one.turn(now, 65_536, &journal);
+        "folder goes" => fs::remove_dir_all(scene.rt, scene.dir)?,
+        _ if peer_does(script, parts, case)? => {}
+        _ => return Err(case.fails("no such step")),
+    }
+    go_on(one, *now);
+    Ok(())
+}
+
+/// Has the peer send bytes in pieces, and gives the connection its rounds after each.
+fn send<B: Observer>(
+    one: &mut Journaled<'_, '_, B>,
+    script: &Script,
+    now: Instant,
+    scene: Scene,
+    bytes: &[u8],
+) -> Result<(), Fail> {
+    for piece in bytes.chunks(scene.size.max(1)) {
+        script.send(piece)?;
+        go_on(one, now);
+    }
+    Ok(())
+}
+
+/// Gives the connection four rounds.
+fn go_on<B: Observer>(one: &mut Journaled<'_, '_, B>, now: Instant) {
+    for _ in 0..4 {
+        one.wake();
+        let _done = one.round(now, None);
+    }
+}
+
+/// Returns how much a script logs.
+fn level_of(text: &str) -> Result<Level, Fail> {
+    for line in text.lines() {
+        match line {
+            "log | Warn" => return Ok(Level::Warn),
+            "log | Info" => return Ok(Level::Info),
+            "log | Debug" => return Ok(Level::Debug),
+            "log | Trace" => return Ok(Level::Trace),
+            _ => {}
         }
     }
-    let _end = one.end();
-    journal.end(served());
-    let _ = fs::remove_dir_all(rt, dir);
-    Ok(metrics.figures().counters)
+    Err(Fail::from("it logs nothing"))
 }
 
 /// Returns the words of the log for associations that are counted so.
@@ -100,7 +166,7 @@ fn words_of(end: CountedEnd) -> &'static str {
         CountedEnd::Idle => "aborted: the peer was idle",
         CountedEnd::TooLong => "aborted: it lasted too long",
         CountedEnd::Stopping => "aborted: the box stops",
-        CountedEnd::ConnectionFailed => "the wire failed",
+        CountedEnd::ConnectionFailed => "the connection failed",
         CountedEnd::FileLost => "closed by dcmbox: a file was lost",
         CountedEnd::Unknown => "",
     }
@@ -149,19 +215,54 @@ fn agree(rt: &HostRuntime, counters: &Counters, lines: &[String]) -> Result<(), 
     Err(Fail::from(told))
 }
 
-/// How much is logged, and how.
-#[derive(Clone, Copy)]
-pub struct Log(pub Level, pub Form);
+/// Fails where the lines that tell of a connection are not those of a script. Runs have an empty line between them, and
+/// each has a folder of this name, which is removed at its end.
+///
+/// Each line is a step: a verb and what it has, with bars between them. Bytes and the peer's verbs are those of `words`.
+/// After each the connection has four rounds.
+///
+/// - `log | Info`: how much is logged, from `Warn` to `Trace`.
+/// - `pieces | NUMBER NUMBER`, first of all: a run for each number, of pieces of so many bytes.
+/// - `later | SECONDS`: so many seconds go by. `stop`: the box is to end at once. `folder goes`: it is removed.
+/// - `longest | SECONDS`: how long the connection may last.
+/// - `line | TEXT`: the next line of the log, without its time.
+pub fn tells(rt: &HostRuntime, dir: &str, script: &str) -> Result<(), Fail> {
+    for text in script.split("\n\n") {
+        let sizes = match text.strip_prefix("pieces | ") {
+            Some(rest) => rest.lines().next().unwrap_or(""),
+            None => "65536",
+        };
+        for size in sizes.split(' ') {
+            let size = size.parse::<usize>().unwrap_or(0);
+            let scene = Scene {
+                rt,
+                dir,
+                text,
+                size,
+            };
+            are(rt, lines_of(scene)?.as_slice(), wanted(scene)?.as_slice())?;
+        }
+    }
+    Ok(())
+}
 
-/// Returns the lines that tell of these steps, each without its time.
-pub fn lines_of(
-    rt: &HostRuntime,
-    dir: &str,
-    log: Log,
-    steps: &[Step],
-) -> Result<Vec<String>, Fail> {
+/// Returns the lines that a script wants.
+fn wanted(scene: Scene<'_>) -> Result<Vec<&str>, Fail> {
+    let mut wanted = Vec::new(scene.rt.alloc());
+    for line in scene.text.lines() {
+        let case = Case::of(line);
+        if case.name == "line" {
+            wanted.push(case.field(0)?)?;
+        }
+    }
+    Ok(wanted)
+}
+
+/// Returns the lines that tell of a run, each without its time.
+fn lines_of(scene: Scene) -> Result<Vec<String>, Fail> {
+    let rt = scene.rt;
     let sink = Memory::new(rt.alloc());
-    let counters = run(rt, dir, &sink, log, steps)?;
+    let counters = counted(scene, &sink)?;
     let told = sink.into_lines();
     agree(rt, &counters, told.as_slice())?;
     let mut lines = Vec::new(rt.alloc());
@@ -183,12 +284,12 @@ fn untimed(rt: &HostRuntime, line: &str) -> Result<String, Fail> {
 }
 
 /// Fails where the lines are not these, with the first that differs.
-pub fn are(rt: &HostRuntime, lines: &[String], wanted: &[&str]) -> Result<(), Fail> {
+fn are(rt: &HostRuntime, lines: &[String], wanted: &[&str]) -> Result<(), Fail> {
     for place in 0..lines.len().max(wanted.len()) {
         let line = lines.get(place).map_or("nothing", |line| line.as_str());
         let want = wanted.get(place).map_or("nothing", |want| *want);
         if line != want {
-            let told = format!(in rt.alloc(); "line {place} is {line} and not {want}")?;
+            let told = format!(in rt.alloc(); "line {place} of the log is {line} and not {want}")?;
             return Err(Fail::from(told));
         }
     }

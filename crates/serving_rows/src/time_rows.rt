@@ -1,7 +1,8 @@
 //! Times that run out.
 
 use acceptor::State;
-use serving::{Wait, Waiting};
+use connection::Timeouts;
+use serving::{Deadlines, Wait};
 use std::test::Fail;
 use std::time::{Duration, Instant};
 
@@ -20,28 +21,34 @@ fn left(seconds: u64) -> Wait {
 #[test]
 fn times_run_out(rt: HostRuntime) -> Result<(), Fail> {
     let begin = Instant::now(&rt)?;
-    let mut waiting = Waiting::new(Duration::from_secs(30), Duration::from_secs(600), begin);
+    let timeouts = Timeouts {
+        artim: Duration::from_secs(30),
+        idle: Duration::from_secs(600),
+    };
+    let mut deadlines = Deadlines::new(timeouts, None, begin);
     // Bytes of a request don't stretch the timer.
-    waiting.hear(after(begin, 29));
-    waiting.follow(after(begin, 29), State::Sta2);
-    assert!(rt; waiting.wait(after(begin, 29)) == left(1));
-    assert!(rt; waiting.wait(after(begin, 30)) == Wait::Expired);
+    deadlines.hear(after(begin, 29));
+    deadlines.follow(after(begin, 29), State::Sta2);
+    assert!(rt; deadlines.wait(after(begin, 29)) == left(1));
+    assert!(rt; deadlines.wait(after(begin, 30)) == Wait::Expired);
     // An answer that rejects starts it anew, and nothing after that does.
-    waiting.follow(after(begin, 29), State::Sta13);
-    waiting.follow(after(begin, 40), State::Sta13);
-    assert!(rt; waiting.wait(after(begin, 58)) == left(1));
-    assert!(rt; waiting.wait(after(begin, 59)) == Wait::Expired);
+    deadlines.follow(after(begin, 29), State::Sta13);
+    deadlines.follow(after(begin, 40), State::Sta13);
+    assert!(rt; deadlines.wait(after(begin, 58)) == left(1));
+    assert!(rt; deadlines.wait(after(begin, 59)) == Wait::Expired);
     // An established association is waited for from when its peer was heard last.
-    let mut waiting = Waiting::new(Duration::from_secs(30), Duration::from_secs(600), begin);
-    waiting.hear(after(begin, 29));
-    waiting.follow(after(begin, 50), State::Sta6);
-    assert!(rt; waiting.wait(after(begin, 59)) == left(570));
-    waiting.hear(after(begin, 100));
-    assert!(rt; waiting.wait(after(begin, 699)) == left(1));
-    assert!(rt; waiting.wait(after(begin, 700)) == Wait::Silent);
+    let mut deadlines = Deadlines::new(timeouts, None, begin);
+    deadlines.hear(after(begin, 29));
+    deadlines.follow(after(begin, 50), State::Sta6);
+    assert!(rt; deadlines.wait(after(begin, 59)) == left(570));
+    deadlines.note_taken(after(begin, 100));
+    assert!(rt; deadlines.wait(after(begin, 699)) == left(1));
+    assert!(rt; deadlines.wait(after(begin, 700)) == Wait::Silent);
+    deadlines.hear(after(begin, 101));
+    assert!(rt; deadlines.wait(after(begin, 700)) == left(1));
     // After its release the timer runs again.
-    waiting.follow(after(begin, 200), State::Sta13);
-    assert!(rt; waiting.wait(after(begin, 229)) == left(1));
-    assert!(rt; waiting.wait(after(begin, 230)) == Wait::Expired);
+    deadlines.follow(after(begin, 200), State::Sta13);
+    assert!(rt; deadlines.wait(after(begin, 229)) == left(1));
+    assert!(rt; deadlines.wait(after(begin, 230)) == Wait::Expired);
     Ok(())
 }

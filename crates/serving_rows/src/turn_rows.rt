@@ -1,262 +1,240 @@
 //! What a connection of several does when it has its turn, and when its time is up.
 
-use crate::peer::Audience;
-use crate::scripted::{Script, after, scripted};
-use connection::ReadEnd;
-use fixtures::bytes::{front, joined};
-use fixtures::stores::{ACCEPT, CT_SET, EXPLICIT, INSTANCE, data, request, store, whole_store};
-use fixtures::{Step, echo, over_memory};
-use serving::{Turn, Wait};
-use std::cell::RefCell;
+use crate::play::play;
 use std::test::Fail;
-use std::time::{Duration, Instant};
 
-/// Whether just these bytes were kept.
-fn holds(kept: &RefCell<Vec<u8>>, bytes: &[u8]) -> bool {
-    match kept.try_borrow() {
-        Ok(kept) => kept.as_slice() == bytes,
-        Err(_) => false,
-    }
-}
+/// The head of the request is taken first, of all that was read; and what follows an answer in a turn of its own.
+static ANSWERED: &str = "turn | 1024 | Socket
+send | request
+send | echo
+turn | 1024 | Next
+took | accept
+received | 170
+turn | 1024 | Socket
+took | accept reply
+received | 250
+over | no
+shown | request echo
+answered | 259
+sent | accept reply
+ahead | 244
+closes
+turn | 1024 | Over
+over | yes
+why | Some(Closed)
+turn | 1024 | Over";
 
 #[test]
 fn an_echo_is_answered_in_a_turn(rt: HostRuntime) -> Result<(), Fail> {
-    let (now, script) = (Instant::now(&rt)?, Script::new(rt.alloc()));
-    let shown = Audience::new(rt.alloc());
-    let mut one = scripted(rt.alloc(), &script, now)?;
-    assert!(rt; one.turn(now, 1024, &shown) == Turn::Socket);
-    script.send(echo::REQUEST)?;
-    script.send(echo::ECHO)?;
-    assert!(rt; one.turn(now, 1024, &shown) == Turn::Socket);
-    let answers = joined(rt.alloc(), &[echo::ACCEPT, echo::REPLY])?;
-    assert!(rt; script.took(answers.as_slice()));
-    assert!(rt; one.received() == 250 && !one.is_over());
-    let received = joined(rt.alloc(), &[echo::REQUEST, echo::ECHO])?;
-    assert!(rt; holds(&shown.received, received.as_slice()));
-    assert!(rt; shown.answered.get() == answers.len() && holds(&shown.sent, answers.as_slice()));
-    // The head of the request is taken first, of all that was read.
-    assert!(rt; shown.most_ahead.get() == 244);
-    script.is_closed.set(true);
-    assert!(rt; one.turn(now, 1024, &shown) == Turn::Over);
-    assert!(rt; one.is_over() && shown.end.get() == Some(ReadEnd::Closed));
-    assert!(rt; one.turn(now, 1024, &shown) == Turn::Over);
-    Ok(())
+    play(&rt, ANSWERED)
 }
+
+/// The body of the request is more than what is left beside its head, and the command than what is left beside the body's
+/// end.
+static NO_MORE: &str = "send | request
+send | echo
+turn | 0 | Next
+received | 0
+turn | 100 | Next
+received | 6
+turn | 100 | Next
+received | 106
+took |
+turn | 100 | Next
+received | 170
+took | accept
+turn | 100 | Socket
+received | 250";
 
 #[test]
 fn a_turn_takes_no_more_than_it_may(rt: HostRuntime) -> Result<(), Fail> {
-    let (now, script) = (Instant::now(&rt)?, Script::new(rt.alloc()));
-    let shown = Audience::new(rt.alloc());
-    let mut one = scripted(rt.alloc(), &script, now)?;
-    script.send(echo::REQUEST)?;
-    script.send(echo::ECHO)?;
-    assert!(rt; one.turn(now, 0, &shown) == Turn::Next && one.received() == 0);
-    // The body of the request is more than what is left beside its head.
-    assert!(rt; one.turn(now, 100, &shown) == Turn::Next && one.received() == 6);
-    assert!(rt; one.turn(now, 100, &shown) == Turn::Next && one.received() == 106);
-    assert!(rt; script.took(&[]));
-    // The command is more than what is left beside the end of the body.
-    assert!(rt; one.turn(now, 100, &shown) == Turn::Next && one.received() == 182);
-    assert!(rt; script.took(echo::ACCEPT));
-    assert!(rt; one.turn(now, 100, &shown) == Turn::Socket && one.received() == 250);
-    Ok(())
+    play(&rt, NO_MORE)
 }
+
+/// A data set of 60 bytes and of pixels, five fragments of 16,378 bytes: more than an inbox has room for.
+static ONE_READ: &str = "send | ct_request
+turn | 65536 | Socket
+reads | 2
+pdu | asked | 01 03 | command
+pdu | first | 01 00 | set e07f1000 'OW' 0000 a63f0100 pixels[..16318]
+pdu | later | 01 00 | pixels
+pdu | last | 01 02 | pixels
+let | stream | asked first later*3 last
+send | stream
+turn | 65536 | Next
+turn | 65536 | Socket
+reads | 5
+end
+files | 1
+as alone | ct_request | stream";
 
 #[test]
 fn what_has_come_is_one_read(rt: HostRuntime) -> Result<(), Fail> {
-    let (now, script) = (Instant::now(&rt)?, Script::new(rt.alloc()));
-    let shown = Audience::new(rt.alloc());
-    let mut one = scripted(rt.alloc(), &script, now)?;
-    script.send(request(rt.alloc(), EXPLICIT)?.as_slice())?;
-    assert!(rt; one.turn(now, 65536, &shown) == Turn::Socket);
-    assert!(rt; script.reads.get() == 2);
-    // A data set of 60 bytes and of pixels, five fragments of 16,378 bytes: more than an inbox has room for.
-    let head = b"\xe0\x7f\x10\0OW\0\0\xa6\x3f\x01\0";
-    let mut pixels = [0u8; 16378];
-    for (place, byte) in pixels.iter_mut().enumerate() {
-        *byte = (place % 251) as u8;
-    }
-    let first = joined(rt.alloc(), &[&CT_SET, head, front(&pixels, 16318)])?;
-    let mut stream = data(rt.alloc(), 3, store(rt.alloc(), INSTANCE)?.as_slice())?;
-    stream.extend_from_slice(data(rt.alloc(), 0, first.as_slice())?.as_slice())?;
-    for _ in 0..3 {
-        stream.extend_from_slice(data(rt.alloc(), 0, &pixels)?.as_slice())?;
-    }
-    stream.extend_from_slice(data(rt.alloc(), 2, &pixels)?.as_slice())?;
-    script.send(stream.as_slice())?;
-    assert!(rt; one.turn(now, 65536, &shown) == Turn::Next);
-    assert!(rt; one.turn(now, 65536, &shown) == Turn::Socket);
-    assert!(rt; script.reads.get() == 2 + 3);
-    let request = request(rt.alloc(), EXPLICIT)?;
-    let pieces = [
-        Step::Piece(request.as_slice()),
-        Step::Piece(stream.as_slice()),
-    ];
-    let alone = over_memory(rt.alloc(), &pieces);
-    let files = one.end().filing;
-    assert!(rt; files.files().len() == 1 && files.files() == alone.filing.files());
-    Ok(())
+    play(&rt, ONE_READ)
 }
+
+static ANSWER_WAITS: &str = "takes | 3
+send | request
+send | echo*50
+turn | 4096 | Socket
+note
+turn | 4096 | Socket
+no read
+received | 170
+took | accept[..3]
+takes | all
+turns | 4096 | Socket
+received | 4170";
 
 #[test]
 fn nothing_is_read_while_an_answer_waits(rt: HostRuntime) -> Result<(), Fail> {
-    let (now, script) = (Instant::now(&rt)?, Script::new(rt.alloc()));
-    let shown = Audience::new(rt.alloc());
-    let mut one = scripted(rt.alloc(), &script, now)?;
-    script.takes.set(3);
-    script.send(echo::REQUEST)?;
-    for _ in 0..50 {
-        script.send(echo::ECHO)?;
-    }
-    assert!(rt; one.turn(now, 4096, &shown) == Turn::Socket);
-    let reads = script.reads.get();
-    assert!(rt; one.turn(now, 4096, &shown) == Turn::Socket);
-    assert!(rt; script.reads.get() == reads && one.received() == 170);
-    assert!(rt; script.took(front(echo::ACCEPT, 3)));
-    script.takes.set(usize::MAX);
-    assert!(rt; one.turn(now, 4096, &shown) == Turn::Socket);
-    assert!(rt; one.received() == 170 + 50 * 80);
-    Ok(())
+    play(&rt, ANSWER_WAITS)
 }
+
+static READ_TOGETHER: &str = "send | request
+send | echo*20
+turns | 8192 | Socket
+reads | 2
+received | 1770
+end
+untaken |";
 
 #[test]
 fn small_messages_are_read_together(rt: HostRuntime) -> Result<(), Fail> {
-    let (now, script) = (Instant::now(&rt)?, Script::new(rt.alloc()));
-    let shown = Audience::new(rt.alloc());
-    let mut one = scripted(rt.alloc(), &script, now)?;
-    script.send(echo::REQUEST)?;
-    for _ in 0..20 {
-        script.send(echo::ECHO)?;
-    }
-    assert!(rt; one.turn(now, 8192, &shown) == Turn::Socket);
-    assert!(rt; script.reads.get() == 2 && one.received() == 170 + 20 * 80);
-    assert!(rt; one.end().exchange.untaken.pending().is_empty());
-    Ok(())
+    play(&rt, READ_TOGETHER)
 }
+
+static AFTER_THE_END: &str = "send | request
+send | abort
+send | echo
+turns | 4096 | Over
+over | yes
+received | 180
+end
+untaken | echo";
 
 #[test]
 fn what_comes_after_the_end_is_not_taken(rt: HostRuntime) -> Result<(), Fail> {
-    let (now, script) = (Instant::now(&rt)?, Script::new(rt.alloc()));
-    let shown = Audience::new(rt.alloc());
-    let mut one = scripted(rt.alloc(), &script, now)?;
-    script.send(echo::REQUEST)?;
-    script.send(echo::USER_ABORT)?;
-    script.send(echo::ECHO)?;
-    assert!(rt; one.turn(now, 4096, &shown) == Turn::Over);
-    assert!(rt; one.is_over() && one.received() == 180);
-    assert!(rt; one.end().exchange.untaken.pending() == echo::ECHO);
-    Ok(())
+    play(&rt, AFTER_THE_END)
 }
+
+static HALF: &str = "send | request[..60]
+at | 20
+turn | 4096 | Socket
+at | 29
+wait | Left(1s)
+expire
+over | no
+why | None
+at | 30
+wait | Expired
+expire
+over | yes
+why | Some(Timer)
+took |";
 
 #[test]
 fn half_a_request_expires(rt: HostRuntime) -> Result<(), Fail> {
-    let (now, script) = (Instant::now(&rt)?, Script::new(rt.alloc()));
-    let shown = Audience::new(rt.alloc());
-    let mut one = scripted(rt.alloc(), &script, now)?;
-    script.send(front(echo::REQUEST, 60))?;
-    assert!(rt; one.turn(after(now, 20), 4096, &shown) == Turn::Socket);
-    assert!(rt; one.wait(after(now, 29)) == Wait::Left(Duration::from_secs(1)));
-    one.expire(after(now, 29), &shown);
-    assert!(rt; !one.is_over() && shown.end.get().is_none());
-    assert!(rt; one.wait(after(now, 30)) == Wait::Expired);
-    one.expire(after(now, 30), &shown);
-    assert!(rt; one.is_over() && shown.end.get() == Some(ReadEnd::Timer));
-    assert!(rt; script.took(&[]));
-    Ok(())
+    play(&rt, HALF)
 }
+
+static STALLED: &str = "send | ct_request
+send | store[..130]
+at | 10
+turns | 4096 | Socket
+at | 609
+expire
+took | ct_accept
+at | 610
+wait | Silent
+expire
+over | no
+why | Some(Idle)
+took | ct_accept abort
+at | 639
+expire
+over | no
+at | 640
+expire
+over | yes
+end
+files | 0";
 
 #[test]
 fn a_stalled_store_is_aborted(rt: HostRuntime) -> Result<(), Fail> {
-    let (now, script) = (Instant::now(&rt)?, Script::new(rt.alloc()));
-    let shown = Audience::new(rt.alloc());
-    let mut one = scripted(rt.alloc(), &script, now)?;
-    script.send(request(rt.alloc(), EXPLICIT)?.as_slice())?;
-    let store = whole_store(rt.alloc(), INSTANCE, &CT_SET)?;
-    script.send(front(store.as_slice(), 130))?;
-    assert!(rt; one.turn(after(now, 10), 4096, &shown) == Turn::Socket);
-    one.expire(after(now, 609), &shown);
-    assert!(rt; script.took(ACCEPT));
-    assert!(rt; one.wait(after(now, 610)) == Wait::Silent);
-    one.expire(after(now, 610), &shown);
-    assert!(rt; !one.is_over() && shown.end.get() == Some(ReadEnd::Idle));
-    let answers = joined(rt.alloc(), &[ACCEPT, echo::USER_ABORT])?;
-    assert!(rt; script.took(answers.as_slice()));
-    one.expire(after(now, 639), &shown);
-    assert!(rt; !one.is_over());
-    one.expire(after(now, 640), &shown);
-    assert!(rt; one.is_over());
-    assert!(rt; one.end().filing.files().is_empty());
-    Ok(())
+    play(&rt, STALLED)
 }
+
+static TAKES_NOTHING: &str = "takes | 100
+send | request
+turn | 4096 | Socket
+at | 600
+expire
+over | yes
+failures | 1
+end
+took | accept[..100]
+unsent size | 69";
 
 #[test]
 fn a_peer_that_takes_nothing_is_closed(rt: HostRuntime) -> Result<(), Fail> {
-    let (now, script) = (Instant::now(&rt)?, Script::new(rt.alloc()));
-    let shown = Audience::new(rt.alloc());
-    let mut one = scripted(rt.alloc(), &script, now)?;
-    script.takes.set(100);
-    script.send(echo::REQUEST)?;
-    assert!(rt; one.turn(now, 4096, &shown) == Turn::Socket);
-    one.expire(after(now, 600), &shown);
-    assert!(rt; one.is_over() && shown.failures.get() == 1);
-    let end = one.end();
-    assert!(rt; script.took(front(echo::ACCEPT, 100)));
-    assert!(rt; end.exchange.unsent.pending().len() == 69);
-    Ok(())
+    play(&rt, TAKES_NOTHING)
 }
+
+/// As its time is up it takes one byte more, and then all.
+static TAKES_AT_LAST: &str = "takes | 100
+send | request
+turn | 4096 | Socket
+takes | 1
+at | 600
+expire
+wait | Left(600s)
+takes | all
+at | 1200
+expire
+over | no
+why | None
+took | accept
+at | 1800
+expire
+why | Some(Idle)
+failures | 0";
 
 #[test]
 fn a_peer_that_takes_at_last_is_not_closed(rt: HostRuntime) -> Result<(), Fail> {
-    let (now, script) = (Instant::now(&rt)?, Script::new(rt.alloc()));
-    let shown = Audience::new(rt.alloc());
-    let mut one = scripted(rt.alloc(), &script, now)?;
-    script.takes.set(100);
-    script.send(echo::REQUEST)?;
-    assert!(rt; one.turn(now, 4096, &shown) == Turn::Socket);
-    // As its time is up it takes one byte more, and then all.
-    script.takes.set(1);
-    one.expire(after(now, 600), &shown);
-    assert!(rt; one.wait(after(now, 600)) == Wait::Left(Duration::from_secs(600)));
-    script.takes.set(usize::MAX);
-    one.expire(after(now, 1200), &shown);
-    assert!(rt; !one.is_over() && shown.end.get().is_none());
-    assert!(rt; script.took(echo::ACCEPT));
-    one.expire(after(now, 1800), &shown);
-    assert!(rt; shown.end.get() == Some(ReadEnd::Idle) && shown.failures.get() == 0);
-    Ok(())
+    play(&rt, TAKES_AT_LAST)
 }
+
+static FAILS: &str = "fails
+send | request
+turn | 4096 | Over
+over | yes
+failures | 1
+at | 900
+expire
+stop
+failures | 1
+why | None
+end
+unsent | accept";
 
 #[test]
 fn a_write_that_fails_closes(rt: HostRuntime) -> Result<(), Fail> {
-    let (now, script) = (Instant::now(&rt)?, Script::new(rt.alloc()));
-    let shown = Audience::new(rt.alloc());
-    let mut one = scripted(rt.alloc(), &script, now)?;
-    script.fails.set(true);
-    script.send(echo::REQUEST)?;
-    assert!(rt; one.turn(now, 4096, &shown) == Turn::Over);
-    assert!(rt; one.is_over() && shown.failures.get() == 1);
-    one.expire(after(now, 900), &shown);
-    one.abort(after(now, 900), ReadEnd::Idle, &shown);
-    assert!(rt; shown.failures.get() == 1 && shown.end.get().is_none());
-    assert!(rt; one.end().exchange.unsent.pending() == echo::ACCEPT);
-    Ok(())
+    play(&rt, FAILS)
 }
+
+static LOCAL_ABORT: &str = "takes | 0
+send | request
+turn | 4096 | Socket
+stop
+stop
+over | no
+takes | all
+closes
+turn | 4096 | Over
+took | accept abort";
 
 #[test]
 fn the_local_user_aborts_while_an_answer_waits(rt: HostRuntime) -> Result<(), Fail> {
-    let (now, script) = (Instant::now(&rt)?, Script::new(rt.alloc()));
-    let shown = Audience::new(rt.alloc());
-    let mut one = scripted(rt.alloc(), &script, now)?;
-    script.takes.set(0);
-    script.send(echo::REQUEST)?;
-    assert!(rt; one.turn(now, 4096, &shown) == Turn::Socket);
-    one.abort(now, ReadEnd::Idle, &shown);
-    one.abort(now, ReadEnd::Idle, &shown);
-    assert!(rt; !one.is_over());
-    script.takes.set(usize::MAX);
-    script.is_closed.set(true);
-    assert!(rt; one.turn(now, 4096, &shown) == Turn::Over);
-    let answers = joined(rt.alloc(), &[echo::ACCEPT, echo::USER_ABORT])?;
-    assert!(rt; script.took(answers.as_slice()));
-    Ok(())
+    play(&rt, LOCAL_ABORT)
 }

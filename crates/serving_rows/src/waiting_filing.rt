@@ -5,18 +5,21 @@ ghost use Rattle.part10.specs.Store.{store_of};
 use part10::{Filing, FilingFailed, MemoryFiling, Settling};
 use std::alloc::Global;
 
-/// A filing over memory. Each file waits to be settled.
+/// A filing over memory, whose files wait to be settled if it says so.
 #[derive(Drop)]
 pub struct WaitingFiling {
     pub files: MemoryFiling<Global>,
+    /// Whether each file waits.
+    each_waits: bool,
     waits: bool,
 }
 
 impl WaitingFiling {
     /// Creates a filing without files.
-    pub fn new(alloc: Global) -> WaitingFiling {
+    pub fn new(alloc: Global, each_waits: bool) -> WaitingFiling {
         WaitingFiling {
             files: MemoryFiling::new(alloc),
+            each_waits,
             waits: false,
         }
     }
@@ -35,7 +38,7 @@ impl Filing for WaitingFiling {
 
     fn commit(&mut self) -> Result<(), FilingFailed> {
         let committed = self.files.commit();
-        self.waits = self.waits || committed.is_ok();
+        self.waits = self.waits || self.each_waits && committed.is_ok();
         committed
     }
 
@@ -45,7 +48,12 @@ impl Filing for WaitingFiling {
 }
 
 impl Settling for WaitingFiling {
+    /// Whether the names are on the disk.
+    type Synced = bool;
+
     ghost waits = { λ f. f.waits };
+
+    ghost covers = { λ f are_named. are_named };
 
     fn waits(&self) -> bool {
         self.waits
@@ -56,8 +64,8 @@ impl Settling for WaitingFiling {
     fn write_out(&mut self) {}
 
     /// Fails if the names are not on the disk.
-    fn settle(&mut self, are_named: bool) -> Result<(), FilingFailed> {
-        if self.waits && !are_named {
+    fn settle(&mut self, are_named: &bool) -> Result<(), FilingFailed> {
+        if self.waits && !*are_named {
             return Err(FilingFailed);
         }
         self.waits = false;

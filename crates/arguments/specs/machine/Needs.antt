@@ -13,7 +13,7 @@ abbrev pub file_needs : List Text
 file_needs = codes "FILE" ∷ []
 
 abbrev pub replay_needs : List Text
-replay_needs = codes "FILE" ∷ codes "out" ∷ codes "ae" ∷ codes "cut" ∷ []
+replay_needs = codes "FILE" ∷ codes "out" ∷ codes "cut" ∷ []
 
 abbrev pub index_needs : List Text
 index_needs = codes "DIR" ∷ []
@@ -25,9 +25,17 @@ abbrev pub arrange_needs : List Text
 arrange_needs = codes "DIR" ∷ codes "to" ∷ []
 
 abbrev pub serve_needs : List Text
-serve_needs = codes "port" ∷ codes "out" ∷ codes "bind" ∷ codes "ae" ∷ codes "timeout" ∷ codes "idle" ∷ codes "max-pdu" ∷ codes "max-data" ∷ codes "at-once" ∷ codes "grace" ∷ []
+serve_needs = codes "port" ∷ codes "out" ∷ codes "bind" ∷ codes "timeout" ∷ codes "idle" ∷ codes "max-pdu" ∷ codes "max-data" ∷ codes "at-once" ∷ codes "grace" ∷ []
 
--- at most 64 titles are named
+-- at most 4 further addresses are named
+abbrev pub addresses_fit : List Row → Bool
+addresses_fit rows = nat_le (length (values_of rows (codes "listen"))) 4
+
+-- at most 16 titles of the receiver are named
+abbrev pub titles_fit : List Row → Bool
+titles_fit rows = nat_le (length (values_of rows (codes "ae"))) 16
+
+-- at most 64 titles that may call are named
 abbrev pub callers_fit : List Row → Bool
 callers_fit rows = nat_le (length (values_of rows (codes "caller"))) 64
 
@@ -39,10 +47,10 @@ classes_fit rows = nat_le (length (values_of rows (codes "storage-class"))) 64
 abbrev pub transfers_fit : List Row → Bool
 transfers_fit rows = nat_le (length (values_of rows (codes "transfer-syntax"))) 16
 
--- each argument that `replay` needs has a value, and no more storage classes and transfer syntaxes are named than are kept
+-- each argument that `replay` needs has a value, and no more titles, storage classes and transfer syntaxes are named than are kept
 abbrev pub fits_replay : List Row → Bool
-fits_replay rows = have_values rows replay_needs && (classes_fit rows && transfers_fit rows)
+fits_replay rows = have_values rows replay_needs && (titles_fit rows && (classes_fit rows && transfers_fit rows))
 
--- so it is for `serve`, nor are more titles
+-- so it is for `serve`, nor are more titles that may call
 abbrev pub fits_serve : List Row → Bool
-fits_serve rows = have_values rows serve_needs && (callers_fit rows && (classes_fit rows && transfers_fit rows))
+fits_serve rows = have_values rows serve_needs && (addresses_fit rows && (titles_fit rows && (callers_fit rows && (classes_fit rows && transfers_fit rows))))

@@ -28,18 +28,18 @@ no_fragment room = record { shows = refl; accepted = λ (six : 6 ≤ 0). absurd 
 left_empty : (kept : Kept) → IsUnagreed kept.caller kept.peer_max kept.table → kept.body ≡ [] → kept.join ≡ shown NoMessage [] → kept.storing ≡ Nothing → IsLeft kept
 left_empty kept unagreed body join storing = record { unagreed = unagreed; body = body; join = subst (λ (j : Joining). ShowsMessage kept.room j NoMessage []) (sym join) (no_fragment kept.room); storing = storing }
 
-pub ended_keeps_nothing : {A C V D : ℕ} → (was : Provider A C V D) → IsLeft (kept_in {A = A} {C = C} {V = V} {D = D} was.config was.refused was.decided Ended)
+pub ended_keeps_nothing : {A C V D : ℕ} → (was : Provider A C V D) → IsLeft (kept_in {A = A} {C = C} {V = V} {D = D} was.config.now was.refused was.decided Ended)
 ended_keeps_nothing was = left_empty _ (record { no_caller = refl; no_maximum = refl; no_rows = refl }) refl refl refl
 
-pub close_keeps_nothing : {A C V D : ℕ} → (was : Provider A C V D) → IsLeft (kept_in {A = A} {C = C} {V = V} {D = D} was.config was.refused was.decided AwaitingClose)
+pub close_keeps_nothing : {A C V D : ℕ} → (was : Provider A C V D) → IsLeft (kept_in {A = A} {C = C} {V = V} {D = D} was.config.now was.refused was.decided AwaitingClose)
 close_keeps_nothing was = left_empty _ (record { no_caller = refl; no_maximum = refl; no_rows = refl }) refl refl refl
 
 -- what is kept of an established association
 abbrev pub kept_by : {A C V D : ℕ} → Provider A C V D → Peer → Message C V D → Kept
-kept_by {A = A} {C = C} {V = V} {D = D} was peer message = kept_in {A = A} {C = C} {V = V} {D = D} was.config was.refused was.decided (Established peer message)
+kept_by {A = A} {C = C} {V = V} {D = D} was peer message = kept_in {A = A} {C = C} {V = V} {D = D} was.config.now was.refused was.decided (Established peer message)
 
 abbrev pub kept_with : {A C V D : ℕ} → Provider A C V D → ArrayVec ℕ A (Unit {0}) → Kept
-kept_with {A = A} {C = C} {V = V} {D = D} was body = kept_in {A = A} {C = C} {V = V} {D = D} was.config was.refused was.decided (AwaitingRequest body)
+kept_with {A = A} {C = C} {V = V} {D = D} was body = kept_in {A = A} {C = C} {V = V} {D = D} was.config.now was.refused was.decided (AwaitingRequest body)
 
 pub unestablished : {A C V D : ℕ} → (phase : Phase A C V D) → ((peer : Peer) (message : Message C V D) → phase ≡ Established peer message → ⊥) → is_established (state_in phase) ≡ false
 unestablished (AwaitingRequest body) other = refl

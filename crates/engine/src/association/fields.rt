@@ -8,10 +8,11 @@ use crate::phase::{Message, Peer, Phase};
 use crate::provider::Provider;
 use crate::stores::Storing;
 use arrayvec::ArrayVec;
-use decisions::Decision;
-use dimse::Join;
-use negotiate::{Config, ContextRow};
-use pdu::Deframer;
+use decisions::{Decision, ValueEnd};
+use dimse::{Detail, Join};
+use element::Tag;
+use negotiate::{Answer, Config, ContextRow};
+use pdu::{Deframer, PduHead, PdvHead};
 use sequence::Walker;
 
 fn fields<const A: usize, const C: usize, const V: usize, const D: usize>(
@@ -25,9 +26,9 @@ fn fields<const A: usize, const C: usize, const V: usize, const D: usize>(
         phase,
     } = provider;
     let _: &Deframer = deframer;
-    let _: &Config = config;
+    let _: &&Config = config;
     let _: &bool = refused;
-    let _: &Decision = decided;
+    decision(decided);
     match phase {
         Phase::AwaitingRequest { body } => {
             let _: &ArrayVec<u8, A> = body;
@@ -52,5 +53,68 @@ fn fields<const A: usize, const C: usize, const V: usize, const D: usize>(
             }
         }
         Phase::AwaitingClose | Phase::Ended => {}
+    }
+}
+
+/// What was decided has numbers alone.
+fn decision(decision: &Decision) {
+    match decision {
+        Decision::Nothing
+        | Decision::ValueInvalid
+        | Decision::DataDue
+        | Decision::Released
+        | Decision::Aborted => {}
+        Decision::PduRefused(PduHead { kind, length }) => {
+            let _: &u8 = kind;
+            let _: &u32 = length;
+        }
+        Decision::RequestTooLong(length) => {
+            let _: &u32 = length;
+        }
+        Decision::RequestInvalid(fault) => {
+            // A fault with fields could not be cast.
+            let _ = *fault as u8;
+        }
+        Decision::RequestJudged(Answer::Accept) => {}
+        Decision::RequestJudged(Answer::Reject(result, source, reason)) => {
+            let _: &u8 = result;
+            let _: &u8 = source;
+            let _: &u8 = reason;
+        }
+        Decision::Fragment(head) | Decision::ContextRefused(head) => pdv_head(head),
+        Decision::FragmentRefused(head, fault) => {
+            pdv_head(head);
+            let _ = *fault as u8;
+        }
+        Decision::BytesLeft(end) => match end {
+            ValueEnd::Nothing | ValueEnd::DataDue => {}
+            ValueEnd::Replied(status, detail) => reply(status, detail),
+        },
+        Decision::CommandRefused(fault, field) => {
+            let _ = *fault as u8;
+            let _: &Option<u16> = field;
+        }
+        Decision::Replied(status, detail) => reply(status, detail),
+    }
+}
+
+fn pdv_head(head: &PdvHead) {
+    let PdvHead {
+        length,
+        context,
+        command,
+        last,
+    } = head;
+    let _: &u32 = length;
+    let _: &u8 = context;
+    let _: &bool = command;
+    let _: &bool = last;
+}
+
+fn reply(status: &u16, detail: &Option<Detail>) {
+    let _: &u16 = status;
+    if let Some(Detail { number, tag }) = detail {
+        let _: &u8 = number;
+        let _: &Tag = tag;
     }
 }

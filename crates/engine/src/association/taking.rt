@@ -11,7 +11,13 @@ use crate::devices::Devices;
 use part10::Filing;
 use pdu::Wire;
 
-impl<const A: usize, const C: usize, const V: usize, const D: usize> Association<A, C, V, D> {
+impl<'c, const A: usize, const C: usize, const V: usize, const D: usize> Association<
+    'c,
+    A,
+    C,
+    V,
+    D,
+> {
     ghost use Rattle.engine.specs.machine.Shows.{DoesNext, DoesPiece};
     ghost use Rattle.engine.specs.Fields.{fields_of, settings_in};
 

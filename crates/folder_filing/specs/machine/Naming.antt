@@ -1,12 +1,13 @@
 -- The effects of the steps that give a draft its name.
-use Rattle.std.specs.Prelude.{◌≡◌, ◌+◌, ◌<◌, ◌⊎◌, List, ◌∷◌, Option, Some, None, Result, Ok, Err}
+use Rattle.std.specs.Prelude.{◌≡◌, ℕ, ◌+◌, ◌<◌, ◌⊎◌, Bool, List, ◌∷◌, Option, Some, None, Result, Ok, Err, ⊤}
 use Rattle.folder_filing.specs.declared.call.Call.{Call}
 use Rattle.folder_filing.specs.declared.call.Call.TheVariants.{Refused}
 use Rattle.folder_filing.specs.declared.naming.Attempt.{Attempt}
 use Rattle.folder_filing.specs.declared.naming.Attempt.TheVariants.{Named, Met}
+use Rattle.folder_filing.specs.declared.naming.Named.TheVariants.{Linked}
 use Rattle.folder_filing.specs.declared.naming.Obstacle.{Obstacle}
 use Rattle.folder_filing.specs.declared.location.Location.{Location}
-use Rattle.folder_filing.specs.Naming.{Asks, Naming, refusals, standing}
+use Rattle.folder_filing.specs.Naming.{IsNameSynced, IsWritten, LosesNone, Naming, is_written, refusals, standing, was_written}
 
 -- the calls after an attempt: with this one if it succeeded, the same after an obstacle, else with a failed one
 abbrev pub TriesLeave : {E : Type 0} → Call → Result (Option Obstacle) E → List Call → List Call → Type 0
@@ -14,12 +15,20 @@ TriesLeave call (Ok None) old new = new ≡ call ∷ old
 TriesLeave call (Ok (Some obstacle)) old new = new ≡ old
 TriesLeave call (Err error) old new = new ≡ Refused ∷ old
 
--- the effect of an attempt to name a file: one named place more, or the same ones; after an error one failed call
--- more
-abbrev pub NameLeaves : {E : Type 0} → Location → Result Attempt E → List Call → List Call → Type 0
-NameLeaves place (Ok (Named how)) old new = Asks (place ∷ standing old) (refusals old) old new
-NameLeaves place (Ok (Met obstacle)) old new = Asks (standing old) (refusals old) old new
-NameLeaves place (Err error) old new = Asks (standing old) (refusals old + 1) old new
+-- after the calls `new`, which extend the calls `old`, the files have these places, `refused` calls have failed, and
+-- no file is lost where the draft with this number was synced, if that is asked for
+pub record Attempted (has_sync : Bool) (draft : ℕ) (names : List Location) (refused : ℕ) (old new : List Call) : Type 0 where
+  pub standing : standing new ≡ names
+  pub refusals : refusals new ≡ refused
+  pub loses : IsWritten has_sync old → LosesNone has_sync draft old → LosesNone has_sync draft new
+
+-- the effect of an attempt to name a file: one named place more, beside the draft's name where it was linked, or the
+-- same ones; after an error one failed call more
+abbrev pub NameLeaves : {E : Type 0} → Bool → ℕ → Location → Result Attempt E → List Call → List Call → Type 0
+NameLeaves has_sync draft place (Ok (Named file)) old new =
+    Attempted has_sync draft (place ∷ standing old) (refusals old) old new × (file.place ≡ place) × (file.how ≡ Linked → was_written new ≡ is_written old)
+NameLeaves has_sync draft place (Ok (Met obstacle)) old new = Attempted has_sync draft (standing old) (refusals old) old new × (is_written new ≡ is_written old)
+NameLeaves has_sync draft place (Err error) old new = Attempted has_sync draft (standing old) (refusals old + 1) old new
 
 -- after an error: the same places are named, and the last place is the same; or the name that was given could not be
 -- removed, and its place is the last one
@@ -29,10 +38,18 @@ LeavesPlace place old new =
 
 -- the effect of an attempt to name a file on the state of the numbering: a place that was named is the last one
 abbrev pub PlaceLeaves : {E : Type 0} → Location → Result Attempt E → Naming → Naming → Type 0
-PlaceLeaves place (Ok (Named how)) old new = (standing new.calls ≡ place ∷ standing old.calls) × (refusals new.calls ≡ refusals old.calls) × (new.last ≡ place)
-PlaceLeaves place (Ok (Met obstacle)) old new = (standing new.calls ≡ standing old.calls) × (refusals new.calls ≡ refusals old.calls) × (new.last ≡ old.last)
+PlaceLeaves place (Ok (Named file)) old new = (standing new.calls ≡ place ∷ standing old.calls) × (refusals new.calls ≡ refusals old.calls) × (new.last ≡ place)
+PlaceLeaves place (Ok (Met obstacle)) old new =
+    (standing new.calls ≡ standing old.calls) × (refusals new.calls ≡ refusals old.calls) × (new.last ≡ old.last) × (is_written new.calls ≡ is_written old.calls)
 PlaceLeaves place (Err error) old new = LeavesPlace place old new × (refusals old.calls < refusals new.calls)
 
--- the layout of the folder (with or without subfolders) and the numbers in the file of numbers stay the same
+-- the name of a file was synced, if one was given
+abbrev pub SyncsName : {E : Type 0} → Result Attempt E → List Call → Type 0
+SyncsName (Ok (Named file)) new = IsNameSynced new
+SyncsName (Ok (Met obstacle)) new = ⊤
+SyncsName (Err error) new = ⊤
+
+-- the layout of the folder (with or without subfolders), the numbers in the file of numbers, whether names are synced, and
+-- the number of the draft stay the same
 abbrev pub SameTerms : Naming → Naming → Type 0
-SameTerms old new = (new.layout ≡ old.layout) × (new.kept ≡ old.kept)
+SameTerms old new = (new.layout ≡ old.layout) × (new.kept ≡ old.kept) × (new.has_sync ≡ old.has_sync) × (new.draft ≡ old.draft)

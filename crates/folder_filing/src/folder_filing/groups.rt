@@ -1,24 +1,30 @@
 //! Commits of a filing over a folder that are settled in groups.
-ghost use Rattle.std.specs.Prelude.{◌≡◌, ◌∷◌, ◌++◌, [], None, IfOk, OnOk, OnErr, is_some, true, false};
-ghost use Rattle.folder_filing.specs.Naming.{LeavesNames, WasRefused, refusals, standing};
-ghost use Rattle.folder_filing.specs.Settling.{SettlesNames, WritesOut, is_waiting, settled, without_lost};
+ghost use Rattle.std.specs.Prelude.{◌≡◌, ◌∷◌, ◌++◌, ◌<◌, ◌&&◌, [], None, IfOk, OnOk, OnErr, is_some, not, true, false};
+ghost use Rattle.folder_filing.specs.Naming.{LeavesNames, WasRefused, is_written, refusals, standing};
+ghost use Rattle.folder_filing.specs.Settling.{SettlesNames, WritesOut, is_on_disk, is_waiting, settled};
 ghost use Rattle.part10.specs.Store.{or_nothing, store_of};
 ghost use Rattle.folder_filing.specs.declared.call.Call.TheVariants as seen;
 ghost use Rattle.folder_filing.specs.declared.pending.Pending.TheVariants as pending;
 
 use super::FolderFiling;
 use crate::location::Location;
+use crate::names_synced::NamesSynced;
 use crate::pending::Pending;
 use crate::stored_file::StoredFile;
 use part10::{FilingFailed, Settling};
 use std::io;
-use std::io::Error;
+use std::io::{Error, ErrorKind};
 use std::rt::Files;
 
 impl<R: Files + Alloc + Clone + Drop> FolderFiling<R>
 where
     R::File: StoredFile,
 {
+    /// Returns whether commits are settled in groups. Without syncs they are not.
+    pub(super) fn has_groups(&self) -> bool {
+        self.names.has_sync && self.folder.has_groups()
+    }
+
     /// Hands the draft over, to be settled later. For contracts it is a file from now on.
     pub(super) fn hand_over(&mut self)
         requires draft { is_some self.old.contents.draft ≡ true }
@@ -39,12 +45,19 @@ where
     fn sync_handed(&mut self) -> io::Result<()>
         ensures same { self.new.contents ≡ self.old.contents }
         ensures same_pending { self.new.pending ≡ self.old.pending }
-        ensures taken { OnOk result (self.new.names ≡ self.old.names) }
-        ensures refused { OnErr result (self.new.names ≡ record self.old.names { calls = seen.Refused ∷ self.old.names.calls }) }
+        ensures sync { self.new.names.has_sync ≡ self.old.names.has_sync }
+        ensures number { self.new.names.draft ≡ self.old.names.draft }
+        ensures same_names { standing self.new.names.calls ≡ standing self.old.names.calls }
+        ensures written { OnOk result (is_written self.new.names.calls ≡ true) }
+        ensures taken { OnOk result (refusals self.new.names.calls ≡ refusals self.old.names.calls) }
+        ensures refused { OnErr result (refusals self.old.names.calls < refusals self.new.names.calls) }
     {
         match &self.handed {
             Some(file) => self.names.calls.sync_draft(file),
-            None => Ok(()),
+            None => self
+                .names
+                .calls
+                .passed(Err(Error::from(ErrorKind::NotFound))),
         }
     }
 
@@ -53,14 +66,15 @@ where
         requires unnamed { self.old.pending ≡ pending.Unnamed }
         ensures same { self.new.contents ≡ self.old.contents }
         ensures same_pending { self.new.pending ≡ self.old.pending }
+        ensures sync { self.new.names.has_sync ≡ self.old.names.has_sync }
+        ensures number { self.new.names.draft ≡ self.old.names.draft }
         ensures named { IfOk result (λ place. standing self.new.names.calls ≡ place ∷ standing self.old.names.calls) }
         ensures settled { OnOk result (refusals self.new.names.calls ≡ refusals self.old.names.calls) }
         ensures left { OnErr result (LeavesNames (standing self.old.names.calls) (standing self.new.names.calls)) }
         ensures refused { OnErr result (WasRefused self.old.names self.new.names) }
     {
         self.sync_handed()?;
-        self.folder
-            .name_draft(self.draft_path.as_str(), &mut self.names)
+        self.folder.name_draft(true, &mut self.names)
     }
 
     /// Records that the file that waits is lost, with the error, and removes its draft name.
@@ -73,18 +87,7 @@ where
         self.handed = None;
         self.pending = Pending::Lost;
         self.dropped = self.dropped.saturating_add(1);
-        self.folder.discard_draft(self.draft_path.as_str());
-    }
-
-    /// Gives up a file that is lost, once nobody waits for it any more: drafts can be begun again.
-    pub fn give_up_lost(&mut self)
-        ensures same { self.new.contents ≡ self.old.contents }
-        ensures same_names { self.new.names ≡ self.old.names }
-        ensures pending { self.new.pending ≡ without_lost self.old.pending }
-    {
-        if matches!(self.pending, Pending::Lost) {
-            self.pending = Pending::Settled;
-        }
+        self.folder.discard_draft(&self.names.draft);
     }
 
     /// Loses the file of this place, whose name could not be synced, and removes it.
@@ -99,13 +102,27 @@ where
         let _ = self.folder.remove_at(place, &mut self.names);
         self.lose(Error::other("the names of the group could not be synced"));
     }
+
+    /// Returns whether the file that waits has its name on the disk, by this sync of names.
+    fn is_on_disk(&self, synced: &NamesSynced<R::A>) -> bool
+        ensures { result ≡ is_on_disk self.now.pending synced.now }
+    {
+        match self.pending {
+            Pending::Named(place) => synced.has(place),
+            _ => false,
+        }
+    }
 }
 
 impl<R: Files + Alloc + Clone + Drop> Settling for FolderFiling<R>
 where
     R::File: StoredFile,
 {
+    type Synced = NamesSynced<R::A>;
+
     ghost waits = { λ f. is_waiting f.pending };
+
+    ghost covers = { λ f synced. is_on_disk f.pending synced };
 
     fn waits(&self) -> bool {
         self.pending.is_waiting()
@@ -136,19 +153,21 @@ where
         }
     }
 
-    /// Settles the last commit. Fails, and loses the file, if the names could not be synced; and fails
-    /// if the file was lost before or was not written out.
-    fn settle(&mut self, are_named: bool) -> Result<(), FilingFailed>
+    /// Settles the last commit. Fails, and loses the file, if this sync of names does not have it: it could
+    /// not be synced, or was named later; and fails if the file was lost before or was not written out.
+    fn settle(&mut self, synced: &NamesSynced<R::A>) -> Result<(), FilingFailed>
         ensures store { store_of self.new.contents ≡ store_of self.old.contents }
+        ensures waits { is_waiting self.new.pending ≡ (is_waiting self.old.pending && not (is_on_disk self.old.pending synced.now)) }
         ensures settled { OnOk result (is_waiting self.new.pending ≡ false) }
         ensures lost { OnErr result (is_waiting self.new.pending ≡ true) }
-        ensures pending { self.new.pending ≡ settled are_named self.old.pending }
-        ensures names { SettlesNames are_named self.old.pending self.old.names self.new.names }
+        ensures pending { self.new.pending ≡ settled (is_on_disk self.old.pending synced.now) self.old.pending }
+        ensures names { SettlesNames (is_on_disk self.old.pending synced.now) self.old.pending self.old.names self.new.names }
     {
+        let is_on_disk = self.is_on_disk(synced);
         match self.pending {
             Pending::Settled => Ok(()),
-            Pending::Named(place) if are_named => {
-                self.folder.remove_old_name(self.draft_path.as_str());
+            Pending::Named(place) if is_on_disk => {
+                self.remove_old_name();
                 self.note(place);
                 self.committed = self.committed.saturating_add(1);
                 self.pending = Pending::Settled;

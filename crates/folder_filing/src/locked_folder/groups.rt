@@ -6,35 +6,37 @@ ghost use Rattle.folder_filing.specs.declared.call.Call.TheVariants as seen;
 use super::LockedFolder;
 use crate::folder_calls::FolderCalls;
 use crate::given_names::GivenNames;
-use crate::listing::folder_path;
+use crate::group::NamedFolder;
 use crate::location::Location;
-use crate::naming::{Named, Target};
+use crate::named_file::NamedFile;
+use crate::names_synced::NamesSynced;
+use crate::naming::Target;
+use crate::open_folder::OpenFolder;
 use crate::stored_file::StoredFile;
-use std::fs::OpenFile;
+use std::io;
 use std::rt::Files;
-use std::{fs, io};
 
 impl<R: Files + Alloc + Clone + Drop> LockedFolder<R>
 where
     R::File: StoredFile,
 {
-    /// Returns whether commits are settled in groups. Without syncs they are not.
+    /// Returns whether commits are settled in groups.
     pub(crate) fn has_groups(&self) -> bool {
-        self.group.is_used() && self.has_sync()
+        self.group.is_used()
     }
 
-    /// Settles commits in groups from now on.
-    pub(crate) fn set_groups(&self) {
-        self.group.start();
+    /// Sets whether commits are settled in groups from now on.
+    pub(crate) fn set_groups(&self, is_used: bool) {
+        self.group.set_used(is_used);
     }
 
     /// Fails if the path leads to another folder than the one that is locked. In a group that is checked
     /// once, before the first name is given.
-    pub(super) fn check_group(&self, calls: &mut FolderCalls) -> io::Result<()>
+    pub(super) fn check_group(&self, in_group: bool, calls: &mut FolderCalls) -> io::Result<()>
         ensures taken { OnOk result (calls.new ≡ calls.old) }
         ensures refused { OnErr result (Asks (standing calls.old) (refusals calls.old + 1) calls.old calls.new) }
     {
-        if self.has_groups() && self.group.is_checked() {
+        if in_group && self.group.is_checked() {
             return Ok(());
         }
         self.check_path(calls)?;
@@ -42,46 +44,51 @@ where
         Ok(())
     }
 
-    /// Records the folder of a file that was just named and, after a rename, the folder of the draft, as
-    /// folders that are to be synced.
+    /// Records a file that was just named, as one whose name is to be synced, and its subfolder, which stays
+    /// open until then, whatever becomes of its path.
     pub(super) fn leave_unsynced(
         &self,
-        place: Location,
-        named: Named,
+        file: NamedFile,
+        open: Option<OpenFolder<R::File>>,
         calls: &mut FolderCalls,
     ) -> io::Result<()>
         ensures taken { OnOk result (calls.new ≡ calls.old) }
         ensures refused { OnErr result (calls.new ≡ seen.Refused ∷ calls.old) }
     {
-        if matches!(named, Named::Renamed) {
-            calls.passed(self.group.add(self.rt.alloc(), 0))?;
+        if file.has_left() {
+            self.group.leave();
         }
-        calls.passed(self.group.add(self.rt.alloc(), place.folder))
+        let folder = calls.passed(NamedFolder::of(self.rt.alloc(), open, file))?;
+        calls.passed(self.group.add(self.rt.alloc(), folder))
     }
 
-    /// Syncs the folders of all files that were named since the last call. If that fails, none of these
-    /// files is known to have its name on the disk.
-    pub(crate) fn sync_names(&self) -> io::Result<()> {
-        let folders = self.group.end(self.rt.alloc());
-        for folder in &folders {
-            self.sync_folder(*folder)?;
+    /// Syncs the folders of all files that were named since the last call, and after a rename to a subfolder
+    /// the folder of the drafts. A folder that cannot be synced costs its own files alone.
+    pub(crate) fn sync_names(&self) -> NamesSynced<R::A> {
+        let mut synced = NamesSynced::none(self.rt.alloc());
+        let (has_left, folders) = self.group.end(self.rt.alloc());
+        if has_left {
+            if let Err(error) = self.folder.sync() {
+                synced.fail(error);
+                return synced;
+            }
         }
-        Ok(())
-    }
-
-    /// Syncs the subfolder with this number, or for 0 the folder itself.
-    fn sync_folder(&self, folder: u32) -> io::Result<()> {
-        if folder == 0 {
-            return self.folder.sync_all();
+        for folder in folders {
+            let NamedFolder { open, files } = folder;
+            match &open {
+                Some(open) => synced.sync(open, files),
+                None => synced.sync(&self.folder, files),
+            }
         }
-        let path = folder_path(self.rt.alloc(), self.dir.as_str(), folder)?;
-        fs::open(&self.rt, path)?.sync_all()
+        synced
     }
 
     /// Removes the file of this place, the last one that the filing has named, as its name could not be
     /// synced.
     pub(crate) fn remove_at(&self, place: Location, names: &mut GivenNames<R::A>) -> io::Result<()>
         requires newest { ∥ IsNewest place (standing names.old.calls) ∥₁ }
+        ensures sync { names.new.has_sync ≡ names.old.has_sync }
+        ensures number { names.new.draft ≡ names.old.draft }
         ensures removed { OnOk result (standing names.new.calls ≡ drop 1 (standing names.old.calls)) }
         ensures settled { OnOk result (refusals names.new.calls ≡ refusals names.old.calls) }
         ensures left { OnErr result (standing names.new.calls ≡ standing names.old.calls) }
@@ -94,6 +101,8 @@ where
             place,
             path: path.as_str(),
             layout: self.layout,
+            has_sync: names.has_sync,
+            folder: None,
             may_miss: false,
         };
         names.calls.remove(&self.rt, target)

@@ -1,20 +1,21 @@
 //! How a draft is given its name: that of the next place that is free.
-ghost use Rattle.std.specs.Prelude.{◌≡◌, ◌≤◌, ◌<◌, ◌+◌, ◌∷◌, None, IfOk, OnOk, OnErr};
-ghost use Rattle.folder_filing.specs.Naming.{IsKept, IsOrderly, KeepsAll, LeavesNames, LosesNone, WasRefused, refusals, standing};
+ghost use Rattle.std.specs.Prelude.{◌≡◌, ◌≤◌, ◌<◌, ◌+◌, ◌∷◌, None, IfOk, OnOk, OnErr, true, false};
+ghost use Rattle.folder_filing.specs.Naming.{IsKept, IsNameSynced, IsOrderly, IsWritten, KeepsAll, LeavesNames, LosesNone, WasRefused, refusals, standing};
 ghost use Rattle.folder_filing.specs.Locations.{next_location, order};
 ghost use Rattle.folder_filing.specs.declared.call.Call.TheVariants as seen;
 ghost use Rattle.folder_filing.specs.declared.location.Layout.TheVariants as layout;
-ghost use Rattle.folder_filing.specs.machine.Naming.{NameLeaves, PlaceLeaves, SameTerms};
+ghost use Rattle.folder_filing.specs.declared.naming.Named.TheVariants as how;
+ghost use Rattle.folder_filing.specs.machine.Naming.{NameLeaves, PlaceLeaves, SameTerms, SyncsName};
 
 use super::LockedFolder;
+use crate::drafts::DraftPath;
 use crate::folder_calls::FolderCalls;
+use crate::folder_identity::FolderIdentity;
 use crate::given_names::GivenNames;
-use crate::listing::folder_path;
 use crate::location::{GREATEST, Layout, Location};
-use crate::names::{EntryKind, EntryName};
-use crate::naming::{Attempt, Named, Obstacle, Target, name_file};
+use crate::named_file::NamedFile;
+use crate::naming::{Attempt, Obstacle, Target, name_file};
 use crate::stored_file::StoredFile;
-use std::alloc::Allocator;
 use std::io::{Error, ErrorKind};
 use std::rt::Files;
 use std::{fs, io};
@@ -22,20 +23,12 @@ use std::{fs, io};
 /// In a folder without subfolders, from this number on about a million are left: a warning is given.
 const LOW: u32 = 9_000_000;
 
-/// The error message once the greatest number is in use, with the remedy.
-const NO_NUMBER: &str = "no number up to 9999999 is left: move the files away and start again";
+/// How many names a file is given at most, one after the other, while its subfolder is moved or removed.
+const TRIES: u64 = 100;
 
-/// Returns the error for a subfolder that cannot be created, with its name in the message.
-fn unmade<A: Allocator>(alloc: A, folder: u32, error: &Error) -> Error {
-    let name = EntryName {
-        kind: EntryKind::Folder,
-        number: folder,
-    };
-    match format!(in alloc; "the folder {name} can't be made: {error}") {
-        Ok(text) => Error::new(error.kind(), text.as_str()),
-        Err(failed) => Error::from(failed),
-    }
-}
+/// The error message once the greatest number is in use, with the remedy. The log has room for 80 bytes.
+const NO_NUMBER: &str =
+    "no number up to 9999999 is left: move the files and the file of numbers away";
 
 /// Returns the error for a folder whose last place has no place after it, in either layout.
 fn none_left(per: u32, folder: u32, file: u32) -> Error
@@ -55,7 +48,7 @@ where
     fn keep_number(&self, place: Location, names: &mut GivenNames<R::A>) -> io::Result<()>
         ensures kept { OnOk result (IsKept names.old.layout names.new.kept place) }
         ensures keeps { KeepsAll names.old.kept names.new.kept }
-        ensures same { (names.new.layout ≡ names.old.layout) × (names.new.last ≡ names.old.last) }
+        ensures same { (names.new.layout ≡ names.old.layout) × (names.new.last ≡ names.old.last) × (names.new.has_sync ≡ names.old.has_sync) × (names.new.draft ≡ names.old.draft) }
         ensures taken { OnOk result (names.new.calls ≡ names.old.calls) }
         ensures refused { OnErr result (names.new.calls ≡ seen.Refused ∷ names.old.calls) }
     {
@@ -69,65 +62,74 @@ where
         Ok(())
     }
 
-    /// Creates the subfolder with this number, unless something has its name, and syncs the folder.
+    /// Syncs the folder of a file that was just named and, after a rename, the folder of the draft, unless
+    /// that is turned off. In a group they are recorded instead:
+    /// [`sync_names`](LockedFolder::sync_names) syncs them.
     ///
-    /// Fails, with the subfolder's name in the message, if the system call fails.
-    fn make_folder(&self, folder: u32, calls: &mut FolderCalls) -> io::Result<()>
-        ensures taken { OnOk result (calls.new ≡ calls.old) }
-        ensures refused { OnErr result (calls.new ≡ seen.Refused ∷ calls.old) }
+    /// Returns `false` if the subfolder of a file that was linked was moved or removed meanwhile: then
+    /// nothing is synced or recorded.
+    fn sync_name(
+        &self,
+        file: NamedFile,
+        in_group: bool,
+        names: &mut GivenNames<R::A>,
+    ) -> io::Result<bool>
+        ensures same { (names.new.last ≡ names.old.last) × SameTerms names.old names.new }
+        ensures names { standing names.new.calls ≡ standing names.old.calls }
+        ensures loses { LosesNone names.old.has_sync names.old.draft names.old.calls → LosesNone names.new.has_sync names.new.draft names.new.calls }
+        ensures settled { OnOk result (refusals names.new.calls ≡ refusals names.old.calls) }
+        ensures refused { OnErr result (refusals names.old.calls < refusals names.new.calls) }
+        ensures synced { names.old.has_sync ≡ true → in_group ≡ false → IfOk result (λ is_there. is_there ≡ true → names.new.calls ≡ seen.Synced file.place.folder ∷ names.old.calls) }
+        ensures moved { IfOk result (λ is_there. is_there ≡ false → (names.new.calls ≡ names.old.calls) × (file.how ≡ how.Linked)) }
     {
-        let path = calls.text(folder_path(self.rt.alloc(), self.dir.as_str(), folder))?;
-        match calls.create_folder(&self.rt, path.as_str()) {
-            Ok(true) => {}
-            Ok(false) => return Ok(()),
-            Err(error) => return Err(unmade(self.rt.alloc(), folder, &error)),
+        if !names.has_sync {
+            return Ok(true);
         }
-        if self.has_sync() {
-            if let Err(error) = calls.sync(&self.folder) {
-                if self.is_there() {
-                    let _ = fs::remove_dir(&self.rt, path.as_str());
-                }
-                return Err(error);
+        let calls = &mut names.calls;
+        let mut open = None;
+        if file.place().folder != 0 {
+            open = self.open_subfolder(file, calls)?;
+            if open.is_none() {
+                return Ok(false);
             }
         }
-        Ok(())
+        if in_group {
+            self.leave_unsynced(file, open, calls)?;
+            return Ok(true);
+        }
+        if file.has_left() {
+            calls.passed(self.folder.sync())?;
+        }
+        match &open {
+            Some(folder) => calls.sync_names(folder)?,
+            None => calls.sync_names(&self.folder)?,
+        }
+        Ok(true)
     }
 
-    /// Syncs the folder of a file that was just named and, after a rename, the folder of the draft. In a
-    /// group the folders are recorded instead: [`sync_names`](LockedFolder::sync_names) syncs them.
-    fn sync_name(&self, place: Location, named: Named, calls: &mut FolderCalls) -> io::Result<()>
-        ensures taken { OnOk result (calls.new ≡ calls.old) }
-        ensures refused { OnErr result (calls.new ≡ seen.Refused ∷ calls.old) }
+    /// Gives a draft the target name. A subfolder that was moved or removed is created again. One that is
+    /// missing after that is an obstacle if the target says so and the draft is there.
+    fn link(
+        &self,
+        draft: &DraftPath<R::A>,
+        target: Target<'_>,
+        calls: &mut FolderCalls,
+    ) -> io::Result<Attempt>
+        ensures left { NameLeaves target.entry.has_sync draft.now target.entry.place result calls.old calls.new }
     {
-        if !self.has_sync() {
-            return Ok(());
-        }
-        if self.has_groups() {
-            return self.leave_unsynced(place, named, calls);
-        }
-        if matches!(self.layout, Layout::Flat) {
-            return calls.sync(&self.folder);
-        }
-        let path = calls.text(folder_path(self.rt.alloc(), self.dir.as_str(), place.folder))?;
-        let folder = calls.open(&self.rt, path.as_str())?;
-        calls.sync(&folder)?;
-        match named {
-            Named::Linked => Ok(()),
-            Named::Renamed => calls.sync(&self.folder),
-        }
-    }
-
-    /// Gives a draft the target name. A subfolder that was moved or removed is created again.
-    fn link(&self, draft: &str, target: Target<'_>, calls: &mut FolderCalls) -> io::Result<Attempt>
-        ensures left { NameLeaves target.entry.place result calls.old calls.new }
-    {
-        match name_file(&self.rt, draft, target, calls)? {
+        let first = Target {
+            folder: self.folder_before(target, calls)?,
+            may_miss: true,
+            ..target
+        };
+        match name_file(&self.rt, draft, first, calls)? {
             Attempt::Met(Obstacle::Missing) => {}
             attempt => return Ok(attempt),
         }
         self.make_folder(target.place.folder, calls)?;
         let again = Target {
-            may_miss: false,
+            folder: self.folder_before(target, calls)?,
+            may_miss: target.may_miss && fs::symlink_metadata(&self.rt, draft.as_str()).is_ok(),
             ..target
         };
         name_file(&self.rt, draft, again, calls)
@@ -141,40 +143,57 @@ where
         names.last = place;
     }
 
-    /// Gives a draft the name of this place, which the file of numbers covers, and syncs the folder, as
-    /// [`sync_name`](LockedFolder::sync_name) does. After an error the file has its draft name alone,
-    /// unless the new name could not be removed.
+    /// Gives the draft the name of this place, which the file of numbers covers, and syncs the folder, as
+    /// [`sync_name`](LockedFolder::sync_name) does. After an error or an obstacle the file has its draft name
+    /// alone, unless the new name could not be removed. A subfolder that is moved or removed meanwhile is an
+    /// obstacle if `may_miss` is set, or else an error.
     fn name_at(
         &self,
-        draft: &str,
         place: Location,
+        in_group: bool,
+        may_miss: bool,
         names: &mut GivenNames<R::A>,
     ) -> io::Result<Attempt>
         requires kept { IsKept names.old.layout names.old.kept place }
         requires behind { order names.old.last < order place }
+        requires written { IsWritten names.old.has_sync names.old.calls }
         ensures left { PlaceLeaves place result names.old names.new }
         ensures same { SameTerms names.old names.new }
-        ensures loses { LosesNone names.old.calls → LosesNone names.new.calls }
+        ensures synced { names.old.has_sync ≡ true → in_group ≡ false → SyncsName result names.new.calls }
+        ensures loses { LosesNone names.old.has_sync names.old.draft names.old.calls → LosesNone names.new.has_sync names.new.draft names.new.calls }
     {
         let path = names.calls.text(self.path_of(place))?;
         let target = Target {
             place,
             path: path.as_str(),
             layout: self.layout,
-            may_miss: true,
+            has_sync: names.has_sync,
+            folder: None,
+            may_miss,
         };
-        let named = match self.link(draft, target, &mut names.calls)? {
-            Attempt::Named(named) => named,
+        let file = match self.link(&names.draft, target, &mut names.calls)? {
+            Attempt::Named(file) => file,
             attempt => return Ok(attempt),
         };
-        if let Err(error) = self.sync_name(place, named, &mut names.calls) {
-            if !self.is_there() || names.calls.remove(&self.rt, target).is_err() {
+        let error = match self.sync_name(file, in_group, names) {
+            Ok(true) => {
                 self.go_on(place, names);
+                return Ok(Attempt::Named(file));
             }
-            return Err(error);
+            Ok(false) => match names
+                .calls
+                .remove_link(&self.rt, names.draft.as_str(), target)
+            {
+                Ok(()) if may_miss => return Ok(Attempt::Met(Obstacle::Missing)),
+                Ok(()) => return names.calls.passed(Err(FolderIdentity::replaced())),
+                Err(error) => error,
+            },
+            Err(error) => error,
+        };
+        if !self.is_there() || names.calls.remove(&self.rt, target).is_err() {
+            self.go_on(place, names);
         }
-        self.go_on(place, names);
-        Ok(Attempt::Named(named))
+        Err(error)
     }
 
     /// Returns the place after that of the last file, which the file of numbers covers then. If it is
@@ -185,6 +204,8 @@ where
         ensures kept { IfOk result (λ place. IsKept names.new.layout names.new.kept place) }
         ensures behind { IfOk result (λ place. order names.new.last < order place) }
         ensures rises { order names.old.last ≤ order names.new.last }
+        ensures sync { names.new.has_sync ≡ names.old.has_sync }
+        ensures number { names.new.draft ≡ names.old.draft }
         ensures calls { OnOk result (names.new.calls ≡ names.old.calls) }
         ensures names { standing names.new.calls ≡ standing names.old.calls }
         ensures refused { OnErr result (WasRefused names.old names.new) }
@@ -206,7 +227,7 @@ where
         Ok(place)
     }
 
-    /// Continues after a place, or a subfolder, whose name another program has used.
+    /// Continues after a place, or a subfolder, whose name another program has used or moved away.
     fn pass_over(&self, place: Location, obstacle: Obstacle, names: &mut GivenNames<R::A>)
         ensures behind { order place ≤ order names.new.last }
         ensures same { SameTerms names.old names.new }
@@ -228,26 +249,30 @@ where
         matches!(self.layout, Layout::Flat) && place.file >= LOW && !self.has_run_low.replace(true)
     }
 
-    /// Gives a draft the next free name, after those that the filings of the folder gave, and returns
+    /// Gives the draft the next free name, after those that the filings of the folder gave, and returns
     /// the place of the file. In a group the name is not synced.
     ///
     /// Fails with `StorageFull` if all numbers are in use.
     pub(crate) fn name_draft(
         &self,
-        draft: &str,
+        in_group: bool,
         names: &mut GivenNames<R::A>,
     ) -> io::Result<Location>
+        requires written { IsWritten names.old.has_sync names.old.calls }
+        ensures sync { names.new.has_sync ≡ names.old.has_sync }
+        ensures number { names.new.draft ≡ names.old.draft }
         ensures named { IfOk result (λ place. standing names.new.calls ≡ place ∷ standing names.old.calls) }
         ensures settled { OnOk result (refusals names.new.calls ≡ refusals names.old.calls) }
         ensures left { OnErr result (LeavesNames (standing names.old.calls) (standing names.new.calls)) }
         ensures refused { OnErr result (WasRefused names.old names.new) }
         ensures orderly { IsOrderly names.old → IsOrderly names.new }
+        ensures synced { names.old.has_sync ≡ true → in_group ≡ false → OnOk result (IsNameSynced names.new.calls) }
     {
-        self.check_group(&mut names.calls)?;
+        self.check_group(in_group, &mut names.calls)?;
         names.last = names.last.later(self.last.get());
-        for _turn in 0..u64::MAX {
+        for turn in 0..u64::MAX {
             let place = self.next_location(names)?;
-            match self.name_at(draft, place, names)? {
+            match self.name_at(place, in_group, turn < TRIES, names)? {
                 Attempt::Named(_) => return Ok(place),
                 Attempt::Met(obstacle) => self.pass_over(place, obstacle, names),
             }

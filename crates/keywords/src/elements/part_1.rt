@@ -1,383 +1,383 @@
 //! Data elements in ascending order of tags (PS3.6 sections 6 to 9). Made by tools/keywords.
 
-/// The rows, one a line: a tag and its keyword.
-pub(super) const ROWS: &str = "00020000 FileMetaInformationGroupLength
-00020001 FileMetaInformationVersion
-00020002 MediaStorageSOPClassUID
-00020003 MediaStorageSOPInstanceUID
-00020010 TransferSyntaxUID
-00020012 ImplementationClassUID
-00020013 ImplementationVersionName
-00020016 SourceApplicationEntityTitle
-00020017 SendingApplicationEntityTitle
-00020018 ReceivingApplicationEntityTitle
-00020026 SourcePresentationAddress
-00020027 SendingPresentationAddress
-00020028 ReceivingPresentationAddress
-00020031 RTVMetaInformationVersion
-00020032 RTVCommunicationSOPClassUID
-00020033 RTVCommunicationSOPInstanceUID
-00020035 RTVSourceIdentifier
-00020036 RTVFlowIdentifier
-00020037 RTVFlowRTPSamplingRate
-00020038 RTVFlowActualFrameDuration
-00020100 PrivateInformationCreatorUID
-00020102 PrivateInformation
-00041130 FileSetID
-00041141 FileSetDescriptorFileID
-00041142 SpecificCharacterSetOfFileSetDescriptorFile
-00041200 OffsetOfTheFirstDirectoryRecordOfTheRootDirectoryEntity
-00041202 OffsetOfTheLastDirectoryRecordOfTheRootDirectoryEntity
-00041212 FileSetConsistencyFlag
-00041220 DirectoryRecordSequence
-00041400 OffsetOfTheNextDirectoryRecord
-00041410 RecordInUseFlag
-00041420 OffsetOfReferencedLowerLevelDirectoryEntity
-00041430 DirectoryRecordType
-00041432 PrivateRecordUID
-00041500 ReferencedFileID
-00041504 MRDRDirectoryRecordOffset
-00041510 ReferencedSOPClassUIDInFile
-00041511 ReferencedSOPInstanceUIDInFile
-00041512 ReferencedTransferSyntaxUIDInFile
-0004151a ReferencedRelatedGeneralSOPClassUIDInFile
-00041600 NumberOfReferences
-00080001 LengthToEnd
-00080005 SpecificCharacterSet
-00080006 LanguageCodeSequence
-00080008 ImageType
-00080010 RecognitionCode
-00080012 InstanceCreationDate
-00080013 InstanceCreationTime
-00080014 InstanceCreatorUID
-00080015 InstanceCoercionDateTime
-00080016 SOPClassUID
-00080018 SOPInstanceUID
-0008001a RelatedGeneralSOPClassUID
-0008001b OriginalSpecializedSOPClassUID
-00080020 StudyDate
-00080021 SeriesDate
-00080022 AcquisitionDate
-00080023 ContentDate
-00080024 OverlayDate
-00080025 CurveDate
-0008002a AcquisitionDateTime
-00080030 StudyTime
-00080031 SeriesTime
-00080032 AcquisitionTime
-00080033 ContentTime
-00080034 OverlayTime
-00080035 CurveTime
-00080040 DataSetType
-00080041 DataSetSubtype
-00080042 NuclearMedicineSeriesType
-00080050 AccessionNumber
-00080051 IssuerOfAccessionNumberSequence
-00080052 QueryRetrieveLevel
-00080053 QueryRetrieveView
-00080054 RetrieveAETitle
-00080055 StationAETitle
-00080056 InstanceAvailability
-00080058 FailedSOPInstanceUIDList
-00080060 Modality
-00080061 ModalitiesInStudy
-00080062 SOPClassesInStudy
-00080063 AnatomicRegionsInStudyCodeSequence
-00080064 ConversionType
-00080068 PresentationIntentType
-00080070 Manufacturer
-00080080 InstitutionName
-00080081 InstitutionAddress
-00080082 InstitutionCodeSequence
-00080090 ReferringPhysicianName
-00080092 ReferringPhysicianAddress
-00080094 ReferringPhysicianTelephoneNumbers
-00080096 ReferringPhysicianIdentificationSequence
-0008009c ConsultingPhysicianName
-0008009d ConsultingPhysicianIdentificationSequence
-00080100 CodeValue
-00080101 ExtendedCodeValue
-00080102 CodingSchemeDesignator
-00080103 CodingSchemeVersion
-00080104 CodeMeaning
-00080105 MappingResource
-00080106 ContextGroupVersion
-00080107 ContextGroupLocalVersion
-00080108 ExtendedCodeMeaning
-00080109 CodingSchemeResourcesSequence
-0008010a CodingSchemeURLType
-0008010b ContextGroupExtensionFlag
-0008010c CodingSchemeUID
-0008010d ContextGroupExtensionCreatorUID
-0008010e CodingSchemeURL
-0008010f ContextIdentifier
-00080110 CodingSchemeIdentificationSequence
-00080112 CodingSchemeRegistry
-00080114 CodingSchemeExternalID
-00080115 CodingSchemeName
-00080116 CodingSchemeResponsibleOrganization
-00080117 ContextUID
-00080118 MappingResourceUID
-00080119 LongCodeValue
-00080120 URNCodeValue
-00080121 EquivalentCodeSequence
-00080122 MappingResourceName
-00080123 ContextGroupIdentificationSequence
-00080124 MappingResourceIdentificationSequence
-00080201 TimezoneOffsetFromUTC
-00080220 ResponsibleGroupCodeSequence
-00080221 EquipmentModality
-00080222 ManufacturerRelatedModelGroup
-00080300 PrivateDataElementCharacteristicsSequence
-00080301 PrivateGroupReference
-00080302 PrivateCreatorReference
-00080303 BlockIdentifyingInformationStatus
-00080304 NonidentifyingPrivateElements
-00080305 DeidentificationActionSequence
-00080306 IdentifyingPrivateElements
-00080307 DeidentificationAction
-00080308 PrivateDataElement
-00080309 PrivateDataElementValueMultiplicity
-0008030a PrivateDataElementValueRepresentation
-0008030b PrivateDataElementNumberOfItems
-0008030c PrivateDataElementName
-0008030d PrivateDataElementKeyword
-0008030e PrivateDataElementDescription
-0008030f PrivateDataElementEncoding
-00080310 PrivateDataElementDefinitionSequence
-00081000 NetworkID
-00081010 StationName
-00081030 StudyDescription
-00081032 ProcedureCodeSequence
-0008103e SeriesDescription
-0008103f SeriesDescriptionCodeSequence
-00081040 InstitutionalDepartmentName
-00081041 InstitutionalDepartmentTypeCodeSequence
-00081048 PhysiciansOfRecord
-00081049 PhysiciansOfRecordIdentificationSequence
-00081050 PerformingPhysicianName
-00081052 PerformingPhysicianIdentificationSequence
-00081060 NameOfPhysiciansReadingStudy
-00081062 PhysiciansReadingStudyIdentificationSequence
-00081070 OperatorsName
-00081072 OperatorIdentificationSequence
-00081080 AdmittingDiagnosesDescription
-00081084 AdmittingDiagnosesCodeSequence
-00081090 ManufacturerModelName
-00081100 ReferencedResultsSequence
-00081110 ReferencedStudySequence
-00081111 ReferencedPerformedProcedureStepSequence
-00081115 ReferencedSeriesSequence
-00081120 ReferencedPatientSequence
-00081125 ReferencedVisitSequence
-00081130 ReferencedOverlaySequence
-00081134 ReferencedStereometricInstanceSequence
-0008113a ReferencedWaveformSequence
-00081140 ReferencedImageSequence
-00081145 ReferencedCurveSequence
-0008114a ReferencedInstanceSequence
-0008114b ReferencedRealWorldValueMappingInstanceSequence
-00081150 ReferencedSOPClassUID
-00081155 ReferencedSOPInstanceUID
-00081156 DefinitionSourceSequence
-0008115a SOPClassesSupported
-00081160 ReferencedFrameNumber
-00081161 SimpleFrameList
-00081162 CalculatedFrameList
-00081163 TimeRange
-00081164 FrameExtractionSequence
-00081167 MultiFrameSourceSOPInstanceUID
-00081190 RetrieveURL
-00081195 TransactionUID
-00081196 WarningReason
-00081197 FailureReason
-00081198 FailedSOPSequence
-00081199 ReferencedSOPSequence
-0008119a OtherFailuresSequence
-00081200 StudiesContainingOtherReferencedInstancesSequence
-00081250 RelatedSeriesSequence
-00082110 LossyImageCompressionRetired
-00082111 DerivationDescription
-00082112 SourceImageSequence
-00082120 StageName
-00082122 StageNumber
-00082124 NumberOfStages
-00082127 ViewName
-00082128 ViewNumber
-00082129 NumberOfEventTimers
-0008212a NumberOfViewsInStage
-00082130 EventElapsedTimes
-00082132 EventTimerNames
-00082133 EventTimerSequence
-00082134 EventTimeOffset
-00082135 EventCodeSequence
-00082142 StartTrim
-00082143 StopTrim
-00082144 RecommendedDisplayFrameRate
-00082200 TransducerPosition
-00082204 TransducerOrientation
-00082208 AnatomicStructure
-00082218 AnatomicRegionSequence
-00082220 AnatomicRegionModifierSequence
-00082228 PrimaryAnatomicStructureSequence
-00082229 AnatomicStructureSpaceOrRegionSequence
-00082230 PrimaryAnatomicStructureModifierSequence
-00082240 TransducerPositionSequence
-00082242 TransducerPositionModifierSequence
-00082244 TransducerOrientationSequence
-00082246 TransducerOrientationModifierSequence
-00082251 AnatomicStructureSpaceOrRegionCodeSequenceTrial
-00082253 AnatomicPortalOfEntranceCodeSequenceTrial
-00082255 AnatomicApproachDirectionCodeSequenceTrial
-00082256 AnatomicPerspectiveDescriptionTrial
-00082257 AnatomicPerspectiveCodeSequenceTrial
-00082258 AnatomicLocationOfExaminingInstrumentDescriptionTrial
-00082259 AnatomicLocationOfExaminingInstrumentCodeSequenceTrial
-0008225a AnatomicStructureSpaceOrRegionModifierCodeSequenceTrial
-0008225c OnAxisBackgroundAnatomicStructureCodeSequenceTrial
-00083001 AlternateRepresentationSequence
-00083002 AvailableTransferSyntaxUID
-00083010 IrradiationEventUID
-00083011 SourceIrradiationEventSequence
-00083012 RadiopharmaceuticalAdministrationEventUID
-00084000 IdentifyingComments
-00089007 FrameType
-00089092 ReferencedImageEvidenceSequence
-00089121 ReferencedRawDataSequence
-00089123 CreatorVersionUID
-00089124 DerivationImageSequence
-00089154 SourceImageEvidenceSequence
-00089205 PixelPresentation
-00089206 VolumetricProperties
-00089207 VolumeBasedCalculationTechnique
-00089208 ComplexImageComponent
-00089209 AcquisitionContrast
-00089215 DerivationCodeSequence
-00089237 ReferencedPresentationStateSequence
-00089410 ReferencedOtherPlaneSequence
-00089458 FrameDisplaySequence
-00089459 RecommendedDisplayFrameRateInFloat
-00089460 SkipFrameRangeFlag
-00100010 PatientName
-00100020 PatientID
-00100021 IssuerOfPatientID
-00100022 TypeOfPatientID
-00100024 IssuerOfPatientIDQualifiersSequence
-00100026 SourcePatientGroupIdentificationSequence
-00100027 GroupOfPatientsIdentificationSequence
-00100028 SubjectRelativePositionInImage
-00100030 PatientBirthDate
-00100032 PatientBirthTime
-00100033 PatientBirthDateInAlternativeCalendar
-00100034 PatientDeathDateInAlternativeCalendar
-00100035 PatientAlternativeCalendar
-00100040 PatientSex
-00100050 PatientInsurancePlanCodeSequence
-00100101 PatientPrimaryLanguageCodeSequence
-00100102 PatientPrimaryLanguageModifierCodeSequence
-00100200 QualityControlSubject
-00100201 QualityControlSubjectTypeCodeSequence
-00100212 StrainDescription
-00100213 StrainNomenclature
-00100214 StrainStockNumber
-00100215 StrainSourceRegistryCodeSequence
-00100216 StrainStockSequence
-00100217 StrainSource
-00100218 StrainAdditionalInformation
-00100219 StrainCodeSequence
-00100221 GeneticModificationsSequence
-00100222 GeneticModificationsDescription
-00100223 GeneticModificationsNomenclature
-00100229 GeneticModificationsCodeSequence
-00101000 OtherPatientIDs
-00101001 OtherPatientNames
-00101002 OtherPatientIDsSequence
-00101005 PatientBirthName
-00101010 PatientAge
-00101020 PatientSize
-00101021 PatientSizeCodeSequence
-00101022 PatientBodyMassIndex
-00101023 MeasuredAPDimension
-00101024 MeasuredLateralDimension
-00101030 PatientWeight
-00101040 PatientAddress
-00101050 InsurancePlanIdentification
-00101060 PatientMotherBirthName
-00101080 MilitaryRank
-00101081 BranchOfService
-00101090 MedicalRecordLocator
-00101100 ReferencedPatientPhotoSequence
-00102000 MedicalAlerts
-00102110 Allergies
-00102150 CountryOfResidence
-00102152 RegionOfResidence
-00102154 PatientTelephoneNumbers
-00102155 PatientTelecomInformation
-00102160 EthnicGroup
-00102180 Occupation
-001021a0 SmokingStatus
-001021b0 AdditionalPatientHistory
-001021c0 PregnancyStatus
-001021d0 LastMenstrualDate
-001021f0 PatientReligiousPreference
-00102201 PatientSpeciesDescription
-00102202 PatientSpeciesCodeSequence
-00102203 PatientSexNeutered
-00102210 AnatomicalOrientationType
-00102292 PatientBreedDescription
-00102293 PatientBreedCodeSequence
-00102294 BreedRegistrationSequence
-00102295 BreedRegistrationNumber
-00102296 BreedRegistryCodeSequence
-00102297 ResponsiblePerson
-00102298 ResponsiblePersonRole
-00102299 ResponsibleOrganization
-00104000 PatientComments
-00109431 ExaminedBodyThickness
-00120010 ClinicalTrialSponsorName
-00120020 ClinicalTrialProtocolID
-00120021 ClinicalTrialProtocolName
-00120030 ClinicalTrialSiteID
-00120031 ClinicalTrialSiteName
-00120040 ClinicalTrialSubjectID
-00120042 ClinicalTrialSubjectReadingID
-00120050 ClinicalTrialTimePointID
-00120051 ClinicalTrialTimePointDescription
-00120052 LongitudinalTemporalOffsetFromEvent
-00120053 LongitudinalTemporalEventType
-00120060 ClinicalTrialCoordinatingCenterName
-00120062 PatientIdentityRemoved
-00120063 DeidentificationMethod
-00120064 DeidentificationMethodCodeSequence
-00120071 ClinicalTrialSeriesID
-00120072 ClinicalTrialSeriesDescription
-00120081 ClinicalTrialProtocolEthicsCommitteeName
-00120082 ClinicalTrialProtocolEthicsCommitteeApprovalNumber
-00120083 ConsentForClinicalTrialUseSequence
-00120084 DistributionType
-00120085 ConsentForDistributionFlag
-00120086 EthicsCommitteeApprovalEffectivenessStartDate
-00120087 EthicsCommitteeApprovalEffectivenessEndDate
-00140023 CADFileFormat
-00140024 ComponentReferenceSystem
-00140025 ComponentManufacturingProcedure
-00140028 ComponentManufacturer
-00140030 MaterialThickness
-00140032 MaterialPipeDiameter
-00140034 MaterialIsolationDiameter
-00140042 MaterialGrade
-00140044 MaterialPropertiesDescription
-00140045 MaterialPropertiesFileFormatRetired
-00140046 MaterialNotes
-00140050 ComponentShape
-00140052 CurvatureType
-00140054 OuterDiameter
-00140056 InnerDiameter
-00140100 ComponentWelderIDs
-00140101 SecondaryApprovalStatus
-00140102 SecondaryReviewDate
-00140103 SecondaryReviewTime
-00140104 SecondaryReviewerName
-00140105 RepairID
-00140106 MultipleComponentApprovalSequence
-00140107 OtherApprovalStatus";
+/// The rows, one a line: a tag, its VRs and its keyword.
+pub(super) const ROWS: &str = "00020000 UL FileMetaInformationGroupLength
+00020001 OB FileMetaInformationVersion
+00020002 UI MediaStorageSOPClassUID
+00020003 UI MediaStorageSOPInstanceUID
+00020010 UI TransferSyntaxUID
+00020012 UI ImplementationClassUID
+00020013 SH ImplementationVersionName
+00020016 AE SourceApplicationEntityTitle
+00020017 AE SendingApplicationEntityTitle
+00020018 AE ReceivingApplicationEntityTitle
+00020026 UR SourcePresentationAddress
+00020027 UR SendingPresentationAddress
+00020028 UR ReceivingPresentationAddress
+00020031 OB RTVMetaInformationVersion
+00020032 UI RTVCommunicationSOPClassUID
+00020033 UI RTVCommunicationSOPInstanceUID
+00020035 OB RTVSourceIdentifier
+00020036 OB RTVFlowIdentifier
+00020037 UL RTVFlowRTPSamplingRate
+00020038 FD RTVFlowActualFrameDuration
+00020100 UI PrivateInformationCreatorUID
+00020102 OB PrivateInformation
+00041130 CS FileSetID
+00041141 CS FileSetDescriptorFileID
+00041142 CS SpecificCharacterSetOfFileSetDescriptorFile
+00041200 UL OffsetOfTheFirstDirectoryRecordOfTheRootDirectoryEntity
+00041202 UL OffsetOfTheLastDirectoryRecordOfTheRootDirectoryEntity
+00041212 US FileSetConsistencyFlag
+00041220 SQ DirectoryRecordSequence
+00041400 UL OffsetOfTheNextDirectoryRecord
+00041410 US RecordInUseFlag
+00041420 UL OffsetOfReferencedLowerLevelDirectoryEntity
+00041430 CS DirectoryRecordType
+00041432 UI PrivateRecordUID
+00041500 CS ReferencedFileID
+00041504 UL MRDRDirectoryRecordOffset
+00041510 UI ReferencedSOPClassUIDInFile
+00041511 UI ReferencedSOPInstanceUIDInFile
+00041512 UI ReferencedTransferSyntaxUIDInFile
+0004151a UI ReferencedRelatedGeneralSOPClassUIDInFile
+00041600 UL NumberOfReferences
+00080001 UL LengthToEnd
+00080005 CS SpecificCharacterSet
+00080006 SQ LanguageCodeSequence
+00080008 CS ImageType
+00080010 SH RecognitionCode
+00080012 DA InstanceCreationDate
+00080013 TM InstanceCreationTime
+00080014 UI InstanceCreatorUID
+00080015 DT InstanceCoercionDateTime
+00080016 UI SOPClassUID
+00080018 UI SOPInstanceUID
+0008001a UI RelatedGeneralSOPClassUID
+0008001b UI OriginalSpecializedSOPClassUID
+00080020 DA StudyDate
+00080021 DA SeriesDate
+00080022 DA AcquisitionDate
+00080023 DA ContentDate
+00080024 DA OverlayDate
+00080025 DA CurveDate
+0008002a DT AcquisitionDateTime
+00080030 TM StudyTime
+00080031 TM SeriesTime
+00080032 TM AcquisitionTime
+00080033 TM ContentTime
+00080034 TM OverlayTime
+00080035 TM CurveTime
+00080040 US DataSetType
+00080041 LO DataSetSubtype
+00080042 CS NuclearMedicineSeriesType
+00080050 SH AccessionNumber
+00080051 SQ IssuerOfAccessionNumberSequence
+00080052 CS QueryRetrieveLevel
+00080053 CS QueryRetrieveView
+00080054 AE RetrieveAETitle
+00080055 AE StationAETitle
+00080056 CS InstanceAvailability
+00080058 UI FailedSOPInstanceUIDList
+00080060 CS Modality
+00080061 CS ModalitiesInStudy
+00080062 UI SOPClassesInStudy
+00080063 SQ AnatomicRegionsInStudyCodeSequence
+00080064 CS ConversionType
+00080068 CS PresentationIntentType
+00080070 LO Manufacturer
+00080080 LO InstitutionName
+00080081 ST InstitutionAddress
+00080082 SQ InstitutionCodeSequence
+00080090 PN ReferringPhysicianName
+00080092 ST ReferringPhysicianAddress
+00080094 SH ReferringPhysicianTelephoneNumbers
+00080096 SQ ReferringPhysicianIdentificationSequence
+0008009c PN ConsultingPhysicianName
+0008009d SQ ConsultingPhysicianIdentificationSequence
+00080100 SH CodeValue
+00080101 LO ExtendedCodeValue
+00080102 SH CodingSchemeDesignator
+00080103 SH CodingSchemeVersion
+00080104 LO CodeMeaning
+00080105 CS MappingResource
+00080106 DT ContextGroupVersion
+00080107 DT ContextGroupLocalVersion
+00080108 LT ExtendedCodeMeaning
+00080109 SQ CodingSchemeResourcesSequence
+0008010a CS CodingSchemeURLType
+0008010b CS ContextGroupExtensionFlag
+0008010c UI CodingSchemeUID
+0008010d UI ContextGroupExtensionCreatorUID
+0008010e UR CodingSchemeURL
+0008010f CS ContextIdentifier
+00080110 SQ CodingSchemeIdentificationSequence
+00080112 LO CodingSchemeRegistry
+00080114 ST CodingSchemeExternalID
+00080115 ST CodingSchemeName
+00080116 ST CodingSchemeResponsibleOrganization
+00080117 UI ContextUID
+00080118 UI MappingResourceUID
+00080119 UC LongCodeValue
+00080120 UR URNCodeValue
+00080121 SQ EquivalentCodeSequence
+00080122 LO MappingResourceName
+00080123 SQ ContextGroupIdentificationSequence
+00080124 SQ MappingResourceIdentificationSequence
+00080201 SH TimezoneOffsetFromUTC
+00080220 SQ ResponsibleGroupCodeSequence
+00080221 CS EquipmentModality
+00080222 LO ManufacturerRelatedModelGroup
+00080300 SQ PrivateDataElementCharacteristicsSequence
+00080301 US PrivateGroupReference
+00080302 LO PrivateCreatorReference
+00080303 CS BlockIdentifyingInformationStatus
+00080304 US NonidentifyingPrivateElements
+00080305 SQ DeidentificationActionSequence
+00080306 US IdentifyingPrivateElements
+00080307 CS DeidentificationAction
+00080308 US PrivateDataElement
+00080309 UL PrivateDataElementValueMultiplicity
+0008030a CS PrivateDataElementValueRepresentation
+0008030b UL PrivateDataElementNumberOfItems
+0008030c UC PrivateDataElementName
+0008030d UC PrivateDataElementKeyword
+0008030e UT PrivateDataElementDescription
+0008030f UT PrivateDataElementEncoding
+00080310 SQ PrivateDataElementDefinitionSequence
+00081000 AE NetworkID
+00081010 SH StationName
+00081030 LO StudyDescription
+00081032 SQ ProcedureCodeSequence
+0008103e LO SeriesDescription
+0008103f SQ SeriesDescriptionCodeSequence
+00081040 LO InstitutionalDepartmentName
+00081041 SQ InstitutionalDepartmentTypeCodeSequence
+00081048 PN PhysiciansOfRecord
+00081049 SQ PhysiciansOfRecordIdentificationSequence
+00081050 PN PerformingPhysicianName
+00081052 SQ PerformingPhysicianIdentificationSequence
+00081060 PN NameOfPhysiciansReadingStudy
+00081062 SQ PhysiciansReadingStudyIdentificationSequence
+00081070 PN OperatorsName
+00081072 SQ OperatorIdentificationSequence
+00081080 LO AdmittingDiagnosesDescription
+00081084 SQ AdmittingDiagnosesCodeSequence
+00081090 LO ManufacturerModelName
+00081100 SQ ReferencedResultsSequence
+00081110 SQ ReferencedStudySequence
+00081111 SQ ReferencedPerformedProcedureStepSequence
+00081115 SQ ReferencedSeriesSequence
+00081120 SQ ReferencedPatientSequence
+00081125 SQ ReferencedVisitSequence
+00081130 SQ ReferencedOverlaySequence
+00081134 SQ ReferencedStereometricInstanceSequence
+0008113a SQ ReferencedWaveformSequence
+00081140 SQ ReferencedImageSequence
+00081145 SQ ReferencedCurveSequence
+0008114a SQ ReferencedInstanceSequence
+0008114b SQ ReferencedRealWorldValueMappingInstanceSequence
+00081150 UI ReferencedSOPClassUID
+00081155 UI ReferencedSOPInstanceUID
+00081156 SQ DefinitionSourceSequence
+0008115a UI SOPClassesSupported
+00081160 IS ReferencedFrameNumber
+00081161 UL SimpleFrameList
+00081162 UL CalculatedFrameList
+00081163 FD TimeRange
+00081164 SQ FrameExtractionSequence
+00081167 UI MultiFrameSourceSOPInstanceUID
+00081190 UR RetrieveURL
+00081195 UI TransactionUID
+00081196 US WarningReason
+00081197 US FailureReason
+00081198 SQ FailedSOPSequence
+00081199 SQ ReferencedSOPSequence
+0008119a SQ OtherFailuresSequence
+00081200 SQ StudiesContainingOtherReferencedInstancesSequence
+00081250 SQ RelatedSeriesSequence
+00082110 CS LossyImageCompressionRetired
+00082111 ST DerivationDescription
+00082112 SQ SourceImageSequence
+00082120 SH StageName
+00082122 IS StageNumber
+00082124 IS NumberOfStages
+00082127 SH ViewName
+00082128 IS ViewNumber
+00082129 IS NumberOfEventTimers
+0008212a IS NumberOfViewsInStage
+00082130 DS EventElapsedTimes
+00082132 LO EventTimerNames
+00082133 SQ EventTimerSequence
+00082134 FD EventTimeOffset
+00082135 SQ EventCodeSequence
+00082142 IS StartTrim
+00082143 IS StopTrim
+00082144 IS RecommendedDisplayFrameRate
+00082200 CS TransducerPosition
+00082204 CS TransducerOrientation
+00082208 CS AnatomicStructure
+00082218 SQ AnatomicRegionSequence
+00082220 SQ AnatomicRegionModifierSequence
+00082228 SQ PrimaryAnatomicStructureSequence
+00082229 SQ AnatomicStructureSpaceOrRegionSequence
+00082230 SQ PrimaryAnatomicStructureModifierSequence
+00082240 SQ TransducerPositionSequence
+00082242 SQ TransducerPositionModifierSequence
+00082244 SQ TransducerOrientationSequence
+00082246 SQ TransducerOrientationModifierSequence
+00082251 SQ AnatomicStructureSpaceOrRegionCodeSequenceTrial
+00082253 SQ AnatomicPortalOfEntranceCodeSequenceTrial
+00082255 SQ AnatomicApproachDirectionCodeSequenceTrial
+00082256 ST AnatomicPerspectiveDescriptionTrial
+00082257 SQ AnatomicPerspectiveCodeSequenceTrial
+00082258 ST AnatomicLocationOfExaminingInstrumentDescriptionTrial
+00082259 SQ AnatomicLocationOfExaminingInstrumentCodeSequenceTrial
+0008225a SQ AnatomicStructureSpaceOrRegionModifierCodeSequenceTrial
+0008225c SQ OnAxisBackgroundAnatomicStructureCodeSequenceTrial
+00083001 SQ AlternateRepresentationSequence
+00083002 UI AvailableTransferSyntaxUID
+00083010 UI IrradiationEventUID
+00083011 SQ SourceIrradiationEventSequence
+00083012 UI RadiopharmaceuticalAdministrationEventUID
+00084000 LT IdentifyingComments
+00089007 CS FrameType
+00089092 SQ ReferencedImageEvidenceSequence
+00089121 SQ ReferencedRawDataSequence
+00089123 UI CreatorVersionUID
+00089124 SQ DerivationImageSequence
+00089154 SQ SourceImageEvidenceSequence
+00089205 CS PixelPresentation
+00089206 CS VolumetricProperties
+00089207 CS VolumeBasedCalculationTechnique
+00089208 CS ComplexImageComponent
+00089209 CS AcquisitionContrast
+00089215 SQ DerivationCodeSequence
+00089237 SQ ReferencedPresentationStateSequence
+00089410 SQ ReferencedOtherPlaneSequence
+00089458 SQ FrameDisplaySequence
+00089459 FL RecommendedDisplayFrameRateInFloat
+00089460 CS SkipFrameRangeFlag
+00100010 PN PatientName
+00100020 LO PatientID
+00100021 LO IssuerOfPatientID
+00100022 CS TypeOfPatientID
+00100024 SQ IssuerOfPatientIDQualifiersSequence
+00100026 SQ SourcePatientGroupIdentificationSequence
+00100027 SQ GroupOfPatientsIdentificationSequence
+00100028 US SubjectRelativePositionInImage
+00100030 DA PatientBirthDate
+00100032 TM PatientBirthTime
+00100033 LO PatientBirthDateInAlternativeCalendar
+00100034 LO PatientDeathDateInAlternativeCalendar
+00100035 CS PatientAlternativeCalendar
+00100040 CS PatientSex
+00100050 SQ PatientInsurancePlanCodeSequence
+00100101 SQ PatientPrimaryLanguageCodeSequence
+00100102 SQ PatientPrimaryLanguageModifierCodeSequence
+00100200 CS QualityControlSubject
+00100201 SQ QualityControlSubjectTypeCodeSequence
+00100212 UC StrainDescription
+00100213 LO StrainNomenclature
+00100214 LO StrainStockNumber
+00100215 SQ StrainSourceRegistryCodeSequence
+00100216 SQ StrainStockSequence
+00100217 LO StrainSource
+00100218 UT StrainAdditionalInformation
+00100219 SQ StrainCodeSequence
+00100221 SQ GeneticModificationsSequence
+00100222 UC GeneticModificationsDescription
+00100223 LO GeneticModificationsNomenclature
+00100229 SQ GeneticModificationsCodeSequence
+00101000 LO OtherPatientIDs
+00101001 PN OtherPatientNames
+00101002 SQ OtherPatientIDsSequence
+00101005 PN PatientBirthName
+00101010 AS PatientAge
+00101020 DS PatientSize
+00101021 SQ PatientSizeCodeSequence
+00101022 DS PatientBodyMassIndex
+00101023 DS MeasuredAPDimension
+00101024 DS MeasuredLateralDimension
+00101030 DS PatientWeight
+00101040 LO PatientAddress
+00101050 LO InsurancePlanIdentification
+00101060 PN PatientMotherBirthName
+00101080 LO MilitaryRank
+00101081 LO BranchOfService
+00101090 LO MedicalRecordLocator
+00101100 SQ ReferencedPatientPhotoSequence
+00102000 LO MedicalAlerts
+00102110 LO Allergies
+00102150 LO CountryOfResidence
+00102152 LO RegionOfResidence
+00102154 SH PatientTelephoneNumbers
+00102155 LT PatientTelecomInformation
+00102160 SH EthnicGroup
+00102180 SH Occupation
+001021a0 CS SmokingStatus
+001021b0 LT AdditionalPatientHistory
+001021c0 US PregnancyStatus
+001021d0 DA LastMenstrualDate
+001021f0 LO PatientReligiousPreference
+00102201 LO PatientSpeciesDescription
+00102202 SQ PatientSpeciesCodeSequence
+00102203 CS PatientSexNeutered
+00102210 CS AnatomicalOrientationType
+00102292 LO PatientBreedDescription
+00102293 SQ PatientBreedCodeSequence
+00102294 SQ BreedRegistrationSequence
+00102295 LO BreedRegistrationNumber
+00102296 SQ BreedRegistryCodeSequence
+00102297 PN ResponsiblePerson
+00102298 CS ResponsiblePersonRole
+00102299 LO ResponsibleOrganization
+00104000 LT PatientComments
+00109431 FL ExaminedBodyThickness
+00120010 LO ClinicalTrialSponsorName
+00120020 LO ClinicalTrialProtocolID
+00120021 LO ClinicalTrialProtocolName
+00120030 LO ClinicalTrialSiteID
+00120031 LO ClinicalTrialSiteName
+00120040 LO ClinicalTrialSubjectID
+00120042 LO ClinicalTrialSubjectReadingID
+00120050 LO ClinicalTrialTimePointID
+00120051 ST ClinicalTrialTimePointDescription
+00120052 FD LongitudinalTemporalOffsetFromEvent
+00120053 CS LongitudinalTemporalEventType
+00120060 LO ClinicalTrialCoordinatingCenterName
+00120062 CS PatientIdentityRemoved
+00120063 LO DeidentificationMethod
+00120064 SQ DeidentificationMethodCodeSequence
+00120071 LO ClinicalTrialSeriesID
+00120072 LO ClinicalTrialSeriesDescription
+00120081 LO ClinicalTrialProtocolEthicsCommitteeName
+00120082 LO ClinicalTrialProtocolEthicsCommitteeApprovalNumber
+00120083 SQ ConsentForClinicalTrialUseSequence
+00120084 CS DistributionType
+00120085 CS ConsentForDistributionFlag
+00120086 DA EthicsCommitteeApprovalEffectivenessStartDate
+00120087 DA EthicsCommitteeApprovalEffectivenessEndDate
+00140023 ST CADFileFormat
+00140024 ST ComponentReferenceSystem
+00140025 ST ComponentManufacturingProcedure
+00140028 ST ComponentManufacturer
+00140030 DS MaterialThickness
+00140032 DS MaterialPipeDiameter
+00140034 DS MaterialIsolationDiameter
+00140042 ST MaterialGrade
+00140044 ST MaterialPropertiesDescription
+00140045 ST MaterialPropertiesFileFormatRetired
+00140046 LT MaterialNotes
+00140050 CS ComponentShape
+00140052 CS CurvatureType
+00140054 DS OuterDiameter
+00140056 DS InnerDiameter
+00140100 LO ComponentWelderIDs
+00140101 CS SecondaryApprovalStatus
+00140102 DA SecondaryReviewDate
+00140103 TM SecondaryReviewTime
+00140104 PN SecondaryReviewerName
+00140105 ST RepairID
+00140106 SQ MultipleComponentApprovalSequence
+00140107 CS OtherApprovalStatus";

@@ -1,383 +1,383 @@
 //! Data elements in ascending order of tags (PS3.6 sections 6 to 9). Made by tools/keywords.
 
-/// The rows, one a line: a tag and its keyword.
-pub(super) const ROWS: &str = "00741038 DoubleExposureMetersetTrial
-0074103a DoubleExposureFieldDeltaTrial
-00741040 RelatedReferenceRTImageSequence
-00741042 GeneralMachineVerificationSequence
-00741044 ConventionalMachineVerificationSequence
-00741046 IonMachineVerificationSequence
-00741048 FailedAttributesSequence
-0074104a OverriddenAttributesSequence
-0074104c ConventionalControlPointVerificationSequence
-0074104e IonControlPointVerificationSequence
-00741050 AttributeOccurrenceSequence
-00741052 AttributeOccurrencePointer
-00741054 AttributeItemSelector
-00741056 AttributeOccurrencePrivateCreator
-00741057 SelectorSequencePointerItems
-00741200 ScheduledProcedureStepPriority
-00741202 WorklistLabel
-00741204 ProcedureStepLabel
-00741210 ScheduledProcessingParametersSequence
-00741212 PerformedProcessingParametersSequence
-00741216 UnifiedProcedureStepPerformedProcedureSequence
-00741220 RelatedProcedureStepSequence
-00741222 ProcedureStepRelationshipType
-00741224 ReplacedProcedureStepSequence
-00741230 DeletionLock
-00741234 ReceivingAE
-00741236 RequestingAE
-00741238 ReasonForCancellation
-00741242 SCPStatus
-00741244 SubscriptionListStatus
-00741246 UnifiedProcedureStepListStatus
-00741324 BeamOrderIndex
-00741338 DoubleExposureMeterset
-0074133a DoubleExposureFieldDelta
-00741401 BrachyTaskSequence
-00741402 ContinuationStartTotalReferenceAirKerma
-00741403 ContinuationEndTotalReferenceAirKerma
-00741404 ContinuationPulseNumber
-00741405 ChannelDeliveryOrderSequence
-00741406 ReferencedChannelNumber
-00741407 StartCumulativeTimeWeight
-00741408 EndCumulativeTimeWeight
-00741409 OmittedChannelSequence
-0074140a ReasonForChannelOmission
-0074140b ReasonForChannelOmissionDescription
-0074140c ChannelDeliveryOrderIndex
-0074140d ChannelDeliveryContinuationSequence
-0074140e OmittedApplicationSetupSequence
-00760001 ImplantAssemblyTemplateName
-00760003 ImplantAssemblyTemplateIssuer
-00760006 ImplantAssemblyTemplateVersion
-00760008 ReplacedImplantAssemblyTemplateSequence
-0076000a ImplantAssemblyTemplateType
-0076000c OriginalImplantAssemblyTemplateSequence
-0076000e DerivationImplantAssemblyTemplateSequence
-00760010 ImplantAssemblyTemplateTargetAnatomySequence
-00760020 ProcedureTypeCodeSequence
-00760030 SurgicalTechnique
-00760032 ComponentTypesSequence
-00760034 ComponentTypeCodeSequence
-00760036 ExclusiveComponentType
-00760038 MandatoryComponentType
-00760040 ComponentSequence
-00760055 ComponentID
-00760060 ComponentAssemblySequence
-00760070 Component1ReferencedID
-00760080 Component1ReferencedMatingFeatureSetID
-00760090 Component1ReferencedMatingFeatureID
-007600a0 Component2ReferencedID
-007600b0 Component2ReferencedMatingFeatureSetID
-007600c0 Component2ReferencedMatingFeatureID
-00780001 ImplantTemplateGroupName
-00780010 ImplantTemplateGroupDescription
-00780020 ImplantTemplateGroupIssuer
-00780024 ImplantTemplateGroupVersion
-00780026 ReplacedImplantTemplateGroupSequence
-00780028 ImplantTemplateGroupTargetAnatomySequence
-0078002a ImplantTemplateGroupMembersSequence
-0078002e ImplantTemplateGroupMemberID
-00780050 ThreeDImplantTemplateGroupMemberMatchingPoint
-00780060 ThreeDImplantTemplateGroupMemberMatchingAxes
-00780070 ImplantTemplateGroupMemberMatching2DCoordinatesSequence
-00780090 TwoDImplantTemplateGroupMemberMatchingPoint
-007800a0 TwoDImplantTemplateGroupMemberMatchingAxes
-007800b0 ImplantTemplateGroupVariationDimensionSequence
-007800b2 ImplantTemplateGroupVariationDimensionName
-007800b4 ImplantTemplateGroupVariationDimensionRankSequence
-007800b6 ReferencedImplantTemplateGroupMemberID
-007800b8 ImplantTemplateGroupVariationDimensionRank
-00800001 SurfaceScanAcquisitionTypeCodeSequence
-00800002 SurfaceScanModeCodeSequence
-00800003 RegistrationMethodCodeSequence
-00800004 ShotDurationTime
-00800005 ShotOffsetTime
-00800006 SurfacePointPresentationValueData
-00800007 SurfacePointColorCIELabValueData
-00800008 UVMappingSequence
-00800009 TextureLabel
-00800010 UValueData
-00800011 VValueData
-00800012 ReferencedTextureSequence
-00800013 ReferencedSurfaceDataSequence
-00820001 AssessmentSummary
-00820003 AssessmentSummaryDescription
-00820004 AssessedSOPInstanceSequence
-00820005 ReferencedComparisonSOPInstanceSequence
-00820006 NumberOfAssessmentObservations
-00820007 AssessmentObservationsSequence
-00820008 ObservationSignificance
-0082000a ObservationDescription
-0082000c StructuredConstraintObservationSequence
-00820010 AssessedAttributeValueSequence
-00820016 AssessmentSetID
-00820017 AssessmentRequesterSequence
-00820018 SelectorAttributeName
-00820019 SelectorAttributeKeyword
-00820021 AssessmentTypeCodeSequence
-00820022 ObservationBasisCodeSequence
-00820023 AssessmentLabel
-00820032 ConstraintType
-00820033 SpecificationSelectionGuidance
-00820034 ConstraintValueSequence
-00820035 RecommendedDefaultValueSequence
-00820036 ConstraintViolationSignificance
-00820037 ConstraintViolationCondition
-00820038 ModifiableConstraintFlag
-00880130 StorageMediaFileSetID
-00880140 StorageMediaFileSetUID
-00880200 IconImageSequence
-00880904 TopicTitle
-00880906 TopicSubject
-00880910 TopicAuthor
-00880912 TopicKeywords
-01000410 SOPInstanceStatus
-01000420 SOPAuthorizationDateTime
-01000424 SOPAuthorizationComment
-01000426 AuthorizationEquipmentCertificationNumber
-04000005 MACIDNumber
-04000010 MACCalculationTransferSyntaxUID
-04000015 MACAlgorithm
-04000020 DataElementsSigned
-04000100 DigitalSignatureUID
-04000105 DigitalSignatureDateTime
-04000110 CertificateType
-04000115 CertificateOfSigner
-04000120 Signature
-04000305 CertifiedTimestampType
-04000310 CertifiedTimestamp
-04000401 DigitalSignaturePurposeCodeSequence
-04000402 ReferencedDigitalSignatureSequence
-04000403 ReferencedSOPInstanceMACSequence
-04000404 MAC
-04000500 EncryptedAttributesSequence
-04000510 EncryptedContentTransferSyntaxUID
-04000520 EncryptedContent
-04000550 ModifiedAttributesSequence
-04000551 NonconformingModifiedAttributesSequence
-04000552 NonconformingDataElementValue
-04000561 OriginalAttributesSequence
-04000562 AttributeModificationDateTime
-04000563 ModifyingSystem
-04000564 SourceOfPreviousValues
-04000565 ReasonForTheAttributeModification
-04000600 InstanceOriginStatus
-20000010 NumberOfCopies
-2000001e PrinterConfigurationSequence
-20000020 PrintPriority
-20000030 MediumType
-20000040 FilmDestination
-20000050 FilmSessionLabel
-20000060 MemoryAllocation
-20000061 MaximumMemoryAllocation
-20000062 ColorImagePrintingFlag
-20000063 CollationFlag
-20000065 AnnotationFlag
-20000067 ImageOverlayFlag
-20000069 PresentationLUTFlag
-2000006a ImageBoxPresentationLUTFlag
-200000a0 MemoryBitDepth
-200000a1 PrintingBitDepth
-200000a2 MediaInstalledSequence
-200000a4 OtherMediaAvailableSequence
-200000a8 SupportedImageDisplayFormatsSequence
-20000500 ReferencedFilmBoxSequence
-20000510 ReferencedStoredPrintSequence
-20100010 ImageDisplayFormat
-20100030 AnnotationDisplayFormatID
-20100040 FilmOrientation
-20100050 FilmSizeID
-20100052 PrinterResolutionID
-20100054 DefaultPrinterResolutionID
-20100060 MagnificationType
-20100080 SmoothingType
-201000a6 DefaultMagnificationType
-201000a7 OtherMagnificationTypesAvailable
-201000a8 DefaultSmoothingType
-201000a9 OtherSmoothingTypesAvailable
-20100100 BorderDensity
-20100110 EmptyImageDensity
-20100120 MinDensity
-20100130 MaxDensity
-20100140 Trim
-20100150 ConfigurationInformation
-20100152 ConfigurationInformationDescription
-20100154 MaximumCollatedFilms
-2010015e Illumination
-20100160 ReflectedAmbientLight
-20100376 PrinterPixelSpacing
-20100500 ReferencedFilmSessionSequence
-20100510 ReferencedImageBoxSequence
-20100520 ReferencedBasicAnnotationBoxSequence
-20200010 ImageBoxPosition
-20200020 Polarity
-20200030 RequestedImageSize
-20200040 RequestedDecimateCropBehavior
-20200050 RequestedResolutionID
-202000a0 RequestedImageSizeFlag
-202000a2 DecimateCropResult
-20200110 BasicGrayscaleImageSequence
-20200111 BasicColorImageSequence
-20200130 ReferencedImageOverlayBoxSequence
-20200140 ReferencedVOILUTBoxSequence
-20300010 AnnotationPosition
-20300020 TextString
-20400010 ReferencedOverlayPlaneSequence
-20400011 ReferencedOverlayPlaneGroups
-20400020 OverlayPixelDataSequence
-20400060 OverlayMagnificationType
-20400070 OverlaySmoothingType
-20400072 OverlayOrImageMagnification
-20400074 MagnifyToNumberOfColumns
-20400080 OverlayForegroundDensity
-20400082 OverlayBackgroundDensity
-20400090 OverlayMode
-20400100 ThresholdDensity
-20400500 ReferencedImageBoxSequenceRetired
-20500010 PresentationLUTSequence
-20500020 PresentationLUTShape
-20500500 ReferencedPresentationLUTSequence
-21000010 PrintJobID
-21000020 ExecutionStatus
-21000030 ExecutionStatusInfo
-21000040 CreationDate
-21000050 CreationTime
-21000070 Originator
-21000140 DestinationAE
-21000160 OwnerID
-21000170 NumberOfFilms
-21000500 ReferencedPrintJobSequencePullStoredPrint
-21100010 PrinterStatus
-21100020 PrinterStatusInfo
-21100030 PrinterName
-21100099 PrintQueueID
-21200010 QueueStatus
-21200050 PrintJobDescriptionSequence
-21200070 ReferencedPrintJobSequence
-21300010 PrintManagementCapabilitiesSequence
-21300015 PrinterCharacteristicsSequence
-21300030 FilmBoxContentSequence
-21300040 ImageBoxContentSequence
-21300050 AnnotationContentSequence
-21300060 ImageOverlayBoxContentSequence
-21300080 PresentationLUTContentSequence
-213000a0 ProposedStudySequence
-213000c0 OriginalImageSequence
-22000001 LabelUsingInformationExtractedFromInstances
-22000002 LabelText
-22000003 LabelStyleSelection
-22000004 MediaDisposition
-22000005 BarcodeValue
-22000006 BarcodeSymbology
-22000007 AllowMediaSplitting
-22000008 IncludeNonDICOMObjects
-22000009 IncludeDisplayApplication
-2200000a PreserveCompositeInstancesAfterMediaCreation
-2200000b TotalNumberOfPiecesOfMediaCreated
-2200000c RequestedMediaApplicationProfile
-2200000d ReferencedStorageMediaSequence
-2200000e FailureAttributes
-2200000f AllowLossyCompression
-22000020 RequestPriority
-30020002 RTImageLabel
-30020003 RTImageName
-30020004 RTImageDescription
-3002000a ReportedValuesOrigin
-3002000c RTImagePlane
-3002000d XRayImageReceptorTranslation
-3002000e XRayImageReceptorAngle
-30020010 RTImageOrientation
-30020011 ImagePlanePixelSpacing
-30020012 RTImagePosition
-30020020 RadiationMachineName
-30020022 RadiationMachineSAD
-30020024 RadiationMachineSSD
-30020026 RTImageSID
-30020028 SourceToReferenceObjectDistance
-30020029 FractionNumber
-30020030 ExposureSequence
-30020032 MetersetExposure
-30020034 DiaphragmPosition
-30020040 FluenceMapSequence
-30020041 FluenceDataSource
-30020042 FluenceDataScale
-30020050 PrimaryFluenceModeSequence
-30020051 FluenceMode
-30020052 FluenceModeID
-30040001 DVHType
-30040002 DoseUnits
-30040004 DoseType
-30040005 SpatialTransformOfDose
-30040006 DoseComment
-30040008 NormalizationPoint
-3004000a DoseSummationType
-3004000c GridFrameOffsetVector
-3004000e DoseGridScaling
-30040010 RTDoseROISequence
-30040012 DoseValue
-30040014 TissueHeterogeneityCorrection
-30040040 DVHNormalizationPoint
-30040042 DVHNormalizationDoseValue
-30040050 DVHSequence
-30040052 DVHDoseScaling
-30040054 DVHVolumeUnits
-30040056 DVHNumberOfBins
-30040058 DVHData
-30040060 DVHReferencedROISequence
-30040062 DVHROIContributionType
-30040070 DVHMinimumDose
-30040072 DVHMaximumDose
-30040074 DVHMeanDose
-30060002 StructureSetLabel
-30060004 StructureSetName
-30060006 StructureSetDescription
-30060008 StructureSetDate
-30060009 StructureSetTime
-30060010 ReferencedFrameOfReferenceSequence
-30060012 RTReferencedStudySequence
-30060014 RTReferencedSeriesSequence
-30060016 ContourImageSequence
-30060018 PredecessorStructureSetSequence
-30060020 StructureSetROISequence
-30060022 ROINumber
-30060024 ReferencedFrameOfReferenceUID
-30060026 ROIName
-30060028 ROIDescription
-3006002a ROIDisplayColor
-3006002c ROIVolume
-30060030 RTRelatedROISequence
-30060033 RTROIRelationship
-30060036 ROIGenerationAlgorithm
-30060037 ROIDerivationAlgorithmIdentificationSequence
-30060038 ROIGenerationDescription
-30060039 ROIContourSequence
-30060040 ContourSequence
-30060042 ContourGeometricType
-30060044 ContourSlabThickness
-30060045 ContourOffsetVector
-30060046 NumberOfContourPoints
-30060048 ContourNumber
-30060049 AttachedContours
-3006004a SourcePixelPlanesCharacteristicsSequence
-30060050 ContourData
-30060080 RTROIObservationsSequence
-30060082 ObservationNumber
-30060084 ReferencedROINumber
-30060085 ROIObservationLabel
-30060086 RTROIIdentificationCodeSequence
-30060088 ROIObservationDescription
-300600a0 RelatedRTROIObservationsSequence
-300600a4 RTROIInterpretedType
-300600a6 ROIInterpreter
-300600b0 ROIPhysicalPropertiesSequence
-300600b2 ROIPhysicalProperty
-300600b4 ROIPhysicalPropertyValue
-300600b6 ROIElementalCompositionSequence
-300600b7 ROIElementalCompositionAtomicNumber
-300600b8 ROIElementalCompositionAtomicMassFraction
-300600b9 AdditionalRTROIIdentificationCodeSequence
-300600c0 FrameOfReferenceRelationshipSequence
-300600c2 RelatedFrameOfReferenceUID";
+/// The rows, one a line: a tag, its VRs and its keyword.
+pub(super) const ROWS: &str = "00741038 DS DoubleExposureMetersetTrial
+0074103a DS DoubleExposureFieldDeltaTrial
+00741040 SQ RelatedReferenceRTImageSequence
+00741042 SQ GeneralMachineVerificationSequence
+00741044 SQ ConventionalMachineVerificationSequence
+00741046 SQ IonMachineVerificationSequence
+00741048 SQ FailedAttributesSequence
+0074104a SQ OverriddenAttributesSequence
+0074104c SQ ConventionalControlPointVerificationSequence
+0074104e SQ IonControlPointVerificationSequence
+00741050 SQ AttributeOccurrenceSequence
+00741052 AT AttributeOccurrencePointer
+00741054 UL AttributeItemSelector
+00741056 LO AttributeOccurrencePrivateCreator
+00741057 IS SelectorSequencePointerItems
+00741200 CS ScheduledProcedureStepPriority
+00741202 LO WorklistLabel
+00741204 LO ProcedureStepLabel
+00741210 SQ ScheduledProcessingParametersSequence
+00741212 SQ PerformedProcessingParametersSequence
+00741216 SQ UnifiedProcedureStepPerformedProcedureSequence
+00741220 SQ RelatedProcedureStepSequence
+00741222 LO ProcedureStepRelationshipType
+00741224 SQ ReplacedProcedureStepSequence
+00741230 LO DeletionLock
+00741234 AE ReceivingAE
+00741236 AE RequestingAE
+00741238 LT ReasonForCancellation
+00741242 CS SCPStatus
+00741244 CS SubscriptionListStatus
+00741246 CS UnifiedProcedureStepListStatus
+00741324 UL BeamOrderIndex
+00741338 FD DoubleExposureMeterset
+0074133a FD DoubleExposureFieldDelta
+00741401 SQ BrachyTaskSequence
+00741402 DS ContinuationStartTotalReferenceAirKerma
+00741403 DS ContinuationEndTotalReferenceAirKerma
+00741404 IS ContinuationPulseNumber
+00741405 SQ ChannelDeliveryOrderSequence
+00741406 IS ReferencedChannelNumber
+00741407 DS StartCumulativeTimeWeight
+00741408 DS EndCumulativeTimeWeight
+00741409 SQ OmittedChannelSequence
+0074140a CS ReasonForChannelOmission
+0074140b LO ReasonForChannelOmissionDescription
+0074140c IS ChannelDeliveryOrderIndex
+0074140d SQ ChannelDeliveryContinuationSequence
+0074140e SQ OmittedApplicationSetupSequence
+00760001 LO ImplantAssemblyTemplateName
+00760003 LO ImplantAssemblyTemplateIssuer
+00760006 LO ImplantAssemblyTemplateVersion
+00760008 SQ ReplacedImplantAssemblyTemplateSequence
+0076000a CS ImplantAssemblyTemplateType
+0076000c SQ OriginalImplantAssemblyTemplateSequence
+0076000e SQ DerivationImplantAssemblyTemplateSequence
+00760010 SQ ImplantAssemblyTemplateTargetAnatomySequence
+00760020 SQ ProcedureTypeCodeSequence
+00760030 LO SurgicalTechnique
+00760032 SQ ComponentTypesSequence
+00760034 SQ ComponentTypeCodeSequence
+00760036 CS ExclusiveComponentType
+00760038 CS MandatoryComponentType
+00760040 SQ ComponentSequence
+00760055 US ComponentID
+00760060 SQ ComponentAssemblySequence
+00760070 US Component1ReferencedID
+00760080 US Component1ReferencedMatingFeatureSetID
+00760090 US Component1ReferencedMatingFeatureID
+007600a0 US Component2ReferencedID
+007600b0 US Component2ReferencedMatingFeatureSetID
+007600c0 US Component2ReferencedMatingFeatureID
+00780001 LO ImplantTemplateGroupName
+00780010 ST ImplantTemplateGroupDescription
+00780020 LO ImplantTemplateGroupIssuer
+00780024 LO ImplantTemplateGroupVersion
+00780026 SQ ReplacedImplantTemplateGroupSequence
+00780028 SQ ImplantTemplateGroupTargetAnatomySequence
+0078002a SQ ImplantTemplateGroupMembersSequence
+0078002e US ImplantTemplateGroupMemberID
+00780050 FD ThreeDImplantTemplateGroupMemberMatchingPoint
+00780060 FD ThreeDImplantTemplateGroupMemberMatchingAxes
+00780070 SQ ImplantTemplateGroupMemberMatching2DCoordinatesSequence
+00780090 FD TwoDImplantTemplateGroupMemberMatchingPoint
+007800a0 FD TwoDImplantTemplateGroupMemberMatchingAxes
+007800b0 SQ ImplantTemplateGroupVariationDimensionSequence
+007800b2 LO ImplantTemplateGroupVariationDimensionName
+007800b4 SQ ImplantTemplateGroupVariationDimensionRankSequence
+007800b6 US ReferencedImplantTemplateGroupMemberID
+007800b8 US ImplantTemplateGroupVariationDimensionRank
+00800001 SQ SurfaceScanAcquisitionTypeCodeSequence
+00800002 SQ SurfaceScanModeCodeSequence
+00800003 SQ RegistrationMethodCodeSequence
+00800004 FD ShotDurationTime
+00800005 FD ShotOffsetTime
+00800006 US SurfacePointPresentationValueData
+00800007 US SurfacePointColorCIELabValueData
+00800008 SQ UVMappingSequence
+00800009 SH TextureLabel
+00800010 OF UValueData
+00800011 OF VValueData
+00800012 SQ ReferencedTextureSequence
+00800013 SQ ReferencedSurfaceDataSequence
+00820001 CS AssessmentSummary
+00820003 UT AssessmentSummaryDescription
+00820004 SQ AssessedSOPInstanceSequence
+00820005 SQ ReferencedComparisonSOPInstanceSequence
+00820006 UL NumberOfAssessmentObservations
+00820007 SQ AssessmentObservationsSequence
+00820008 CS ObservationSignificance
+0082000a UT ObservationDescription
+0082000c SQ StructuredConstraintObservationSequence
+00820010 SQ AssessedAttributeValueSequence
+00820016 LO AssessmentSetID
+00820017 SQ AssessmentRequesterSequence
+00820018 LO SelectorAttributeName
+00820019 LO SelectorAttributeKeyword
+00820021 SQ AssessmentTypeCodeSequence
+00820022 SQ ObservationBasisCodeSequence
+00820023 LO AssessmentLabel
+00820032 CS ConstraintType
+00820033 UT SpecificationSelectionGuidance
+00820034 SQ ConstraintValueSequence
+00820035 SQ RecommendedDefaultValueSequence
+00820036 CS ConstraintViolationSignificance
+00820037 UT ConstraintViolationCondition
+00820038 CS ModifiableConstraintFlag
+00880130 SH StorageMediaFileSetID
+00880140 UI StorageMediaFileSetUID
+00880200 SQ IconImageSequence
+00880904 LO TopicTitle
+00880906 ST TopicSubject
+00880910 LO TopicAuthor
+00880912 LO TopicKeywords
+01000410 CS SOPInstanceStatus
+01000420 DT SOPAuthorizationDateTime
+01000424 LT SOPAuthorizationComment
+01000426 LO AuthorizationEquipmentCertificationNumber
+04000005 US MACIDNumber
+04000010 UI MACCalculationTransferSyntaxUID
+04000015 CS MACAlgorithm
+04000020 AT DataElementsSigned
+04000100 UI DigitalSignatureUID
+04000105 DT DigitalSignatureDateTime
+04000110 CS CertificateType
+04000115 OB CertificateOfSigner
+04000120 OB Signature
+04000305 CS CertifiedTimestampType
+04000310 OB CertifiedTimestamp
+04000401 SQ DigitalSignaturePurposeCodeSequence
+04000402 SQ ReferencedDigitalSignatureSequence
+04000403 SQ ReferencedSOPInstanceMACSequence
+04000404 OB MAC
+04000500 SQ EncryptedAttributesSequence
+04000510 UI EncryptedContentTransferSyntaxUID
+04000520 OB EncryptedContent
+04000550 SQ ModifiedAttributesSequence
+04000551 SQ NonconformingModifiedAttributesSequence
+04000552 OB NonconformingDataElementValue
+04000561 SQ OriginalAttributesSequence
+04000562 DT AttributeModificationDateTime
+04000563 LO ModifyingSystem
+04000564 LO SourceOfPreviousValues
+04000565 CS ReasonForTheAttributeModification
+04000600 CS InstanceOriginStatus
+20000010 IS NumberOfCopies
+2000001e SQ PrinterConfigurationSequence
+20000020 CS PrintPriority
+20000030 CS MediumType
+20000040 CS FilmDestination
+20000050 LO FilmSessionLabel
+20000060 IS MemoryAllocation
+20000061 IS MaximumMemoryAllocation
+20000062 CS ColorImagePrintingFlag
+20000063 CS CollationFlag
+20000065 CS AnnotationFlag
+20000067 CS ImageOverlayFlag
+20000069 CS PresentationLUTFlag
+2000006a CS ImageBoxPresentationLUTFlag
+200000a0 US MemoryBitDepth
+200000a1 US PrintingBitDepth
+200000a2 SQ MediaInstalledSequence
+200000a4 SQ OtherMediaAvailableSequence
+200000a8 SQ SupportedImageDisplayFormatsSequence
+20000500 SQ ReferencedFilmBoxSequence
+20000510 SQ ReferencedStoredPrintSequence
+20100010 ST ImageDisplayFormat
+20100030 CS AnnotationDisplayFormatID
+20100040 CS FilmOrientation
+20100050 CS FilmSizeID
+20100052 CS PrinterResolutionID
+20100054 CS DefaultPrinterResolutionID
+20100060 CS MagnificationType
+20100080 CS SmoothingType
+201000a6 CS DefaultMagnificationType
+201000a7 CS OtherMagnificationTypesAvailable
+201000a8 CS DefaultSmoothingType
+201000a9 CS OtherSmoothingTypesAvailable
+20100100 CS BorderDensity
+20100110 CS EmptyImageDensity
+20100120 US MinDensity
+20100130 US MaxDensity
+20100140 CS Trim
+20100150 ST ConfigurationInformation
+20100152 LT ConfigurationInformationDescription
+20100154 IS MaximumCollatedFilms
+2010015e US Illumination
+20100160 US ReflectedAmbientLight
+20100376 DS PrinterPixelSpacing
+20100500 SQ ReferencedFilmSessionSequence
+20100510 SQ ReferencedImageBoxSequence
+20100520 SQ ReferencedBasicAnnotationBoxSequence
+20200010 US ImageBoxPosition
+20200020 CS Polarity
+20200030 DS RequestedImageSize
+20200040 CS RequestedDecimateCropBehavior
+20200050 CS RequestedResolutionID
+202000a0 CS RequestedImageSizeFlag
+202000a2 CS DecimateCropResult
+20200110 SQ BasicGrayscaleImageSequence
+20200111 SQ BasicColorImageSequence
+20200130 SQ ReferencedImageOverlayBoxSequence
+20200140 SQ ReferencedVOILUTBoxSequence
+20300010 US AnnotationPosition
+20300020 LO TextString
+20400010 SQ ReferencedOverlayPlaneSequence
+20400011 US ReferencedOverlayPlaneGroups
+20400020 SQ OverlayPixelDataSequence
+20400060 CS OverlayMagnificationType
+20400070 CS OverlaySmoothingType
+20400072 CS OverlayOrImageMagnification
+20400074 US MagnifyToNumberOfColumns
+20400080 CS OverlayForegroundDensity
+20400082 CS OverlayBackgroundDensity
+20400090 CS OverlayMode
+20400100 CS ThresholdDensity
+20400500 SQ ReferencedImageBoxSequenceRetired
+20500010 SQ PresentationLUTSequence
+20500020 CS PresentationLUTShape
+20500500 SQ ReferencedPresentationLUTSequence
+21000010 SH PrintJobID
+21000020 CS ExecutionStatus
+21000030 CS ExecutionStatusInfo
+21000040 DA CreationDate
+21000050 TM CreationTime
+21000070 AE Originator
+21000140 AE DestinationAE
+21000160 SH OwnerID
+21000170 IS NumberOfFilms
+21000500 SQ ReferencedPrintJobSequencePullStoredPrint
+21100010 CS PrinterStatus
+21100020 CS PrinterStatusInfo
+21100030 LO PrinterName
+21100099 SH PrintQueueID
+21200010 CS QueueStatus
+21200050 SQ PrintJobDescriptionSequence
+21200070 SQ ReferencedPrintJobSequence
+21300010 SQ PrintManagementCapabilitiesSequence
+21300015 SQ PrinterCharacteristicsSequence
+21300030 SQ FilmBoxContentSequence
+21300040 SQ ImageBoxContentSequence
+21300050 SQ AnnotationContentSequence
+21300060 SQ ImageOverlayBoxContentSequence
+21300080 SQ PresentationLUTContentSequence
+213000a0 SQ ProposedStudySequence
+213000c0 SQ OriginalImageSequence
+22000001 CS LabelUsingInformationExtractedFromInstances
+22000002 UT LabelText
+22000003 CS LabelStyleSelection
+22000004 LT MediaDisposition
+22000005 LT BarcodeValue
+22000006 CS BarcodeSymbology
+22000007 CS AllowMediaSplitting
+22000008 CS IncludeNonDICOMObjects
+22000009 CS IncludeDisplayApplication
+2200000a CS PreserveCompositeInstancesAfterMediaCreation
+2200000b US TotalNumberOfPiecesOfMediaCreated
+2200000c LO RequestedMediaApplicationProfile
+2200000d SQ ReferencedStorageMediaSequence
+2200000e AT FailureAttributes
+2200000f CS AllowLossyCompression
+22000020 CS RequestPriority
+30020002 SH RTImageLabel
+30020003 LO RTImageName
+30020004 ST RTImageDescription
+3002000a CS ReportedValuesOrigin
+3002000c CS RTImagePlane
+3002000d DS XRayImageReceptorTranslation
+3002000e DS XRayImageReceptorAngle
+30020010 DS RTImageOrientation
+30020011 DS ImagePlanePixelSpacing
+30020012 DS RTImagePosition
+30020020 SH RadiationMachineName
+30020022 DS RadiationMachineSAD
+30020024 DS RadiationMachineSSD
+30020026 DS RTImageSID
+30020028 DS SourceToReferenceObjectDistance
+30020029 IS FractionNumber
+30020030 SQ ExposureSequence
+30020032 DS MetersetExposure
+30020034 DS DiaphragmPosition
+30020040 SQ FluenceMapSequence
+30020041 CS FluenceDataSource
+30020042 DS FluenceDataScale
+30020050 SQ PrimaryFluenceModeSequence
+30020051 CS FluenceMode
+30020052 SH FluenceModeID
+30040001 CS DVHType
+30040002 CS DoseUnits
+30040004 CS DoseType
+30040005 CS SpatialTransformOfDose
+30040006 LO DoseComment
+30040008 DS NormalizationPoint
+3004000a CS DoseSummationType
+3004000c DS GridFrameOffsetVector
+3004000e DS DoseGridScaling
+30040010 SQ RTDoseROISequence
+30040012 DS DoseValue
+30040014 CS TissueHeterogeneityCorrection
+30040040 DS DVHNormalizationPoint
+30040042 DS DVHNormalizationDoseValue
+30040050 SQ DVHSequence
+30040052 DS DVHDoseScaling
+30040054 CS DVHVolumeUnits
+30040056 IS DVHNumberOfBins
+30040058 DS DVHData
+30040060 SQ DVHReferencedROISequence
+30040062 CS DVHROIContributionType
+30040070 DS DVHMinimumDose
+30040072 DS DVHMaximumDose
+30040074 DS DVHMeanDose
+30060002 SH StructureSetLabel
+30060004 LO StructureSetName
+30060006 ST StructureSetDescription
+30060008 DA StructureSetDate
+30060009 TM StructureSetTime
+30060010 SQ ReferencedFrameOfReferenceSequence
+30060012 SQ RTReferencedStudySequence
+30060014 SQ RTReferencedSeriesSequence
+30060016 SQ ContourImageSequence
+30060018 SQ PredecessorStructureSetSequence
+30060020 SQ StructureSetROISequence
+30060022 IS ROINumber
+30060024 UI ReferencedFrameOfReferenceUID
+30060026 LO ROIName
+30060028 ST ROIDescription
+3006002a IS ROIDisplayColor
+3006002c DS ROIVolume
+30060030 SQ RTRelatedROISequence
+30060033 CS RTROIRelationship
+30060036 CS ROIGenerationAlgorithm
+30060037 SQ ROIDerivationAlgorithmIdentificationSequence
+30060038 LO ROIGenerationDescription
+30060039 SQ ROIContourSequence
+30060040 SQ ContourSequence
+30060042 CS ContourGeometricType
+30060044 DS ContourSlabThickness
+30060045 DS ContourOffsetVector
+30060046 IS NumberOfContourPoints
+30060048 IS ContourNumber
+30060049 IS AttachedContours
+3006004a SQ SourcePixelPlanesCharacteristicsSequence
+30060050 DS ContourData
+30060080 SQ RTROIObservationsSequence
+30060082 IS ObservationNumber
+30060084 IS ReferencedROINumber
+30060085 SH ROIObservationLabel
+30060086 SQ RTROIIdentificationCodeSequence
+30060088 ST ROIObservationDescription
+300600a0 SQ RelatedRTROIObservationsSequence
+300600a4 CS RTROIInterpretedType
+300600a6 PN ROIInterpreter
+300600b0 SQ ROIPhysicalPropertiesSequence
+300600b2 CS ROIPhysicalProperty
+300600b4 DS ROIPhysicalPropertyValue
+300600b6 SQ ROIElementalCompositionSequence
+300600b7 US ROIElementalCompositionAtomicNumber
+300600b8 FL ROIElementalCompositionAtomicMassFraction
+300600b9 SQ AdditionalRTROIIdentificationCodeSequence
+300600c0 SQ FrameOfReferenceRelationshipSequence
+300600c2 UI RelatedFrameOfReferenceUID";

@@ -1,383 +1,383 @@
 //! Data elements in ascending order of tags (PS3.6 sections 6 to 9). Made by tools/keywords.
 
-/// The rows, one a line: a tag and its keyword.
-pub(super) const ROWS: &str = "300600c4 FrameOfReferenceTransformationType
-300600c6 FrameOfReferenceTransformationMatrix
-300600c8 FrameOfReferenceTransformationComment
-300600c9 PatientLocationCoordinatesSequence
-300600ca PatientLocationCoordinatesCodeSequence
-300600cb PatientSupportPositionSequence
-30080010 MeasuredDoseReferenceSequence
-30080012 MeasuredDoseDescription
-30080014 MeasuredDoseType
-30080016 MeasuredDoseValue
-30080020 TreatmentSessionBeamSequence
-30080021 TreatmentSessionIonBeamSequence
-30080022 CurrentFractionNumber
-30080024 TreatmentControlPointDate
-30080025 TreatmentControlPointTime
-3008002a TreatmentTerminationStatus
-3008002b TreatmentTerminationCode
-3008002c TreatmentVerificationStatus
-30080030 ReferencedTreatmentRecordSequence
-30080032 SpecifiedPrimaryMeterset
-30080033 SpecifiedSecondaryMeterset
-30080036 DeliveredPrimaryMeterset
-30080037 DeliveredSecondaryMeterset
-3008003a SpecifiedTreatmentTime
-3008003b DeliveredTreatmentTime
-30080040 ControlPointDeliverySequence
-30080041 IonControlPointDeliverySequence
-30080042 SpecifiedMeterset
-30080044 DeliveredMeterset
-30080045 MetersetRateSet
-30080046 MetersetRateDelivered
-30080047 ScanSpotMetersetsDelivered
-30080048 DoseRateDelivered
-30080050 TreatmentSummaryCalculatedDoseReferenceSequence
-30080052 CumulativeDoseToDoseReference
-30080054 FirstTreatmentDate
-30080056 MostRecentTreatmentDate
-3008005a NumberOfFractionsDelivered
-30080060 OverrideSequence
-30080061 ParameterSequencePointer
-30080062 OverrideParameterPointer
-30080063 ParameterItemIndex
-30080064 MeasuredDoseReferenceNumber
-30080065 ParameterPointer
-30080066 OverrideReason
-30080067 ParameterValueNumber
-30080068 CorrectedParameterSequence
-3008006a CorrectionValue
-30080070 CalculatedDoseReferenceSequence
-30080072 CalculatedDoseReferenceNumber
-30080074 CalculatedDoseReferenceDescription
-30080076 CalculatedDoseReferenceDoseValue
-30080078 StartMeterset
-3008007a EndMeterset
-30080080 ReferencedMeasuredDoseReferenceSequence
-30080082 ReferencedMeasuredDoseReferenceNumber
-30080090 ReferencedCalculatedDoseReferenceSequence
-30080092 ReferencedCalculatedDoseReferenceNumber
-300800a0 BeamLimitingDeviceLeafPairsSequence
-300800b0 RecordedWedgeSequence
-300800c0 RecordedCompensatorSequence
-300800d0 RecordedBlockSequence
-300800d1 RecordedBlockSlabSequence
-300800e0 TreatmentSummaryMeasuredDoseReferenceSequence
-300800f0 RecordedSnoutSequence
-300800f2 RecordedRangeShifterSequence
-300800f4 RecordedLateralSpreadingDeviceSequence
-300800f6 RecordedRangeModulatorSequence
-30080100 RecordedSourceSequence
-30080105 SourceSerialNumber
-30080110 TreatmentSessionApplicationSetupSequence
-30080116 ApplicationSetupCheck
-30080120 RecordedBrachyAccessoryDeviceSequence
-30080122 ReferencedBrachyAccessoryDeviceNumber
-30080130 RecordedChannelSequence
-30080132 SpecifiedChannelTotalTime
-30080134 DeliveredChannelTotalTime
-30080136 SpecifiedNumberOfPulses
-30080138 DeliveredNumberOfPulses
-3008013a SpecifiedPulseRepetitionInterval
-3008013c DeliveredPulseRepetitionInterval
-30080140 RecordedSourceApplicatorSequence
-30080142 ReferencedSourceApplicatorNumber
-30080150 RecordedChannelShieldSequence
-30080152 ReferencedChannelShieldNumber
-30080160 BrachyControlPointDeliveredSequence
-30080162 SafePositionExitDate
-30080164 SafePositionExitTime
-30080166 SafePositionReturnDate
-30080168 SafePositionReturnTime
-30080171 PulseSpecificBrachyControlPointDeliveredSequence
-30080172 PulseNumber
-30080173 BrachyPulseControlPointDeliveredSequence
-30080200 CurrentTreatmentStatus
-30080202 TreatmentStatusComment
-30080220 FractionGroupSummarySequence
-30080223 ReferencedFractionNumber
-30080224 FractionGroupType
-30080230 BeamStopperPosition
-30080240 FractionStatusSummarySequence
-30080250 TreatmentDate
-30080251 TreatmentTime
-300a0002 RTPlanLabel
-300a0003 RTPlanName
-300a0004 RTPlanDescription
-300a0006 RTPlanDate
-300a0007 RTPlanTime
-300a0009 TreatmentProtocols
-300a000a PlanIntent
-300a000b TreatmentSites
-300a000c RTPlanGeometry
-300a000e PrescriptionDescription
-300a0010 DoseReferenceSequence
-300a0012 DoseReferenceNumber
-300a0013 DoseReferenceUID
-300a0014 DoseReferenceStructureType
-300a0015 NominalBeamEnergyUnit
-300a0016 DoseReferenceDescription
-300a0018 DoseReferencePointCoordinates
-300a001a NominalPriorDose
-300a0020 DoseReferenceType
-300a0021 ConstraintWeight
-300a0022 DeliveryWarningDose
-300a0023 DeliveryMaximumDose
-300a0025 TargetMinimumDose
-300a0026 TargetPrescriptionDose
-300a0027 TargetMaximumDose
-300a0028 TargetUnderdoseVolumeFraction
-300a002a OrganAtRiskFullVolumeDose
-300a002b OrganAtRiskLimitDose
-300a002c OrganAtRiskMaximumDose
-300a002d OrganAtRiskOverdoseVolumeFraction
-300a0040 ToleranceTableSequence
-300a0042 ToleranceTableNumber
-300a0043 ToleranceTableLabel
-300a0044 GantryAngleTolerance
-300a0046 BeamLimitingDeviceAngleTolerance
-300a0048 BeamLimitingDeviceToleranceSequence
-300a004a BeamLimitingDevicePositionTolerance
-300a004b SnoutPositionTolerance
-300a004c PatientSupportAngleTolerance
-300a004e TableTopEccentricAngleTolerance
-300a004f TableTopPitchAngleTolerance
-300a0050 TableTopRollAngleTolerance
-300a0051 TableTopVerticalPositionTolerance
-300a0052 TableTopLongitudinalPositionTolerance
-300a0053 TableTopLateralPositionTolerance
-300a0055 RTPlanRelationship
-300a0070 FractionGroupSequence
-300a0071 FractionGroupNumber
-300a0072 FractionGroupDescription
-300a0078 NumberOfFractionsPlanned
-300a0079 NumberOfFractionPatternDigitsPerDay
-300a007a RepeatFractionCycleLength
-300a007b FractionPattern
-300a0080 NumberOfBeams
-300a0082 BeamDoseSpecificationPoint
-300a0083 ReferencedDoseReferenceUID
-300a0084 BeamDose
-300a0086 BeamMeterset
-300a0088 BeamDosePointDepth
-300a0089 BeamDosePointEquivalentDepth
-300a008a BeamDosePointSSD
-300a008b BeamDoseMeaning
-300a008c BeamDoseVerificationControlPointSequence
-300a008d AverageBeamDosePointDepth
-300a008e AverageBeamDosePointEquivalentDepth
-300a008f AverageBeamDosePointSSD
-300a0090 BeamDoseType
-300a0091 AlternateBeamDose
-300a0092 AlternateBeamDoseType
-300a0093 DepthValueAveragingFlag
-300a0094 BeamDosePointSourceToExternalContourDistance
-300a00a0 NumberOfBrachyApplicationSetups
-300a00a2 BrachyApplicationSetupDoseSpecificationPoint
-300a00a4 BrachyApplicationSetupDose
-300a00b0 BeamSequence
-300a00b2 TreatmentMachineName
-300a00b3 PrimaryDosimeterUnit
-300a00b4 SourceAxisDistance
-300a00b6 BeamLimitingDeviceSequence
-300a00b8 RTBeamLimitingDeviceType
-300a00ba SourceToBeamLimitingDeviceDistance
-300a00bb IsocenterToBeamLimitingDeviceDistance
-300a00bc NumberOfLeafJawPairs
-300a00be LeafPositionBoundaries
-300a00c0 BeamNumber
-300a00c2 BeamName
-300a00c3 BeamDescription
-300a00c4 BeamType
-300a00c5 BeamDeliveryDurationLimit
-300a00c6 RadiationType
-300a00c7 HighDoseTechniqueType
-300a00c8 ReferenceImageNumber
-300a00ca PlannedVerificationImageSequence
-300a00cc ImagingDeviceSpecificAcquisitionParameters
-300a00ce TreatmentDeliveryType
-300a00d0 NumberOfWedges
-300a00d1 WedgeSequence
-300a00d2 WedgeNumber
-300a00d3 WedgeType
-300a00d4 WedgeID
-300a00d5 WedgeAngle
-300a00d6 WedgeFactor
-300a00d7 TotalWedgeTrayWaterEquivalentThickness
-300a00d8 WedgeOrientation
-300a00d9 IsocenterToWedgeTrayDistance
-300a00da SourceToWedgeTrayDistance
-300a00db WedgeThinEdgePosition
-300a00dc BolusID
-300a00dd BolusDescription
-300a00de EffectiveWedgeAngle
-300a00e0 NumberOfCompensators
-300a00e1 MaterialID
-300a00e2 TotalCompensatorTrayFactor
-300a00e3 CompensatorSequence
-300a00e4 CompensatorNumber
-300a00e5 CompensatorID
-300a00e6 SourceToCompensatorTrayDistance
-300a00e7 CompensatorRows
-300a00e8 CompensatorColumns
-300a00e9 CompensatorPixelSpacing
-300a00ea CompensatorPosition
-300a00eb CompensatorTransmissionData
-300a00ec CompensatorThicknessData
-300a00ed NumberOfBoli
-300a00ee CompensatorType
-300a00ef CompensatorTrayID
-300a00f0 NumberOfBlocks
-300a00f2 TotalBlockTrayFactor
-300a00f3 TotalBlockTrayWaterEquivalentThickness
-300a00f4 BlockSequence
-300a00f5 BlockTrayID
-300a00f6 SourceToBlockTrayDistance
-300a00f7 IsocenterToBlockTrayDistance
-300a00f8 BlockType
-300a00f9 AccessoryCode
-300a00fa BlockDivergence
-300a00fb BlockMountingPosition
-300a00fc BlockNumber
-300a00fe BlockName
-300a0100 BlockThickness
-300a0102 BlockTransmission
-300a0104 BlockNumberOfPoints
-300a0106 BlockData
-300a0107 ApplicatorSequence
-300a0108 ApplicatorID
-300a0109 ApplicatorType
-300a010a ApplicatorDescription
-300a010c CumulativeDoseReferenceCoefficient
-300a010e FinalCumulativeMetersetWeight
-300a0110 NumberOfControlPoints
-300a0111 ControlPointSequence
-300a0112 ControlPointIndex
-300a0114 NominalBeamEnergy
-300a0115 DoseRateSet
-300a0116 WedgePositionSequence
-300a0118 WedgePosition
-300a011a BeamLimitingDevicePositionSequence
-300a011c LeafJawPositions
-300a011e GantryAngle
-300a011f GantryRotationDirection
-300a0120 BeamLimitingDeviceAngle
-300a0121 BeamLimitingDeviceRotationDirection
-300a0122 PatientSupportAngle
-300a0123 PatientSupportRotationDirection
-300a0124 TableTopEccentricAxisDistance
-300a0125 TableTopEccentricAngle
-300a0126 TableTopEccentricRotationDirection
-300a0128 TableTopVerticalPosition
-300a0129 TableTopLongitudinalPosition
-300a012a TableTopLateralPosition
-300a012c IsocenterPosition
-300a012e SurfaceEntryPoint
-300a0130 SourceToSurfaceDistance
-300a0131 AverageBeamDosePointSourceToExternalContourDistance
-300a0132 SourceToExternalContourDistance
-300a0133 ExternalContourEntryPoint
-300a0134 CumulativeMetersetWeight
-300a0140 TableTopPitchAngle
-300a0142 TableTopPitchRotationDirection
-300a0144 TableTopRollAngle
-300a0146 TableTopRollRotationDirection
-300a0148 HeadFixationAngle
-300a014a GantryPitchAngle
-300a014c GantryPitchRotationDirection
-300a014e GantryPitchAngleTolerance
-300a0150 FixationEye
-300a0151 ChairHeadFramePosition
-300a0152 HeadFixationAngleTolerance
-300a0153 ChairHeadFramePositionTolerance
-300a0154 FixationLightAzimuthalAngleTolerance
-300a0155 FixationLightPolarAngleTolerance
-300a0180 PatientSetupSequence
-300a0182 PatientSetupNumber
-300a0183 PatientSetupLabel
-300a0184 PatientAdditionalPosition
-300a0190 FixationDeviceSequence
-300a0192 FixationDeviceType
-300a0194 FixationDeviceLabel
-300a0196 FixationDeviceDescription
-300a0198 FixationDevicePosition
-300a0199 FixationDevicePitchAngle
-300a019a FixationDeviceRollAngle
-300a01a0 ShieldingDeviceSequence
-300a01a2 ShieldingDeviceType
-300a01a4 ShieldingDeviceLabel
-300a01a6 ShieldingDeviceDescription
-300a01a8 ShieldingDevicePosition
-300a01b0 SetupTechnique
-300a01b2 SetupTechniqueDescription
-300a01b4 SetupDeviceSequence
-300a01b6 SetupDeviceType
-300a01b8 SetupDeviceLabel
-300a01ba SetupDeviceDescription
-300a01bc SetupDeviceParameter
-300a01d0 SetupReferenceDescription
-300a01d2 TableTopVerticalSetupDisplacement
-300a01d4 TableTopLongitudinalSetupDisplacement
-300a01d6 TableTopLateralSetupDisplacement
-300a0200 BrachyTreatmentTechnique
-300a0202 BrachyTreatmentType
-300a0206 TreatmentMachineSequence
-300a0210 SourceSequence
-300a0212 SourceNumber
-300a0214 SourceType
-300a0216 SourceManufacturer
-300a0218 ActiveSourceDiameter
-300a021a ActiveSourceLength
-300a021b SourceModelID
-300a021c SourceDescription
-300a0222 SourceEncapsulationNominalThickness
-300a0224 SourceEncapsulationNominalTransmission
-300a0226 SourceIsotopeName
-300a0228 SourceIsotopeHalfLife
-300a0229 SourceStrengthUnits
-300a022a ReferenceAirKermaRate
-300a022b SourceStrength
-300a022c SourceStrengthReferenceDate
-300a022e SourceStrengthReferenceTime
-300a0230 ApplicationSetupSequence
-300a0232 ApplicationSetupType
-300a0234 ApplicationSetupNumber
-300a0236 ApplicationSetupName
-300a0238 ApplicationSetupManufacturer
-300a0240 TemplateNumber
-300a0242 TemplateType
-300a0244 TemplateName
-300a0250 TotalReferenceAirKerma
-300a0260 BrachyAccessoryDeviceSequence
-300a0262 BrachyAccessoryDeviceNumber
-300a0263 BrachyAccessoryDeviceID
-300a0264 BrachyAccessoryDeviceType
-300a0266 BrachyAccessoryDeviceName
-300a026a BrachyAccessoryDeviceNominalThickness
-300a026c BrachyAccessoryDeviceNominalTransmission
-300a0271 ChannelEffectiveLength
-300a0272 ChannelInnerLength
-300a0273 AfterloaderChannelID
-300a0274 SourceApplicatorTipLength
-300a0280 ChannelSequence
-300a0282 ChannelNumber
-300a0284 ChannelLength
-300a0286 ChannelTotalTime
-300a0288 SourceMovementType
-300a028a NumberOfPulses
-300a028c PulseRepetitionInterval
-300a0290 SourceApplicatorNumber
-300a0291 SourceApplicatorID
-300a0292 SourceApplicatorType
-300a0294 SourceApplicatorName
-300a0296 SourceApplicatorLength
-300a0298 SourceApplicatorManufacturer
-300a029c SourceApplicatorWallNominalThickness
-300a029e SourceApplicatorWallNominalTransmission
-300a02a0 SourceApplicatorStepSize
-300a02a1 ApplicatorShapeReferencedROINumber
-300a02a2 TransferTubeNumber
-300a02a4 TransferTubeLength
-300a02b0 ChannelShieldSequence";
+/// The rows, one a line: a tag, its VRs and its keyword.
+pub(super) const ROWS: &str = "300600c4 CS FrameOfReferenceTransformationType
+300600c6 DS FrameOfReferenceTransformationMatrix
+300600c8 LO FrameOfReferenceTransformationComment
+300600c9 SQ PatientLocationCoordinatesSequence
+300600ca SQ PatientLocationCoordinatesCodeSequence
+300600cb SQ PatientSupportPositionSequence
+30080010 SQ MeasuredDoseReferenceSequence
+30080012 ST MeasuredDoseDescription
+30080014 CS MeasuredDoseType
+30080016 DS MeasuredDoseValue
+30080020 SQ TreatmentSessionBeamSequence
+30080021 SQ TreatmentSessionIonBeamSequence
+30080022 IS CurrentFractionNumber
+30080024 DA TreatmentControlPointDate
+30080025 TM TreatmentControlPointTime
+3008002a CS TreatmentTerminationStatus
+3008002b SH TreatmentTerminationCode
+3008002c CS TreatmentVerificationStatus
+30080030 SQ ReferencedTreatmentRecordSequence
+30080032 DS SpecifiedPrimaryMeterset
+30080033 DS SpecifiedSecondaryMeterset
+30080036 DS DeliveredPrimaryMeterset
+30080037 DS DeliveredSecondaryMeterset
+3008003a DS SpecifiedTreatmentTime
+3008003b DS DeliveredTreatmentTime
+30080040 SQ ControlPointDeliverySequence
+30080041 SQ IonControlPointDeliverySequence
+30080042 DS SpecifiedMeterset
+30080044 DS DeliveredMeterset
+30080045 FL MetersetRateSet
+30080046 FL MetersetRateDelivered
+30080047 FL ScanSpotMetersetsDelivered
+30080048 DS DoseRateDelivered
+30080050 SQ TreatmentSummaryCalculatedDoseReferenceSequence
+30080052 DS CumulativeDoseToDoseReference
+30080054 DA FirstTreatmentDate
+30080056 DA MostRecentTreatmentDate
+3008005a IS NumberOfFractionsDelivered
+30080060 SQ OverrideSequence
+30080061 AT ParameterSequencePointer
+30080062 AT OverrideParameterPointer
+30080063 IS ParameterItemIndex
+30080064 IS MeasuredDoseReferenceNumber
+30080065 AT ParameterPointer
+30080066 ST OverrideReason
+30080067 US ParameterValueNumber
+30080068 SQ CorrectedParameterSequence
+3008006a FL CorrectionValue
+30080070 SQ CalculatedDoseReferenceSequence
+30080072 IS CalculatedDoseReferenceNumber
+30080074 ST CalculatedDoseReferenceDescription
+30080076 DS CalculatedDoseReferenceDoseValue
+30080078 DS StartMeterset
+3008007a DS EndMeterset
+30080080 SQ ReferencedMeasuredDoseReferenceSequence
+30080082 IS ReferencedMeasuredDoseReferenceNumber
+30080090 SQ ReferencedCalculatedDoseReferenceSequence
+30080092 IS ReferencedCalculatedDoseReferenceNumber
+300800a0 SQ BeamLimitingDeviceLeafPairsSequence
+300800b0 SQ RecordedWedgeSequence
+300800c0 SQ RecordedCompensatorSequence
+300800d0 SQ RecordedBlockSequence
+300800d1 SQ RecordedBlockSlabSequence
+300800e0 SQ TreatmentSummaryMeasuredDoseReferenceSequence
+300800f0 SQ RecordedSnoutSequence
+300800f2 SQ RecordedRangeShifterSequence
+300800f4 SQ RecordedLateralSpreadingDeviceSequence
+300800f6 SQ RecordedRangeModulatorSequence
+30080100 SQ RecordedSourceSequence
+30080105 LO SourceSerialNumber
+30080110 SQ TreatmentSessionApplicationSetupSequence
+30080116 CS ApplicationSetupCheck
+30080120 SQ RecordedBrachyAccessoryDeviceSequence
+30080122 IS ReferencedBrachyAccessoryDeviceNumber
+30080130 SQ RecordedChannelSequence
+30080132 DS SpecifiedChannelTotalTime
+30080134 DS DeliveredChannelTotalTime
+30080136 IS SpecifiedNumberOfPulses
+30080138 IS DeliveredNumberOfPulses
+3008013a DS SpecifiedPulseRepetitionInterval
+3008013c DS DeliveredPulseRepetitionInterval
+30080140 SQ RecordedSourceApplicatorSequence
+30080142 IS ReferencedSourceApplicatorNumber
+30080150 SQ RecordedChannelShieldSequence
+30080152 IS ReferencedChannelShieldNumber
+30080160 SQ BrachyControlPointDeliveredSequence
+30080162 DA SafePositionExitDate
+30080164 TM SafePositionExitTime
+30080166 DA SafePositionReturnDate
+30080168 TM SafePositionReturnTime
+30080171 SQ PulseSpecificBrachyControlPointDeliveredSequence
+30080172 US PulseNumber
+30080173 SQ BrachyPulseControlPointDeliveredSequence
+30080200 CS CurrentTreatmentStatus
+30080202 ST TreatmentStatusComment
+30080220 SQ FractionGroupSummarySequence
+30080223 IS ReferencedFractionNumber
+30080224 CS FractionGroupType
+30080230 CS BeamStopperPosition
+30080240 SQ FractionStatusSummarySequence
+30080250 DA TreatmentDate
+30080251 TM TreatmentTime
+300a0002 SH RTPlanLabel
+300a0003 LO RTPlanName
+300a0004 ST RTPlanDescription
+300a0006 DA RTPlanDate
+300a0007 TM RTPlanTime
+300a0009 LO TreatmentProtocols
+300a000a CS PlanIntent
+300a000b LO TreatmentSites
+300a000c CS RTPlanGeometry
+300a000e ST PrescriptionDescription
+300a0010 SQ DoseReferenceSequence
+300a0012 IS DoseReferenceNumber
+300a0013 UI DoseReferenceUID
+300a0014 CS DoseReferenceStructureType
+300a0015 CS NominalBeamEnergyUnit
+300a0016 LO DoseReferenceDescription
+300a0018 DS DoseReferencePointCoordinates
+300a001a DS NominalPriorDose
+300a0020 CS DoseReferenceType
+300a0021 DS ConstraintWeight
+300a0022 DS DeliveryWarningDose
+300a0023 DS DeliveryMaximumDose
+300a0025 DS TargetMinimumDose
+300a0026 DS TargetPrescriptionDose
+300a0027 DS TargetMaximumDose
+300a0028 DS TargetUnderdoseVolumeFraction
+300a002a DS OrganAtRiskFullVolumeDose
+300a002b DS OrganAtRiskLimitDose
+300a002c DS OrganAtRiskMaximumDose
+300a002d DS OrganAtRiskOverdoseVolumeFraction
+300a0040 SQ ToleranceTableSequence
+300a0042 IS ToleranceTableNumber
+300a0043 SH ToleranceTableLabel
+300a0044 DS GantryAngleTolerance
+300a0046 DS BeamLimitingDeviceAngleTolerance
+300a0048 SQ BeamLimitingDeviceToleranceSequence
+300a004a DS BeamLimitingDevicePositionTolerance
+300a004b FL SnoutPositionTolerance
+300a004c DS PatientSupportAngleTolerance
+300a004e DS TableTopEccentricAngleTolerance
+300a004f FL TableTopPitchAngleTolerance
+300a0050 FL TableTopRollAngleTolerance
+300a0051 DS TableTopVerticalPositionTolerance
+300a0052 DS TableTopLongitudinalPositionTolerance
+300a0053 DS TableTopLateralPositionTolerance
+300a0055 CS RTPlanRelationship
+300a0070 SQ FractionGroupSequence
+300a0071 IS FractionGroupNumber
+300a0072 LO FractionGroupDescription
+300a0078 IS NumberOfFractionsPlanned
+300a0079 IS NumberOfFractionPatternDigitsPerDay
+300a007a IS RepeatFractionCycleLength
+300a007b LT FractionPattern
+300a0080 IS NumberOfBeams
+300a0082 DS BeamDoseSpecificationPoint
+300a0083 UI ReferencedDoseReferenceUID
+300a0084 DS BeamDose
+300a0086 DS BeamMeterset
+300a0088 FL BeamDosePointDepth
+300a0089 FL BeamDosePointEquivalentDepth
+300a008a FL BeamDosePointSSD
+300a008b CS BeamDoseMeaning
+300a008c SQ BeamDoseVerificationControlPointSequence
+300a008d FL AverageBeamDosePointDepth
+300a008e FL AverageBeamDosePointEquivalentDepth
+300a008f FL AverageBeamDosePointSSD
+300a0090 CS BeamDoseType
+300a0091 DS AlternateBeamDose
+300a0092 CS AlternateBeamDoseType
+300a0093 CS DepthValueAveragingFlag
+300a0094 DS BeamDosePointSourceToExternalContourDistance
+300a00a0 IS NumberOfBrachyApplicationSetups
+300a00a2 DS BrachyApplicationSetupDoseSpecificationPoint
+300a00a4 DS BrachyApplicationSetupDose
+300a00b0 SQ BeamSequence
+300a00b2 SH TreatmentMachineName
+300a00b3 CS PrimaryDosimeterUnit
+300a00b4 DS SourceAxisDistance
+300a00b6 SQ BeamLimitingDeviceSequence
+300a00b8 CS RTBeamLimitingDeviceType
+300a00ba DS SourceToBeamLimitingDeviceDistance
+300a00bb FL IsocenterToBeamLimitingDeviceDistance
+300a00bc IS NumberOfLeafJawPairs
+300a00be DS LeafPositionBoundaries
+300a00c0 IS BeamNumber
+300a00c2 LO BeamName
+300a00c3 ST BeamDescription
+300a00c4 CS BeamType
+300a00c5 FD BeamDeliveryDurationLimit
+300a00c6 CS RadiationType
+300a00c7 CS HighDoseTechniqueType
+300a00c8 IS ReferenceImageNumber
+300a00ca SQ PlannedVerificationImageSequence
+300a00cc LO ImagingDeviceSpecificAcquisitionParameters
+300a00ce CS TreatmentDeliveryType
+300a00d0 IS NumberOfWedges
+300a00d1 SQ WedgeSequence
+300a00d2 IS WedgeNumber
+300a00d3 CS WedgeType
+300a00d4 SH WedgeID
+300a00d5 IS WedgeAngle
+300a00d6 DS WedgeFactor
+300a00d7 FL TotalWedgeTrayWaterEquivalentThickness
+300a00d8 DS WedgeOrientation
+300a00d9 FL IsocenterToWedgeTrayDistance
+300a00da DS SourceToWedgeTrayDistance
+300a00db FL WedgeThinEdgePosition
+300a00dc SH BolusID
+300a00dd ST BolusDescription
+300a00de DS EffectiveWedgeAngle
+300a00e0 IS NumberOfCompensators
+300a00e1 SH MaterialID
+300a00e2 DS TotalCompensatorTrayFactor
+300a00e3 SQ CompensatorSequence
+300a00e4 IS CompensatorNumber
+300a00e5 SH CompensatorID
+300a00e6 DS SourceToCompensatorTrayDistance
+300a00e7 IS CompensatorRows
+300a00e8 IS CompensatorColumns
+300a00e9 DS CompensatorPixelSpacing
+300a00ea DS CompensatorPosition
+300a00eb DS CompensatorTransmissionData
+300a00ec DS CompensatorThicknessData
+300a00ed IS NumberOfBoli
+300a00ee CS CompensatorType
+300a00ef SH CompensatorTrayID
+300a00f0 IS NumberOfBlocks
+300a00f2 DS TotalBlockTrayFactor
+300a00f3 FL TotalBlockTrayWaterEquivalentThickness
+300a00f4 SQ BlockSequence
+300a00f5 SH BlockTrayID
+300a00f6 DS SourceToBlockTrayDistance
+300a00f7 FL IsocenterToBlockTrayDistance
+300a00f8 CS BlockType
+300a00f9 LO AccessoryCode
+300a00fa CS BlockDivergence
+300a00fb CS BlockMountingPosition
+300a00fc IS BlockNumber
+300a00fe LO BlockName
+300a0100 DS BlockThickness
+300a0102 DS BlockTransmission
+300a0104 IS BlockNumberOfPoints
+300a0106 DS BlockData
+300a0107 SQ ApplicatorSequence
+300a0108 SH ApplicatorID
+300a0109 CS ApplicatorType
+300a010a LO ApplicatorDescription
+300a010c DS CumulativeDoseReferenceCoefficient
+300a010e DS FinalCumulativeMetersetWeight
+300a0110 IS NumberOfControlPoints
+300a0111 SQ ControlPointSequence
+300a0112 IS ControlPointIndex
+300a0114 DS NominalBeamEnergy
+300a0115 DS DoseRateSet
+300a0116 SQ WedgePositionSequence
+300a0118 CS WedgePosition
+300a011a SQ BeamLimitingDevicePositionSequence
+300a011c DS LeafJawPositions
+300a011e DS GantryAngle
+300a011f CS GantryRotationDirection
+300a0120 DS BeamLimitingDeviceAngle
+300a0121 CS BeamLimitingDeviceRotationDirection
+300a0122 DS PatientSupportAngle
+300a0123 CS PatientSupportRotationDirection
+300a0124 DS TableTopEccentricAxisDistance
+300a0125 DS TableTopEccentricAngle
+300a0126 CS TableTopEccentricRotationDirection
+300a0128 DS TableTopVerticalPosition
+300a0129 DS TableTopLongitudinalPosition
+300a012a DS TableTopLateralPosition
+300a012c DS IsocenterPosition
+300a012e DS SurfaceEntryPoint
+300a0130 DS SourceToSurfaceDistance
+300a0131 FL AverageBeamDosePointSourceToExternalContourDistance
+300a0132 FL SourceToExternalContourDistance
+300a0133 FL ExternalContourEntryPoint
+300a0134 DS CumulativeMetersetWeight
+300a0140 FL TableTopPitchAngle
+300a0142 CS TableTopPitchRotationDirection
+300a0144 FL TableTopRollAngle
+300a0146 CS TableTopRollRotationDirection
+300a0148 FL HeadFixationAngle
+300a014a FL GantryPitchAngle
+300a014c CS GantryPitchRotationDirection
+300a014e FL GantryPitchAngleTolerance
+300a0150 CS FixationEye
+300a0151 DS ChairHeadFramePosition
+300a0152 DS HeadFixationAngleTolerance
+300a0153 DS ChairHeadFramePositionTolerance
+300a0154 DS FixationLightAzimuthalAngleTolerance
+300a0155 DS FixationLightPolarAngleTolerance
+300a0180 SQ PatientSetupSequence
+300a0182 IS PatientSetupNumber
+300a0183 LO PatientSetupLabel
+300a0184 LO PatientAdditionalPosition
+300a0190 SQ FixationDeviceSequence
+300a0192 CS FixationDeviceType
+300a0194 SH FixationDeviceLabel
+300a0196 ST FixationDeviceDescription
+300a0198 SH FixationDevicePosition
+300a0199 FL FixationDevicePitchAngle
+300a019a FL FixationDeviceRollAngle
+300a01a0 SQ ShieldingDeviceSequence
+300a01a2 CS ShieldingDeviceType
+300a01a4 SH ShieldingDeviceLabel
+300a01a6 ST ShieldingDeviceDescription
+300a01a8 SH ShieldingDevicePosition
+300a01b0 CS SetupTechnique
+300a01b2 ST SetupTechniqueDescription
+300a01b4 SQ SetupDeviceSequence
+300a01b6 CS SetupDeviceType
+300a01b8 SH SetupDeviceLabel
+300a01ba ST SetupDeviceDescription
+300a01bc DS SetupDeviceParameter
+300a01d0 ST SetupReferenceDescription
+300a01d2 DS TableTopVerticalSetupDisplacement
+300a01d4 DS TableTopLongitudinalSetupDisplacement
+300a01d6 DS TableTopLateralSetupDisplacement
+300a0200 CS BrachyTreatmentTechnique
+300a0202 CS BrachyTreatmentType
+300a0206 SQ TreatmentMachineSequence
+300a0210 SQ SourceSequence
+300a0212 IS SourceNumber
+300a0214 CS SourceType
+300a0216 LO SourceManufacturer
+300a0218 DS ActiveSourceDiameter
+300a021a DS ActiveSourceLength
+300a021b SH SourceModelID
+300a021c LO SourceDescription
+300a0222 DS SourceEncapsulationNominalThickness
+300a0224 DS SourceEncapsulationNominalTransmission
+300a0226 LO SourceIsotopeName
+300a0228 DS SourceIsotopeHalfLife
+300a0229 CS SourceStrengthUnits
+300a022a DS ReferenceAirKermaRate
+300a022b DS SourceStrength
+300a022c DA SourceStrengthReferenceDate
+300a022e TM SourceStrengthReferenceTime
+300a0230 SQ ApplicationSetupSequence
+300a0232 CS ApplicationSetupType
+300a0234 IS ApplicationSetupNumber
+300a0236 LO ApplicationSetupName
+300a0238 LO ApplicationSetupManufacturer
+300a0240 IS TemplateNumber
+300a0242 SH TemplateType
+300a0244 LO TemplateName
+300a0250 DS TotalReferenceAirKerma
+300a0260 SQ BrachyAccessoryDeviceSequence
+300a0262 IS BrachyAccessoryDeviceNumber
+300a0263 SH BrachyAccessoryDeviceID
+300a0264 CS BrachyAccessoryDeviceType
+300a0266 LO BrachyAccessoryDeviceName
+300a026a DS BrachyAccessoryDeviceNominalThickness
+300a026c DS BrachyAccessoryDeviceNominalTransmission
+300a0271 DS ChannelEffectiveLength
+300a0272 DS ChannelInnerLength
+300a0273 SH AfterloaderChannelID
+300a0274 DS SourceApplicatorTipLength
+300a0280 SQ ChannelSequence
+300a0282 IS ChannelNumber
+300a0284 DS ChannelLength
+300a0286 DS ChannelTotalTime
+300a0288 CS SourceMovementType
+300a028a IS NumberOfPulses
+300a028c DS PulseRepetitionInterval
+300a0290 IS SourceApplicatorNumber
+300a0291 SH SourceApplicatorID
+300a0292 CS SourceApplicatorType
+300a0294 LO SourceApplicatorName
+300a0296 DS SourceApplicatorLength
+300a0298 LO SourceApplicatorManufacturer
+300a029c DS SourceApplicatorWallNominalThickness
+300a029e DS SourceApplicatorWallNominalTransmission
+300a02a0 DS SourceApplicatorStepSize
+300a02a1 IS ApplicatorShapeReferencedROINumber
+300a02a2 IS TransferTubeNumber
+300a02a4 DS TransferTubeLength
+300a02b0 SQ ChannelShieldSequence";

@@ -1,383 +1,383 @@
 //! Data elements in ascending order of tags (PS3.6 sections 6 to 9). Made by tools/keywords.
 
-/// The rows, one a line: a tag and its keyword.
-pub(super) const ROWS: &str = "00140108 OtherSecondaryApprovalStatus
-00141010 ActualEnvironmentalConditions
-00141020 ExpiryDate
-00141040 EnvironmentalConditions
-00142002 EvaluatorSequence
-00142004 EvaluatorNumber
-00142006 EvaluatorName
-00142008 EvaluationAttempt
-00142012 IndicationSequence
-00142014 IndicationNumber
-00142016 IndicationLabel
-00142018 IndicationDescription
-0014201a IndicationType
-0014201c IndicationDisposition
-0014201e IndicationROISequence
-00142030 IndicationPhysicalPropertySequence
-00142032 PropertyLabel
-00142202 CoordinateSystemNumberOfAxes
-00142204 CoordinateSystemAxesSequence
-00142206 CoordinateSystemAxisDescription
-00142208 CoordinateSystemDataSetMapping
-0014220a CoordinateSystemAxisNumber
-0014220c CoordinateSystemAxisType
-0014220e CoordinateSystemAxisUnits
-00142210 CoordinateSystemAxisValues
-00142220 CoordinateSystemTransformSequence
-00142222 TransformDescription
-00142224 TransformNumberOfAxes
-00142226 TransformOrderOfAxes
-00142228 TransformedAxisUnits
-0014222a CoordinateSystemTransformRotationAndScaleMatrix
-0014222c CoordinateSystemTransformTranslationMatrix
-00143011 InternalDetectorFrameTime
-00143012 NumberOfFramesIntegrated
-00143020 DetectorTemperatureSequence
-00143022 SensorName
-00143024 HorizontalOffsetOfSensor
-00143026 VerticalOffsetOfSensor
-00143028 SensorTemperature
-00143040 DarkCurrentSequence
-00143050 DarkCurrentCounts
-00143060 GainCorrectionReferenceSequence
-00143070 AirCounts
-00143071 KVUsedInGainCalibration
-00143072 MAUsedInGainCalibration
-00143073 NumberOfFramesUsedForIntegration
-00143074 FilterMaterialUsedInGainCalibration
-00143075 FilterThicknessUsedInGainCalibration
-00143076 DateOfGainCalibration
-00143077 TimeOfGainCalibration
-00143080 BadPixelImage
-00143099 CalibrationNotes
-00143100 LinearityCorrectionTechnique
-00143101 BeamHardeningCorrectionTechnique
-00144002 PulserEquipmentSequence
-00144004 PulserType
-00144006 PulserNotes
-00144008 ReceiverEquipmentSequence
-0014400a AmplifierType
-0014400c ReceiverNotes
-0014400e PreAmplifierEquipmentSequence
-0014400f PreAmplifierNotes
-00144010 TransmitTransducerSequence
-00144011 ReceiveTransducerSequence
-00144012 NumberOfElements
-00144013 ElementShape
-00144014 ElementDimensionA
-00144015 ElementDimensionB
-00144016 ElementPitchA
-00144017 MeasuredBeamDimensionA
-00144018 MeasuredBeamDimensionB
-00144019 LocationOfMeasuredBeamDiameter
-0014401a NominalFrequency
-0014401b MeasuredCenterFrequency
-0014401c MeasuredBandwidth
-0014401d ElementPitchB
-00144020 PulserSettingsSequence
-00144022 PulseWidth
-00144024 ExcitationFrequency
-00144026 ModulationType
-00144028 Damping
-00144030 ReceiverSettingsSequence
-00144031 AcquiredSoundpathLength
-00144032 AcquisitionCompressionType
-00144033 AcquisitionSampleSize
-00144034 RectifierSmoothing
-00144035 DACSequence
-00144036 DACType
-00144038 DACGainPoints
-0014403a DACTimePoints
-0014403c DACAmplitude
-00144040 PreAmplifierSettingsSequence
-00144050 TransmitTransducerSettingsSequence
-00144051 ReceiveTransducerSettingsSequence
-00144052 IncidentAngle
-00144054 CouplingTechnique
-00144056 CouplingMedium
-00144057 CouplingVelocity
-00144058 ProbeCenterLocationX
-00144059 ProbeCenterLocationZ
-0014405a SoundPathLength
-0014405c DelayLawIdentifier
-00144060 GateSettingsSequence
-00144062 GateThreshold
-00144064 VelocityOfSound
-00144070 CalibrationSettingsSequence
-00144072 CalibrationProcedure
-00144074 ProcedureVersion
-00144076 ProcedureCreationDate
-00144078 ProcedureExpirationDate
-0014407a ProcedureLastModifiedDate
-0014407c CalibrationTime
-0014407e CalibrationDate
-00144080 ProbeDriveEquipmentSequence
-00144081 DriveType
-00144082 ProbeDriveNotes
-00144083 DriveProbeSequence
-00144084 ProbeInductance
-00144085 ProbeResistance
-00144086 ReceiveProbeSequence
-00144087 ProbeDriveSettingsSequence
-00144088 BridgeResistors
-00144089 ProbeOrientationAngle
-0014408b UserSelectedGainY
-0014408c UserSelectedPhase
-0014408d UserSelectedOffsetX
-0014408e UserSelectedOffsetY
-00144091 ChannelSettingsSequence
-00144092 ChannelThreshold
-0014409a ScannerSettingsSequence
-0014409b ScanProcedure
-0014409c TranslationRateX
-0014409d TranslationRateY
-0014409f ChannelOverlap
-001440a0 ImageQualityIndicatorType
-001440a1 ImageQualityIndicatorMaterial
-001440a2 ImageQualityIndicatorSize
-00145002 LINACEnergy
-00145004 LINACOutput
-00145100 ActiveAperture
-00145101 TotalAperture
-00145102 ApertureElevation
-00145103 MainLobeAngle
-00145104 MainRoofAngle
-00145105 ConnectorType
-00145106 WedgeModelNumber
-00145107 WedgeAngleFloat
-00145108 WedgeRoofAngle
-00145109 WedgeElement1Position
-0014510a WedgeMaterialVelocity
-0014510b WedgeMaterial
-0014510c WedgeOffsetZ
-0014510d WedgeOriginOffsetX
-0014510e WedgeTimeDelay
-0014510f WedgeName
-00145110 WedgeManufacturerName
-00145111 WedgeDescription
-00145112 NominalBeamAngle
-00145113 WedgeOffsetX
-00145114 WedgeOffsetY
-00145115 WedgeTotalLength
-00145116 WedgeInContactLength
-00145117 WedgeFrontGap
-00145118 WedgeTotalHeight
-00145119 WedgeFrontHeight
-0014511a WedgeRearHeight
-0014511b WedgeTotalWidth
-0014511c WedgeInContactWidth
-0014511d WedgeChamferHeight
-0014511e WedgeCurve
-0014511f RadiusAlongWedge
-00160001 WhitePoint
-00160002 PrimaryChromaticities
-00160003 BatteryLevel
-00160004 ExposureTimeInSeconds
-00160005 FNumber
-00160006 OECFRows
-00160007 OECFColumns
-00160008 OECFColumnNames
-00160009 OECFValues
-0016000a SpatialFrequencyResponseRows
-0016000b SpatialFrequencyResponseColumns
-0016000c SpatialFrequencyResponseColumnNames
-0016000d SpatialFrequencyResponseValues
-0016000e ColorFilterArrayPatternRows
-0016000f ColorFilterArrayPatternColumns
-00160010 ColorFilterArrayPatternValues
-00160011 FlashFiringStatus
-00160012 FlashReturnStatus
-00160013 FlashMode
-00160014 FlashFunctionPresent
-00160015 FlashRedEyeMode
-00160016 ExposureProgram
-00160017 SpectralSensitivity
-00160018 PhotographicSensitivity
-00160019 SelfTimerMode
-0016001a SensitivityType
-0016001b StandardOutputSensitivity
-0016001c RecommendedExposureIndex
-0016001d ISOSpeed
-0016001e ISOSpeedLatitudeyyy
-0016001f ISOSpeedLatitudezzz
-00160020 EXIFVersion
-00160021 ShutterSpeedValue
-00160022 ApertureValue
-00160023 BrightnessValue
-00160024 ExposureBiasValue
-00160025 MaxApertureValue
-00160026 SubjectDistance
-00160027 MeteringMode
-00160028 LightSource
-00160029 FocalLength
-0016002a SubjectArea
-0016002b MakerNote
-00160030 Temperature
-00160031 Humidity
-00160032 Pressure
-00160033 WaterDepth
-00160034 Acceleration
-00160035 CameraElevationAngle
-00160036 FlashEnergy
-00160037 SubjectLocation
-00160038 PhotographicExposureIndex
-00160039 SensingMethod
-0016003a FileSource
-0016003b SceneType
-00160041 CustomRendered
-00160042 ExposureMode
-00160043 WhiteBalance
-00160044 DigitalZoomRatio
-00160045 FocalLengthIn35mmFilm
-00160046 SceneCaptureType
-00160047 GainControl
-00160048 Contrast
-00160049 Saturation
-0016004a Sharpness
-0016004b DeviceSettingDescription
-0016004c SubjectDistanceRange
-0016004d CameraOwnerName
-0016004e LensSpecification
-0016004f LensMake
-00160050 LensModel
-00160051 LensSerialNumber
-00160061 InteroperabilityIndex
-00160062 InteroperabilityVersion
-00160070 GPSVersionID
-00160071 GPSLatitudeRef
-00160072 GPSLatitude
-00160073 GPSLongitudeRef
-00160074 GPSLongitude
-00160075 GPSAltitudeRef
-00160076 GPSAltitude
-00160077 GPSTimeStamp
-00160078 GPSSatellites
-00160079 GPSStatus
-0016007a GPSMeasureMode
-0016007b GPSDOP
-0016007c GPSSpeedRef
-0016007d GPSSpeed
-0016007e GPSTrackRef
-0016007f GPSTrack
-00160080 GPSImgDirectionRef
-00160081 GPSImgDirection
-00160082 GPSMapDatum
-00160083 GPSDestLatitudeRef
-00160084 GPSDestLatitude
-00160085 GPSDestLongitudeRef
-00160086 GPSDestLongitude
-00160087 GPSDestBearingRef
-00160088 GPSDestBearing
-00160089 GPSDestDistanceRef
-0016008a GPSDestDistance
-0016008b GPSProcessingMethod
-0016008c GPSAreaInformation
-0016008d GPSDateStamp
-0016008e GPSDifferential
-00161001 LightSourcePolarization
-00161002 EmitterColorTemperature
-00161003 ContactMethod
-00161004 ImmersionMedia
-00161005 OpticalMagnificationFactor
-00180010 ContrastBolusAgent
-00180012 ContrastBolusAgentSequence
-00180013 ContrastBolusT1Relaxivity
-00180014 ContrastBolusAdministrationRouteSequence
-00180015 BodyPartExamined
-00180020 ScanningSequence
-00180021 SequenceVariant
-00180022 ScanOptions
-00180023 MRAcquisitionType
-00180024 SequenceName
-00180025 AngioFlag
-00180026 InterventionDrugInformationSequence
-00180027 InterventionDrugStopTime
-00180028 InterventionDrugDose
-00180029 InterventionDrugCodeSequence
-0018002a AdditionalDrugSequence
-00180030 Radionuclide
-00180031 Radiopharmaceutical
-00180032 EnergyWindowCenterline
-00180033 EnergyWindowTotalWidth
-00180034 InterventionDrugName
-00180035 InterventionDrugStartTime
-00180036 InterventionSequence
-00180037 TherapyType
-00180038 InterventionStatus
-00180039 TherapyDescription
-0018003a InterventionDescription
-00180040 CineRate
-00180042 InitialCineRunState
-00180050 SliceThickness
-00180060 KVP
-00180070 CountsAccumulated
-00180071 AcquisitionTerminationCondition
-00180072 EffectiveDuration
-00180073 AcquisitionStartCondition
-00180074 AcquisitionStartConditionData
-00180075 AcquisitionTerminationConditionData
-00180080 RepetitionTime
-00180081 EchoTime
-00180082 InversionTime
-00180083 NumberOfAverages
-00180084 ImagingFrequency
-00180085 ImagedNucleus
-00180086 EchoNumbers
-00180087 MagneticFieldStrength
-00180088 SpacingBetweenSlices
-00180089 NumberOfPhaseEncodingSteps
-00180090 DataCollectionDiameter
-00180091 EchoTrainLength
-00180093 PercentSampling
-00180094 PercentPhaseFieldOfView
-00180095 PixelBandwidth
-00181000 DeviceSerialNumber
-00181002 DeviceUID
-00181003 DeviceID
-00181004 PlateID
-00181005 GeneratorID
-00181006 GridID
-00181007 CassetteID
-00181008 GantryID
-00181009 UniqueDeviceIdentifier
-0018100a UDISequence
-0018100b ManufacturerDeviceClassUID
-00181010 SecondaryCaptureDeviceID
-00181011 HardcopyCreationDeviceID
-00181012 DateOfSecondaryCapture
-00181014 TimeOfSecondaryCapture
-00181016 SecondaryCaptureDeviceManufacturer
-00181017 HardcopyDeviceManufacturer
-00181018 SecondaryCaptureDeviceManufacturerModelName
-00181019 SecondaryCaptureDeviceSoftwareVersions
-0018101a HardcopyDeviceSoftwareVersion
-0018101b HardcopyDeviceManufacturerModelName
-00181020 SoftwareVersions
-00181022 VideoImageFormatAcquired
-00181023 DigitalImageFormatAcquired
-00181030 ProtocolName
-00181040 ContrastBolusRoute
-00181041 ContrastBolusVolume
-00181042 ContrastBolusStartTime
-00181043 ContrastBolusStopTime
-00181044 ContrastBolusTotalDose
-00181045 SyringeCounts
-00181046 ContrastFlowRate
-00181047 ContrastFlowDuration
-00181048 ContrastBolusIngredient
-00181049 ContrastBolusIngredientConcentration
-00181050 SpatialResolution
-00181060 TriggerTime
-00181061 TriggerSourceOrType
-00181062 NominalInterval
-00181063 FrameTime
-00181064 CardiacFramingType
-00181065 FrameTimeVector
-00181066 FrameDelay
-00181067 ImageTriggerDelay
-00181068 MultiplexGroupTimeOffset
-00181069 TriggerTimeOffset
-0018106a SynchronizationTrigger";
+/// The rows, one a line: a tag, its VRs and its keyword.
+pub(super) const ROWS: &str = "00140108 CS OtherSecondaryApprovalStatus
+00141010 ST ActualEnvironmentalConditions
+00141020 DA ExpiryDate
+00141040 ST EnvironmentalConditions
+00142002 SQ EvaluatorSequence
+00142004 IS EvaluatorNumber
+00142006 PN EvaluatorName
+00142008 IS EvaluationAttempt
+00142012 SQ IndicationSequence
+00142014 IS IndicationNumber
+00142016 SH IndicationLabel
+00142018 ST IndicationDescription
+0014201a CS IndicationType
+0014201c CS IndicationDisposition
+0014201e SQ IndicationROISequence
+00142030 SQ IndicationPhysicalPropertySequence
+00142032 SH PropertyLabel
+00142202 IS CoordinateSystemNumberOfAxes
+00142204 SQ CoordinateSystemAxesSequence
+00142206 ST CoordinateSystemAxisDescription
+00142208 CS CoordinateSystemDataSetMapping
+0014220a IS CoordinateSystemAxisNumber
+0014220c CS CoordinateSystemAxisType
+0014220e CS CoordinateSystemAxisUnits
+00142210 OB CoordinateSystemAxisValues
+00142220 SQ CoordinateSystemTransformSequence
+00142222 ST TransformDescription
+00142224 IS TransformNumberOfAxes
+00142226 IS TransformOrderOfAxes
+00142228 CS TransformedAxisUnits
+0014222a DS CoordinateSystemTransformRotationAndScaleMatrix
+0014222c DS CoordinateSystemTransformTranslationMatrix
+00143011 DS InternalDetectorFrameTime
+00143012 DS NumberOfFramesIntegrated
+00143020 SQ DetectorTemperatureSequence
+00143022 ST SensorName
+00143024 DS HorizontalOffsetOfSensor
+00143026 DS VerticalOffsetOfSensor
+00143028 DS SensorTemperature
+00143040 SQ DarkCurrentSequence
+00143050 OB/OW DarkCurrentCounts
+00143060 SQ GainCorrectionReferenceSequence
+00143070 OB/OW AirCounts
+00143071 DS KVUsedInGainCalibration
+00143072 DS MAUsedInGainCalibration
+00143073 DS NumberOfFramesUsedForIntegration
+00143074 LO FilterMaterialUsedInGainCalibration
+00143075 DS FilterThicknessUsedInGainCalibration
+00143076 DA DateOfGainCalibration
+00143077 TM TimeOfGainCalibration
+00143080 OB BadPixelImage
+00143099 LT CalibrationNotes
+00143100 LT LinearityCorrectionTechnique
+00143101 LT BeamHardeningCorrectionTechnique
+00144002 SQ PulserEquipmentSequence
+00144004 CS PulserType
+00144006 LT PulserNotes
+00144008 SQ ReceiverEquipmentSequence
+0014400a CS AmplifierType
+0014400c LT ReceiverNotes
+0014400e SQ PreAmplifierEquipmentSequence
+0014400f LT PreAmplifierNotes
+00144010 SQ TransmitTransducerSequence
+00144011 SQ ReceiveTransducerSequence
+00144012 US NumberOfElements
+00144013 CS ElementShape
+00144014 DS ElementDimensionA
+00144015 DS ElementDimensionB
+00144016 DS ElementPitchA
+00144017 DS MeasuredBeamDimensionA
+00144018 DS MeasuredBeamDimensionB
+00144019 DS LocationOfMeasuredBeamDiameter
+0014401a DS NominalFrequency
+0014401b DS MeasuredCenterFrequency
+0014401c DS MeasuredBandwidth
+0014401d DS ElementPitchB
+00144020 SQ PulserSettingsSequence
+00144022 DS PulseWidth
+00144024 DS ExcitationFrequency
+00144026 CS ModulationType
+00144028 DS Damping
+00144030 SQ ReceiverSettingsSequence
+00144031 DS AcquiredSoundpathLength
+00144032 CS AcquisitionCompressionType
+00144033 IS AcquisitionSampleSize
+00144034 DS RectifierSmoothing
+00144035 SQ DACSequence
+00144036 CS DACType
+00144038 DS DACGainPoints
+0014403a DS DACTimePoints
+0014403c DS DACAmplitude
+00144040 SQ PreAmplifierSettingsSequence
+00144050 SQ TransmitTransducerSettingsSequence
+00144051 SQ ReceiveTransducerSettingsSequence
+00144052 DS IncidentAngle
+00144054 ST CouplingTechnique
+00144056 ST CouplingMedium
+00144057 DS CouplingVelocity
+00144058 DS ProbeCenterLocationX
+00144059 DS ProbeCenterLocationZ
+0014405a DS SoundPathLength
+0014405c ST DelayLawIdentifier
+00144060 SQ GateSettingsSequence
+00144062 DS GateThreshold
+00144064 DS VelocityOfSound
+00144070 SQ CalibrationSettingsSequence
+00144072 ST CalibrationProcedure
+00144074 SH ProcedureVersion
+00144076 DA ProcedureCreationDate
+00144078 DA ProcedureExpirationDate
+0014407a DA ProcedureLastModifiedDate
+0014407c TM CalibrationTime
+0014407e DA CalibrationDate
+00144080 SQ ProbeDriveEquipmentSequence
+00144081 CS DriveType
+00144082 LT ProbeDriveNotes
+00144083 SQ DriveProbeSequence
+00144084 DS ProbeInductance
+00144085 DS ProbeResistance
+00144086 SQ ReceiveProbeSequence
+00144087 SQ ProbeDriveSettingsSequence
+00144088 DS BridgeResistors
+00144089 DS ProbeOrientationAngle
+0014408b DS UserSelectedGainY
+0014408c DS UserSelectedPhase
+0014408d DS UserSelectedOffsetX
+0014408e DS UserSelectedOffsetY
+00144091 SQ ChannelSettingsSequence
+00144092 DS ChannelThreshold
+0014409a SQ ScannerSettingsSequence
+0014409b ST ScanProcedure
+0014409c DS TranslationRateX
+0014409d DS TranslationRateY
+0014409f DS ChannelOverlap
+001440a0 LO ImageQualityIndicatorType
+001440a1 LO ImageQualityIndicatorMaterial
+001440a2 LO ImageQualityIndicatorSize
+00145002 IS LINACEnergy
+00145004 IS LINACOutput
+00145100 US ActiveAperture
+00145101 DS TotalAperture
+00145102 DS ApertureElevation
+00145103 DS MainLobeAngle
+00145104 DS MainRoofAngle
+00145105 CS ConnectorType
+00145106 SH WedgeModelNumber
+00145107 DS WedgeAngleFloat
+00145108 DS WedgeRoofAngle
+00145109 CS WedgeElement1Position
+0014510a DS WedgeMaterialVelocity
+0014510b SH WedgeMaterial
+0014510c DS WedgeOffsetZ
+0014510d DS WedgeOriginOffsetX
+0014510e DS WedgeTimeDelay
+0014510f SH WedgeName
+00145110 SH WedgeManufacturerName
+00145111 LO WedgeDescription
+00145112 DS NominalBeamAngle
+00145113 DS WedgeOffsetX
+00145114 DS WedgeOffsetY
+00145115 DS WedgeTotalLength
+00145116 DS WedgeInContactLength
+00145117 DS WedgeFrontGap
+00145118 DS WedgeTotalHeight
+00145119 DS WedgeFrontHeight
+0014511a DS WedgeRearHeight
+0014511b DS WedgeTotalWidth
+0014511c DS WedgeInContactWidth
+0014511d DS WedgeChamferHeight
+0014511e CS WedgeCurve
+0014511f DS RadiusAlongWedge
+00160001 DS WhitePoint
+00160002 DS PrimaryChromaticities
+00160003 UT BatteryLevel
+00160004 DS ExposureTimeInSeconds
+00160005 DS FNumber
+00160006 IS OECFRows
+00160007 IS OECFColumns
+00160008 UC OECFColumnNames
+00160009 DS OECFValues
+0016000a IS SpatialFrequencyResponseRows
+0016000b IS SpatialFrequencyResponseColumns
+0016000c UC SpatialFrequencyResponseColumnNames
+0016000d DS SpatialFrequencyResponseValues
+0016000e IS ColorFilterArrayPatternRows
+0016000f IS ColorFilterArrayPatternColumns
+00160010 DS ColorFilterArrayPatternValues
+00160011 US FlashFiringStatus
+00160012 US FlashReturnStatus
+00160013 US FlashMode
+00160014 US FlashFunctionPresent
+00160015 US FlashRedEyeMode
+00160016 US ExposureProgram
+00160017 UT SpectralSensitivity
+00160018 IS PhotographicSensitivity
+00160019 IS SelfTimerMode
+0016001a US SensitivityType
+0016001b IS StandardOutputSensitivity
+0016001c IS RecommendedExposureIndex
+0016001d IS ISOSpeed
+0016001e IS ISOSpeedLatitudeyyy
+0016001f IS ISOSpeedLatitudezzz
+00160020 UT EXIFVersion
+00160021 DS ShutterSpeedValue
+00160022 DS ApertureValue
+00160023 DS BrightnessValue
+00160024 DS ExposureBiasValue
+00160025 DS MaxApertureValue
+00160026 DS SubjectDistance
+00160027 US MeteringMode
+00160028 US LightSource
+00160029 DS FocalLength
+0016002a IS SubjectArea
+0016002b OB MakerNote
+00160030 DS Temperature
+00160031 DS Humidity
+00160032 DS Pressure
+00160033 DS WaterDepth
+00160034 DS Acceleration
+00160035 DS CameraElevationAngle
+00160036 DS FlashEnergy
+00160037 IS SubjectLocation
+00160038 DS PhotographicExposureIndex
+00160039 US SensingMethod
+0016003a US FileSource
+0016003b US SceneType
+00160041 US CustomRendered
+00160042 US ExposureMode
+00160043 US WhiteBalance
+00160044 DS DigitalZoomRatio
+00160045 IS FocalLengthIn35mmFilm
+00160046 US SceneCaptureType
+00160047 US GainControl
+00160048 US Contrast
+00160049 US Saturation
+0016004a US Sharpness
+0016004b OB DeviceSettingDescription
+0016004c US SubjectDistanceRange
+0016004d UT CameraOwnerName
+0016004e DS LensSpecification
+0016004f UT LensMake
+00160050 UT LensModel
+00160051 UT LensSerialNumber
+00160061 CS InteroperabilityIndex
+00160062 OB InteroperabilityVersion
+00160070 OB GPSVersionID
+00160071 CS GPSLatitudeRef
+00160072 DS GPSLatitude
+00160073 CS GPSLongitudeRef
+00160074 DS GPSLongitude
+00160075 US GPSAltitudeRef
+00160076 DS GPSAltitude
+00160077 DT GPSTimeStamp
+00160078 UT GPSSatellites
+00160079 CS GPSStatus
+0016007a CS GPSMeasureMode
+0016007b DS GPSDOP
+0016007c CS GPSSpeedRef
+0016007d DS GPSSpeed
+0016007e CS GPSTrackRef
+0016007f DS GPSTrack
+00160080 CS GPSImgDirectionRef
+00160081 DS GPSImgDirection
+00160082 UT GPSMapDatum
+00160083 CS GPSDestLatitudeRef
+00160084 DS GPSDestLatitude
+00160085 CS GPSDestLongitudeRef
+00160086 DS GPSDestLongitude
+00160087 CS GPSDestBearingRef
+00160088 DS GPSDestBearing
+00160089 CS GPSDestDistanceRef
+0016008a DS GPSDestDistance
+0016008b OB GPSProcessingMethod
+0016008c OB GPSAreaInformation
+0016008d DT GPSDateStamp
+0016008e IS GPSDifferential
+00161001 CS LightSourcePolarization
+00161002 DS EmitterColorTemperature
+00161003 CS ContactMethod
+00161004 CS ImmersionMedia
+00161005 DS OpticalMagnificationFactor
+00180010 LO ContrastBolusAgent
+00180012 SQ ContrastBolusAgentSequence
+00180013 FL ContrastBolusT1Relaxivity
+00180014 SQ ContrastBolusAdministrationRouteSequence
+00180015 CS BodyPartExamined
+00180020 CS ScanningSequence
+00180021 CS SequenceVariant
+00180022 CS ScanOptions
+00180023 CS MRAcquisitionType
+00180024 SH SequenceName
+00180025 CS AngioFlag
+00180026 SQ InterventionDrugInformationSequence
+00180027 TM InterventionDrugStopTime
+00180028 DS InterventionDrugDose
+00180029 SQ InterventionDrugCodeSequence
+0018002a SQ AdditionalDrugSequence
+00180030 LO Radionuclide
+00180031 LO Radiopharmaceutical
+00180032 DS EnergyWindowCenterline
+00180033 DS EnergyWindowTotalWidth
+00180034 LO InterventionDrugName
+00180035 TM InterventionDrugStartTime
+00180036 SQ InterventionSequence
+00180037 CS TherapyType
+00180038 CS InterventionStatus
+00180039 CS TherapyDescription
+0018003a ST InterventionDescription
+00180040 IS CineRate
+00180042 CS InitialCineRunState
+00180050 DS SliceThickness
+00180060 DS KVP
+00180070 IS CountsAccumulated
+00180071 CS AcquisitionTerminationCondition
+00180072 DS EffectiveDuration
+00180073 CS AcquisitionStartCondition
+00180074 IS AcquisitionStartConditionData
+00180075 IS AcquisitionTerminationConditionData
+00180080 DS RepetitionTime
+00180081 DS EchoTime
+00180082 DS InversionTime
+00180083 DS NumberOfAverages
+00180084 DS ImagingFrequency
+00180085 SH ImagedNucleus
+00180086 IS EchoNumbers
+00180087 DS MagneticFieldStrength
+00180088 DS SpacingBetweenSlices
+00180089 IS NumberOfPhaseEncodingSteps
+00180090 DS DataCollectionDiameter
+00180091 IS EchoTrainLength
+00180093 DS PercentSampling
+00180094 DS PercentPhaseFieldOfView
+00180095 DS PixelBandwidth
+00181000 LO DeviceSerialNumber
+00181002 UI DeviceUID
+00181003 LO DeviceID
+00181004 LO PlateID
+00181005 LO GeneratorID
+00181006 LO GridID
+00181007 LO CassetteID
+00181008 LO GantryID
+00181009 UT UniqueDeviceIdentifier
+0018100a SQ UDISequence
+0018100b UI ManufacturerDeviceClassUID
+00181010 LO SecondaryCaptureDeviceID
+00181011 LO HardcopyCreationDeviceID
+00181012 DA DateOfSecondaryCapture
+00181014 TM TimeOfSecondaryCapture
+00181016 LO SecondaryCaptureDeviceManufacturer
+00181017 LO HardcopyDeviceManufacturer
+00181018 LO SecondaryCaptureDeviceManufacturerModelName
+00181019 LO SecondaryCaptureDeviceSoftwareVersions
+0018101a LO HardcopyDeviceSoftwareVersion
+0018101b LO HardcopyDeviceManufacturerModelName
+00181020 LO SoftwareVersions
+00181022 SH VideoImageFormatAcquired
+00181023 LO DigitalImageFormatAcquired
+00181030 LO ProtocolName
+00181040 LO ContrastBolusRoute
+00181041 DS ContrastBolusVolume
+00181042 TM ContrastBolusStartTime
+00181043 TM ContrastBolusStopTime
+00181044 DS ContrastBolusTotalDose
+00181045 IS SyringeCounts
+00181046 DS ContrastFlowRate
+00181047 DS ContrastFlowDuration
+00181048 CS ContrastBolusIngredient
+00181049 DS ContrastBolusIngredientConcentration
+00181050 DS SpatialResolution
+00181060 DS TriggerTime
+00181061 LO TriggerSourceOrType
+00181062 IS NominalInterval
+00181063 DS FrameTime
+00181064 LO CardiacFramingType
+00181065 DS FrameTimeVector
+00181066 DS FrameDelay
+00181067 DS ImageTriggerDelay
+00181068 DS MultiplexGroupTimeOffset
+00181069 DS TriggerTimeOffset
+0018106a CS SynchronizationTrigger";

@@ -1,383 +1,383 @@
 //! Data elements in ascending order of tags (PS3.6 sections 6 to 9). Made by tools/keywords.
 
-/// The rows, one a line: a tag and its keyword.
-pub(super) const ROWS: &str = "0018106c SynchronizationChannel
-0018106e TriggerSamplePosition
-00181070 RadiopharmaceuticalRoute
-00181071 RadiopharmaceuticalVolume
-00181072 RadiopharmaceuticalStartTime
-00181073 RadiopharmaceuticalStopTime
-00181074 RadionuclideTotalDose
-00181075 RadionuclideHalfLife
-00181076 RadionuclidePositronFraction
-00181077 RadiopharmaceuticalSpecificActivity
-00181078 RadiopharmaceuticalStartDateTime
-00181079 RadiopharmaceuticalStopDateTime
-00181080 BeatRejectionFlag
-00181081 LowRRValue
-00181082 HighRRValue
-00181083 IntervalsAcquired
-00181084 IntervalsRejected
-00181085 PVCRejection
-00181086 SkipBeats
-00181088 HeartRate
-00181090 CardiacNumberOfImages
-00181094 TriggerWindow
-00181100 ReconstructionDiameter
-00181110 DistanceSourceToDetector
-00181111 DistanceSourceToPatient
-00181114 EstimatedRadiographicMagnificationFactor
-00181120 GantryDetectorTilt
-00181121 GantryDetectorSlew
-00181130 TableHeight
-00181131 TableTraverse
-00181134 TableMotion
-00181135 TableVerticalIncrement
-00181136 TableLateralIncrement
-00181137 TableLongitudinalIncrement
-00181138 TableAngle
-0018113a TableType
-00181140 RotationDirection
-00181141 AngularPosition
-00181142 RadialPosition
-00181143 ScanArc
-00181144 AngularStep
-00181145 CenterOfRotationOffset
-00181146 RotationOffset
-00181147 FieldOfViewShape
-00181149 FieldOfViewDimensions
-00181150 ExposureTime
-00181151 XRayTubeCurrent
-00181152 Exposure
-00181153 ExposureInuAs
-00181154 AveragePulseWidth
-00181155 RadiationSetting
-00181156 RectificationType
-0018115a RadiationMode
-0018115e ImageAndFluoroscopyAreaDoseProduct
-00181160 FilterType
-00181161 TypeOfFilters
-00181162 IntensifierSize
-00181164 ImagerPixelSpacing
-00181166 Grid
-00181170 GeneratorPower
-00181180 CollimatorGridName
-00181181 CollimatorType
-00181182 FocalDistance
-00181183 XFocusCenter
-00181184 YFocusCenter
-00181190 FocalSpots
-00181191 AnodeTargetMaterial
-001811a0 BodyPartThickness
-001811a2 CompressionForce
-001811a3 CompressionPressure
-001811a4 PaddleDescription
-001811a5 CompressionContactArea
-001811b0 AcquisitionMode
-001811b1 DoseModeName
-001811b2 AcquiredSubtractionMaskFlag
-001811b3 FluoroscopyPersistenceFlag
-001811b4 FluoroscopyLastImageHoldPersistenceFlag
-001811b5 UpperLimitNumberOfPersistentFluoroscopyFrames
-001811b6 ContrastBolusAutoInjectionTriggerFlag
-001811b7 ContrastBolusInjectionDelay
-001811b8 XAAcquisitionPhaseDetailsSequence
-001811b9 XAAcquisitionFrameRate
-001811ba XAPlaneDetailsSequence
-001811bb AcquisitionFieldOfViewLabel
-001811bc XRayFilterDetailsSequence
-001811bd XAAcquisitionDuration
-001811be ReconstructionPipelineType
-001811bf ImageFilterDetailsSequence
-001811c0 AppliedMaskSubtractionFlag
-001811c1 RequestedSeriesDescriptionCodeSequence
-00181200 DateOfLastCalibration
-00181201 TimeOfLastCalibration
-00181202 DateTimeOfLastCalibration
-00181203 CalibrationDateTime
-00181210 ConvolutionKernel
-00181240 UpperLowerPixelValues
-00181242 ActualFrameDuration
-00181243 CountRate
-00181244 PreferredPlaybackSequencing
-00181250 ReceiveCoilName
-00181251 TransmitCoilName
-00181260 PlateType
-00181261 PhosphorType
-00181271 WaterEquivalentDiameter
-00181272 WaterEquivalentDiameterCalculationMethodCodeSequence
-00181300 ScanVelocity
-00181301 WholeBodyTechnique
-00181302 ScanLength
-00181310 AcquisitionMatrix
-00181312 InPlanePhaseEncodingDirection
-00181314 FlipAngle
-00181315 VariableFlipAngleFlag
-00181316 SAR
-00181318 dBdt
-00181320 B1rms
-00181400 AcquisitionDeviceProcessingDescription
-00181401 AcquisitionDeviceProcessingCode
-00181402 CassetteOrientation
-00181403 CassetteSize
-00181404 ExposuresOnPlate
-00181405 RelativeXRayExposure
-00181411 ExposureIndex
-00181412 TargetExposureIndex
-00181413 DeviationIndex
-00181450 ColumnAngulation
-00181460 TomoLayerHeight
-00181470 TomoAngle
-00181480 TomoTime
-00181490 TomoType
-00181491 TomoClass
-00181495 NumberOfTomosynthesisSourceImages
-00181500 PositionerMotion
-00181508 PositionerType
-00181510 PositionerPrimaryAngle
-00181511 PositionerSecondaryAngle
-00181520 PositionerPrimaryAngleIncrement
-00181521 PositionerSecondaryAngleIncrement
-00181530 DetectorPrimaryAngle
-00181531 DetectorSecondaryAngle
-00181600 ShutterShape
-00181602 ShutterLeftVerticalEdge
-00181604 ShutterRightVerticalEdge
-00181606 ShutterUpperHorizontalEdge
-00181608 ShutterLowerHorizontalEdge
-00181610 CenterOfCircularShutter
-00181612 RadiusOfCircularShutter
-00181620 VerticesOfThePolygonalShutter
-00181622 ShutterPresentationValue
-00181623 ShutterOverlayGroup
-00181624 ShutterPresentationColorCIELabValue
-00181630 OutlineShapeType
-00181631 OutlineLeftVerticalEdge
-00181632 OutlineRightVerticalEdge
-00181633 OutlineUpperHorizontalEdge
-00181634 OutlineLowerHorizontalEdge
-00181635 CenterOfCircularOutline
-00181636 DiameterOfCircularOutline
-00181637 NumberOfPolygonalVertices
-00181638 VerticesOfThePolygonalOutline
-00181700 CollimatorShape
-00181702 CollimatorLeftVerticalEdge
-00181704 CollimatorRightVerticalEdge
-00181706 CollimatorUpperHorizontalEdge
-00181708 CollimatorLowerHorizontalEdge
-00181710 CenterOfCircularCollimator
-00181712 RadiusOfCircularCollimator
-00181720 VerticesOfThePolygonalCollimator
-00181800 AcquisitionTimeSynchronized
-00181801 TimeSource
-00181802 TimeDistributionProtocol
-00181803 NTPSourceAddress
-00182001 PageNumberVector
-00182002 FrameLabelVector
-00182003 FramePrimaryAngleVector
-00182004 FrameSecondaryAngleVector
-00182005 SliceLocationVector
-00182006 DisplayWindowLabelVector
-00182010 NominalScannedPixelSpacing
-00182020 DigitizingDeviceTransportDirection
-00182030 RotationOfScannedFilm
-00182041 BiopsyTargetSequence
-00182042 TargetUID
-00182043 LocalizingCursorPosition
-00182044 CalculatedTargetPosition
-00182045 TargetLabel
-00182046 DisplayedZValue
-00183100 IVUSAcquisition
-00183101 IVUSPullbackRate
-00183102 IVUSGatedRate
-00183103 IVUSPullbackStartFrameNumber
-00183104 IVUSPullbackStopFrameNumber
-00183105 LesionNumber
-00184000 AcquisitionComments
-00185000 OutputPower
-00185010 TransducerData
-00185011 TransducerIdentificationSequence
-00185012 FocusDepth
-00185020 ProcessingFunction
-00185021 PostprocessingFunction
-00185022 MechanicalIndex
-00185024 BoneThermalIndex
-00185026 CranialThermalIndex
-00185027 SoftTissueThermalIndex
-00185028 SoftTissueFocusThermalIndex
-00185029 SoftTissueSurfaceThermalIndex
-00185030 DynamicRange
-00185040 TotalGain
-00185050 DepthOfScanField
-00185100 PatientPosition
-00185101 ViewPosition
-00185104 ProjectionEponymousNameCodeSequence
-00185210 ImageTransformationMatrix
-00185212 ImageTranslationVector
-00186000 Sensitivity
-00186011 SequenceOfUltrasoundRegions
-00186012 RegionSpatialFormat
-00186014 RegionDataType
-00186016 RegionFlags
-00186018 RegionLocationMinX0
-0018601a RegionLocationMinY0
-0018601c RegionLocationMaxX1
-0018601e RegionLocationMaxY1
-00186020 ReferencePixelX0
-00186022 ReferencePixelY0
-00186024 PhysicalUnitsXDirection
-00186026 PhysicalUnitsYDirection
-00186028 ReferencePixelPhysicalValueX
-0018602a ReferencePixelPhysicalValueY
-0018602c PhysicalDeltaX
-0018602e PhysicalDeltaY
-00186030 TransducerFrequency
-00186031 TransducerType
-00186032 PulseRepetitionFrequency
-00186034 DopplerCorrectionAngle
-00186036 SteeringAngle
-00186038 DopplerSampleVolumeXPositionRetired
-00186039 DopplerSampleVolumeXPosition
-0018603a DopplerSampleVolumeYPositionRetired
-0018603b DopplerSampleVolumeYPosition
-0018603c TMLinePositionX0Retired
-0018603d TMLinePositionX0
-0018603e TMLinePositionY0Retired
-0018603f TMLinePositionY0
-00186040 TMLinePositionX1Retired
-00186041 TMLinePositionX1
-00186042 TMLinePositionY1Retired
-00186043 TMLinePositionY1
-00186044 PixelComponentOrganization
-00186046 PixelComponentMask
-00186048 PixelComponentRangeStart
-0018604a PixelComponentRangeStop
-0018604c PixelComponentPhysicalUnits
-0018604e PixelComponentDataType
-00186050 NumberOfTableBreakPoints
-00186052 TableOfXBreakPoints
-00186054 TableOfYBreakPoints
-00186056 NumberOfTableEntries
-00186058 TableOfPixelValues
-0018605a TableOfParameterValues
-00186060 RWaveTimeVector
-00186070 ActiveImageAreaOverlayGroup
-00187000 DetectorConditionsNominalFlag
-00187001 DetectorTemperature
-00187004 DetectorType
-00187005 DetectorConfiguration
-00187006 DetectorDescription
-00187008 DetectorMode
-0018700a DetectorID
-0018700c DateOfLastDetectorCalibration
-0018700e TimeOfLastDetectorCalibration
-00187010 ExposuresOnDetectorSinceLastCalibration
-00187011 ExposuresOnDetectorSinceManufactured
-00187012 DetectorTimeSinceLastExposure
-00187014 DetectorActiveTime
-00187016 DetectorActivationOffsetFromExposure
-0018701a DetectorBinning
-00187020 DetectorElementPhysicalSize
-00187022 DetectorElementSpacing
-00187024 DetectorActiveShape
-00187026 DetectorActiveDimensions
-00187028 DetectorActiveOrigin
-0018702a DetectorManufacturerName
-0018702b DetectorManufacturerModelName
-00187030 FieldOfViewOrigin
-00187032 FieldOfViewRotation
-00187034 FieldOfViewHorizontalFlip
-00187036 PixelDataAreaOriginRelativeToFOV
-00187038 PixelDataAreaRotationAngleRelativeToFOV
-00187040 GridAbsorbingMaterial
-00187041 GridSpacingMaterial
-00187042 GridThickness
-00187044 GridPitch
-00187046 GridAspectRatio
-00187048 GridPeriod
-0018704c GridFocalDistance
-00187050 FilterMaterial
-00187052 FilterThicknessMinimum
-00187054 FilterThicknessMaximum
-00187056 FilterBeamPathLengthMinimum
-00187058 FilterBeamPathLengthMaximum
-00187060 ExposureControlMode
-00187062 ExposureControlModeDescription
-00187064 ExposureStatus
-00187065 PhototimerSetting
-00188150 ExposureTimeInuS
-00188151 XRayTubeCurrentInuA
-00189004 ContentQualification
-00189005 PulseSequenceName
-00189006 MRImagingModifierSequence
-00189008 EchoPulseSequence
-00189009 InversionRecovery
-00189010 FlowCompensation
-00189011 MultipleSpinEcho
-00189012 MultiPlanarExcitation
-00189014 PhaseContrast
-00189015 TimeOfFlightContrast
-00189016 Spoiling
-00189017 SteadyStatePulseSequence
-00189018 EchoPlanarPulseSequence
-00189019 TagAngleFirstAxis
-00189020 MagnetizationTransfer
-00189021 T2Preparation
-00189022 BloodSignalNulling
-00189024 SaturationRecovery
-00189025 SpectrallySelectedSuppression
-00189026 SpectrallySelectedExcitation
-00189027 SpatialPresaturation
-00189028 Tagging
-00189029 OversamplingPhase
-00189030 TagSpacingFirstDimension
-00189032 GeometryOfKSpaceTraversal
-00189033 SegmentedKSpaceTraversal
-00189034 RectilinearPhaseEncodeReordering
-00189035 TagThickness
-00189036 PartialFourierDirection
-00189037 CardiacSynchronizationTechnique
-00189041 ReceiveCoilManufacturerName
-00189042 MRReceiveCoilSequence
-00189043 ReceiveCoilType
-00189044 QuadratureReceiveCoil
-00189045 MultiCoilDefinitionSequence
-00189046 MultiCoilConfiguration
-00189047 MultiCoilElementName
-00189048 MultiCoilElementUsed
-00189049 MRTransmitCoilSequence
-00189050 TransmitCoilManufacturerName
-00189051 TransmitCoilType
-00189052 SpectralWidth
-00189053 ChemicalShiftReference
-00189054 VolumeLocalizationTechnique
-00189058 MRAcquisitionFrequencyEncodingSteps
-00189059 Decoupling
-00189060 DecoupledNucleus
-00189061 DecouplingFrequency
-00189062 DecouplingMethod
-00189063 DecouplingChemicalShiftReference
-00189064 KSpaceFiltering
-00189065 TimeDomainFiltering
-00189066 NumberOfZeroFills
-00189067 BaselineCorrection
-00189069 ParallelReductionFactorInPlane
-00189070 CardiacRRIntervalSpecified
-00189073 AcquisitionDuration
-00189074 FrameAcquisitionDateTime
-00189075 DiffusionDirectionality
-00189076 DiffusionGradientDirectionSequence
-00189077 ParallelAcquisition
-00189078 ParallelAcquisitionTechnique
-00189079 InversionTimes
-00189080 MetaboliteMapDescription
-00189081 PartialFourier
-00189082 EffectiveEchoTime
-00189083 MetaboliteMapCodeSequence
-00189084 ChemicalShiftSequence
-00189085 CardiacSignalSource
-00189087 DiffusionBValue
-00189089 DiffusionGradientOrientation
-00189090 VelocityEncodingDirection
-00189091 VelocityEncodingMinimumValue
-00189092 VelocityEncodingAcquisitionSequence";
+/// The rows, one a line: a tag, its VRs and its keyword.
+pub(super) const ROWS: &str = "0018106c US SynchronizationChannel
+0018106e UL TriggerSamplePosition
+00181070 LO RadiopharmaceuticalRoute
+00181071 DS RadiopharmaceuticalVolume
+00181072 TM RadiopharmaceuticalStartTime
+00181073 TM RadiopharmaceuticalStopTime
+00181074 DS RadionuclideTotalDose
+00181075 DS RadionuclideHalfLife
+00181076 DS RadionuclidePositronFraction
+00181077 DS RadiopharmaceuticalSpecificActivity
+00181078 DT RadiopharmaceuticalStartDateTime
+00181079 DT RadiopharmaceuticalStopDateTime
+00181080 CS BeatRejectionFlag
+00181081 IS LowRRValue
+00181082 IS HighRRValue
+00181083 IS IntervalsAcquired
+00181084 IS IntervalsRejected
+00181085 LO PVCRejection
+00181086 IS SkipBeats
+00181088 IS HeartRate
+00181090 IS CardiacNumberOfImages
+00181094 IS TriggerWindow
+00181100 DS ReconstructionDiameter
+00181110 DS DistanceSourceToDetector
+00181111 DS DistanceSourceToPatient
+00181114 DS EstimatedRadiographicMagnificationFactor
+00181120 DS GantryDetectorTilt
+00181121 DS GantryDetectorSlew
+00181130 DS TableHeight
+00181131 DS TableTraverse
+00181134 CS TableMotion
+00181135 DS TableVerticalIncrement
+00181136 DS TableLateralIncrement
+00181137 DS TableLongitudinalIncrement
+00181138 DS TableAngle
+0018113a CS TableType
+00181140 CS RotationDirection
+00181141 DS AngularPosition
+00181142 DS RadialPosition
+00181143 DS ScanArc
+00181144 DS AngularStep
+00181145 DS CenterOfRotationOffset
+00181146 DS RotationOffset
+00181147 CS FieldOfViewShape
+00181149 IS FieldOfViewDimensions
+00181150 IS ExposureTime
+00181151 IS XRayTubeCurrent
+00181152 IS Exposure
+00181153 IS ExposureInuAs
+00181154 DS AveragePulseWidth
+00181155 CS RadiationSetting
+00181156 CS RectificationType
+0018115a CS RadiationMode
+0018115e DS ImageAndFluoroscopyAreaDoseProduct
+00181160 SH FilterType
+00181161 LO TypeOfFilters
+00181162 DS IntensifierSize
+00181164 DS ImagerPixelSpacing
+00181166 CS Grid
+00181170 IS GeneratorPower
+00181180 SH CollimatorGridName
+00181181 CS CollimatorType
+00181182 IS FocalDistance
+00181183 DS XFocusCenter
+00181184 DS YFocusCenter
+00181190 DS FocalSpots
+00181191 CS AnodeTargetMaterial
+001811a0 DS BodyPartThickness
+001811a2 DS CompressionForce
+001811a3 DS CompressionPressure
+001811a4 LO PaddleDescription
+001811a5 DS CompressionContactArea
+001811b0 LO AcquisitionMode
+001811b1 LO DoseModeName
+001811b2 CS AcquiredSubtractionMaskFlag
+001811b3 CS FluoroscopyPersistenceFlag
+001811b4 CS FluoroscopyLastImageHoldPersistenceFlag
+001811b5 IS UpperLimitNumberOfPersistentFluoroscopyFrames
+001811b6 CS ContrastBolusAutoInjectionTriggerFlag
+001811b7 FD ContrastBolusInjectionDelay
+001811b8 SQ XAAcquisitionPhaseDetailsSequence
+001811b9 FD XAAcquisitionFrameRate
+001811ba SQ XAPlaneDetailsSequence
+001811bb LO AcquisitionFieldOfViewLabel
+001811bc SQ XRayFilterDetailsSequence
+001811bd FD XAAcquisitionDuration
+001811be CS ReconstructionPipelineType
+001811bf SQ ImageFilterDetailsSequence
+001811c0 CS AppliedMaskSubtractionFlag
+001811c1 SQ RequestedSeriesDescriptionCodeSequence
+00181200 DA DateOfLastCalibration
+00181201 TM TimeOfLastCalibration
+00181202 DT DateTimeOfLastCalibration
+00181203 DT CalibrationDateTime
+00181210 SH ConvolutionKernel
+00181240 IS UpperLowerPixelValues
+00181242 IS ActualFrameDuration
+00181243 IS CountRate
+00181244 US PreferredPlaybackSequencing
+00181250 SH ReceiveCoilName
+00181251 SH TransmitCoilName
+00181260 SH PlateType
+00181261 LO PhosphorType
+00181271 FD WaterEquivalentDiameter
+00181272 SQ WaterEquivalentDiameterCalculationMethodCodeSequence
+00181300 DS ScanVelocity
+00181301 CS WholeBodyTechnique
+00181302 IS ScanLength
+00181310 US AcquisitionMatrix
+00181312 CS InPlanePhaseEncodingDirection
+00181314 DS FlipAngle
+00181315 CS VariableFlipAngleFlag
+00181316 DS SAR
+00181318 DS dBdt
+00181320 FL B1rms
+00181400 LO AcquisitionDeviceProcessingDescription
+00181401 LO AcquisitionDeviceProcessingCode
+00181402 CS CassetteOrientation
+00181403 CS CassetteSize
+00181404 US ExposuresOnPlate
+00181405 IS RelativeXRayExposure
+00181411 DS ExposureIndex
+00181412 DS TargetExposureIndex
+00181413 DS DeviationIndex
+00181450 DS ColumnAngulation
+00181460 DS TomoLayerHeight
+00181470 DS TomoAngle
+00181480 DS TomoTime
+00181490 CS TomoType
+00181491 CS TomoClass
+00181495 IS NumberOfTomosynthesisSourceImages
+00181500 CS PositionerMotion
+00181508 CS PositionerType
+00181510 DS PositionerPrimaryAngle
+00181511 DS PositionerSecondaryAngle
+00181520 DS PositionerPrimaryAngleIncrement
+00181521 DS PositionerSecondaryAngleIncrement
+00181530 DS DetectorPrimaryAngle
+00181531 DS DetectorSecondaryAngle
+00181600 CS ShutterShape
+00181602 IS ShutterLeftVerticalEdge
+00181604 IS ShutterRightVerticalEdge
+00181606 IS ShutterUpperHorizontalEdge
+00181608 IS ShutterLowerHorizontalEdge
+00181610 IS CenterOfCircularShutter
+00181612 IS RadiusOfCircularShutter
+00181620 IS VerticesOfThePolygonalShutter
+00181622 US ShutterPresentationValue
+00181623 US ShutterOverlayGroup
+00181624 US ShutterPresentationColorCIELabValue
+00181630 CS OutlineShapeType
+00181631 FD OutlineLeftVerticalEdge
+00181632 FD OutlineRightVerticalEdge
+00181633 FD OutlineUpperHorizontalEdge
+00181634 FD OutlineLowerHorizontalEdge
+00181635 FD CenterOfCircularOutline
+00181636 FD DiameterOfCircularOutline
+00181637 UL NumberOfPolygonalVertices
+00181638 OF VerticesOfThePolygonalOutline
+00181700 CS CollimatorShape
+00181702 IS CollimatorLeftVerticalEdge
+00181704 IS CollimatorRightVerticalEdge
+00181706 IS CollimatorUpperHorizontalEdge
+00181708 IS CollimatorLowerHorizontalEdge
+00181710 IS CenterOfCircularCollimator
+00181712 IS RadiusOfCircularCollimator
+00181720 IS VerticesOfThePolygonalCollimator
+00181800 CS AcquisitionTimeSynchronized
+00181801 SH TimeSource
+00181802 CS TimeDistributionProtocol
+00181803 LO NTPSourceAddress
+00182001 IS PageNumberVector
+00182002 SH FrameLabelVector
+00182003 DS FramePrimaryAngleVector
+00182004 DS FrameSecondaryAngleVector
+00182005 DS SliceLocationVector
+00182006 SH DisplayWindowLabelVector
+00182010 DS NominalScannedPixelSpacing
+00182020 CS DigitizingDeviceTransportDirection
+00182030 DS RotationOfScannedFilm
+00182041 SQ BiopsyTargetSequence
+00182042 UI TargetUID
+00182043 FL LocalizingCursorPosition
+00182044 FL CalculatedTargetPosition
+00182045 SH TargetLabel
+00182046 FL DisplayedZValue
+00183100 CS IVUSAcquisition
+00183101 DS IVUSPullbackRate
+00183102 DS IVUSGatedRate
+00183103 IS IVUSPullbackStartFrameNumber
+00183104 IS IVUSPullbackStopFrameNumber
+00183105 IS LesionNumber
+00184000 LT AcquisitionComments
+00185000 SH OutputPower
+00185010 LO TransducerData
+00185011 SQ TransducerIdentificationSequence
+00185012 DS FocusDepth
+00185020 LO ProcessingFunction
+00185021 LO PostprocessingFunction
+00185022 DS MechanicalIndex
+00185024 DS BoneThermalIndex
+00185026 DS CranialThermalIndex
+00185027 DS SoftTissueThermalIndex
+00185028 DS SoftTissueFocusThermalIndex
+00185029 DS SoftTissueSurfaceThermalIndex
+00185030 DS DynamicRange
+00185040 DS TotalGain
+00185050 IS DepthOfScanField
+00185100 CS PatientPosition
+00185101 CS ViewPosition
+00185104 SQ ProjectionEponymousNameCodeSequence
+00185210 DS ImageTransformationMatrix
+00185212 DS ImageTranslationVector
+00186000 DS Sensitivity
+00186011 SQ SequenceOfUltrasoundRegions
+00186012 US RegionSpatialFormat
+00186014 US RegionDataType
+00186016 UL RegionFlags
+00186018 UL RegionLocationMinX0
+0018601a UL RegionLocationMinY0
+0018601c UL RegionLocationMaxX1
+0018601e UL RegionLocationMaxY1
+00186020 SL ReferencePixelX0
+00186022 SL ReferencePixelY0
+00186024 US PhysicalUnitsXDirection
+00186026 US PhysicalUnitsYDirection
+00186028 FD ReferencePixelPhysicalValueX
+0018602a FD ReferencePixelPhysicalValueY
+0018602c FD PhysicalDeltaX
+0018602e FD PhysicalDeltaY
+00186030 UL TransducerFrequency
+00186031 CS TransducerType
+00186032 UL PulseRepetitionFrequency
+00186034 FD DopplerCorrectionAngle
+00186036 FD SteeringAngle
+00186038 UL DopplerSampleVolumeXPositionRetired
+00186039 SL DopplerSampleVolumeXPosition
+0018603a UL DopplerSampleVolumeYPositionRetired
+0018603b SL DopplerSampleVolumeYPosition
+0018603c UL TMLinePositionX0Retired
+0018603d SL TMLinePositionX0
+0018603e UL TMLinePositionY0Retired
+0018603f SL TMLinePositionY0
+00186040 UL TMLinePositionX1Retired
+00186041 SL TMLinePositionX1
+00186042 UL TMLinePositionY1Retired
+00186043 SL TMLinePositionY1
+00186044 US PixelComponentOrganization
+00186046 UL PixelComponentMask
+00186048 UL PixelComponentRangeStart
+0018604a UL PixelComponentRangeStop
+0018604c US PixelComponentPhysicalUnits
+0018604e US PixelComponentDataType
+00186050 UL NumberOfTableBreakPoints
+00186052 UL TableOfXBreakPoints
+00186054 FD TableOfYBreakPoints
+00186056 UL NumberOfTableEntries
+00186058 UL TableOfPixelValues
+0018605a FL TableOfParameterValues
+00186060 FL RWaveTimeVector
+00186070 US ActiveImageAreaOverlayGroup
+00187000 CS DetectorConditionsNominalFlag
+00187001 DS DetectorTemperature
+00187004 CS DetectorType
+00187005 CS DetectorConfiguration
+00187006 LT DetectorDescription
+00187008 LT DetectorMode
+0018700a SH DetectorID
+0018700c DA DateOfLastDetectorCalibration
+0018700e TM TimeOfLastDetectorCalibration
+00187010 IS ExposuresOnDetectorSinceLastCalibration
+00187011 IS ExposuresOnDetectorSinceManufactured
+00187012 DS DetectorTimeSinceLastExposure
+00187014 DS DetectorActiveTime
+00187016 DS DetectorActivationOffsetFromExposure
+0018701a DS DetectorBinning
+00187020 DS DetectorElementPhysicalSize
+00187022 DS DetectorElementSpacing
+00187024 CS DetectorActiveShape
+00187026 DS DetectorActiveDimensions
+00187028 DS DetectorActiveOrigin
+0018702a LO DetectorManufacturerName
+0018702b LO DetectorManufacturerModelName
+00187030 DS FieldOfViewOrigin
+00187032 DS FieldOfViewRotation
+00187034 CS FieldOfViewHorizontalFlip
+00187036 FL PixelDataAreaOriginRelativeToFOV
+00187038 FL PixelDataAreaRotationAngleRelativeToFOV
+00187040 LT GridAbsorbingMaterial
+00187041 LT GridSpacingMaterial
+00187042 DS GridThickness
+00187044 DS GridPitch
+00187046 IS GridAspectRatio
+00187048 DS GridPeriod
+0018704c DS GridFocalDistance
+00187050 CS FilterMaterial
+00187052 DS FilterThicknessMinimum
+00187054 DS FilterThicknessMaximum
+00187056 FL FilterBeamPathLengthMinimum
+00187058 FL FilterBeamPathLengthMaximum
+00187060 CS ExposureControlMode
+00187062 LT ExposureControlModeDescription
+00187064 CS ExposureStatus
+00187065 DS PhototimerSetting
+00188150 DS ExposureTimeInuS
+00188151 DS XRayTubeCurrentInuA
+00189004 CS ContentQualification
+00189005 SH PulseSequenceName
+00189006 SQ MRImagingModifierSequence
+00189008 CS EchoPulseSequence
+00189009 CS InversionRecovery
+00189010 CS FlowCompensation
+00189011 CS MultipleSpinEcho
+00189012 CS MultiPlanarExcitation
+00189014 CS PhaseContrast
+00189015 CS TimeOfFlightContrast
+00189016 CS Spoiling
+00189017 CS SteadyStatePulseSequence
+00189018 CS EchoPlanarPulseSequence
+00189019 FD TagAngleFirstAxis
+00189020 CS MagnetizationTransfer
+00189021 CS T2Preparation
+00189022 CS BloodSignalNulling
+00189024 CS SaturationRecovery
+00189025 CS SpectrallySelectedSuppression
+00189026 CS SpectrallySelectedExcitation
+00189027 CS SpatialPresaturation
+00189028 CS Tagging
+00189029 CS OversamplingPhase
+00189030 FD TagSpacingFirstDimension
+00189032 CS GeometryOfKSpaceTraversal
+00189033 CS SegmentedKSpaceTraversal
+00189034 CS RectilinearPhaseEncodeReordering
+00189035 FD TagThickness
+00189036 CS PartialFourierDirection
+00189037 CS CardiacSynchronizationTechnique
+00189041 LO ReceiveCoilManufacturerName
+00189042 SQ MRReceiveCoilSequence
+00189043 CS ReceiveCoilType
+00189044 CS QuadratureReceiveCoil
+00189045 SQ MultiCoilDefinitionSequence
+00189046 LO MultiCoilConfiguration
+00189047 SH MultiCoilElementName
+00189048 CS MultiCoilElementUsed
+00189049 SQ MRTransmitCoilSequence
+00189050 LO TransmitCoilManufacturerName
+00189051 CS TransmitCoilType
+00189052 FD SpectralWidth
+00189053 FD ChemicalShiftReference
+00189054 CS VolumeLocalizationTechnique
+00189058 US MRAcquisitionFrequencyEncodingSteps
+00189059 CS Decoupling
+00189060 CS DecoupledNucleus
+00189061 FD DecouplingFrequency
+00189062 CS DecouplingMethod
+00189063 FD DecouplingChemicalShiftReference
+00189064 CS KSpaceFiltering
+00189065 CS TimeDomainFiltering
+00189066 US NumberOfZeroFills
+00189067 CS BaselineCorrection
+00189069 FD ParallelReductionFactorInPlane
+00189070 FD CardiacRRIntervalSpecified
+00189073 FD AcquisitionDuration
+00189074 DT FrameAcquisitionDateTime
+00189075 CS DiffusionDirectionality
+00189076 SQ DiffusionGradientDirectionSequence
+00189077 CS ParallelAcquisition
+00189078 CS ParallelAcquisitionTechnique
+00189079 FD InversionTimes
+00189080 ST MetaboliteMapDescription
+00189081 CS PartialFourier
+00189082 FD EffectiveEchoTime
+00189083 SQ MetaboliteMapCodeSequence
+00189084 SQ ChemicalShiftSequence
+00189085 CS CardiacSignalSource
+00189087 FD DiffusionBValue
+00189089 FD DiffusionGradientOrientation
+00189090 FD VelocityEncodingDirection
+00189091 FD VelocityEncodingMinimumValue
+00189092 SQ VelocityEncodingAcquisitionSequence";

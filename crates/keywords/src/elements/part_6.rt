@@ -1,383 +1,383 @@
 //! Data elements in ascending order of tags (PS3.6 sections 6 to 9). Made by tools/keywords.
 
-/// The rows, one a line: a tag and its keyword.
-pub(super) const ROWS: &str = "00240102 GeneralizedDefectCorrectedSensitivityDeviationFlag
-00240103 GeneralizedDefectCorrectedSensitivityDeviationValue
-00240104 GeneralizedDefectCorrectedSensitivityDeviationProbabilityValue
-00240105 MinimumSensitivityValue
-00240106 BlindSpotLocalized
-00240107 BlindSpotXCoordinate
-00240108 BlindSpotYCoordinate
-00240110 VisualAcuityMeasurementSequence
-00240112 RefractiveParametersUsedOnPatientSequence
-00240113 MeasurementLaterality
-00240114 OphthalmicPatientClinicalInformationLeftEyeSequence
-00240115 OphthalmicPatientClinicalInformationRightEyeSequence
-00240117 FovealPointNormativeDataFlag
-00240118 FovealPointProbabilityValue
-00240120 ScreeningBaselineMeasured
-00240122 ScreeningBaselineMeasuredSequence
-00240124 ScreeningBaselineType
-00240126 ScreeningBaselineValue
-00240202 AlgorithmSource
-00240306 DataSetName
-00240307 DataSetVersion
-00240308 DataSetSource
-00240309 DataSetDescription
-00240317 VisualFieldTestReliabilityGlobalIndexSequence
-00240320 VisualFieldGlobalResultsIndexSequence
-00240325 DataObservationSequence
-00240338 IndexNormalsFlag
-00240341 IndexProbability
-00240344 IndexProbabilitySequence
-00280002 SamplesPerPixel
-00280003 SamplesPerPixelUsed
-00280004 PhotometricInterpretation
-00280005 ImageDimensions
-00280006 PlanarConfiguration
-00280008 NumberOfFrames
-00280009 FrameIncrementPointer
-0028000a FrameDimensionPointer
-00280010 Rows
-00280011 Columns
-00280012 Planes
-00280014 UltrasoundColorDataPresent
-00280030 PixelSpacing
-00280031 ZoomFactor
-00280032 ZoomCenter
-00280034 PixelAspectRatio
-00280040 ImageFormat
-00280050 ManipulatedImage
-00280051 CorrectedImage
-0028005f CompressionRecognitionCode
-00280060 CompressionCode
-00280061 CompressionOriginator
-00280062 CompressionLabel
-00280063 CompressionDescription
-00280065 CompressionSequence
-00280066 CompressionStepPointers
-00280068 RepeatInterval
-00280069 BitsGrouped
-00280070 PerimeterTable
-00280071 PerimeterValue
-00280080 PredictorRows
-00280081 PredictorColumns
-00280082 PredictorConstants
-00280090 BlockedPixels
-00280091 BlockRows
-00280092 BlockColumns
-00280093 RowOverlap
-00280094 ColumnOverlap
-00280100 BitsAllocated
-00280101 BitsStored
-00280102 HighBit
-00280103 PixelRepresentation
-00280104 SmallestValidPixelValue
-00280105 LargestValidPixelValue
-00280106 SmallestImagePixelValue
-00280107 LargestImagePixelValue
-00280108 SmallestPixelValueInSeries
-00280109 LargestPixelValueInSeries
-00280110 SmallestImagePixelValueInPlane
-00280111 LargestImagePixelValueInPlane
-00280120 PixelPaddingValue
-00280121 PixelPaddingRangeLimit
-00280122 FloatPixelPaddingValue
-00280123 DoubleFloatPixelPaddingValue
-00280124 FloatPixelPaddingRangeLimit
-00280125 DoubleFloatPixelPaddingRangeLimit
-00280200 ImageLocation
-00280300 QualityControlImage
-00280301 BurnedInAnnotation
-00280302 RecognizableVisualFeatures
-00280303 LongitudinalTemporalInformationModified
-00280304 ReferencedColorPaletteInstanceUID
-00280400 TransformLabel
-00280401 TransformVersionNumber
-00280402 NumberOfTransformSteps
-00280403 SequenceOfCompressedData
-00280404 DetailsOfCoefficients
-00280700 DCTLabel
-00280701 DataBlockDescription
-00280702 DataBlock
-00280710 NormalizationFactorFormat
-00280720 ZonalMapNumberFormat
-00280721 ZonalMapLocation
-00280722 ZonalMapFormat
-00280730 AdaptiveMapFormat
-00280740 CodeNumberFormat
-00280a02 PixelSpacingCalibrationType
-00280a04 PixelSpacingCalibrationDescription
-00281040 PixelIntensityRelationship
-00281041 PixelIntensityRelationshipSign
-00281050 WindowCenter
-00281051 WindowWidth
-00281052 RescaleIntercept
-00281053 RescaleSlope
-00281054 RescaleType
-00281055 WindowCenterWidthExplanation
-00281056 VOILUTFunction
-00281080 GrayScale
-00281090 RecommendedViewingMode
-00281100 GrayLookupTableDescriptor
-00281101 RedPaletteColorLookupTableDescriptor
-00281102 GreenPaletteColorLookupTableDescriptor
-00281103 BluePaletteColorLookupTableDescriptor
-00281104 AlphaPaletteColorLookupTableDescriptor
-00281111 LargeRedPaletteColorLookupTableDescriptor
-00281112 LargeGreenPaletteColorLookupTableDescriptor
-00281113 LargeBluePaletteColorLookupTableDescriptor
-00281199 PaletteColorLookupTableUID
-00281200 GrayLookupTableData
-00281201 RedPaletteColorLookupTableData
-00281202 GreenPaletteColorLookupTableData
-00281203 BluePaletteColorLookupTableData
-00281204 AlphaPaletteColorLookupTableData
-00281211 LargeRedPaletteColorLookupTableData
-00281212 LargeGreenPaletteColorLookupTableData
-00281213 LargeBluePaletteColorLookupTableData
-00281214 LargePaletteColorLookupTableUID
-00281221 SegmentedRedPaletteColorLookupTableData
-00281222 SegmentedGreenPaletteColorLookupTableData
-00281223 SegmentedBluePaletteColorLookupTableData
-00281224 SegmentedAlphaPaletteColorLookupTableData
-00281230 StoredValueColorRangeSequence
-00281231 MinimumStoredValueMapped
-00281232 MaximumStoredValueMapped
-00281300 BreastImplantPresent
-00281350 PartialView
-00281351 PartialViewDescription
-00281352 PartialViewCodeSequence
-0028135a SpatialLocationsPreserved
-00281401 DataFrameAssignmentSequence
-00281402 DataPathAssignment
-00281403 BitsMappedToColorLookupTable
-00281404 BlendingLUT1Sequence
-00281405 BlendingLUT1TransferFunction
-00281406 BlendingWeightConstant
-00281407 BlendingLookupTableDescriptor
-00281408 BlendingLookupTableData
-0028140b EnhancedPaletteColorLookupTableSequence
-0028140c BlendingLUT2Sequence
-0028140d BlendingLUT2TransferFunction
-0028140e DataPathID
-0028140f RGBLUTTransferFunction
-00281410 AlphaLUTTransferFunction
-00282000 ICCProfile
-00282002 ColorSpace
-00282110 LossyImageCompression
-00282112 LossyImageCompressionRatio
-00282114 LossyImageCompressionMethod
-00283000 ModalityLUTSequence
-00283002 LUTDescriptor
-00283003 LUTExplanation
-00283004 ModalityLUTType
-00283006 LUTData
-00283010 VOILUTSequence
-00283110 SoftcopyVOILUTSequence
-00284000 ImagePresentationComments
-00285000 BiPlaneAcquisitionSequence
-00286010 RepresentativeFrameNumber
-00286020 FrameNumbersOfInterest
-00286022 FrameOfInterestDescription
-00286023 FrameOfInterestType
-00286030 MaskPointers
-00286040 RWavePointer
-00286100 MaskSubtractionSequence
-00286101 MaskOperation
-00286102 ApplicableFrameRange
-00286110 MaskFrameNumbers
-00286112 ContrastFrameAveraging
-00286114 MaskSubPixelShift
-00286120 TIDOffset
-00286190 MaskOperationExplanation
-00287000 EquipmentAdministratorSequence
-00287001 NumberOfDisplaySubsystems
-00287002 CurrentConfigurationID
-00287003 DisplaySubsystemID
-00287004 DisplaySubsystemName
-00287005 DisplaySubsystemDescription
-00287006 SystemStatus
-00287007 SystemStatusComment
-00287008 TargetLuminanceCharacteristicsSequence
-00287009 LuminanceCharacteristicsID
-0028700a DisplaySubsystemConfigurationSequence
-0028700b ConfigurationID
-0028700c ConfigurationName
-0028700d ConfigurationDescription
-0028700e ReferencedTargetLuminanceCharacteristicsID
-0028700f QAResultsSequence
-00287010 DisplaySubsystemQAResultsSequence
-00287011 ConfigurationQAResultsSequence
-00287012 MeasurementEquipmentSequence
-00287013 MeasurementFunctions
-00287014 MeasurementEquipmentType
-00287015 VisualEvaluationResultSequence
-00287016 DisplayCalibrationResultSequence
-00287017 DDLValue
-00287018 CIExyWhitePoint
-00287019 DisplayFunctionType
-0028701a GammaValue
-0028701b NumberOfLuminancePoints
-0028701c LuminanceResponseSequence
-0028701d TargetMinimumLuminance
-0028701e TargetMaximumLuminance
-0028701f LuminanceValue
-00287020 LuminanceResponseDescription
-00287021 WhitePointFlag
-00287022 DisplayDeviceTypeCodeSequence
-00287023 DisplaySubsystemSequence
-00287024 LuminanceResultSequence
-00287025 AmbientLightValueSource
-00287026 MeasuredCharacteristics
-00287027 LuminanceUniformityResultSequence
-00287028 VisualEvaluationTestSequence
-00287029 TestResult
-0028702a TestResultComment
-0028702b TestImageValidation
-0028702c TestPatternCodeSequence
-0028702d MeasurementPatternCodeSequence
-0028702e VisualEvaluationMethodCodeSequence
-00287fe0 PixelDataProviderURL
-00289001 DataPointRows
-00289002 DataPointColumns
-00289003 SignalDomainColumns
-00289099 LargestMonochromePixelValue
-00289108 DataRepresentation
-00289110 PixelMeasuresSequence
-00289132 FrameVOILUTSequence
-00289145 PixelValueTransformationSequence
-00289235 SignalDomainRows
-00289411 DisplayFilterPercentage
-00289415 FramePixelShiftSequence
-00289416 SubtractionItemID
-00289422 PixelIntensityRelationshipLUTSequence
-00289443 FramePixelDataPropertiesSequence
-00289444 GeometricalProperties
-00289445 GeometricMaximumDistortion
-00289446 ImageProcessingApplied
-00289454 MaskSelectionMode
-00289474 LUTFunction
-00289478 MaskVisibilityPercentage
-00289501 PixelShiftSequence
-00289502 RegionPixelShiftSequence
-00289503 VerticesOfTheRegion
-00289505 MultiFramePresentationSequence
-00289506 PixelShiftFrameRange
-00289507 LUTFrameRange
-00289520 ImageToEquipmentMappingMatrix
-00289537 EquipmentCoordinateSystemIdentification
-0032000a StudyStatusID
-0032000c StudyPriorityID
-00320012 StudyIDIssuer
-00320032 StudyVerifiedDate
-00320033 StudyVerifiedTime
-00320034 StudyReadDate
-00320035 StudyReadTime
-00321000 ScheduledStudyStartDate
-00321001 ScheduledStudyStartTime
-00321010 ScheduledStudyStopDate
-00321011 ScheduledStudyStopTime
-00321020 ScheduledStudyLocation
-00321021 ScheduledStudyLocationAETitle
-00321030 ReasonForStudy
-00321031 RequestingPhysicianIdentificationSequence
-00321032 RequestingPhysician
-00321033 RequestingService
-00321034 RequestingServiceCodeSequence
-00321040 StudyArrivalDate
-00321041 StudyArrivalTime
-00321050 StudyCompletionDate
-00321051 StudyCompletionTime
-00321055 StudyComponentStatusID
-00321060 RequestedProcedureDescription
-00321064 RequestedProcedureCodeSequence
-00321065 RequestedLateralityCodeSequence
-00321066 ReasonForVisit
-00321067 ReasonForVisitCodeSequence
-00321070 RequestedContrastAgent
-00324000 StudyComments
-00340001 FlowIdentifierSequence
-00340002 FlowIdentifier
-00340003 FlowTransferSyntaxUID
-00340004 FlowRTPSamplingRate
-00340005 SourceIdentifier
-00340007 FrameOriginTimestamp
-00340008 IncludesImagingSubject
-00340009 FrameUsefulnessGroupSequence
-0034000a RealTimeBulkDataFlowSequence
-0034000b CameraPositionGroupSequence
-0034000c IncludesInformation
-0034000d TimeOfFrameGroupSequence
-00380004 ReferencedPatientAliasSequence
-00380008 VisitStatusID
-00380010 AdmissionID
-00380011 IssuerOfAdmissionID
-00380014 IssuerOfAdmissionIDSequence
-00380016 RouteOfAdmissions
-0038001a ScheduledAdmissionDate
-0038001b ScheduledAdmissionTime
-0038001c ScheduledDischargeDate
-0038001d ScheduledDischargeTime
-0038001e ScheduledPatientInstitutionResidence
-00380020 AdmittingDate
-00380021 AdmittingTime
-00380030 DischargeDate
-00380032 DischargeTime
-00380040 DischargeDiagnosisDescription
-00380044 DischargeDiagnosisCodeSequence
-00380050 SpecialNeeds
-00380060 ServiceEpisodeID
-00380061 IssuerOfServiceEpisodeID
-00380062 ServiceEpisodeDescription
-00380064 IssuerOfServiceEpisodeIDSequence
-00380100 PertinentDocumentsSequence
-00380101 PertinentResourcesSequence
-00380102 ResourceDescription
-00380300 CurrentPatientLocation
-00380400 PatientInstitutionResidence
-00380500 PatientState
-00380502 PatientClinicalTrialParticipationSequence
-00384000 VisitComments
-003a0004 WaveformOriginality
-003a0005 NumberOfWaveformChannels
-003a0010 NumberOfWaveformSamples
-003a001a SamplingFrequency
-003a0020 MultiplexGroupLabel
-003a0200 ChannelDefinitionSequence
-003a0202 WaveformChannelNumber
-003a0203 ChannelLabel
-003a0205 ChannelStatus
-003a0208 ChannelSourceSequence
-003a0209 ChannelSourceModifiersSequence
-003a020a SourceWaveformSequence
-003a020c ChannelDerivationDescription
-003a0210 ChannelSensitivity
-003a0211 ChannelSensitivityUnitsSequence
-003a0212 ChannelSensitivityCorrectionFactor
-003a0213 ChannelBaseline
-003a0214 ChannelTimeSkew
-003a0215 ChannelSampleSkew
-003a0218 ChannelOffset
-003a021a WaveformBitsStored
-003a0220 FilterLowFrequency
-003a0221 FilterHighFrequency
-003a0222 NotchFilterFrequency
-003a0223 NotchFilterBandwidth
-003a0230 WaveformDataDisplayScale
-003a0231 WaveformDisplayBackgroundCIELabValue
-003a0240 WaveformPresentationGroupSequence
-003a0241 PresentationGroupNumber
-003a0242 ChannelDisplaySequence
-003a0244 ChannelRecommendedDisplayCIELabValue
-003a0245 ChannelPosition
-003a0246 DisplayShadingFlag
-003a0247 FractionalChannelDisplayScale
-003a0248 AbsoluteChannelDisplayScale
-003a0300 MultiplexedAudioChannelsDescriptionCodeSequence
-003a0301 ChannelIdentificationCode
-003a0302 ChannelMode
-003a0310 MultiplexGroupUID
-003a0311 PowerlineFrequency
-003a0312 ChannelImpedanceSequence
-003a0313 ImpedanceValue";
+/// The rows, one a line: a tag, its VRs and its keyword.
+pub(super) const ROWS: &str = "00240102 CS GeneralizedDefectCorrectedSensitivityDeviationFlag
+00240103 FL GeneralizedDefectCorrectedSensitivityDeviationValue
+00240104 FL GeneralizedDefectCorrectedSensitivityDeviationProbabilityValue
+00240105 FL MinimumSensitivityValue
+00240106 CS BlindSpotLocalized
+00240107 FL BlindSpotXCoordinate
+00240108 FL BlindSpotYCoordinate
+00240110 SQ VisualAcuityMeasurementSequence
+00240112 SQ RefractiveParametersUsedOnPatientSequence
+00240113 CS MeasurementLaterality
+00240114 SQ OphthalmicPatientClinicalInformationLeftEyeSequence
+00240115 SQ OphthalmicPatientClinicalInformationRightEyeSequence
+00240117 CS FovealPointNormativeDataFlag
+00240118 FL FovealPointProbabilityValue
+00240120 CS ScreeningBaselineMeasured
+00240122 SQ ScreeningBaselineMeasuredSequence
+00240124 CS ScreeningBaselineType
+00240126 FL ScreeningBaselineValue
+00240202 LO AlgorithmSource
+00240306 LO DataSetName
+00240307 LO DataSetVersion
+00240308 LO DataSetSource
+00240309 LO DataSetDescription
+00240317 SQ VisualFieldTestReliabilityGlobalIndexSequence
+00240320 SQ VisualFieldGlobalResultsIndexSequence
+00240325 SQ DataObservationSequence
+00240338 CS IndexNormalsFlag
+00240341 FL IndexProbability
+00240344 SQ IndexProbabilitySequence
+00280002 US SamplesPerPixel
+00280003 US SamplesPerPixelUsed
+00280004 CS PhotometricInterpretation
+00280005 US ImageDimensions
+00280006 US PlanarConfiguration
+00280008 IS NumberOfFrames
+00280009 AT FrameIncrementPointer
+0028000a AT FrameDimensionPointer
+00280010 US Rows
+00280011 US Columns
+00280012 US Planes
+00280014 US UltrasoundColorDataPresent
+00280030 DS PixelSpacing
+00280031 DS ZoomFactor
+00280032 DS ZoomCenter
+00280034 IS PixelAspectRatio
+00280040 CS ImageFormat
+00280050 LO ManipulatedImage
+00280051 CS CorrectedImage
+0028005f LO CompressionRecognitionCode
+00280060 CS CompressionCode
+00280061 SH CompressionOriginator
+00280062 LO CompressionLabel
+00280063 SH CompressionDescription
+00280065 CS CompressionSequence
+00280066 AT CompressionStepPointers
+00280068 US RepeatInterval
+00280069 US BitsGrouped
+00280070 US PerimeterTable
+00280071 US/SS PerimeterValue
+00280080 US PredictorRows
+00280081 US PredictorColumns
+00280082 US PredictorConstants
+00280090 CS BlockedPixels
+00280091 US BlockRows
+00280092 US BlockColumns
+00280093 US RowOverlap
+00280094 US ColumnOverlap
+00280100 US BitsAllocated
+00280101 US BitsStored
+00280102 US HighBit
+00280103 US PixelRepresentation
+00280104 US/SS SmallestValidPixelValue
+00280105 US/SS LargestValidPixelValue
+00280106 US/SS SmallestImagePixelValue
+00280107 US/SS LargestImagePixelValue
+00280108 US/SS SmallestPixelValueInSeries
+00280109 US/SS LargestPixelValueInSeries
+00280110 US/SS SmallestImagePixelValueInPlane
+00280111 US/SS LargestImagePixelValueInPlane
+00280120 US/SS PixelPaddingValue
+00280121 US/SS PixelPaddingRangeLimit
+00280122 FL FloatPixelPaddingValue
+00280123 FD DoubleFloatPixelPaddingValue
+00280124 FL FloatPixelPaddingRangeLimit
+00280125 FD DoubleFloatPixelPaddingRangeLimit
+00280200 US ImageLocation
+00280300 CS QualityControlImage
+00280301 CS BurnedInAnnotation
+00280302 CS RecognizableVisualFeatures
+00280303 CS LongitudinalTemporalInformationModified
+00280304 UI ReferencedColorPaletteInstanceUID
+00280400 LO TransformLabel
+00280401 LO TransformVersionNumber
+00280402 US NumberOfTransformSteps
+00280403 LO SequenceOfCompressedData
+00280404 AT DetailsOfCoefficients
+00280700 LO DCTLabel
+00280701 CS DataBlockDescription
+00280702 AT DataBlock
+00280710 US NormalizationFactorFormat
+00280720 US ZonalMapNumberFormat
+00280721 AT ZonalMapLocation
+00280722 US ZonalMapFormat
+00280730 US AdaptiveMapFormat
+00280740 US CodeNumberFormat
+00280a02 CS PixelSpacingCalibrationType
+00280a04 LO PixelSpacingCalibrationDescription
+00281040 CS PixelIntensityRelationship
+00281041 SS PixelIntensityRelationshipSign
+00281050 DS WindowCenter
+00281051 DS WindowWidth
+00281052 DS RescaleIntercept
+00281053 DS RescaleSlope
+00281054 LO RescaleType
+00281055 LO WindowCenterWidthExplanation
+00281056 CS VOILUTFunction
+00281080 CS GrayScale
+00281090 CS RecommendedViewingMode
+00281100 US/SS GrayLookupTableDescriptor
+00281101 US/SS RedPaletteColorLookupTableDescriptor
+00281102 US/SS GreenPaletteColorLookupTableDescriptor
+00281103 US/SS BluePaletteColorLookupTableDescriptor
+00281104 US AlphaPaletteColorLookupTableDescriptor
+00281111 US/SS LargeRedPaletteColorLookupTableDescriptor
+00281112 US/SS LargeGreenPaletteColorLookupTableDescriptor
+00281113 US/SS LargeBluePaletteColorLookupTableDescriptor
+00281199 UI PaletteColorLookupTableUID
+00281200 US/SS/OW GrayLookupTableData
+00281201 OW RedPaletteColorLookupTableData
+00281202 OW GreenPaletteColorLookupTableData
+00281203 OW BluePaletteColorLookupTableData
+00281204 OW AlphaPaletteColorLookupTableData
+00281211 OW LargeRedPaletteColorLookupTableData
+00281212 OW LargeGreenPaletteColorLookupTableData
+00281213 OW LargeBluePaletteColorLookupTableData
+00281214 UI LargePaletteColorLookupTableUID
+00281221 OW SegmentedRedPaletteColorLookupTableData
+00281222 OW SegmentedGreenPaletteColorLookupTableData
+00281223 OW SegmentedBluePaletteColorLookupTableData
+00281224 OW SegmentedAlphaPaletteColorLookupTableData
+00281230 SQ StoredValueColorRangeSequence
+00281231 FD MinimumStoredValueMapped
+00281232 FD MaximumStoredValueMapped
+00281300 CS BreastImplantPresent
+00281350 CS PartialView
+00281351 ST PartialViewDescription
+00281352 SQ PartialViewCodeSequence
+0028135a CS SpatialLocationsPreserved
+00281401 SQ DataFrameAssignmentSequence
+00281402 CS DataPathAssignment
+00281403 US BitsMappedToColorLookupTable
+00281404 SQ BlendingLUT1Sequence
+00281405 CS BlendingLUT1TransferFunction
+00281406 FD BlendingWeightConstant
+00281407 US BlendingLookupTableDescriptor
+00281408 OW BlendingLookupTableData
+0028140b SQ EnhancedPaletteColorLookupTableSequence
+0028140c SQ BlendingLUT2Sequence
+0028140d CS BlendingLUT2TransferFunction
+0028140e CS DataPathID
+0028140f CS RGBLUTTransferFunction
+00281410 CS AlphaLUTTransferFunction
+00282000 OB ICCProfile
+00282002 CS ColorSpace
+00282110 CS LossyImageCompression
+00282112 DS LossyImageCompressionRatio
+00282114 CS LossyImageCompressionMethod
+00283000 SQ ModalityLUTSequence
+00283002 US/SS LUTDescriptor
+00283003 LO LUTExplanation
+00283004 LO ModalityLUTType
+00283006 US/OW LUTData
+00283010 SQ VOILUTSequence
+00283110 SQ SoftcopyVOILUTSequence
+00284000 LT ImagePresentationComments
+00285000 SQ BiPlaneAcquisitionSequence
+00286010 US RepresentativeFrameNumber
+00286020 US FrameNumbersOfInterest
+00286022 LO FrameOfInterestDescription
+00286023 CS FrameOfInterestType
+00286030 US MaskPointers
+00286040 US RWavePointer
+00286100 SQ MaskSubtractionSequence
+00286101 CS MaskOperation
+00286102 US ApplicableFrameRange
+00286110 US MaskFrameNumbers
+00286112 US ContrastFrameAveraging
+00286114 FL MaskSubPixelShift
+00286120 SS TIDOffset
+00286190 ST MaskOperationExplanation
+00287000 SQ EquipmentAdministratorSequence
+00287001 US NumberOfDisplaySubsystems
+00287002 US CurrentConfigurationID
+00287003 US DisplaySubsystemID
+00287004 SH DisplaySubsystemName
+00287005 LO DisplaySubsystemDescription
+00287006 CS SystemStatus
+00287007 LO SystemStatusComment
+00287008 SQ TargetLuminanceCharacteristicsSequence
+00287009 US LuminanceCharacteristicsID
+0028700a SQ DisplaySubsystemConfigurationSequence
+0028700b US ConfigurationID
+0028700c SH ConfigurationName
+0028700d LO ConfigurationDescription
+0028700e US ReferencedTargetLuminanceCharacteristicsID
+0028700f SQ QAResultsSequence
+00287010 SQ DisplaySubsystemQAResultsSequence
+00287011 SQ ConfigurationQAResultsSequence
+00287012 SQ MeasurementEquipmentSequence
+00287013 CS MeasurementFunctions
+00287014 CS MeasurementEquipmentType
+00287015 SQ VisualEvaluationResultSequence
+00287016 SQ DisplayCalibrationResultSequence
+00287017 US DDLValue
+00287018 FL CIExyWhitePoint
+00287019 CS DisplayFunctionType
+0028701a FL GammaValue
+0028701b US NumberOfLuminancePoints
+0028701c SQ LuminanceResponseSequence
+0028701d FL TargetMinimumLuminance
+0028701e FL TargetMaximumLuminance
+0028701f FL LuminanceValue
+00287020 LO LuminanceResponseDescription
+00287021 CS WhitePointFlag
+00287022 SQ DisplayDeviceTypeCodeSequence
+00287023 SQ DisplaySubsystemSequence
+00287024 SQ LuminanceResultSequence
+00287025 CS AmbientLightValueSource
+00287026 CS MeasuredCharacteristics
+00287027 SQ LuminanceUniformityResultSequence
+00287028 SQ VisualEvaluationTestSequence
+00287029 CS TestResult
+0028702a LO TestResultComment
+0028702b CS TestImageValidation
+0028702c SQ TestPatternCodeSequence
+0028702d SQ MeasurementPatternCodeSequence
+0028702e SQ VisualEvaluationMethodCodeSequence
+00287fe0 UR PixelDataProviderURL
+00289001 UL DataPointRows
+00289002 UL DataPointColumns
+00289003 CS SignalDomainColumns
+00289099 US LargestMonochromePixelValue
+00289108 CS DataRepresentation
+00289110 SQ PixelMeasuresSequence
+00289132 SQ FrameVOILUTSequence
+00289145 SQ PixelValueTransformationSequence
+00289235 CS SignalDomainRows
+00289411 FL DisplayFilterPercentage
+00289415 SQ FramePixelShiftSequence
+00289416 US SubtractionItemID
+00289422 SQ PixelIntensityRelationshipLUTSequence
+00289443 SQ FramePixelDataPropertiesSequence
+00289444 CS GeometricalProperties
+00289445 FL GeometricMaximumDistortion
+00289446 CS ImageProcessingApplied
+00289454 CS MaskSelectionMode
+00289474 CS LUTFunction
+00289478 FL MaskVisibilityPercentage
+00289501 SQ PixelShiftSequence
+00289502 SQ RegionPixelShiftSequence
+00289503 SS VerticesOfTheRegion
+00289505 SQ MultiFramePresentationSequence
+00289506 US PixelShiftFrameRange
+00289507 US LUTFrameRange
+00289520 DS ImageToEquipmentMappingMatrix
+00289537 CS EquipmentCoordinateSystemIdentification
+0032000a CS StudyStatusID
+0032000c CS StudyPriorityID
+00320012 LO StudyIDIssuer
+00320032 DA StudyVerifiedDate
+00320033 TM StudyVerifiedTime
+00320034 DA StudyReadDate
+00320035 TM StudyReadTime
+00321000 DA ScheduledStudyStartDate
+00321001 TM ScheduledStudyStartTime
+00321010 DA ScheduledStudyStopDate
+00321011 TM ScheduledStudyStopTime
+00321020 LO ScheduledStudyLocation
+00321021 AE ScheduledStudyLocationAETitle
+00321030 LO ReasonForStudy
+00321031 SQ RequestingPhysicianIdentificationSequence
+00321032 PN RequestingPhysician
+00321033 LO RequestingService
+00321034 SQ RequestingServiceCodeSequence
+00321040 DA StudyArrivalDate
+00321041 TM StudyArrivalTime
+00321050 DA StudyCompletionDate
+00321051 TM StudyCompletionTime
+00321055 CS StudyComponentStatusID
+00321060 LO RequestedProcedureDescription
+00321064 SQ RequestedProcedureCodeSequence
+00321065 SQ RequestedLateralityCodeSequence
+00321066 UT ReasonForVisit
+00321067 SQ ReasonForVisitCodeSequence
+00321070 LO RequestedContrastAgent
+00324000 LT StudyComments
+00340001 SQ FlowIdentifierSequence
+00340002 OB FlowIdentifier
+00340003 UI FlowTransferSyntaxUID
+00340004 UL FlowRTPSamplingRate
+00340005 OB SourceIdentifier
+00340007 OB FrameOriginTimestamp
+00340008 CS IncludesImagingSubject
+00340009 SQ FrameUsefulnessGroupSequence
+0034000a SQ RealTimeBulkDataFlowSequence
+0034000b SQ CameraPositionGroupSequence
+0034000c CS IncludesInformation
+0034000d SQ TimeOfFrameGroupSequence
+00380004 SQ ReferencedPatientAliasSequence
+00380008 CS VisitStatusID
+00380010 LO AdmissionID
+00380011 LO IssuerOfAdmissionID
+00380014 SQ IssuerOfAdmissionIDSequence
+00380016 LO RouteOfAdmissions
+0038001a DA ScheduledAdmissionDate
+0038001b TM ScheduledAdmissionTime
+0038001c DA ScheduledDischargeDate
+0038001d TM ScheduledDischargeTime
+0038001e LO ScheduledPatientInstitutionResidence
+00380020 DA AdmittingDate
+00380021 TM AdmittingTime
+00380030 DA DischargeDate
+00380032 TM DischargeTime
+00380040 LO DischargeDiagnosisDescription
+00380044 SQ DischargeDiagnosisCodeSequence
+00380050 LO SpecialNeeds
+00380060 LO ServiceEpisodeID
+00380061 LO IssuerOfServiceEpisodeID
+00380062 LO ServiceEpisodeDescription
+00380064 SQ IssuerOfServiceEpisodeIDSequence
+00380100 SQ PertinentDocumentsSequence
+00380101 SQ PertinentResourcesSequence
+00380102 LO ResourceDescription
+00380300 LO CurrentPatientLocation
+00380400 LO PatientInstitutionResidence
+00380500 LO PatientState
+00380502 SQ PatientClinicalTrialParticipationSequence
+00384000 LT VisitComments
+003a0004 CS WaveformOriginality
+003a0005 US NumberOfWaveformChannels
+003a0010 UL NumberOfWaveformSamples
+003a001a DS SamplingFrequency
+003a0020 SH MultiplexGroupLabel
+003a0200 SQ ChannelDefinitionSequence
+003a0202 IS WaveformChannelNumber
+003a0203 SH ChannelLabel
+003a0205 CS ChannelStatus
+003a0208 SQ ChannelSourceSequence
+003a0209 SQ ChannelSourceModifiersSequence
+003a020a SQ SourceWaveformSequence
+003a020c LO ChannelDerivationDescription
+003a0210 DS ChannelSensitivity
+003a0211 SQ ChannelSensitivityUnitsSequence
+003a0212 DS ChannelSensitivityCorrectionFactor
+003a0213 DS ChannelBaseline
+003a0214 DS ChannelTimeSkew
+003a0215 DS ChannelSampleSkew
+003a0218 DS ChannelOffset
+003a021a US WaveformBitsStored
+003a0220 DS FilterLowFrequency
+003a0221 DS FilterHighFrequency
+003a0222 DS NotchFilterFrequency
+003a0223 DS NotchFilterBandwidth
+003a0230 FL WaveformDataDisplayScale
+003a0231 US WaveformDisplayBackgroundCIELabValue
+003a0240 SQ WaveformPresentationGroupSequence
+003a0241 US PresentationGroupNumber
+003a0242 SQ ChannelDisplaySequence
+003a0244 US ChannelRecommendedDisplayCIELabValue
+003a0245 FL ChannelPosition
+003a0246 CS DisplayShadingFlag
+003a0247 FL FractionalChannelDisplayScale
+003a0248 FL AbsoluteChannelDisplayScale
+003a0300 SQ MultiplexedAudioChannelsDescriptionCodeSequence
+003a0301 IS ChannelIdentificationCode
+003a0302 CS ChannelMode
+003a0310 UI MultiplexGroupUID
+003a0311 DS PowerlineFrequency
+003a0312 SQ ChannelImpedanceSequence
+003a0313 DS ImpedanceValue";

@@ -1,383 +1,383 @@
 //! Data elements in ascending order of tags (PS3.6 sections 6 to 9). Made by tools/keywords.
 
-/// The rows, one a line: a tag and its keyword.
-pub(super) const ROWS: &str = "00460060 DistancePupillaryDistance
-00460062 NearPupillaryDistance
-00460063 IntermediatePupillaryDistance
-00460064 OtherPupillaryDistance
-00460070 KeratometryRightEyeSequence
-00460071 KeratometryLeftEyeSequence
-00460074 SteepKeratometricAxisSequence
-00460075 RadiusOfCurvature
-00460076 KeratometricPower
-00460077 KeratometricAxis
-00460080 FlatKeratometricAxisSequence
-00460092 BackgroundColor
-00460094 Optotype
-00460095 OptotypePresentation
-00460097 SubjectiveRefractionRightEyeSequence
-00460098 SubjectiveRefractionLeftEyeSequence
-00460100 AddNearSequence
-00460101 AddIntermediateSequence
-00460102 AddOtherSequence
-00460104 AddPower
-00460106 ViewingDistance
-00460110 CorneaMeasurementsSequence
-00460111 SourceOfCorneaMeasurementDataCodeSequence
-00460112 SteepCornealAxisSequence
-00460113 FlatCornealAxisSequence
-00460114 CornealPower
-00460115 CornealAxis
-00460116 CorneaMeasurementMethodCodeSequence
-00460117 RefractiveIndexOfCornea
-00460118 RefractiveIndexOfAqueousHumor
-00460121 VisualAcuityTypeCodeSequence
-00460122 VisualAcuityRightEyeSequence
-00460123 VisualAcuityLeftEyeSequence
-00460124 VisualAcuityBothEyesOpenSequence
-00460125 ViewingDistanceType
-00460135 VisualAcuityModifiers
-00460137 DecimalVisualAcuity
-00460139 OptotypeDetailedDefinition
-00460145 ReferencedRefractiveMeasurementsSequence
-00460146 SpherePower
-00460147 CylinderPower
-00460201 CornealTopographySurface
-00460202 CornealVertexLocation
-00460203 PupilCentroidXCoordinate
-00460204 PupilCentroidYCoordinate
-00460205 EquivalentPupilRadius
-00460207 CornealTopographyMapTypeCodeSequence
-00460208 VerticesOfTheOutlineOfPupil
-00460210 CornealTopographyMappingNormalsSequence
-00460211 MaximumCornealCurvatureSequence
-00460212 MaximumCornealCurvature
-00460213 MaximumCornealCurvatureLocation
-00460215 MinimumKeratometricSequence
-00460218 SimulatedKeratometricCylinderSequence
-00460220 AverageCornealPower
-00460224 CornealISValue
-00460227 AnalyzedArea
-00460230 SurfaceRegularityIndex
-00460232 SurfaceAsymmetryIndex
-00460234 CornealEccentricityIndex
-00460236 KeratoconusPredictionIndex
-00460238 DecimalPotentialVisualAcuity
-00460242 CornealTopographyMapQualityEvaluation
-00460244 SourceImageCornealProcessedDataSequence
-00460247 CornealPointLocation
-00460248 CornealPointEstimated
-00460249 AxialPower
-00460250 TangentialPower
-00460251 RefractivePower
-00460252 RelativeElevation
-00460253 CornealWavefront
-00480001 ImagedVolumeWidth
-00480002 ImagedVolumeHeight
-00480003 ImagedVolumeDepth
-00480006 TotalPixelMatrixColumns
-00480007 TotalPixelMatrixRows
-00480008 TotalPixelMatrixOriginSequence
-00480010 SpecimenLabelInImage
-00480011 FocusMethod
-00480012 ExtendedDepthOfField
-00480013 NumberOfFocalPlanes
-00480014 DistanceBetweenFocalPlanes
-00480015 RecommendedAbsentPixelCIELabValue
-00480100 IlluminatorTypeCodeSequence
-00480102 ImageOrientationSlide
-00480105 OpticalPathSequence
-00480106 OpticalPathIdentifier
-00480107 OpticalPathDescription
-00480108 IlluminationColorCodeSequence
-00480110 SpecimenReferenceSequence
-00480111 CondenserLensPower
-00480112 ObjectiveLensPower
-00480113 ObjectiveLensNumericalAperture
-00480120 PaletteColorLookupTableSequence
-00480200 ReferencedImageNavigationSequence
-00480201 TopLeftHandCornerOfLocalizerArea
-00480202 BottomRightHandCornerOfLocalizerArea
-00480207 OpticalPathIdentificationSequence
-0048021a PlanePositionSlideSequence
-0048021e ColumnPositionInTotalImagePixelMatrix
-0048021f RowPositionInTotalImagePixelMatrix
-00480301 PixelOriginInterpretation
-00480302 NumberOfOpticalPaths
-00480303 TotalPixelMatrixFocalPlanes
-00500004 CalibrationImage
-00500010 DeviceSequence
-00500012 ContainerComponentTypeCodeSequence
-00500013 ContainerComponentThickness
-00500014 DeviceLength
-00500015 ContainerComponentWidth
-00500016 DeviceDiameter
-00500017 DeviceDiameterUnits
-00500018 DeviceVolume
-00500019 InterMarkerDistance
-0050001a ContainerComponentMaterial
-0050001b ContainerComponentID
-0050001c ContainerComponentLength
-0050001d ContainerComponentDiameter
-0050001e ContainerComponentDescription
-00500020 DeviceDescription
-00500021 LongDeviceDescription
-00520001 ContrastBolusIngredientPercentByVolume
-00520002 OCTFocalDistance
-00520003 BeamSpotSize
-00520004 EffectiveRefractiveIndex
-00520006 OCTAcquisitionDomain
-00520007 OCTOpticalCenterWavelength
-00520008 AxialResolution
-00520009 RangingDepth
-00520011 ALineRate
-00520012 ALinesPerFrame
-00520013 CatheterRotationalRate
-00520014 ALinePixelSpacing
-00520016 ModeOfPercutaneousAccessSequence
-00520025 IntravascularOCTFrameTypeSequence
-00520026 OCTZOffsetApplied
-00520027 IntravascularFrameContentSequence
-00520028 IntravascularLongitudinalDistance
-00520029 IntravascularOCTFrameContentSequence
-00520030 OCTZOffsetCorrection
-00520031 CatheterDirectionOfRotation
-00520033 SeamLineLocation
-00520034 FirstALineLocation
-00520036 SeamLineIndex
-00520038 NumberOfPaddedALines
-00520039 InterpolationType
-0052003a RefractiveIndexApplied
-00540010 EnergyWindowVector
-00540011 NumberOfEnergyWindows
-00540012 EnergyWindowInformationSequence
-00540013 EnergyWindowRangeSequence
-00540014 EnergyWindowLowerLimit
-00540015 EnergyWindowUpperLimit
-00540016 RadiopharmaceuticalInformationSequence
-00540017 ResidualSyringeCounts
-00540018 EnergyWindowName
-00540020 DetectorVector
-00540021 NumberOfDetectors
-00540022 DetectorInformationSequence
-00540030 PhaseVector
-00540031 NumberOfPhases
-00540032 PhaseInformationSequence
-00540033 NumberOfFramesInPhase
-00540036 PhaseDelay
-00540038 PauseBetweenFrames
-00540039 PhaseDescription
-00540050 RotationVector
-00540051 NumberOfRotations
-00540052 RotationInformationSequence
-00540053 NumberOfFramesInRotation
-00540060 RRIntervalVector
-00540061 NumberOfRRIntervals
-00540062 GatedInformationSequence
-00540063 DataInformationSequence
-00540070 TimeSlotVector
-00540071 NumberOfTimeSlots
-00540072 TimeSlotInformationSequence
-00540073 TimeSlotTime
-00540080 SliceVector
-00540081 NumberOfSlices
-00540090 AngularViewVector
-00540100 TimeSliceVector
-00540101 NumberOfTimeSlices
-00540200 StartAngle
-00540202 TypeOfDetectorMotion
-00540210 TriggerVector
-00540211 NumberOfTriggersInPhase
-00540220 ViewCodeSequence
-00540222 ViewModifierCodeSequence
-00540300 RadionuclideCodeSequence
-00540302 AdministrationRouteCodeSequence
-00540304 RadiopharmaceuticalCodeSequence
-00540306 CalibrationDataSequence
-00540308 EnergyWindowNumber
-00540400 ImageID
-00540410 PatientOrientationCodeSequence
-00540412 PatientOrientationModifierCodeSequence
-00540414 PatientGantryRelationshipCodeSequence
-00540500 SliceProgressionDirection
-00540501 ScanProgressionDirection
-00541000 SeriesType
-00541001 Units
-00541002 CountsSource
-00541004 ReprojectionMethod
-00541006 SUVType
-00541100 RandomsCorrectionMethod
-00541101 AttenuationCorrectionMethod
-00541102 DecayCorrection
-00541103 ReconstructionMethod
-00541104 DetectorLinesOfResponseUsed
-00541105 ScatterCorrectionMethod
-00541200 AxialAcceptance
-00541201 AxialMash
-00541202 TransverseMash
-00541203 DetectorElementSize
-00541210 CoincidenceWindowWidth
-00541220 SecondaryCountsType
-00541300 FrameReferenceTime
-00541310 PrimaryPromptsCountsAccumulated
-00541311 SecondaryCountsAccumulated
-00541320 SliceSensitivityFactor
-00541321 DecayFactor
-00541322 DoseCalibrationFactor
-00541323 ScatterFractionFactor
-00541324 DeadTimeFactor
-00541330 ImageIndex
-00541400 CountsIncluded
-00541401 DeadTimeCorrectionFlag
-00603000 HistogramSequence
-00603002 HistogramNumberOfBins
-00603004 HistogramFirstBinValue
-00603006 HistogramLastBinValue
-00603008 HistogramBinWidth
-00603010 HistogramExplanation
-00603020 HistogramData
-00620001 SegmentationType
-00620002 SegmentSequence
-00620003 SegmentedPropertyCategoryCodeSequence
-00620004 SegmentNumber
-00620005 SegmentLabel
-00620006 SegmentDescription
-00620007 SegmentationAlgorithmIdentificationSequence
-00620008 SegmentAlgorithmType
-00620009 SegmentAlgorithmName
-0062000a SegmentIdentificationSequence
-0062000b ReferencedSegmentNumber
-0062000c RecommendedDisplayGrayscaleValue
-0062000d RecommendedDisplayCIELabValue
-0062000e MaximumFractionalValue
-0062000f SegmentedPropertyTypeCodeSequence
-00620010 SegmentationFractionalType
-00620011 SegmentedPropertyTypeModifierCodeSequence
-00620012 UsedSegmentsSequence
-00620013 SegmentsOverlap
-00620020 TrackingID
-00620021 TrackingUID
-00640002 DeformableRegistrationSequence
-00640003 SourceFrameOfReferenceUID
-00640005 DeformableRegistrationGridSequence
-00640007 GridDimensions
-00640008 GridResolution
-00640009 VectorGridData
-0064000f PreDeformationMatrixRegistrationSequence
-00640010 PostDeformationMatrixRegistrationSequence
-00660001 NumberOfSurfaces
-00660002 SurfaceSequence
-00660003 SurfaceNumber
-00660004 SurfaceComments
-00660009 SurfaceProcessing
-0066000a SurfaceProcessingRatio
-0066000b SurfaceProcessingDescription
-0066000c RecommendedPresentationOpacity
-0066000d RecommendedPresentationType
-0066000e FiniteVolume
-00660010 Manifold
-00660011 SurfacePointsSequence
-00660012 SurfacePointsNormalsSequence
-00660013 SurfaceMeshPrimitivesSequence
-00660015 NumberOfSurfacePoints
-00660016 PointCoordinatesData
-00660017 PointPositionAccuracy
-00660018 MeanPointDistance
-00660019 MaximumPointDistance
-0066001a PointsBoundingBoxCoordinates
-0066001b AxisOfRotation
-0066001c CenterOfRotation
-0066001e NumberOfVectors
-0066001f VectorDimensionality
-00660020 VectorAccuracy
-00660021 VectorCoordinateData
-00660022 DoublePointCoordinatesData
-00660023 TrianglePointIndexList
-00660024 EdgePointIndexList
-00660025 VertexPointIndexList
-00660026 TriangleStripSequence
-00660027 TriangleFanSequence
-00660028 LineSequence
-00660029 PrimitivePointIndexList
-0066002a SurfaceCount
-0066002b ReferencedSurfaceSequence
-0066002c ReferencedSurfaceNumber
-0066002d SegmentSurfaceGenerationAlgorithmIdentificationSequence
-0066002e SegmentSurfaceSourceInstanceSequence
-0066002f AlgorithmFamilyCodeSequence
-00660030 AlgorithmNameCodeSequence
-00660031 AlgorithmVersion
-00660032 AlgorithmParameters
-00660034 FacetSequence
-00660035 SurfaceProcessingAlgorithmIdentificationSequence
-00660036 AlgorithmName
-00660037 RecommendedPointRadius
-00660038 RecommendedLineThickness
-00660040 LongPrimitivePointIndexList
-00660041 LongTrianglePointIndexList
-00660042 LongEdgePointIndexList
-00660043 LongVertexPointIndexList
-00660101 TrackSetSequence
-00660102 TrackSequence
-00660103 RecommendedDisplayCIELabValueList
-00660104 TrackingAlgorithmIdentificationSequence
-00660105 TrackSetNumber
-00660106 TrackSetLabel
-00660107 TrackSetDescription
-00660108 TrackSetAnatomicalTypeCodeSequence
-00660121 MeasurementsSequence
-00660124 TrackSetStatisticsSequence
-00660125 FloatingPointValues
-00660129 TrackPointIndexList
-00660130 TrackStatisticsSequence
-00660132 MeasurementValuesSequence
-00660133 DiffusionAcquisitionCodeSequence
-00660134 DiffusionModelCodeSequence
-00686210 ImplantSize
-00686221 ImplantTemplateVersion
-00686222 ReplacedImplantTemplateSequence
-00686223 ImplantType
-00686224 DerivationImplantTemplateSequence
-00686225 OriginalImplantTemplateSequence
-00686226 EffectiveDateTime
-00686230 ImplantTargetAnatomySequence
-00686260 InformationFromManufacturerSequence
-00686265 NotificationFromManufacturerSequence
-00686270 InformationIssueDateTime
-00686280 InformationSummary
-006862a0 ImplantRegulatoryDisapprovalCodeSequence
-006862a5 OverallTemplateSpatialTolerance
-006862c0 HPGLDocumentSequence
-006862d0 HPGLDocumentID
-006862d5 HPGLDocumentLabel
-006862e0 ViewOrientationCodeSequence
-006862f0 ViewOrientationModifierCodeSequence
-006862f2 HPGLDocumentScaling
-00686300 HPGLDocument
-00686310 HPGLContourPenNumber
-00686320 HPGLPenSequence
-00686330 HPGLPenNumber
-00686340 HPGLPenLabel
-00686345 HPGLPenDescription
-00686346 RecommendedRotationPoint
-00686347 BoundingRectangle
-00686350 ImplantTemplate3DModelSurfaceNumber
-00686360 SurfaceModelDescriptionSequence
-00686380 SurfaceModelLabel
-00686390 SurfaceModelScalingFactor
-006863a0 MaterialsCodeSequence
-006863a4 CoatingMaterialsCodeSequence
-006863a8 ImplantTypeCodeSequence
-006863ac FixationMethodCodeSequence
-006863b0 MatingFeatureSetsSequence
-006863c0 MatingFeatureSetID
-006863d0 MatingFeatureSetLabel
-006863e0 MatingFeatureSequence
-006863f0 MatingFeatureID
-00686400 MatingFeatureDegreeOfFreedomSequence
-00686410 DegreeOfFreedomID
-00686420 DegreeOfFreedomType
-00686430 TwoDMatingFeatureCoordinatesSequence
-00686440 ReferencedHPGLDocumentID
-00686450 TwoDMatingPoint
-00686460 TwoDMatingAxes";
+/// The rows, one a line: a tag, its VRs and its keyword.
+pub(super) const ROWS: &str = "00460060 FD DistancePupillaryDistance
+00460062 FD NearPupillaryDistance
+00460063 FD IntermediatePupillaryDistance
+00460064 FD OtherPupillaryDistance
+00460070 SQ KeratometryRightEyeSequence
+00460071 SQ KeratometryLeftEyeSequence
+00460074 SQ SteepKeratometricAxisSequence
+00460075 FD RadiusOfCurvature
+00460076 FD KeratometricPower
+00460077 FD KeratometricAxis
+00460080 SQ FlatKeratometricAxisSequence
+00460092 CS BackgroundColor
+00460094 CS Optotype
+00460095 CS OptotypePresentation
+00460097 SQ SubjectiveRefractionRightEyeSequence
+00460098 SQ SubjectiveRefractionLeftEyeSequence
+00460100 SQ AddNearSequence
+00460101 SQ AddIntermediateSequence
+00460102 SQ AddOtherSequence
+00460104 FD AddPower
+00460106 FD ViewingDistance
+00460110 SQ CorneaMeasurementsSequence
+00460111 SQ SourceOfCorneaMeasurementDataCodeSequence
+00460112 SQ SteepCornealAxisSequence
+00460113 SQ FlatCornealAxisSequence
+00460114 FD CornealPower
+00460115 FD CornealAxis
+00460116 SQ CorneaMeasurementMethodCodeSequence
+00460117 FL RefractiveIndexOfCornea
+00460118 FL RefractiveIndexOfAqueousHumor
+00460121 SQ VisualAcuityTypeCodeSequence
+00460122 SQ VisualAcuityRightEyeSequence
+00460123 SQ VisualAcuityLeftEyeSequence
+00460124 SQ VisualAcuityBothEyesOpenSequence
+00460125 CS ViewingDistanceType
+00460135 SS VisualAcuityModifiers
+00460137 FD DecimalVisualAcuity
+00460139 LO OptotypeDetailedDefinition
+00460145 SQ ReferencedRefractiveMeasurementsSequence
+00460146 FD SpherePower
+00460147 FD CylinderPower
+00460201 CS CornealTopographySurface
+00460202 FL CornealVertexLocation
+00460203 FL PupilCentroidXCoordinate
+00460204 FL PupilCentroidYCoordinate
+00460205 FL EquivalentPupilRadius
+00460207 SQ CornealTopographyMapTypeCodeSequence
+00460208 IS VerticesOfTheOutlineOfPupil
+00460210 SQ CornealTopographyMappingNormalsSequence
+00460211 SQ MaximumCornealCurvatureSequence
+00460212 FL MaximumCornealCurvature
+00460213 FL MaximumCornealCurvatureLocation
+00460215 SQ MinimumKeratometricSequence
+00460218 SQ SimulatedKeratometricCylinderSequence
+00460220 FL AverageCornealPower
+00460224 FL CornealISValue
+00460227 FL AnalyzedArea
+00460230 FL SurfaceRegularityIndex
+00460232 FL SurfaceAsymmetryIndex
+00460234 FL CornealEccentricityIndex
+00460236 FL KeratoconusPredictionIndex
+00460238 FL DecimalPotentialVisualAcuity
+00460242 CS CornealTopographyMapQualityEvaluation
+00460244 SQ SourceImageCornealProcessedDataSequence
+00460247 FL CornealPointLocation
+00460248 CS CornealPointEstimated
+00460249 FL AxialPower
+00460250 FL TangentialPower
+00460251 FL RefractivePower
+00460252 FL RelativeElevation
+00460253 FL CornealWavefront
+00480001 FL ImagedVolumeWidth
+00480002 FL ImagedVolumeHeight
+00480003 FL ImagedVolumeDepth
+00480006 UL TotalPixelMatrixColumns
+00480007 UL TotalPixelMatrixRows
+00480008 SQ TotalPixelMatrixOriginSequence
+00480010 CS SpecimenLabelInImage
+00480011 CS FocusMethod
+00480012 CS ExtendedDepthOfField
+00480013 US NumberOfFocalPlanes
+00480014 FL DistanceBetweenFocalPlanes
+00480015 US RecommendedAbsentPixelCIELabValue
+00480100 SQ IlluminatorTypeCodeSequence
+00480102 DS ImageOrientationSlide
+00480105 SQ OpticalPathSequence
+00480106 SH OpticalPathIdentifier
+00480107 ST OpticalPathDescription
+00480108 SQ IlluminationColorCodeSequence
+00480110 SQ SpecimenReferenceSequence
+00480111 DS CondenserLensPower
+00480112 DS ObjectiveLensPower
+00480113 DS ObjectiveLensNumericalAperture
+00480120 SQ PaletteColorLookupTableSequence
+00480200 SQ ReferencedImageNavigationSequence
+00480201 US TopLeftHandCornerOfLocalizerArea
+00480202 US BottomRightHandCornerOfLocalizerArea
+00480207 SQ OpticalPathIdentificationSequence
+0048021a SQ PlanePositionSlideSequence
+0048021e SL ColumnPositionInTotalImagePixelMatrix
+0048021f SL RowPositionInTotalImagePixelMatrix
+00480301 CS PixelOriginInterpretation
+00480302 UL NumberOfOpticalPaths
+00480303 UL TotalPixelMatrixFocalPlanes
+00500004 CS CalibrationImage
+00500010 SQ DeviceSequence
+00500012 SQ ContainerComponentTypeCodeSequence
+00500013 FD ContainerComponentThickness
+00500014 DS DeviceLength
+00500015 FD ContainerComponentWidth
+00500016 DS DeviceDiameter
+00500017 CS DeviceDiameterUnits
+00500018 DS DeviceVolume
+00500019 DS InterMarkerDistance
+0050001a CS ContainerComponentMaterial
+0050001b LO ContainerComponentID
+0050001c FD ContainerComponentLength
+0050001d FD ContainerComponentDiameter
+0050001e LO ContainerComponentDescription
+00500020 LO DeviceDescription
+00500021 ST LongDeviceDescription
+00520001 FL ContrastBolusIngredientPercentByVolume
+00520002 FD OCTFocalDistance
+00520003 FD BeamSpotSize
+00520004 FD EffectiveRefractiveIndex
+00520006 CS OCTAcquisitionDomain
+00520007 FD OCTOpticalCenterWavelength
+00520008 FD AxialResolution
+00520009 FD RangingDepth
+00520011 FD ALineRate
+00520012 US ALinesPerFrame
+00520013 FD CatheterRotationalRate
+00520014 FD ALinePixelSpacing
+00520016 SQ ModeOfPercutaneousAccessSequence
+00520025 SQ IntravascularOCTFrameTypeSequence
+00520026 CS OCTZOffsetApplied
+00520027 SQ IntravascularFrameContentSequence
+00520028 FD IntravascularLongitudinalDistance
+00520029 SQ IntravascularOCTFrameContentSequence
+00520030 SS OCTZOffsetCorrection
+00520031 CS CatheterDirectionOfRotation
+00520033 FD SeamLineLocation
+00520034 FD FirstALineLocation
+00520036 US SeamLineIndex
+00520038 US NumberOfPaddedALines
+00520039 CS InterpolationType
+0052003a CS RefractiveIndexApplied
+00540010 US EnergyWindowVector
+00540011 US NumberOfEnergyWindows
+00540012 SQ EnergyWindowInformationSequence
+00540013 SQ EnergyWindowRangeSequence
+00540014 DS EnergyWindowLowerLimit
+00540015 DS EnergyWindowUpperLimit
+00540016 SQ RadiopharmaceuticalInformationSequence
+00540017 IS ResidualSyringeCounts
+00540018 SH EnergyWindowName
+00540020 US DetectorVector
+00540021 US NumberOfDetectors
+00540022 SQ DetectorInformationSequence
+00540030 US PhaseVector
+00540031 US NumberOfPhases
+00540032 SQ PhaseInformationSequence
+00540033 US NumberOfFramesInPhase
+00540036 IS PhaseDelay
+00540038 IS PauseBetweenFrames
+00540039 CS PhaseDescription
+00540050 US RotationVector
+00540051 US NumberOfRotations
+00540052 SQ RotationInformationSequence
+00540053 US NumberOfFramesInRotation
+00540060 US RRIntervalVector
+00540061 US NumberOfRRIntervals
+00540062 SQ GatedInformationSequence
+00540063 SQ DataInformationSequence
+00540070 US TimeSlotVector
+00540071 US NumberOfTimeSlots
+00540072 SQ TimeSlotInformationSequence
+00540073 DS TimeSlotTime
+00540080 US SliceVector
+00540081 US NumberOfSlices
+00540090 US AngularViewVector
+00540100 US TimeSliceVector
+00540101 US NumberOfTimeSlices
+00540200 DS StartAngle
+00540202 CS TypeOfDetectorMotion
+00540210 IS TriggerVector
+00540211 US NumberOfTriggersInPhase
+00540220 SQ ViewCodeSequence
+00540222 SQ ViewModifierCodeSequence
+00540300 SQ RadionuclideCodeSequence
+00540302 SQ AdministrationRouteCodeSequence
+00540304 SQ RadiopharmaceuticalCodeSequence
+00540306 SQ CalibrationDataSequence
+00540308 US EnergyWindowNumber
+00540400 SH ImageID
+00540410 SQ PatientOrientationCodeSequence
+00540412 SQ PatientOrientationModifierCodeSequence
+00540414 SQ PatientGantryRelationshipCodeSequence
+00540500 CS SliceProgressionDirection
+00540501 CS ScanProgressionDirection
+00541000 CS SeriesType
+00541001 CS Units
+00541002 CS CountsSource
+00541004 CS ReprojectionMethod
+00541006 CS SUVType
+00541100 CS RandomsCorrectionMethod
+00541101 LO AttenuationCorrectionMethod
+00541102 CS DecayCorrection
+00541103 LO ReconstructionMethod
+00541104 LO DetectorLinesOfResponseUsed
+00541105 LO ScatterCorrectionMethod
+00541200 DS AxialAcceptance
+00541201 IS AxialMash
+00541202 IS TransverseMash
+00541203 DS DetectorElementSize
+00541210 DS CoincidenceWindowWidth
+00541220 CS SecondaryCountsType
+00541300 DS FrameReferenceTime
+00541310 IS PrimaryPromptsCountsAccumulated
+00541311 IS SecondaryCountsAccumulated
+00541320 DS SliceSensitivityFactor
+00541321 DS DecayFactor
+00541322 DS DoseCalibrationFactor
+00541323 DS ScatterFractionFactor
+00541324 DS DeadTimeFactor
+00541330 US ImageIndex
+00541400 CS CountsIncluded
+00541401 CS DeadTimeCorrectionFlag
+00603000 SQ HistogramSequence
+00603002 US HistogramNumberOfBins
+00603004 US/SS HistogramFirstBinValue
+00603006 US/SS HistogramLastBinValue
+00603008 US HistogramBinWidth
+00603010 LO HistogramExplanation
+00603020 UL HistogramData
+00620001 CS SegmentationType
+00620002 SQ SegmentSequence
+00620003 SQ SegmentedPropertyCategoryCodeSequence
+00620004 US SegmentNumber
+00620005 LO SegmentLabel
+00620006 ST SegmentDescription
+00620007 SQ SegmentationAlgorithmIdentificationSequence
+00620008 CS SegmentAlgorithmType
+00620009 LO SegmentAlgorithmName
+0062000a SQ SegmentIdentificationSequence
+0062000b US ReferencedSegmentNumber
+0062000c US RecommendedDisplayGrayscaleValue
+0062000d US RecommendedDisplayCIELabValue
+0062000e US MaximumFractionalValue
+0062000f SQ SegmentedPropertyTypeCodeSequence
+00620010 CS SegmentationFractionalType
+00620011 SQ SegmentedPropertyTypeModifierCodeSequence
+00620012 SQ UsedSegmentsSequence
+00620013 CS SegmentsOverlap
+00620020 UT TrackingID
+00620021 UI TrackingUID
+00640002 SQ DeformableRegistrationSequence
+00640003 UI SourceFrameOfReferenceUID
+00640005 SQ DeformableRegistrationGridSequence
+00640007 UL GridDimensions
+00640008 FD GridResolution
+00640009 OF VectorGridData
+0064000f SQ PreDeformationMatrixRegistrationSequence
+00640010 SQ PostDeformationMatrixRegistrationSequence
+00660001 UL NumberOfSurfaces
+00660002 SQ SurfaceSequence
+00660003 UL SurfaceNumber
+00660004 LT SurfaceComments
+00660009 CS SurfaceProcessing
+0066000a FL SurfaceProcessingRatio
+0066000b LO SurfaceProcessingDescription
+0066000c FL RecommendedPresentationOpacity
+0066000d CS RecommendedPresentationType
+0066000e CS FiniteVolume
+00660010 CS Manifold
+00660011 SQ SurfacePointsSequence
+00660012 SQ SurfacePointsNormalsSequence
+00660013 SQ SurfaceMeshPrimitivesSequence
+00660015 UL NumberOfSurfacePoints
+00660016 OF PointCoordinatesData
+00660017 FL PointPositionAccuracy
+00660018 FL MeanPointDistance
+00660019 FL MaximumPointDistance
+0066001a FL PointsBoundingBoxCoordinates
+0066001b FL AxisOfRotation
+0066001c FL CenterOfRotation
+0066001e UL NumberOfVectors
+0066001f US VectorDimensionality
+00660020 FL VectorAccuracy
+00660021 OF VectorCoordinateData
+00660022 OD DoublePointCoordinatesData
+00660023 OW TrianglePointIndexList
+00660024 OW EdgePointIndexList
+00660025 OW VertexPointIndexList
+00660026 SQ TriangleStripSequence
+00660027 SQ TriangleFanSequence
+00660028 SQ LineSequence
+00660029 OW PrimitivePointIndexList
+0066002a UL SurfaceCount
+0066002b SQ ReferencedSurfaceSequence
+0066002c UL ReferencedSurfaceNumber
+0066002d SQ SegmentSurfaceGenerationAlgorithmIdentificationSequence
+0066002e SQ SegmentSurfaceSourceInstanceSequence
+0066002f SQ AlgorithmFamilyCodeSequence
+00660030 SQ AlgorithmNameCodeSequence
+00660031 LO AlgorithmVersion
+00660032 LT AlgorithmParameters
+00660034 SQ FacetSequence
+00660035 SQ SurfaceProcessingAlgorithmIdentificationSequence
+00660036 LO AlgorithmName
+00660037 FL RecommendedPointRadius
+00660038 FL RecommendedLineThickness
+00660040 OL LongPrimitivePointIndexList
+00660041 OL LongTrianglePointIndexList
+00660042 OL LongEdgePointIndexList
+00660043 OL LongVertexPointIndexList
+00660101 SQ TrackSetSequence
+00660102 SQ TrackSequence
+00660103 OW RecommendedDisplayCIELabValueList
+00660104 SQ TrackingAlgorithmIdentificationSequence
+00660105 UL TrackSetNumber
+00660106 LO TrackSetLabel
+00660107 UT TrackSetDescription
+00660108 SQ TrackSetAnatomicalTypeCodeSequence
+00660121 SQ MeasurementsSequence
+00660124 SQ TrackSetStatisticsSequence
+00660125 OF FloatingPointValues
+00660129 OL TrackPointIndexList
+00660130 SQ TrackStatisticsSequence
+00660132 SQ MeasurementValuesSequence
+00660133 SQ DiffusionAcquisitionCodeSequence
+00660134 SQ DiffusionModelCodeSequence
+00686210 LO ImplantSize
+00686221 LO ImplantTemplateVersion
+00686222 SQ ReplacedImplantTemplateSequence
+00686223 CS ImplantType
+00686224 SQ DerivationImplantTemplateSequence
+00686225 SQ OriginalImplantTemplateSequence
+00686226 DT EffectiveDateTime
+00686230 SQ ImplantTargetAnatomySequence
+00686260 SQ InformationFromManufacturerSequence
+00686265 SQ NotificationFromManufacturerSequence
+00686270 DT InformationIssueDateTime
+00686280 ST InformationSummary
+006862a0 SQ ImplantRegulatoryDisapprovalCodeSequence
+006862a5 FD OverallTemplateSpatialTolerance
+006862c0 SQ HPGLDocumentSequence
+006862d0 US HPGLDocumentID
+006862d5 LO HPGLDocumentLabel
+006862e0 SQ ViewOrientationCodeSequence
+006862f0 SQ ViewOrientationModifierCodeSequence
+006862f2 FD HPGLDocumentScaling
+00686300 OB HPGLDocument
+00686310 US HPGLContourPenNumber
+00686320 SQ HPGLPenSequence
+00686330 US HPGLPenNumber
+00686340 LO HPGLPenLabel
+00686345 ST HPGLPenDescription
+00686346 FD RecommendedRotationPoint
+00686347 FD BoundingRectangle
+00686350 US ImplantTemplate3DModelSurfaceNumber
+00686360 SQ SurfaceModelDescriptionSequence
+00686380 LO SurfaceModelLabel
+00686390 FD SurfaceModelScalingFactor
+006863a0 SQ MaterialsCodeSequence
+006863a4 SQ CoatingMaterialsCodeSequence
+006863a8 SQ ImplantTypeCodeSequence
+006863ac SQ FixationMethodCodeSequence
+006863b0 SQ MatingFeatureSetsSequence
+006863c0 US MatingFeatureSetID
+006863d0 LO MatingFeatureSetLabel
+006863e0 SQ MatingFeatureSequence
+006863f0 US MatingFeatureID
+00686400 SQ MatingFeatureDegreeOfFreedomSequence
+00686410 US DegreeOfFreedomID
+00686420 CS DegreeOfFreedomType
+00686430 SQ TwoDMatingFeatureCoordinatesSequence
+00686440 US ReferencedHPGLDocumentID
+00686450 FD TwoDMatingPoint
+00686460 FD TwoDMatingAxes";

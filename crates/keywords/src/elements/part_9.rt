@@ -1,383 +1,383 @@
 //! Data elements in ascending order of tags (PS3.6 sections 6 to 9). Made by tools/keywords.
 
-/// The rows, one a line: a tag and its keyword.
-pub(super) const ROWS: &str = "00686470 TwoDDegreeOfFreedomSequence
-00686490 ThreeDDegreeOfFreedomAxis
-006864a0 RangeOfFreedom
-006864c0 ThreeDMatingPoint
-006864d0 ThreeDMatingAxes
-006864f0 TwoDDegreeOfFreedomAxis
-00686500 PlanningLandmarkPointSequence
-00686510 PlanningLandmarkLineSequence
-00686520 PlanningLandmarkPlaneSequence
-00686530 PlanningLandmarkID
-00686540 PlanningLandmarkDescription
-00686545 PlanningLandmarkIdentificationCodeSequence
-00686550 TwoDPointCoordinatesSequence
-00686560 TwoDPointCoordinates
-00686590 ThreeDPointCoordinates
-006865a0 TwoDLineCoordinatesSequence
-006865b0 TwoDLineCoordinates
-006865d0 ThreeDLineCoordinates
-006865e0 TwoDPlaneCoordinatesSequence
-006865f0 TwoDPlaneIntersection
-00686610 ThreeDPlaneOrigin
-00686620 ThreeDPlaneNormal
-00687001 ModelModification
-00687002 ModelMirroring
-00687003 ModelUsageCodeSequence
-00687004 ModelGroupUID
-00687005 RelativeURIReferenceWithinEncapsulatedDocument
-006a0001 AnnotationCoordinateType
-006a0002 AnnotationGroupSequence
-006a0003 AnnotationGroupUID
-006a0005 AnnotationGroupLabel
-006a0006 AnnotationGroupDescription
-006a0007 AnnotationGroupGenerationType
-006a0008 AnnotationGroupAlgorithmIdentificationSequence
-006a0009 AnnotationPropertyCategoryCodeSequence
-006a000a AnnotationPropertyTypeCodeSequence
-006a000b AnnotationPropertyTypeModifierCodeSequence
-006a000c NumberOfAnnotations
-006a000d AnnotationAppliesToAllOpticalPaths
-006a000e ReferencedOpticalPathIdentifier
-006a000f AnnotationAppliesToAllZPlanes
-006a0010 CommonZCoordinateValue
-006a0011 AnnotationIndexList
-00700001 GraphicAnnotationSequence
-00700002 GraphicLayer
-00700003 BoundingBoxAnnotationUnits
-00700004 AnchorPointAnnotationUnits
-00700005 GraphicAnnotationUnits
-00700006 UnformattedTextValue
-00700008 TextObjectSequence
-00700009 GraphicObjectSequence
-00700010 BoundingBoxTopLeftHandCorner
-00700011 BoundingBoxBottomRightHandCorner
-00700012 BoundingBoxTextHorizontalJustification
-00700014 AnchorPoint
-00700015 AnchorPointVisibility
-00700020 GraphicDimensions
-00700021 NumberOfGraphicPoints
-00700022 GraphicData
-00700023 GraphicType
-00700024 GraphicFilled
-00700040 ImageRotationRetired
-00700041 ImageHorizontalFlip
-00700042 ImageRotation
-00700050 DisplayedAreaTopLeftHandCornerTrial
-00700051 DisplayedAreaBottomRightHandCornerTrial
-00700052 DisplayedAreaTopLeftHandCorner
-00700053 DisplayedAreaBottomRightHandCorner
-0070005a DisplayedAreaSelectionSequence
-00700060 GraphicLayerSequence
-00700062 GraphicLayerOrder
-00700066 GraphicLayerRecommendedDisplayGrayscaleValue
-00700067 GraphicLayerRecommendedDisplayRGBValue
-00700068 GraphicLayerDescription
-00700080 ContentLabel
-00700081 ContentDescription
-00700082 PresentationCreationDate
-00700083 PresentationCreationTime
-00700084 ContentCreatorName
-00700086 ContentCreatorIdentificationCodeSequence
-00700087 AlternateContentDescriptionSequence
-00700100 PresentationSizeMode
-00700101 PresentationPixelSpacing
-00700102 PresentationPixelAspectRatio
-00700103 PresentationPixelMagnificationRatio
-00700207 GraphicGroupLabel
-00700208 GraphicGroupDescription
-00700209 CompoundGraphicSequence
-00700226 CompoundGraphicInstanceID
-00700227 FontName
-00700228 FontNameType
-00700229 CSSFontName
-00700230 RotationAngle
-00700231 TextStyleSequence
-00700232 LineStyleSequence
-00700233 FillStyleSequence
-00700234 GraphicGroupSequence
-00700241 TextColorCIELabValue
-00700242 HorizontalAlignment
-00700243 VerticalAlignment
-00700244 ShadowStyle
-00700245 ShadowOffsetX
-00700246 ShadowOffsetY
-00700247 ShadowColorCIELabValue
-00700248 Underlined
-00700249 Bold
-00700250 Italic
-00700251 PatternOnColorCIELabValue
-00700252 PatternOffColorCIELabValue
-00700253 LineThickness
-00700254 LineDashingStyle
-00700255 LinePattern
-00700256 FillPattern
-00700257 FillMode
-00700258 ShadowOpacity
-00700261 GapLength
-00700262 DiameterOfVisibility
-00700273 RotationPoint
-00700274 TickAlignment
-00700278 ShowTickLabel
-00700279 TickLabelAlignment
-00700282 CompoundGraphicUnits
-00700284 PatternOnOpacity
-00700285 PatternOffOpacity
-00700287 MajorTicksSequence
-00700288 TickPosition
-00700289 TickLabel
-00700294 CompoundGraphicType
-00700295 GraphicGroupID
-00700306 ShapeType
-00700308 RegistrationSequence
-00700309 MatrixRegistrationSequence
-0070030a MatrixSequence
-0070030b FrameOfReferenceToDisplayedCoordinateSystemTransformationMatrix
-0070030c FrameOfReferenceTransformationMatrixType
-0070030d RegistrationTypeCodeSequence
-0070030f FiducialDescription
-00700310 FiducialIdentifier
-00700311 FiducialIdentifierCodeSequence
-00700312 ContourUncertaintyRadius
-00700314 UsedFiducialsSequence
-00700318 GraphicCoordinatesDataSequence
-0070031a FiducialUID
-0070031b ReferencedFiducialUID
-0070031c FiducialSetSequence
-0070031e FiducialSequence
-0070031f FiducialsPropertyCategoryCodeSequence
-00700401 GraphicLayerRecommendedDisplayCIELabValue
-00700402 BlendingSequence
-00700403 RelativeOpacity
-00700404 ReferencedSpatialRegistrationSequence
-00700405 BlendingPosition
-00701101 PresentationDisplayCollectionUID
-00701102 PresentationSequenceCollectionUID
-00701103 PresentationSequencePositionIndex
-00701104 RenderedImageReferenceSequence
-00701201 VolumetricPresentationStateInputSequence
-00701202 PresentationInputType
-00701203 InputSequencePositionIndex
-00701204 Crop
-00701205 CroppingSpecificationIndex
-00701206 CompositingMethod
-00701207 VolumetricPresentationInputNumber
-00701208 ImageVolumeGeometry
-00701209 VolumetricPresentationInputSetUID
-0070120a VolumetricPresentationInputSetSequence
-0070120b GlobalCrop
-0070120c GlobalCroppingSpecificationIndex
-0070120d RenderingMethod
-00701301 VolumeCroppingSequence
-00701302 VolumeCroppingMethod
-00701303 BoundingBoxCrop
-00701304 ObliqueCroppingPlaneSequence
-00701305 Plane
-00701306 PlaneNormal
-00701309 CroppingSpecificationNumber
-00701501 MultiPlanarReconstructionStyle
-00701502 MPRThicknessType
-00701503 MPRSlabThickness
-00701505 MPRTopLeftHandCorner
-00701507 MPRViewWidthDirection
-00701508 MPRViewWidth
-0070150c NumberOfVolumetricCurvePoints
-0070150d VolumetricCurvePoints
-00701511 MPRViewHeightDirection
-00701512 MPRViewHeight
-00701602 RenderProjection
-00701603 ViewpointPosition
-00701604 ViewpointLookAtPoint
-00701605 ViewpointUpDirection
-00701606 RenderFieldOfView
-00701607 SamplingStepSize
-00701701 ShadingStyle
-00701702 AmbientReflectionIntensity
-00701703 LightDirection
-00701704 DiffuseReflectionIntensity
-00701705 SpecularReflectionIntensity
-00701706 Shininess
-00701801 PresentationStateClassificationComponentSequence
-00701802 ComponentType
-00701803 ComponentInputSequence
-00701804 VolumetricPresentationInputIndex
-00701805 PresentationStateCompositorComponentSequence
-00701806 WeightingTransferFunctionSequence
-00701807 WeightingLookupTableDescriptor
-00701808 WeightingLookupTableData
-00701901 VolumetricAnnotationSequence
-00701903 ReferencedStructuredContextSequence
-00701904 ReferencedContentItem
-00701905 VolumetricPresentationInputAnnotationSequence
-00701907 AnnotationClipping
-00701a01 PresentationAnimationStyle
-00701a03 RecommendedAnimationRate
-00701a04 AnimationCurveSequence
-00701a05 AnimationStepSize
-00701a06 SwivelRange
-00701a07 VolumetricCurveUpDirections
-00701a08 VolumeStreamSequence
-00701a09 RGBATransferFunctionDescription
-00701b01 AdvancedBlendingSequence
-00701b02 BlendingInputNumber
-00701b03 BlendingDisplayInputSequence
-00701b04 BlendingDisplaySequence
-00701b06 BlendingMode
-00701b07 TimeSeriesBlending
-00701b08 GeometryForDisplay
-00701b11 ThresholdSequence
-00701b12 ThresholdValueSequence
-00701b13 ThresholdType
-00701b14 ThresholdValue
-00720002 HangingProtocolName
-00720004 HangingProtocolDescription
-00720006 HangingProtocolLevel
-00720008 HangingProtocolCreator
-0072000a HangingProtocolCreationDateTime
-0072000c HangingProtocolDefinitionSequence
-0072000e HangingProtocolUserIdentificationCodeSequence
-00720010 HangingProtocolUserGroupName
-00720012 SourceHangingProtocolSequence
-00720014 NumberOfPriorsReferenced
-00720020 ImageSetsSequence
-00720022 ImageSetSelectorSequence
-00720024 ImageSetSelectorUsageFlag
-00720026 SelectorAttribute
-00720028 SelectorValueNumber
-00720030 TimeBasedImageSetsSequence
-00720032 ImageSetNumber
-00720034 ImageSetSelectorCategory
-00720038 RelativeTime
-0072003a RelativeTimeUnits
-0072003c AbstractPriorValue
-0072003e AbstractPriorCodeSequence
-00720040 ImageSetLabel
-00720050 SelectorAttributeVR
-00720052 SelectorSequencePointer
-00720054 SelectorSequencePointerPrivateCreator
-00720056 SelectorAttributePrivateCreator
-0072005e SelectorAEValue
-0072005f SelectorASValue
-00720060 SelectorATValue
-00720061 SelectorDAValue
-00720062 SelectorCSValue
-00720063 SelectorDTValue
-00720064 SelectorISValue
-00720065 SelectorOBValue
-00720066 SelectorLOValue
-00720067 SelectorOFValue
-00720068 SelectorLTValue
-00720069 SelectorOWValue
-0072006a SelectorPNValue
-0072006b SelectorTMValue
-0072006c SelectorSHValue
-0072006d SelectorUNValue
-0072006e SelectorSTValue
-0072006f SelectorUCValue
-00720070 SelectorUTValue
-00720071 SelectorURValue
-00720072 SelectorDSValue
-00720073 SelectorODValue
-00720074 SelectorFDValue
-00720075 SelectorOLValue
-00720076 SelectorFLValue
-00720078 SelectorULValue
-0072007a SelectorUSValue
-0072007c SelectorSLValue
-0072007e SelectorSSValue
-0072007f SelectorUIValue
-00720080 SelectorCodeSequenceValue
-00720081 SelectorOVValue
-00720082 SelectorSVValue
-00720083 SelectorUVValue
-00720100 NumberOfScreens
-00720102 NominalScreenDefinitionSequence
-00720104 NumberOfVerticalPixels
-00720106 NumberOfHorizontalPixels
-00720108 DisplayEnvironmentSpatialPosition
-0072010a ScreenMinimumGrayscaleBitDepth
-0072010c ScreenMinimumColorBitDepth
-0072010e ApplicationMaximumRepaintTime
-00720200 DisplaySetsSequence
-00720202 DisplaySetNumber
-00720203 DisplaySetLabel
-00720204 DisplaySetPresentationGroup
-00720206 DisplaySetPresentationGroupDescription
-00720208 PartialDataDisplayHandling
-00720210 SynchronizedScrollingSequence
-00720212 DisplaySetScrollingGroup
-00720214 NavigationIndicatorSequence
-00720216 NavigationDisplaySet
-00720218 ReferenceDisplaySets
-00720300 ImageBoxesSequence
-00720302 ImageBoxNumber
-00720304 ImageBoxLayoutType
-00720306 ImageBoxTileHorizontalDimension
-00720308 ImageBoxTileVerticalDimension
-00720310 ImageBoxScrollDirection
-00720312 ImageBoxSmallScrollType
-00720314 ImageBoxSmallScrollAmount
-00720316 ImageBoxLargeScrollType
-00720318 ImageBoxLargeScrollAmount
-00720320 ImageBoxOverlapPriority
-00720330 CineRelativeToRealTime
-00720400 FilterOperationsSequence
-00720402 FilterByCategory
-00720404 FilterByAttributePresence
-00720406 FilterByOperator
-00720420 StructuredDisplayBackgroundCIELabValue
-00720421 EmptyImageBoxCIELabValue
-00720422 StructuredDisplayImageBoxSequence
-00720424 StructuredDisplayTextBoxSequence
-00720427 ReferencedFirstFrameSequence
-00720430 ImageBoxSynchronizationSequence
-00720432 SynchronizedImageBoxList
-00720434 TypeOfSynchronization
-00720500 BlendingOperationType
-00720510 ReformattingOperationType
-00720512 ReformattingThickness
-00720514 ReformattingInterval
-00720516 ReformattingOperationInitialViewDirection
-00720520 ThreeDRenderingType
-00720600 SortingOperationsSequence
-00720602 SortByCategory
-00720604 SortingDirection
-00720700 DisplaySetPatientOrientation
-00720702 VOIType
-00720704 PseudoColorType
-00720705 PseudoColorPaletteInstanceReferenceSequence
-00720706 ShowGrayscaleInverted
-00720710 ShowImageTrueSizeFlag
-00720712 ShowGraphicAnnotationFlag
-00720714 ShowPatientDemographicsFlag
-00720716 ShowAcquisitionTechniquesFlag
-00720717 DisplaySetHorizontalJustification
-00720718 DisplaySetVerticalJustification
-00740120 ContinuationStartMeterset
-00740121 ContinuationEndMeterset
-00741000 ProcedureStepState
-00741002 ProcedureStepProgressInformationSequence
-00741004 ProcedureStepProgress
-00741006 ProcedureStepProgressDescription
-00741007 ProcedureStepProgressParametersSequence
-00741008 ProcedureStepCommunicationsURISequence
-0074100a ContactURI
-0074100c ContactDisplayName
-0074100e ProcedureStepDiscontinuationReasonCodeSequence
-00741020 BeamTaskSequence
-00741022 BeamTaskType
-00741024 BeamOrderIndexTrial
-00741025 AutosequenceFlag
-00741026 TableTopVerticalAdjustedPosition
-00741027 TableTopLongitudinalAdjustedPosition
-00741028 TableTopLateralAdjustedPosition
-0074102a PatientSupportAdjustedAngle
-0074102b TableTopEccentricAdjustedAngle
-0074102c TableTopPitchAdjustedAngle
-0074102d TableTopRollAdjustedAngle
-00741030 DeliveryVerificationImageSequence
-00741032 VerificationImageTiming
-00741034 DoubleExposureFlag
-00741036 DoubleExposureOrdering";
+/// The rows, one a line: a tag, its VRs and its keyword.
+pub(super) const ROWS: &str = "00686470 SQ TwoDDegreeOfFreedomSequence
+00686490 FD ThreeDDegreeOfFreedomAxis
+006864a0 FD RangeOfFreedom
+006864c0 FD ThreeDMatingPoint
+006864d0 FD ThreeDMatingAxes
+006864f0 FD TwoDDegreeOfFreedomAxis
+00686500 SQ PlanningLandmarkPointSequence
+00686510 SQ PlanningLandmarkLineSequence
+00686520 SQ PlanningLandmarkPlaneSequence
+00686530 US PlanningLandmarkID
+00686540 LO PlanningLandmarkDescription
+00686545 SQ PlanningLandmarkIdentificationCodeSequence
+00686550 SQ TwoDPointCoordinatesSequence
+00686560 FD TwoDPointCoordinates
+00686590 FD ThreeDPointCoordinates
+006865a0 SQ TwoDLineCoordinatesSequence
+006865b0 FD TwoDLineCoordinates
+006865d0 FD ThreeDLineCoordinates
+006865e0 SQ TwoDPlaneCoordinatesSequence
+006865f0 FD TwoDPlaneIntersection
+00686610 FD ThreeDPlaneOrigin
+00686620 FD ThreeDPlaneNormal
+00687001 CS ModelModification
+00687002 CS ModelMirroring
+00687003 SQ ModelUsageCodeSequence
+00687004 UI ModelGroupUID
+00687005 UR RelativeURIReferenceWithinEncapsulatedDocument
+006a0001 CS AnnotationCoordinateType
+006a0002 SQ AnnotationGroupSequence
+006a0003 UI AnnotationGroupUID
+006a0005 LO AnnotationGroupLabel
+006a0006 UT AnnotationGroupDescription
+006a0007 CS AnnotationGroupGenerationType
+006a0008 SQ AnnotationGroupAlgorithmIdentificationSequence
+006a0009 SQ AnnotationPropertyCategoryCodeSequence
+006a000a SQ AnnotationPropertyTypeCodeSequence
+006a000b SQ AnnotationPropertyTypeModifierCodeSequence
+006a000c UL NumberOfAnnotations
+006a000d CS AnnotationAppliesToAllOpticalPaths
+006a000e SH ReferencedOpticalPathIdentifier
+006a000f CS AnnotationAppliesToAllZPlanes
+006a0010 FD CommonZCoordinateValue
+006a0011 OL AnnotationIndexList
+00700001 SQ GraphicAnnotationSequence
+00700002 CS GraphicLayer
+00700003 CS BoundingBoxAnnotationUnits
+00700004 CS AnchorPointAnnotationUnits
+00700005 CS GraphicAnnotationUnits
+00700006 ST UnformattedTextValue
+00700008 SQ TextObjectSequence
+00700009 SQ GraphicObjectSequence
+00700010 FL BoundingBoxTopLeftHandCorner
+00700011 FL BoundingBoxBottomRightHandCorner
+00700012 CS BoundingBoxTextHorizontalJustification
+00700014 FL AnchorPoint
+00700015 CS AnchorPointVisibility
+00700020 US GraphicDimensions
+00700021 US NumberOfGraphicPoints
+00700022 FL GraphicData
+00700023 CS GraphicType
+00700024 CS GraphicFilled
+00700040 IS ImageRotationRetired
+00700041 CS ImageHorizontalFlip
+00700042 US ImageRotation
+00700050 US DisplayedAreaTopLeftHandCornerTrial
+00700051 US DisplayedAreaBottomRightHandCornerTrial
+00700052 SL DisplayedAreaTopLeftHandCorner
+00700053 SL DisplayedAreaBottomRightHandCorner
+0070005a SQ DisplayedAreaSelectionSequence
+00700060 SQ GraphicLayerSequence
+00700062 IS GraphicLayerOrder
+00700066 US GraphicLayerRecommendedDisplayGrayscaleValue
+00700067 US GraphicLayerRecommendedDisplayRGBValue
+00700068 LO GraphicLayerDescription
+00700080 CS ContentLabel
+00700081 LO ContentDescription
+00700082 DA PresentationCreationDate
+00700083 TM PresentationCreationTime
+00700084 PN ContentCreatorName
+00700086 SQ ContentCreatorIdentificationCodeSequence
+00700087 SQ AlternateContentDescriptionSequence
+00700100 CS PresentationSizeMode
+00700101 DS PresentationPixelSpacing
+00700102 IS PresentationPixelAspectRatio
+00700103 FL PresentationPixelMagnificationRatio
+00700207 LO GraphicGroupLabel
+00700208 ST GraphicGroupDescription
+00700209 SQ CompoundGraphicSequence
+00700226 UL CompoundGraphicInstanceID
+00700227 LO FontName
+00700228 CS FontNameType
+00700229 LO CSSFontName
+00700230 FD RotationAngle
+00700231 SQ TextStyleSequence
+00700232 SQ LineStyleSequence
+00700233 SQ FillStyleSequence
+00700234 SQ GraphicGroupSequence
+00700241 US TextColorCIELabValue
+00700242 CS HorizontalAlignment
+00700243 CS VerticalAlignment
+00700244 CS ShadowStyle
+00700245 FL ShadowOffsetX
+00700246 FL ShadowOffsetY
+00700247 US ShadowColorCIELabValue
+00700248 CS Underlined
+00700249 CS Bold
+00700250 CS Italic
+00700251 US PatternOnColorCIELabValue
+00700252 US PatternOffColorCIELabValue
+00700253 FL LineThickness
+00700254 CS LineDashingStyle
+00700255 UL LinePattern
+00700256 OB FillPattern
+00700257 CS FillMode
+00700258 FL ShadowOpacity
+00700261 FL GapLength
+00700262 FL DiameterOfVisibility
+00700273 FL RotationPoint
+00700274 CS TickAlignment
+00700278 CS ShowTickLabel
+00700279 CS TickLabelAlignment
+00700282 CS CompoundGraphicUnits
+00700284 FL PatternOnOpacity
+00700285 FL PatternOffOpacity
+00700287 SQ MajorTicksSequence
+00700288 FL TickPosition
+00700289 SH TickLabel
+00700294 CS CompoundGraphicType
+00700295 UL GraphicGroupID
+00700306 CS ShapeType
+00700308 SQ RegistrationSequence
+00700309 SQ MatrixRegistrationSequence
+0070030a SQ MatrixSequence
+0070030b FD FrameOfReferenceToDisplayedCoordinateSystemTransformationMatrix
+0070030c CS FrameOfReferenceTransformationMatrixType
+0070030d SQ RegistrationTypeCodeSequence
+0070030f ST FiducialDescription
+00700310 SH FiducialIdentifier
+00700311 SQ FiducialIdentifierCodeSequence
+00700312 FD ContourUncertaintyRadius
+00700314 SQ UsedFiducialsSequence
+00700318 SQ GraphicCoordinatesDataSequence
+0070031a UI FiducialUID
+0070031b UI ReferencedFiducialUID
+0070031c SQ FiducialSetSequence
+0070031e SQ FiducialSequence
+0070031f SQ FiducialsPropertyCategoryCodeSequence
+00700401 US GraphicLayerRecommendedDisplayCIELabValue
+00700402 SQ BlendingSequence
+00700403 FL RelativeOpacity
+00700404 SQ ReferencedSpatialRegistrationSequence
+00700405 CS BlendingPosition
+00701101 UI PresentationDisplayCollectionUID
+00701102 UI PresentationSequenceCollectionUID
+00701103 US PresentationSequencePositionIndex
+00701104 SQ RenderedImageReferenceSequence
+00701201 SQ VolumetricPresentationStateInputSequence
+00701202 CS PresentationInputType
+00701203 US InputSequencePositionIndex
+00701204 CS Crop
+00701205 US CroppingSpecificationIndex
+00701206 CS CompositingMethod
+00701207 US VolumetricPresentationInputNumber
+00701208 CS ImageVolumeGeometry
+00701209 UI VolumetricPresentationInputSetUID
+0070120a SQ VolumetricPresentationInputSetSequence
+0070120b CS GlobalCrop
+0070120c US GlobalCroppingSpecificationIndex
+0070120d CS RenderingMethod
+00701301 SQ VolumeCroppingSequence
+00701302 CS VolumeCroppingMethod
+00701303 FD BoundingBoxCrop
+00701304 SQ ObliqueCroppingPlaneSequence
+00701305 FD Plane
+00701306 FD PlaneNormal
+00701309 US CroppingSpecificationNumber
+00701501 CS MultiPlanarReconstructionStyle
+00701502 CS MPRThicknessType
+00701503 FD MPRSlabThickness
+00701505 FD MPRTopLeftHandCorner
+00701507 FD MPRViewWidthDirection
+00701508 FD MPRViewWidth
+0070150c UL NumberOfVolumetricCurvePoints
+0070150d OD VolumetricCurvePoints
+00701511 FD MPRViewHeightDirection
+00701512 FD MPRViewHeight
+00701602 CS RenderProjection
+00701603 FD ViewpointPosition
+00701604 FD ViewpointLookAtPoint
+00701605 FD ViewpointUpDirection
+00701606 FD RenderFieldOfView
+00701607 FD SamplingStepSize
+00701701 CS ShadingStyle
+00701702 FD AmbientReflectionIntensity
+00701703 FD LightDirection
+00701704 FD DiffuseReflectionIntensity
+00701705 FD SpecularReflectionIntensity
+00701706 FD Shininess
+00701801 SQ PresentationStateClassificationComponentSequence
+00701802 CS ComponentType
+00701803 SQ ComponentInputSequence
+00701804 US VolumetricPresentationInputIndex
+00701805 SQ PresentationStateCompositorComponentSequence
+00701806 SQ WeightingTransferFunctionSequence
+00701807 US WeightingLookupTableDescriptor
+00701808 OB WeightingLookupTableData
+00701901 SQ VolumetricAnnotationSequence
+00701903 SQ ReferencedStructuredContextSequence
+00701904 UI ReferencedContentItem
+00701905 SQ VolumetricPresentationInputAnnotationSequence
+00701907 CS AnnotationClipping
+00701a01 CS PresentationAnimationStyle
+00701a03 FD RecommendedAnimationRate
+00701a04 SQ AnimationCurveSequence
+00701a05 FD AnimationStepSize
+00701a06 FD SwivelRange
+00701a07 OD VolumetricCurveUpDirections
+00701a08 SQ VolumeStreamSequence
+00701a09 LO RGBATransferFunctionDescription
+00701b01 SQ AdvancedBlendingSequence
+00701b02 US BlendingInputNumber
+00701b03 SQ BlendingDisplayInputSequence
+00701b04 SQ BlendingDisplaySequence
+00701b06 CS BlendingMode
+00701b07 CS TimeSeriesBlending
+00701b08 CS GeometryForDisplay
+00701b11 SQ ThresholdSequence
+00701b12 SQ ThresholdValueSequence
+00701b13 CS ThresholdType
+00701b14 FD ThresholdValue
+00720002 SH HangingProtocolName
+00720004 LO HangingProtocolDescription
+00720006 CS HangingProtocolLevel
+00720008 LO HangingProtocolCreator
+0072000a DT HangingProtocolCreationDateTime
+0072000c SQ HangingProtocolDefinitionSequence
+0072000e SQ HangingProtocolUserIdentificationCodeSequence
+00720010 LO HangingProtocolUserGroupName
+00720012 SQ SourceHangingProtocolSequence
+00720014 US NumberOfPriorsReferenced
+00720020 SQ ImageSetsSequence
+00720022 SQ ImageSetSelectorSequence
+00720024 CS ImageSetSelectorUsageFlag
+00720026 AT SelectorAttribute
+00720028 US SelectorValueNumber
+00720030 SQ TimeBasedImageSetsSequence
+00720032 US ImageSetNumber
+00720034 CS ImageSetSelectorCategory
+00720038 US RelativeTime
+0072003a CS RelativeTimeUnits
+0072003c SS AbstractPriorValue
+0072003e SQ AbstractPriorCodeSequence
+00720040 LO ImageSetLabel
+00720050 CS SelectorAttributeVR
+00720052 AT SelectorSequencePointer
+00720054 LO SelectorSequencePointerPrivateCreator
+00720056 LO SelectorAttributePrivateCreator
+0072005e AE SelectorAEValue
+0072005f AS SelectorASValue
+00720060 AT SelectorATValue
+00720061 DA SelectorDAValue
+00720062 CS SelectorCSValue
+00720063 DT SelectorDTValue
+00720064 IS SelectorISValue
+00720065 OB SelectorOBValue
+00720066 LO SelectorLOValue
+00720067 OF SelectorOFValue
+00720068 LT SelectorLTValue
+00720069 OW SelectorOWValue
+0072006a PN SelectorPNValue
+0072006b TM SelectorTMValue
+0072006c SH SelectorSHValue
+0072006d UN SelectorUNValue
+0072006e ST SelectorSTValue
+0072006f UC SelectorUCValue
+00720070 UT SelectorUTValue
+00720071 UR SelectorURValue
+00720072 DS SelectorDSValue
+00720073 OD SelectorODValue
+00720074 FD SelectorFDValue
+00720075 OL SelectorOLValue
+00720076 FL SelectorFLValue
+00720078 UL SelectorULValue
+0072007a US SelectorUSValue
+0072007c SL SelectorSLValue
+0072007e SS SelectorSSValue
+0072007f UI SelectorUIValue
+00720080 SQ SelectorCodeSequenceValue
+00720081 OV SelectorOVValue
+00720082 SV SelectorSVValue
+00720083 UV SelectorUVValue
+00720100 US NumberOfScreens
+00720102 SQ NominalScreenDefinitionSequence
+00720104 US NumberOfVerticalPixels
+00720106 US NumberOfHorizontalPixels
+00720108 FD DisplayEnvironmentSpatialPosition
+0072010a US ScreenMinimumGrayscaleBitDepth
+0072010c US ScreenMinimumColorBitDepth
+0072010e US ApplicationMaximumRepaintTime
+00720200 SQ DisplaySetsSequence
+00720202 US DisplaySetNumber
+00720203 LO DisplaySetLabel
+00720204 US DisplaySetPresentationGroup
+00720206 LO DisplaySetPresentationGroupDescription
+00720208 CS PartialDataDisplayHandling
+00720210 SQ SynchronizedScrollingSequence
+00720212 US DisplaySetScrollingGroup
+00720214 SQ NavigationIndicatorSequence
+00720216 US NavigationDisplaySet
+00720218 US ReferenceDisplaySets
+00720300 SQ ImageBoxesSequence
+00720302 US ImageBoxNumber
+00720304 CS ImageBoxLayoutType
+00720306 US ImageBoxTileHorizontalDimension
+00720308 US ImageBoxTileVerticalDimension
+00720310 CS ImageBoxScrollDirection
+00720312 CS ImageBoxSmallScrollType
+00720314 US ImageBoxSmallScrollAmount
+00720316 CS ImageBoxLargeScrollType
+00720318 US ImageBoxLargeScrollAmount
+00720320 US ImageBoxOverlapPriority
+00720330 FD CineRelativeToRealTime
+00720400 SQ FilterOperationsSequence
+00720402 CS FilterByCategory
+00720404 CS FilterByAttributePresence
+00720406 CS FilterByOperator
+00720420 US StructuredDisplayBackgroundCIELabValue
+00720421 US EmptyImageBoxCIELabValue
+00720422 SQ StructuredDisplayImageBoxSequence
+00720424 SQ StructuredDisplayTextBoxSequence
+00720427 SQ ReferencedFirstFrameSequence
+00720430 SQ ImageBoxSynchronizationSequence
+00720432 US SynchronizedImageBoxList
+00720434 CS TypeOfSynchronization
+00720500 CS BlendingOperationType
+00720510 CS ReformattingOperationType
+00720512 FD ReformattingThickness
+00720514 FD ReformattingInterval
+00720516 CS ReformattingOperationInitialViewDirection
+00720520 CS ThreeDRenderingType
+00720600 SQ SortingOperationsSequence
+00720602 CS SortByCategory
+00720604 CS SortingDirection
+00720700 CS DisplaySetPatientOrientation
+00720702 CS VOIType
+00720704 CS PseudoColorType
+00720705 SQ PseudoColorPaletteInstanceReferenceSequence
+00720706 CS ShowGrayscaleInverted
+00720710 CS ShowImageTrueSizeFlag
+00720712 CS ShowGraphicAnnotationFlag
+00720714 CS ShowPatientDemographicsFlag
+00720716 CS ShowAcquisitionTechniquesFlag
+00720717 CS DisplaySetHorizontalJustification
+00720718 CS DisplaySetVerticalJustification
+00740120 FD ContinuationStartMeterset
+00740121 FD ContinuationEndMeterset
+00741000 CS ProcedureStepState
+00741002 SQ ProcedureStepProgressInformationSequence
+00741004 DS ProcedureStepProgress
+00741006 ST ProcedureStepProgressDescription
+00741007 SQ ProcedureStepProgressParametersSequence
+00741008 SQ ProcedureStepCommunicationsURISequence
+0074100a UR ContactURI
+0074100c LO ContactDisplayName
+0074100e SQ ProcedureStepDiscontinuationReasonCodeSequence
+00741020 SQ BeamTaskSequence
+00741022 CS BeamTaskType
+00741024 IS BeamOrderIndexTrial
+00741025 CS AutosequenceFlag
+00741026 FD TableTopVerticalAdjustedPosition
+00741027 FD TableTopLongitudinalAdjustedPosition
+00741028 FD TableTopLateralAdjustedPosition
+0074102a FD PatientSupportAdjustedAngle
+0074102b FD TableTopEccentricAdjustedAngle
+0074102c FD TableTopPitchAdjustedAngle
+0074102d FD TableTopRollAdjustedAngle
+00741030 SQ DeliveryVerificationImageSequence
+00741032 CS VerificationImageTiming
+00741034 CS DoubleExposureFlag
+00741036 CS DoubleExposureOrdering";

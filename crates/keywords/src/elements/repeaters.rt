@@ -1,91 +1,91 @@
 //! Data elements of several tags (PS3.6 sections 6 to 9). Made by tools/keywords.
 
-/// The rows, one a line: a tag and its keyword.
-pub(super) const ROWS: &str = "002031xx SourceImageIDs
-002804x0 RowsForNthOrderCoefficients
-002804x1 ColumnsForNthOrderCoefficients
-002804x2 CoefficientCoding
-002804x3 CoefficientCodingPointers
-002808x0 CodeLabel
-002808x2 NumberOfTables
-002808x3 CodeTableLocation
-002808x4 BitsForCodeWord
-002808x8 ImageDataLocation
-1000xxx0 EscapeTriplet
-1000xxx1 RunLengthTriplet
-1000xxx2 HuffmanTableSize
-1000xxx3 HuffmanTableTriplet
-1000xxx4 ShiftTableSize
-1000xxx5 ShiftTableTriplet
-1010xxxx ZonalMap
-50xx0005 CurveDimensions
-50xx0010 NumberOfPoints
-50xx0020 TypeOfData
-50xx0022 CurveDescription
-50xx0030 AxisUnits
-50xx0040 AxisLabels
-50xx0103 DataValueRepresentation
-50xx0104 MinimumCoordinateValue
-50xx0105 MaximumCoordinateValue
-50xx0106 CurveRange
-50xx0110 CurveDataDescriptor
-50xx0112 CoordinateStartValue
-50xx0114 CoordinateStepValue
-50xx1001 CurveActivationLayer
-50xx2000 AudioType
-50xx2002 AudioSampleFormat
-50xx2004 NumberOfChannels
-50xx2006 NumberOfSamples
-50xx2008 SampleRate
-50xx200a TotalTime
-50xx200c AudioSampleData
-50xx200e AudioComments
-50xx2500 CurveLabel
-50xx2600 CurveReferencedOverlaySequence
-50xx2610 CurveReferencedOverlayGroup
-50xx3000 CurveData
-60xx0010 OverlayRows
-60xx0011 OverlayColumns
-60xx0012 OverlayPlanes
-60xx0015 NumberOfFramesInOverlay
-60xx0022 OverlayDescription
-60xx0040 OverlayType
-60xx0045 OverlaySubtype
-60xx0050 OverlayOrigin
-60xx0051 ImageFrameOrigin
-60xx0052 OverlayPlaneOrigin
-60xx0060 OverlayCompressionCode
-60xx0061 OverlayCompressionOriginator
-60xx0062 OverlayCompressionLabel
-60xx0063 OverlayCompressionDescription
-60xx0066 OverlayCompressionStepPointers
-60xx0068 OverlayRepeatInterval
-60xx0069 OverlayBitsGrouped
-60xx0100 OverlayBitsAllocated
-60xx0102 OverlayBitPosition
-60xx0110 OverlayFormat
-60xx0200 OverlayLocation
-60xx0800 OverlayCodeLabel
-60xx0802 OverlayNumberOfTables
-60xx0803 OverlayCodeTableLocation
-60xx0804 OverlayBitsForCodeWord
-60xx1001 OverlayActivationLayer
-60xx1100 OverlayDescriptorGray
-60xx1101 OverlayDescriptorRed
-60xx1102 OverlayDescriptorGreen
-60xx1103 OverlayDescriptorBlue
-60xx1200 OverlaysGray
-60xx1201 OverlaysRed
-60xx1202 OverlaysGreen
-60xx1203 OverlaysBlue
-60xx1301 ROIArea
-60xx1302 ROIMean
-60xx1303 ROIStandardDeviation
-60xx1500 OverlayLabel
-60xx3000 OverlayData
-60xx4000 OverlayComments
-7fxx0010 VariablePixelData
-7fxx0011 VariableNextDataGroup
-7fxx0020 VariableCoefficientsSDVN
-7fxx0030 VariableCoefficientsSDHN
-7fxx0040 VariableCoefficientsSDDN";
+/// The rows, one a line: a tag, its VRs and its keyword.
+pub(super) const ROWS: &str = "002031xx CS SourceImageIDs
+002804x0 US RowsForNthOrderCoefficients
+002804x1 US ColumnsForNthOrderCoefficients
+002804x2 LO CoefficientCoding
+002804x3 AT CoefficientCodingPointers
+002808x0 CS CodeLabel
+002808x2 US NumberOfTables
+002808x3 AT CodeTableLocation
+002808x4 US BitsForCodeWord
+002808x8 AT ImageDataLocation
+1000xxx0 US EscapeTriplet
+1000xxx1 US RunLengthTriplet
+1000xxx2 US HuffmanTableSize
+1000xxx3 US HuffmanTableTriplet
+1000xxx4 US ShiftTableSize
+1000xxx5 US ShiftTableTriplet
+1010xxxx US ZonalMap
+50xx0005 US CurveDimensions
+50xx0010 US NumberOfPoints
+50xx0020 CS TypeOfData
+50xx0022 LO CurveDescription
+50xx0030 SH AxisUnits
+50xx0040 SH AxisLabels
+50xx0103 US DataValueRepresentation
+50xx0104 US MinimumCoordinateValue
+50xx0105 US MaximumCoordinateValue
+50xx0106 SH CurveRange
+50xx0110 US CurveDataDescriptor
+50xx0112 US CoordinateStartValue
+50xx0114 US CoordinateStepValue
+50xx1001 CS CurveActivationLayer
+50xx2000 US AudioType
+50xx2002 US AudioSampleFormat
+50xx2004 US NumberOfChannels
+50xx2006 UL NumberOfSamples
+50xx2008 UL SampleRate
+50xx200a UL TotalTime
+50xx200c OB/OW AudioSampleData
+50xx200e LT AudioComments
+50xx2500 LO CurveLabel
+50xx2600 SQ CurveReferencedOverlaySequence
+50xx2610 US CurveReferencedOverlayGroup
+50xx3000 OB/OW CurveData
+60xx0010 US OverlayRows
+60xx0011 US OverlayColumns
+60xx0012 US OverlayPlanes
+60xx0015 IS NumberOfFramesInOverlay
+60xx0022 LO OverlayDescription
+60xx0040 CS OverlayType
+60xx0045 LO OverlaySubtype
+60xx0050 SS OverlayOrigin
+60xx0051 US ImageFrameOrigin
+60xx0052 US OverlayPlaneOrigin
+60xx0060 CS OverlayCompressionCode
+60xx0061 SH OverlayCompressionOriginator
+60xx0062 SH OverlayCompressionLabel
+60xx0063 CS OverlayCompressionDescription
+60xx0066 AT OverlayCompressionStepPointers
+60xx0068 US OverlayRepeatInterval
+60xx0069 US OverlayBitsGrouped
+60xx0100 US OverlayBitsAllocated
+60xx0102 US OverlayBitPosition
+60xx0110 CS OverlayFormat
+60xx0200 US OverlayLocation
+60xx0800 CS OverlayCodeLabel
+60xx0802 US OverlayNumberOfTables
+60xx0803 AT OverlayCodeTableLocation
+60xx0804 US OverlayBitsForCodeWord
+60xx1001 CS OverlayActivationLayer
+60xx1100 US OverlayDescriptorGray
+60xx1101 US OverlayDescriptorRed
+60xx1102 US OverlayDescriptorGreen
+60xx1103 US OverlayDescriptorBlue
+60xx1200 US OverlaysGray
+60xx1201 US OverlaysRed
+60xx1202 US OverlaysGreen
+60xx1203 US OverlaysBlue
+60xx1301 IS ROIArea
+60xx1302 DS ROIMean
+60xx1303 DS ROIStandardDeviation
+60xx1500 LO OverlayLabel
+60xx3000 OB/OW OverlayData
+60xx4000 LT OverlayComments
+7fxx0010 OB/OW VariablePixelData
+7fxx0011 US VariableNextDataGroup
+7fxx0020 OW VariableCoefficientsSDVN
+7fxx0030 OW VariableCoefficientsSDHN
+7fxx0040 OW VariableCoefficientsSDDN";

@@ -83,7 +83,7 @@ fn the_path_is_looked_at_first(rt: HostRuntime) -> Result<(), Fail> {
     for has_links in [true, false] {
         let acts = acts(rt.alloc(), Kept::Flat, has_links)?;
         let acts = acts.as_slice();
-        let opens = [Act::Lock, Act::LookAtFolder, Act::LookAtFolder, Act::List];
+        let opens = [Act::LookAtFolder, Act::Lock, Act::LookAtFolder, Act::List];
         assert!(rt; times(acts, &opens) == 1);
         assert!(rt; times(acts, &[Act::LookAtFolder, Act::Create, Act::Write]) == 2);
         assert!(rt; times(acts, &[Act::Sync, Act::LookAtFolder, Act::Link]) == 2);

@@ -6,7 +6,7 @@ use crate::power::lives::{NEXT, open_writer, tried_states};
 use crate::power::mounted::Mounted;
 use crate::power::trouble::{Act, Trouble};
 use fixtures::folders::is_filed;
-use folder_filing::{FolderFiling, FolderWriter};
+use folder_filing::{FolderFiling, FolderWriter, NamesSynced};
 use part10::{Filing, Settling};
 use std::alloc::Global;
 use std::io;
@@ -36,9 +36,13 @@ struct Filings {
     other: FolderFiling<Mounted>,
 }
 
-/// Settles the last commit of a filing, if there was one; returns whether it is settled.
-fn settles(filing: &mut FolderFiling<Mounted>, is_handed: bool, are_named: bool) -> bool {
-    is_handed && filing.settle(are_named).is_ok() && !filing.waits()
+/// Settles the last commit of a filing, if there was one, by this sync of names; returns whether it is settled.
+fn settles(
+    filing: &mut FolderFiling<Mounted>,
+    is_handed: bool,
+    synced: &NamesSynced<Global>,
+) -> bool {
+    is_handed && filing.settle(synced).is_ok() && !filing.waits()
 }
 
 impl Filings {
@@ -62,11 +66,11 @@ impl Filings {
         self.first.write_out();
         self.second.write_out();
         self.third.write_out();
-        let are_named = self.writer.sync_names().is_ok();
+        let synced = self.writer.sync_names();
         [
-            settles(&mut self.first, handed[0], are_named),
-            settles(&mut self.second, handed[1], are_named),
-            settles(&mut self.third, handed[2], are_named),
+            settles(&mut self.first, handed[0], &synced),
+            settles(&mut self.second, handed[1], &synced),
+            settles(&mut self.third, handed[2], &synced),
         ]
     }
 
@@ -74,8 +78,8 @@ impl Filings {
     fn settle_last(&mut self, text: &[u8]) -> bool {
         let is_handed = is_filed(&mut self.last, text);
         self.last.write_out();
-        let are_named = self.writer.sync_names().is_ok();
-        settles(&mut self.last, is_handed, are_named)
+        let synced = self.writer.sync_names();
+        settles(&mut self.last, is_handed, &synced)
     }
 
     /// Files the texts beside another draft: so many as a group, and then the last one. Returns which are settled.
@@ -322,16 +326,36 @@ fn while_a_file_waits_no_draft_is_begun(rt: HostRuntime) -> Result<(), Fail> {
     assert!(rt; is_filed(&mut filing, TEXTS[0]));
     assert!(rt; filing.begin().is_err());
     filing.discard();
-    assert!(rt; filing.settle(true).is_err());
+    assert!(rt; filing.settle(&writer.sync_names()).is_err());
     filing.write_out();
     assert!(rt; filing.begin().is_err());
     assert!(rt; filing.committed() == 0);
-    assert!(rt; filing.settle(writer.sync_names().is_ok()).is_ok());
+    assert!(rt; filing.settle(&writer.sync_names()).is_ok());
     assert!(rt; filing.committed() == 1 && filing.dropped() == 0);
     assert!(rt; filing.begin().is_ok());
     filing.discard();
     let disk = disk.try_borrow()?;
     let due = due_of(alloc, [true, false, false, false], false)?;
     assert!(rt; Filed::of(alloc, &disk, Kept::Flat)?.is_due(&disk, due.as_slice())?);
+    Ok(())
+}
+
+#[test]
+fn a_file_that_was_named_after_a_sync_is_not_settled_by_it(rt: HostRuntime) -> Result<(), Fail> {
+    let alloc = rt.alloc();
+    for kept in [Kept::Flat, Kept::Levels] {
+        let disk = Disk::new(alloc, Trouble::NONE)?.shared()?;
+        let mut writer = open_writer(alloc, &disk, kept)?.in_groups();
+        let (mut first, mut second) = (writer.filing()?, writer.filing()?);
+        assert!(rt; is_filed(&mut first, TEXTS[0]) && is_filed(&mut second, TEXTS[1]));
+        first.write_out();
+        let synced = writer.sync_names();
+        second.write_out();
+        assert!(rt; synced.failure().is_none());
+        assert!(rt; second.settle(&synced).is_err() && first.settle(&synced).is_ok());
+        let disk = disk.try_borrow()?;
+        let due = due_of(alloc, [true, false, false, false], false)?;
+        assert!(rt; Filed::of(alloc, &disk, kept)?.is_due(&disk, due.as_slice())?);
+    }
     Ok(())
 }

@@ -1,23 +1,18 @@
 -- What a slot's history becomes.
-use Rattle.std.specs.Prelude.{◌≡◌, List, [], ◌∷◌, ◌++◌, map, Option, Some, None, Box}
+use Rattle.std.specs.Prelude.{◌≡◌, List, [], ◌∷◌, ◌++◌, map, Option, Some, None}
 use Rattle.std.specs.List.{All}
-use Rattle.negotiate.specs.Settings.{Settings}
 use Rattle.part10.specs.Store.{Store}
 use Rattle.server.specs.declared.server.opening.history.SlotHistory.{SlotHistory}
+use Rattle.server.specs.Terms.{Terms}
 use Rattle.server.specs.Histories.{LeftBy, ended_in, opened_in, opened_over}
 
 -- what is seen of the connection that is there
 abbrev pub seen_of : {T F : Type 0} → Option T → (T → F) → List F
 seen_of None see = []
-seen_of (Some occupant) see = see occupant ∷ []
+seen_of (Some connection) see = see connection ∷ []
 
--- what is seen of the connection that a slot's memory has
-abbrev pub seen_in : {T A F : Type 0} → Option (Box (Option T) A) → (T → F) → List F
-seen_in None see = []
-seen_in (Some memory) see = seen_of memory.value see
-
--- connections have ended that were opened over these filings, and left what these settings give
-pub record HaveEnded {F : Type 0} (store : F → Store) (s : Settings) (openings : List F) (old new : SlotHistory F) : Type 0 where
+-- connections have ended that were opened over these filings, and left what these terms give
+pub record HaveEnded {F : Type 0} (store : F → Store) (t : Terms) (openings : List F) (old new : SlotHistory F) : Type 0 where
   pub opened : opened_in new ≡ opened_in old
   pub ended : map opened_over (ended_in new) ≡ map opened_over (ended_in old) ++ openings
-  pub left : ∥ All (LeftBy store s) (ended_in old) ∥₁ → ∥ All (LeftBy store s) (ended_in new) ∥₁
+  pub left : ∥ All (LeftBy store t) (ended_in old) ∥₁ → ∥ All (LeftBy store t) (ended_in new) ∥₁

@@ -1,11 +1,12 @@
 //! How a server accepts connections.
-use super::Server;
+use super::{LAST_WAITER, Server};
 use crate::policy::Policy;
 use crate::socket::AcceptedStream;
 use crate::terms::MOST_AT_ONCE;
 use admitting::{Admission, Waiter, peer_number};
-use journal::{NotAccepted, PeerFull, TurnedAway};
+use journal::{Journal, NotAccepted, PeerFull, TurnedAway};
 use log::Log;
+use mio::{Interest, Token};
 use std::alloc::Global;
 use std::fs::File;
 use std::io::ErrorKind;
@@ -16,12 +17,12 @@ use std::time::{Clock, Duration, Instant};
 /// that a lasting failure does not keep it busy.
 pub(super) const PAUSE_MILLISECONDS: u64 = 100;
 
-impl<R: Log + Clock, S: Files<File = File> + Alloc<A = Global> + Clone + Drop, P: Policy> Server<
-    '_,
-    R,
-    S,
-    P,
-> {
+impl<
+    'a,
+    R: Log + Clock,
+    S: Files<File = File> + Alloc<A = Global> + Clone + Drop,
+    P: Policy,
+> Server<'a, R, S, P, Journal<'a, R, S>> {
     /// Gives a connection that was accepted its slot, or lets it wait.
     fn admit(&mut self, accepted: AcceptedStream, now: Instant) {
         let logger = self.logger().about(accepted.peer);
@@ -30,24 +31,42 @@ impl<R: Log + Clock, S: Files<File = File> + Alloc<A = Global> + Clone + Drop, P
             Admission::Slot(index) => self.occupy_or_tell(accepted, index, now),
             Admission::Full | Admission::PeerFull => {
                 if self.peer_told.is_due(now) {
-                    logger.tell(&PeerFull(self.terms.per_peer as u64));
+                    logger.tell(&PeerFull(self.terms.service.per_peer as u64));
                 }
-                let waiter = Waiter {
-                    peer,
-                    waiting: accepted,
-                };
-                if !self.queue.push(waiter) {
+                if !self.enqueue(accepted, peer) && self.closed_told.is_due(now) {
                     logger.tell(&TurnedAway);
                 }
             }
         }
     }
 
+    /// Lets a connection wait, and has the poll tell once its peer closes it. Returns `false`, and closes it, if too
+    /// many wait.
+    fn enqueue(&mut self, accepted: AcceptedStream, peer: u128) -> bool {
+        let mut waiting = accepted;
+        let number = self.next_waiter;
+        self.next_waiter = number.saturating_add(1).min(LAST_WAITER);
+        let registry = self.poll.registry();
+        let _ = registry.register(&mut waiting.stream, Token(number), Interest::READABLE);
+        self.queue.push(Waiter {
+            peer,
+            number,
+            waiting,
+        })
+    }
+
+    /// Opens an association over a connection that waited, whose peer got this slot.
+    fn occupy_next(&mut self, waiter: Waiter<AcceptedStream>, index: usize, now: Instant) {
+        let mut accepted = waiter.waiting;
+        let _ = self.poll.registry().deregister(&mut accepted.stream);
+        self.occupy_or_tell(accepted, index, now);
+    }
+
     /// Gives free slots to those that wait for one, and then to those that are to be accepted.
     pub(super) fn admit_all(&mut self, now: Instant) {
         for _ in 0..MOST_AT_ONCE {
             match self.queue.admit(&mut self.occupancy) {
-                Some((waiter, index)) => self.occupy_or_tell(waiter.waiting, index, now),
+                Some((waiter, index)) => self.occupy_next(waiter, index, now),
                 None => break,
             }
         }
@@ -72,11 +91,11 @@ impl<R: Log + Clock, S: Files<File = File> + Alloc<A = Global> + Clone + Drop, P
 
     /// Accepts a connection, if one is there.
     fn accept(&mut self, now: Instant) {
-        match self.listener.accept() {
+        match self.listeners.accept() {
             Ok((stream, peer)) => {
                 self.note_accepted(peer, now);
                 self.admit(AcceptedStream { stream, peer }, now);
-                self.is_open = !self.terms.once;
+                self.is_open = !self.terms.service.once;
             }
             Err(failure) if failure.kind() == ErrorKind::WouldBlock => {
                 self.may_accept = false;

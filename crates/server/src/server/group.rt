@@ -9,7 +9,7 @@ const GATHERING_MILLISECONDS: u64 = 20;
 
 /// How many connections have a file that waits, and whether others may have one soon.
 #[derive(Clone, Copy)]
-pub(crate) struct Waiting {
+pub(super) struct Waiting {
     files: u64,
     /// Whether others have none.
     has_others: bool,
@@ -28,7 +28,7 @@ impl Waiting {
     }
 
     /// Counts a connection: whether it has a file that waits, or else may have something to read.
-    pub(crate) fn count(&mut self, waits: bool, is_ready: bool) {
+    pub(super) fn count(&mut self, waits: bool, is_ready: bool) {
         if waits {
             self.files = self.files.saturating_add(1);
         } else {

@@ -2,7 +2,7 @@
 use super::Server;
 use crate::policy::Policy;
 use crate::terms::ServerTerms;
-use journal::{Logger, MetricsNotWritten, MetricsWritten};
+use journal::{Journal, Logger, MetricsNotWritten, MetricsWritten};
 use log::Log;
 use metrics::WriteReport;
 use std::alloc::Global;
@@ -27,31 +27,20 @@ pub(super) fn measure_end<R: Log + Clock, S: Files + Alloc>(
 ) {
     if let Some(metrics) = terms.metrics {
         metrics.set_open(0);
-        tell(Logger::new(rt, terms.form), metrics.write(files));
+        tell(terms.logger(rt), metrics.write(files));
     }
 }
 
-impl<R: Log + Clock, S: Files<File = File> + Alloc<A = Global> + Clone + Drop, P: Policy> Server<
-    '_,
-    R,
-    S,
-    P,
-> {
-    /// Returns how many slots have a connection.
-    fn taken(&self) -> u64 {
-        let mut taken: u64 = 0;
-        for index in 0..self.slots.len() {
-            if self.is_taken(index) {
-                taken = taken.saturating_add(1);
-            }
-        }
-        taken
-    }
-
+impl<
+    'a,
+    R: Log + Clock,
+    S: Files<File = File> + Alloc<A = Global> + Clone + Drop,
+    P: Policy,
+> Server<'a, R, S, P, Journal<'a, R, S>> {
     /// Writes the file, if there is one and it is due.
     pub(super) fn measure(&self, files: &S, now: Instant) {
         if let Some(metrics) = self.terms.metrics {
-            metrics.set_open(self.taken());
+            metrics.set_open(self.open_connections() as u64);
             tell(self.logger(), metrics.write_due(files, now));
         }
     }

@@ -1,16 +1,17 @@
 //! A server from its start to its end.
 ghost use Rattle.std.specs.Prelude.{◌≡◌, ◌+◌, length, vec_len, IfOk, OnOk};
 ghost use Rattle.std.specs.List.{All};
-ghost use Rattle.negotiate.specs.Settings.{settings_of};
 ghost use Rattle.server.specs.FolderStore.{folder_store};
 ghost use Rattle.server.specs.Histories.{AllEnded, slots_in};
+ghost use Rattle.server.specs.Terms.{terms_of};
 
 mod history;
 
 use super::group::Group;
 use super::measuring::measure_end;
-use super::{LISTENER, Server};
+use super::{FIRST_WAITER, LISTENERS, Server};
 use crate::arrivals::Arrivals;
+use crate::listeners::Listeners;
 use crate::policy::Policy;
 use crate::slot::Slot;
 use crate::socket::AcceptedStream;
@@ -20,10 +21,9 @@ use admitting::{Notice, Queue, Slots};
 use folder_filing::{FolderFiling, FolderWriter};
 pub(crate) use history::ClosedSlots;
 pub use history::{ServerHistory, SlotHistory};
-use journal::{Listening, Logger, Stopped};
+use journal::{Journal, Listening, Stopped};
 use log::Log;
-use mio::net::TcpListener;
-use mio::{Events, Interest, Poll, Token};
+use mio::{Events, Poll, Token};
 use negotiate::Config;
 use std::alloc::{AllocError, AllocFailed, Global};
 use std::fs::File;
@@ -32,16 +32,6 @@ use std::net::Net;
 use std::rt::Files;
 use std::time::{Clock, Instant};
 use std::{io, net};
-
-/// Returns what waits for the connections of this listener.
-fn watched<R: Net>(rt: &R, listener: net::TcpListener) -> io::Result<(Poll, TcpListener)> {
-    listener.set_nonblocking(true)?;
-    let mut listener = TcpListener::from_std(listener);
-    let poll = Poll::new(rt)?;
-    poll.registry()
-        .register(&mut listener, Token(LISTENER), Interest::READABLE)?;
-    Ok((poll, listener))
-}
 
 /// Which slots are occupied, which is none, and room for those that wait for one.
 #[derive(Drop)]
@@ -53,18 +43,19 @@ struct Vacancies {
 /// Returns the vacancies of a server that is held to these terms.
 fn vacancies_of(alloc: Global, terms: &ServerTerms<'_>) -> Result<Vacancies, AllocError> {
     Ok(Vacancies {
-        occupancy: Slots::new(alloc, terms.at_once, terms.per_peer)?,
-        queue: Queue::new(alloc, terms.at_once)?,
+        occupancy: Slots::new(alloc, terms.service.associations, terms.service.per_peer)?,
+        queue: Queue::new(alloc, terms.service.associations)?,
     })
 }
 
 /// Closes these slots. Returns what there was of all their connections, beside what there was before.
 pub(super) fn close_all<
+    'a,
     R: Log + Clock,
     S: Files<File = File> + Alloc<A = Global> + Clone + Drop,
     P: Policy,
 >(
-    slots: Vec<Slot<'_, R, S, P>>,
+    slots: Vec<Slot<'a, Journal<'a, R, S>, S, P>>,
     closed: ClosedSlots<FolderFiling<S>, P>,
     now: Instant,
 ) -> ClosedSlots<FolderFiling<S>, P>
@@ -83,16 +74,17 @@ pub(super) fn close_all<
 }
 
 /// Takes the memory of the first slot, if there is one.
-fn make_first<R: Log + Clock, S: Files<File = File> + Alloc<A = Global> + Clone + Drop, P: Policy>(
-    slots: &mut Vec<Slot<'_, R, S, P>>,
-    config: &Config,
-    now: Instant,
-) -> Result<(), AllocError>
+fn make_first<
+    'a,
+    R: Log + Clock,
+    S: Files<File = File> + Alloc<A = Global> + Clone + Drop,
+    P: Policy,
+>(slots: &mut Vec<Slot<'a, Journal<'a, R, S>, S, P>>, config: &'a Config) -> Result<(), AllocError>
     ensures { vec_len slots.new ≡ vec_len slots.old }
 {
     let alloc = *slots.allocator();
     match slots.get_mut(0) {
-        Some(first) => first.make(alloc, config, now),
+        Some(first) => first.make(alloc, config),
         None => Ok(()),
     }
 }
@@ -108,12 +100,12 @@ fn slots_of<
     alloc: Global,
     count: usize,
     filing: FolderFiling<S>,
-    config: &Config,
+    config: &'a Config,
     now: Instant,
-) -> Result<Vec<Slot<'a, R, S, P>>, AllocError>
+) -> Result<Vec<Slot<'a, Journal<'a, R, S>, S, P>>, AllocError>
     ensures { IfOk result (λ slots. vec_len slots ≡ count) }
 {
-    let mut slots = Vec::new(alloc);
+    let mut slots = Vec::with_capacity(alloc, count)?;
     let mut filing = Some(filing);
     for added in 0..count {
         if let Err(AllocFailed { value }) = slots.push(Slot::new(filing.take())) {
@@ -123,14 +115,14 @@ fn slots_of<
             return Err(AllocError);
         }
     }
-    if let Err(failure) = make_first(&mut slots, config, now) {
+    if let Err(failure) = make_first(&mut slots, config) {
         let _history = close_all(slots, ClosedSlots::new(), now).into_history();
         return Err(failure);
     }
     Ok(slots)
 }
 
-/// Returns a server that accepts the connections of this listener.
+/// Returns a server that accepts the connections of these listeners.
 fn server_of<
     'a,
     R: Log + Clock + Net + Alloc<A = Global>,
@@ -138,80 +130,87 @@ fn server_of<
     P: Policy,
 >(
     rt: &'a R,
-    listener: net::TcpListener,
+    listeners: Vec<net::TcpListener>,
     terms: ServerTerms<'a>,
     filings: (FolderWriter<S>, FolderFiling<S>),
-) -> io::Result<Server<'a, R, S, P>>
-    requires settings { settings_of terms.config.now ≡ P.settings }
-    requires at_once { terms.at_once ≡ P.at_once }
+) -> io::Result<Server<'a, R, S, P, Journal<'a, R, S>>>
+    requires terms { terms_of terms ≡ P.terms }
+    requires at_once { terms.service.associations ≡ P.at_once }
 {
     let now = Instant::now(rt)?;
-    let (poll, listener) = watched(rt, listener)?;
+    let poll = Poll::new(rt)?;
+    let listeners = Listeners::watched(&poll, Token(LISTENERS), listeners)?;
     let alloc = rt.alloc();
     let vacancies = vacancies_of(alloc, &terms)?;
     let arrivals = Arrivals::new(alloc)?;
     let (folder, first) = filings;
     let Vacancies { occupancy, queue } = vacancies;
-    let slots = slots_of(alloc, terms.at_once, first, terms.config, now)?;
+    let slots = slots_of(alloc, terms.service.associations, first, terms.config, now)?;
     Ok(Server {
         rt,
         poll,
-        listener,
+        listeners,
         terms,
         folder,
         occupancy,
         slots,
         queue,
+        next_waiter: FIRST_WAITER,
         is_open: true,
+        round: 0,
         now,
         may_accept: true,
         arrivals,
         group: Group::new(),
         paused: None,
         looked: None,
-        asked: None,
+        stop: None,
         slots_told: Notice::new(),
         peer_told: Notice::new(),
+        closed_told: Notice::new(),
         accept_told: Notice::new(),
     })
 }
 
-/// Removes the file that ends the server, if it is there, logs where the listener listens, and returns room for the
-/// events of as many connections as there are slots, and of the listener.
+/// Removes the file that ends the server, if it is there, logs where the listeners listen, and returns room for the
+/// events of as many connections as there are slots, and of the listeners.
 fn begin<R: Log + Clock + Alloc<A = Global>, S: Files>(
     rt: &R,
-    listener: &net::TcpListener,
+    listeners: &[net::TcpListener],
     terms: &ServerTerms<'_>,
     files: &S,
 ) -> io::Result<Events> {
-    clear(files, terms.stop_file)?;
-    let address = listener.local_addr()?;
-    Logger::new(rt, terms.form).tell(&Listening(address));
-    Ok(Events::with_capacity(rt.alloc(), terms.at_once.saturating_add(1))?)
+    clear(files, terms.service.stop_file)?;
+    for listener in listeners {
+        let address = listener.local_addr()?;
+        terms.logger(rt).tell(&Listening(address));
+    }
+    let watched = terms.service.associations.saturating_add(listeners.len());
+    Ok(Events::with_capacity(rt.alloc(), watched)?)
 }
 
-/// Serves as `serve_many` does, and lets each connection go. Logs nothing at the end.
+/// Serves as `serve_many` does, and closes each connection. Logs nothing at the end.
 fn served<
     R: Log + Clock + Net + Alloc<A = Global>,
     S: Files<File = File> + Alloc<A = Global> + Clone + Drop,
     P: Policy,
 >(
     rt: &R,
-    listener: net::TcpListener,
+    listeners: Vec<net::TcpListener>,
     terms: ServerTerms<'_>,
     files: &S,
     folder: (FolderWriter<S>, FolderFiling<S>),
 ) -> (ServerHistory<FolderFiling<S>>, io::Result<()>)
-    requires settings { settings_of terms.config.now ≡ P.settings }
-    requires at_once { terms.at_once ≡ P.at_once }
+    requires terms { terms_of terms ≡ P.terms }
+    requires at_once { terms.service.associations ≡ P.at_once }
     ensures all { OnOk result.1 (length (slots_in result.0) ≡ P.at_once) }
-    ensures ended { ∥ All (AllEnded folder_store P.settings) (slots_in result.0) ∥₁ }
+    ensures ended { ∥ All (AllEnded folder_store P.terms) (slots_in result.0) ∥₁ }
 {
-    let mut events = match begin(rt, &listener, &terms, files) {
+    let mut events = match begin(rt, listeners.as_slice(), &terms, files) {
         Ok(events) => events,
         Err(failure) => return (ServerHistory::new(), Err(failure)),
     };
-    let mut server = match server_of::<R, S, P>(rt, listener, terms, folder) {
+    let mut server = match server_of::<R, S, P>(rt, listeners, terms, folder) {
         Ok(server) => server,
         Err(failure) => return (ServerHistory::new(), Err(failure)),
     };
@@ -221,7 +220,7 @@ fn served<
     (closed.into_history(), served)
 }
 
-/// Serves the associations of the connections that this listener accepts, as many at once as there are
+/// Serves the associations of the connections that these listeners accept, as many at once as there are
 /// slots, until the file appears that ends the server, or only one where that was asked for. Logs what
 /// happens. The first slot files by the filing that is handed in, each other one by one of the folder.
 /// Returns what there was of the connections, for contracts.
@@ -237,17 +236,19 @@ pub fn serve_many<
     S: Files<File = File> + Alloc<A = Global> + Clone + Drop,
 >(
     rt: &R,
-    listener: net::TcpListener,
+    listeners: Vec<net::TcpListener>,
     terms: ServerTerms<'_>,
     files: &S,
     folder: (FolderWriter<S>, FolderFiling<S>),
 ) -> (ServerHistory<FolderFiling<S>>, io::Result<()>)
-    ensures all { OnOk result.1 (length (slots_in result.0) ≡ terms.entry.at_once) }
-    ensures ended { ∥ All (AllEnded folder_store (settings_of terms.entry.config.now)) (slots_in result.0) ∥₁ }
+    ensures all { OnOk result.1 (length (slots_in result.0) ≡ terms.entry.service.associations) }
+    ensures ended { ∥ All (AllEnded folder_store (terms_of terms.entry)) (slots_in result.0) ∥₁ }
 {
-    let (history, served) = served::<R, S, Brand>(rt, listener, terms, files, folder);
+    let (history, served) = served::<R, S, Brand>(rt, listeners, terms, files, folder);
+    let logger = terms.logger(rt);
+    logger.tell_left_out(None);
     if served.is_ok() {
-        Logger::new(rt, terms.form).tell(&Stopped);
+        logger.tell(&Stopped);
     }
     (history, served)
 }

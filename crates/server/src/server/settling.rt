@@ -2,24 +2,27 @@
 use super::Server;
 use super::group::Waiting;
 use crate::policy::Policy;
-use journal::NamesNotSynced;
+use folder_filing::NamesSynced;
+use journal::{Journal, Limited, NamesNotSynced};
 use log::Log;
 use std::alloc::Global;
 use std::fs::File;
 use std::rt::Files;
 use std::time::{Clock, Instant};
 
-impl<R: Log + Clock, S: Files<File = File> + Alloc<A = Global> + Clone + Drop, P: Policy> Server<
-    '_,
-    R,
-    S,
-    P,
-> {
+impl<
+    'a,
+    R: Log + Clock,
+    S: Files<File = File> + Alloc<A = Global> + Clone + Drop,
+    P: Policy,
+> Server<'a, R, S, P, Journal<'a, R, S>> {
     /// Returns how many connections have a file that waits, and whether others may have one soon.
     fn waiting(&self) -> Waiting {
         let mut waiting = Waiting::new();
         for slot in &self.slots {
-            slot.count(&mut waiting);
+            if let Some(connection) = &slot.connection {
+                waiting.count(connection.waits(), connection.is_ready());
+            }
         }
         waiting
     }
@@ -33,42 +36,48 @@ impl<R: Log + Clock, S: Files<File = File> + Alloc<A = Global> + Clone + Drop, P
     }
 
     /// Writes the files that wait to the disk, each with its name, then the names of all, and sends the
-    /// replies to their stores. A connection whose file is lost is let go.
+    /// replies to their stores. A connection whose file is lost is closed.
     pub(super) fn settle_all(&mut self, now: Instant) {
         if self.waiting().has_several() {
             for slot in &self.slots {
-                slot.start_writing();
+                if let Some(connection) = &slot.connection {
+                    connection.start_writing();
+                }
             }
         }
         for index in 0..self.slots.len() {
             if let Some(slot) = self.slots.get_mut(index) {
-                slot.write_out();
+                if let Some(connection) = &mut slot.connection {
+                    connection.write_out();
+                }
             }
         }
-        let are_named = self.sync_names();
+        let synced = self.sync_names();
         for index in 0..self.slots.len() {
-            if self.settle(index, are_named, now) {
-                self.end(index, now);
+            if self.settle(index, &synced, now) {
+                self.close_connection(index, now);
             }
         }
     }
 
-    /// Writes the names that files were given to the disk. Returns whether that worked.
-    fn sync_names(&self) -> bool {
-        match self.folder.sync_names() {
-            Ok(()) => true,
-            Err(failure) => {
-                self.logger().tell(&NamesNotSynced(&failure));
-                false
-            }
+    /// Writes the names that files were given to the disk, and logs why that did not work for some. Returns
+    /// which it worked for.
+    fn sync_names(&self) -> NamesSynced<Global> {
+        let synced = self.folder.sync_names();
+        if let Some(failure) = synced.failure() {
+            self.logger()
+                .tell_limited(Limited::Names, &NamesNotSynced(failure));
         }
+        synced
     }
 
-    /// Settles the file of a slot's connection, if one waits. Returns whether the connection is to be let go.
-    fn settle(&mut self, index: usize, are_named: bool, now: Instant) -> bool {
-        match self.slots.get_mut(index) {
-            Some(slot) => slot.settle(are_named, now),
-            None => false,
+    /// Settles the file of a slot's connection, if one waits. Returns whether the connection is to be closed.
+    fn settle(&mut self, index: usize, synced: &NamesSynced<Global>, now: Instant) -> bool {
+        if let Some(slot) = self.slots.get_mut(index) {
+            if let Some(connection) = &mut slot.connection {
+                return connection.settle(synced, now);
+            }
         }
+        false
     }
 }

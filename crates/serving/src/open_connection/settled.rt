@@ -1,12 +1,16 @@
 //! How a file of a connection that waits is settled.
-ghost use Rattle.std.specs.Prelude.{◌≡◌, OnErr, OnOk, true, false};
+ghost use Rattle.std.specs.Prelude.{◌≡◌, true, false};
+ghost use Rattle.serving.specs.Own.{own_of};
+ghost use Rattle.serving.specs.Timed.{asked_at};
 
 use super::Connection;
 use connection::Observer;
-use part10::{FilingFailed, Settling};
+use part10::Settling;
+use std::io::Write;
+use std::time::Instant;
 
-impl<S, F: Settling> Connection<S, F> {
-    ghost use Rattle.serving.specs.Connections.{filing_of, opening_of, settings_at, socket_of, state_at, untaken_at, waiting_at};
+impl<'c, S, F: Settling, B: Observer> Connection<'c, S, F, B> {
+    ghost use Rattle.serving.specs.Connections.{begun_of, filing_of, inputs_at, moments_at, opening_of, settings_at, socket_of, state_at, untaken_at, waiting_at};
 
     /// Returns whether the last file of its filing waits to be settled, or was lost before that. Then
     /// nothing is read and nothing is sent.
@@ -30,30 +34,43 @@ impl<S, F: Settling> Connection<S, F> {
         ensures same_state { state_at self.new ≡ state_at self.old }
         ensures same_waiting { waiting_at self.new ≡ waiting_at self.old }
         ensures same_untaken { untaken_at self.new ≡ untaken_at self.old }
+        ensures same_inputs { inputs_at self.new ≡ inputs_at self.old }
+        ensures same_moments { moments_at self.new ≡ moments_at self.old }
+        ensures same_start { begun_of self.new ≡ begun_of self.old }
     {
         self.filing.write_out();
     }
+}
 
-    /// Settles the file that waits, if one does, so that the next turn sends the reply to its store.
-    /// `are_named` says whether the names that files were given are on the disk. The observer is shown
-    /// whether it is kept.
+impl<'c, S: Write, F: Settling, B: Observer> Connection<'c, S, F, B> {
+    ghost use Rattle.serving.specs.Connections.{begun_of, filing_of, inputs_at, moments_at, opening_of, settings_at, socket_of, stopped_at};
+
+    /// Settles the file that waits, if one does, by this sync of names, and sends the reply to its store. The
+    /// observer is shown whether it is kept. If it is lost, nothing is sent. Returns whether the connection is
+    /// to be closed.
     ///
-    /// Fails if it is lost. Then nothing more is sent: all that is left is to end the connection.
-    pub fn settle<B: Observer>(&mut self, are_named: bool, observer: &B) -> Result<(), FilingFailed>
+    /// `lost`: it is where a file waits afterwards. `closes`, `quiet`: where this sync does not have the file it is,
+    /// and nothing is sent.
+    pub fn settle(&mut self, synced: &F::Synced, now: Instant) -> bool
         ensures settings { settings_at self.new ≡ settings_at self.old }
         ensures opening { opening_of self.new ≡ opening_of self.old }
-        ensures settled { OnOk result (F.waits (filing_of self.new) ≡ false) }
-        ensures lost { OnErr result (F.waits (filing_of self.new) ≡ true) }
-        ensures quiet { socket_of self.new ≡ socket_of self.old }
-        ensures same_state { state_at self.new ≡ state_at self.old }
-        ensures same_waiting { waiting_at self.new ≡ waiting_at self.old }
-        ensures same_untaken { untaken_at self.new ≡ untaken_at self.old }
+        ensures lost { F.waits (filing_of self.new) ≡ true → result ≡ true }
+        ensures quiet { F.waits (filing_of self.old) ≡ true → F.covers (filing_of self.old) synced.now ≡ false → socket_of self.new ≡ socket_of self.old }
+        ensures same_start { begun_of self.new ≡ begun_of self.old }
+        ensures closes { F.waits (filing_of self.old) ≡ true → F.covers (filing_of self.old) synced.now ≡ false → result ≡ true }
+        ensures peers { own_of (inputs_at self.new) ≡ own_of (inputs_at self.old) }
+        ensures unasked { asked_at (moments_at self.new) ≡ asked_at (moments_at self.old) }
+        ensures unstopped { stopped_at self.new ≡ stopped_at self.old }
     {
-        let waited = self.filing.waits();
-        let settled = self.filing.settle(are_named);
-        if waited {
-            observer.settled(settled.is_ok());
+        if !self.filing.waits() {
+            return false;
         }
-        settled
+        self.is_ready = true;
+        let settled = self.filing.settle(synced);
+        self.observer.settled(settled.is_ok());
+        if settled.is_ok() {
+            self.flush(now);
+        }
+        self.waits()
     }
 }

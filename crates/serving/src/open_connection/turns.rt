@@ -1,29 +1,35 @@
-//! What a connection does when it has its turn, and when its time is up.
-ghost use Rattle.std.specs.Prelude.{◌≡◌, ◌≢◌, ◌≤◌, ◌<◌, ◌+◌, ◌↔◌, [], length, true, false};
+//! What a connection does when it has its turn.
+ghost use Rattle.std.specs.Prelude.{◌≡◌, ◌≢◌, ◌≤◌, ◌<◌, ◌+◌, ◌++◌, ◌||◌, ◌∷◌, ◌↔◌, [], length, IsSome, true, false};
 ghost use Rattle.element.specs.Numbers.{IsBytes};
 ghost use Rattle.engine.specs.Devices.{devices};
 ghost use Rattle.engine.specs.Drafts.{IsThere};
-ghost use Rattle.engine.specs.Fields.{association_in, drafting_of, settings_in};
-ghost use Rattle.engine.specs.Inputs.{Bytes, input_of};
-ghost use Rattle.engine.specs.MovesOn.{EndsWithPart, RunsOn};
+ghost use Rattle.engine.specs.Fields.{drafting_of, settings_in};
+ghost use Rattle.engine.specs.Inputs.{Bytes, Expiry, UserAbort, input_of};
+ghost use Rattle.engine.specs.MovesOn.{EndsWithPart, MovesOn};
 ghost use Rattle.engine.specs.OutputLaws.{most_beside_answers};
 ghost use Rattle.engine.specs.declared.source.Input.TheVariants as kind;
 ghost use Rattle.serving.specs.Capacities.{outbox_size};
-ghost use Rattle.serving.specs.Told.{TimelineGoesOn, KeepsDecision};
+ghost use Rattle.serving.specs.Own.{own_of};
+ghost use Rattle.serving.specs.Timed.{asked_at, with_asked};
+ghost use Rattle.serving.specs.Told.{TimelineGoesOn, KeepsDecision, pieces_of};
+ghost use Rattle.serving.specs.Waits.{HasExpired, IsSilent, has_lasted};
+ghost use Rattle.std.specs.Time.{instant_nanos};
 
 use super::Connection;
+use crate::buffered_socket::Portion;
 use crate::inbox::Arrival;
-use crate::link::Portion;
 use crate::memory::ServedAssociation;
-use crate::outbox::MOST_BESIDE_ANSWERS;
-use crate::waiting::Wait;
-use connection::{Observer, ReadEnd};
+use crate::moment::Moment;
+use connection::Observer;
 use engine::Input;
 use part10::{Filing, Settling};
 use pdu::Wire;
-use std::io::{Error, ErrorKind, Read, Write};
+use std::io::{Read, Write};
 use std::snapshot::Snapshot;
 use std::time::Instant;
+
+/// How many portions an association takes in a turn at most: the parts of some 20 fragments, each in a PDU of its own.
+const MOST_PORTIONS: usize = 64;
 
 /// A piece is of bytes.
 fn is_of_bytes(piece: &[u8])
@@ -35,7 +41,7 @@ fn is_of_bytes(piece: &[u8])
 
 /// How much of what waited was written.
 #[derive(Clone, Copy, Debug, PartialEq, Eq)]
-enum Flush {
+pub(super) enum Flush {
     /// All of it.
     All,
     /// Not all of it: the socket takes nothing more now.
@@ -57,21 +63,21 @@ pub enum Turn {
     Over,
 }
 
-/// Has an association take an input, as `Running::take` does.
+/// Has an association take an input, as `Association::take` does.
 fn take<W: Wire, F: Filing>(
-    running: &mut Box<ServedAssociation>,
+    association: &mut Box<ServedAssociation<'_>>,
     input: Input,
     piece: &[u8],
     wire: &mut W,
     filing: &mut F,
 )
-    requires draft { IsThere (drafting_of (association_in running.old.value)) (F.store filing.old) }
-    ensures draft { IsThere (drafting_of (association_in running.new.value)) (F.store filing.new) }
-    ensures settings { settings_in (association_in running.new.value) ≡ settings_in (association_in running.old.value) }
-    ensures moved { RunsOn running.old.value running.new.value (input_of input piece.now)
+    requires draft { IsThere (drafting_of association.old.value) (F.store filing.old) }
+    ensures draft { IsThere (drafting_of association.new.value) (F.store filing.new) }
+    ensures settings { settings_in association.new.value ≡ settings_in association.old.value }
+    ensures moved { MovesOn association.old.value association.new.value (input_of input piece.now)
         (devices (W.line wire.old) (F.store filing.old)) (devices (W.line wire.new) (F.store filing.new)) }
 {
-    running.take(input, piece, wire, filing);
+    association.take(input, piece, wire, filing);
 }
 
 /// Has an association take a portion, where so many bytes complete a part of a PDU. Returns whether one is
@@ -80,59 +86,81 @@ fn take<W: Wire, F: Filing>(
 /// `whole`: if one is, the timeline goes on with the portion. `idle`: if none is, what was decided last is
 /// what was before. So what the association decides is told with the portion that completes a part.
 fn take_portion<W: Wire, F: Filing>(
-    running: &mut Box<ServedAssociation>,
+    association: &mut Box<ServedAssociation<'_>>,
     piece: &[u8],
     limit: usize,
     wire: &mut W,
     filing: &mut F,
 ) -> bool
-    requires draft { IsThere (drafting_of (association_in running.old.value)) (F.store filing.old) }
-    requires ends { EndsWithPart (association_in running.old.value) limit }
+    requires draft { IsThere (drafting_of association.old.value) (F.store filing.old) }
+    requires ends { EndsWithPart association.old.value limit }
     requires within { length piece.now ≤ limit }
-    ensures draft { IsThere (drafting_of (association_in running.new.value)) (F.store filing.new) }
-    ensures settings { settings_in (association_in running.new.value) ≡ settings_in (association_in running.old.value) }
-    ensures moved { RunsOn running.old.value running.new.value (Bytes piece.now)
+    ensures draft { IsThere (drafting_of association.new.value) (F.store filing.new) }
+    ensures settings { settings_in association.new.value ≡ settings_in association.old.value }
+    ensures moved { MovesOn association.old.value association.new.value (Bytes piece.now)
         (devices (W.line wire.old) (F.store filing.old)) (devices (W.line wire.new) (F.store filing.new)) }
-    ensures whole { result ≡ true → TimelineGoesOn running.old.value piece.now (F.store filing.old) }
-    ensures idle { result ≡ false → KeepsDecision running.old.value running.new.value (F.store filing.old) }
+    ensures whole { result ≡ true → TimelineGoesOn association.old.value piece.now (F.store filing.old) }
+    ensures idle { result ≡ false → KeepsDecision association.old.value association.new.value (F.store filing.old) }
 {
-    take(running, Input::Piece, piece, wire, filing);
+    take(association, Input::Piece, piece, wire, filing);
     piece.len() == limit
 }
 
-impl<S, F: Settling> Connection<S, F> {
+impl<'c, S, F: Settling, B: Observer> Connection<'c, S, F, B> {
     ghost use Rattle.engine.specs.Held.{is_ended};
-    ghost use Rattle.serving.specs.Connections.{IsClosedAt, settings_at, opening_of, socket_of, state_at, waiting_at};
+    ghost use Rattle.serving.specs.Connections.{IsClosedAt, aborted_at, begun_of, inputs_at, moments_at, settings_at, opening_of, socket_of, state_at, stopped_at, times_at, waiting_at};
 
-    /// Has the association take an input that has no bytes: the transport's close where the socket has closed.
-    fn give(&mut self, input: Input, now: Instant)
+    /// Has the association take an input that has no bytes: the transport's close where the socket has closed,
+    /// the expiry where the ARTIM timer has expired, an abort where the peer was silent or it is asked for.
+    pub(super) fn give(&mut self, input: Input, is_asked: bool, now: Instant)
         requires open { is_ended (state_at self.old) ≡ false }
         requires no_piece { input ≢ kind.Piece }
         requires room { input ≡ kind.LocalAbort → length (waiting_at self.old) + most_beside_answers < outbox_size }
         requires closed { input ≡ kind.Closed → ∥ IsClosedAt self.old ∥₁ }
+        requires expired { input ≡ kind.Expired → HasExpired (times_at self.old) (instant_nanos now) (times_at self.old).started }
+        requires silent { input ≡ kind.LocalAbort → is_asked ≡ false → IsSilent (times_at self.old) (instant_nanos now) (times_at self.old).started }
+        requires nothing_waits { input ≡ kind.LocalAbort → is_asked ≡ false → waiting_at self.old ≡ [] }
+        requires first { is_asked ≡ true → asked_at (moments_at self.old) ≡ [] }
+        requires noted { is_asked ≡ true → IsSome (aborted_at self.old) }
+        requires reason { is_asked ≡ true → (stopped_at self.old || has_lasted (begun_of self.old).longest (begun_of self.old).opened (instant_nanos now)) ≡ true }
         ensures settings { settings_at self.new ≡ settings_at self.old }
         ensures opening { opening_of self.new ≡ opening_of self.old }
         ensures quiet { socket_of self.new ≡ socket_of self.old }
+        ensures given { inputs_at self.new ≡ inputs_at self.old ++ input_of input [] ∷ [] }
+        ensures closes { input ≡ kind.Closed → own_of (inputs_at self.new) ≡ own_of (inputs_at self.old) }
+        ensures expires { input ≡ kind.Expired → own_of (inputs_at self.new) ≡ own_of (inputs_at self.old) ++ Expiry ∷ [] }
+        ensures aborts { input ≡ kind.LocalAbort → own_of (inputs_at self.new) ≡ own_of (inputs_at self.old) ++ UserAbort ∷ [] }
+        ensures same_pieces { pieces_of (inputs_at self.new) ≡ pieces_of (inputs_at self.old) }
+        ensures asked { asked_at (moments_at self.new) ≡ asked_at (moments_at self.old) ++ with_asked is_asked (instant_nanos now) [] }
+        ensures unasked { is_asked ≡ false → asked_at (moments_at self.new) ≡ asked_at (moments_at self.old) }
+        ensures same_start { begun_of self.new ≡ begun_of self.old }
+        ensures same_flags { (aborted_at self.new ≡ aborted_at self.old) × (stopped_at self.new ≡ stopped_at self.old) }
     {
         self.given.push(&input, &[]);
         take(
-            &mut self.running,
+            &mut self.association,
             input,
             &[],
-            &mut self.link.outbox,
+            &mut self.socket.outbox,
             &mut self.filing,
         );
-        self.waiting.follow(now, self.running.state());
+        self.deadlines.follow(now, self.association.state());
+        let left = Snapshot::of(&self.deadlines);
+        self.moments.push(&Moment {
+            is_asked,
+            left,
+            now,
+        });
     }
 }
 
-impl<S: Write, F: Settling> Connection<S, F> {
+impl<'c, S: Write, F: Settling, B: Observer> Connection<'c, S, F, B> {
     ghost use Rattle.engine.specs.Held.{is_ended};
-    ghost use Rattle.serving.specs.Connections.{filing_of, settings_at, opening_of, refusals_at, socket_of, state_at, waiting_at};
+    ghost use Rattle.serving.specs.Connections.{aborted_at, begun_of, filing_of, inputs_at, moments_at, settings_at, opening_of, refusals_at, state_at, stopped_at, waiting_at};
 
     /// Writes what waits, as much as the socket takes, unless the association has ended. Where the socket
     /// fails, that is the transport's close. No file may wait to be settled.
-    fn flush<B: Observer>(&mut self, now: Instant, observer: &B) -> Flush
+    pub(super) fn flush(&mut self, now: Instant) -> Flush
         requires settled { F.waits (filing_of self.old) ≡ false }
         ensures settings { settings_at self.new ≡ settings_at self.old }
         ensures opening { opening_of self.new ≡ opening_of self.old }
@@ -140,158 +168,64 @@ impl<S: Write, F: Settling> Connection<S, F> {
         ensures all { result ≡ Flush.All → waiting_at self.new ≡ [] }
         ensures blocked { result ≡ Flush.Blocked → waiting_at self.new ≢ [] }
         ensures refused { result ≡ Flush.Blocked → 0 < refusals_at self.new }
+        ensures peers { own_of (inputs_at self.new) ≡ own_of (inputs_at self.old) }
+        ensures same_pieces { pieces_of (inputs_at self.new) ≡ pieces_of (inputs_at self.old) }
+        ensures unasked { asked_at (moments_at self.new) ≡ asked_at (moments_at self.old) }
+        ensures same_start { begun_of self.new ≡ begun_of self.old }
+        ensures same_flags { (aborted_at self.new ≡ aborted_at self.old) × (stopped_at self.new ≡ stopped_at self.old) }
     {
         if self.is_over() {
             return Flush::Over;
         }
-        let before = self.link.outbox.pending().len();
+        let before = self.socket.outbox.pending().len();
         self.settled = Snapshot::of(&self.filing);
-        match self.link.flush(observer) {
+        match self.socket.flush(&self.observer) {
             Ok(all) => {
-                if self.link.outbox.pending().len() < before {
-                    self.waiting.hear(now);
+                if self.socket.outbox.pending().len() < before {
+                    self.deadlines.note_taken(now);
                 }
                 if all { Flush::All } else { Flush::Blocked }
             }
             Err(error) => {
-                observer.send_failed(&error);
-                self.give(Input::Closed, now);
+                self.observer.send_failed(&error);
+                self.give(Input::Closed, false, now);
                 Flush::Over
             }
         }
     }
-
-    /// Writes what waits to be sent, as much as the socket takes, unless a file waits to be settled.
-    pub fn send<B: Observer>(&mut self, now: Instant, observer: &B)
-        ensures settings { settings_at self.new ≡ settings_at self.old }
-        ensures opening { opening_of self.new ≡ opening_of self.old }
-        ensures quiet { F.waits (filing_of self.old) ≡ true → self.new ≡ self.old }
-    {
-        if !self.filing.waits() {
-            self.flush(now, observer);
-        }
-    }
-
-    /// Has the local user abort the association, unless it has ended: an A-ABORT goes out, where one is due
-    /// and the peer takes it, and the ARTIM timer starts. The observer is shown `why`.
-    ///
-    /// `quiet`: while a file waits to be settled, nothing is sent; the A-ABORT goes out after the reply to
-    /// its store.
-    pub fn abort<B: Observer>(&mut self, now: Instant, why: ReadEnd, observer: &B)
-        ensures settings { settings_at self.new ≡ settings_at self.old }
-        ensures opening { opening_of self.new ≡ opening_of self.old }
-        ensures quiet { F.waits (filing_of self.old) ≡ true → socket_of self.new ≡ socket_of self.old }
-    {
-        if self.is_over() {
-            return;
-        }
-        let waited = self.filing.waits();
-        if self.link.outbox.room() <= MOST_BESIDE_ANSWERS {
-            if waited {
-                return;
-            }
-            match self.flush(now, observer) {
-                Flush::All => {}
-                Flush::Blocked => {
-                    self.give_up(now, observer);
-                    return;
-                }
-                Flush::Over => return,
-            }
-        }
-        let before = self.link.outbox.pending().len();
-        self.give(Input::LocalAbort, now);
-        self.link.show_end(why, before, observer);
-        if !waited && !self.filing.waits() {
-            self.flush(now, observer);
-        }
-    }
-
-    /// Closes a connection whose peer takes nothing: nor would it take an A-ABORT.
-    fn give_up<B: Observer>(&mut self, now: Instant, observer: &B)
-        requires open { is_ended (state_at self.old) ≡ false }
-        requires some { waiting_at self.old ≢ [] }
-        requires refused { 0 < refusals_at self.old }
-        ensures settings { settings_at self.new ≡ settings_at self.old }
-        ensures opening { opening_of self.new ≡ opening_of self.old }
-    {
-        observer.send_failed(&Error::from(ErrorKind::TimedOut));
-        self.give(Input::Closed, now);
-    }
-
-    /// Ends an established association whose peer was silent for the idle time: it is aborted, or the
-    /// connection closed if the peer did not take what waits. That is offered to it once more: a peer that
-    /// takes some of it is not silent.
-    fn end_silence<B: Observer>(&mut self, now: Instant, observer: &B)
-        requires settled { F.waits (filing_of self.old) ≡ false }
-        ensures settings { settings_at self.new ≡ settings_at self.old }
-        ensures opening { opening_of self.new ≡ opening_of self.old }
-    {
-        let waits = self.link.outbox.pending().len();
-        if waits == 0 {
-            self.abort(now, ReadEnd::Idle, observer);
-            return;
-        }
-        match self.flush(now, observer) {
-            Flush::Blocked if self.link.outbox.pending().len() == waits => {
-                self.give_up(now, observer);
-            }
-            _ => {}
-        }
-    }
-
-    /// Ends what the peer took too long for: once the ARTIM timer has expired, the association; where an
-    /// established association was silent for the idle time, it is aborted, or the connection closed if the
-    /// peer did not take what waits.
-    ///
-    /// `quiet`: while a file waits to be settled, nothing is done: the peer is not the one that is waited
-    /// for.
-    pub fn expire<B: Observer>(&mut self, now: Instant, observer: &B)
-        ensures settings { settings_at self.new ≡ settings_at self.old }
-        ensures opening { opening_of self.new ≡ opening_of self.old }
-        ensures quiet { F.waits (filing_of self.old) ≡ true → self.new ≡ self.old }
-    {
-        if self.is_over() || self.filing.waits() {
-            return;
-        }
-        match self.waiting.wait(now) {
-            Wait::Left(_) => {}
-            Wait::Expired => {
-                self.give(Input::Expired, now);
-                observer.read_ended(ReadEnd::Timer, 0);
-            }
-            Wait::Silent => self.end_silence(now, observer),
-        }
-    }
 }
 
-impl<S: Read + Write, F: Settling> Connection<S, F> {
+impl<'c, S: Read + Write, F: Settling, B: Observer> Connection<'c, S, F, B> {
     ghost use Rattle.engine.specs.Held.{is_ended};
-    ghost use Rattle.serving.specs.Connections.{filing_of, settings_at, opening_of, state_at, untaken_at, waiting_at};
+    ghost use Rattle.serving.specs.Connections.{aborted_at, begun_of, filing_of, inputs_at, moments_at, settings_at, opening_of, state_at, stopped_at, untaken_at, waiting_at};
 
     /// Has the association take a portion of what was read, or else of what has come, at most so many bytes.
-    fn receive<B: Observer>(&mut self, now: Instant, most: usize, observer: &B) -> Arrival
+    fn receive(&mut self, now: Instant, most: usize) -> Arrival
         requires open { is_ended (state_at self.old) ≡ false }
         requires flushed { waiting_at self.old ≡ [] }
         requires some { 0 < most }
         ensures settings { settings_at self.new ≡ settings_at self.old }
         ensures opening { opening_of self.new ≡ opening_of self.old }
         ensures nothing { result ≡ Arrival.Nothing → untaken_at self.new ≡ [] }
+        ensures peers { own_of (inputs_at self.new) ≡ own_of (inputs_at self.old) }
+        ensures unasked { asked_at (moments_at self.new) ≡ asked_at (moments_at self.old) }
+        ensures same_start { begun_of self.new ≡ begun_of self.old }
+        ensures same_flags { (aborted_at self.new ≡ aborted_at self.old) × (stopped_at self.new ≡ stopped_at self.old) }
     {
-        let limit = self.running.input_limit();
-        let arrival = self.link.receive(limit.min(most));
+        let limit = self.association.input_limit();
+        let arrival = self.socket.receive(limit.min(most));
         match arrival {
             Arrival::Nothing => {}
             Arrival::Bytes(len) => {
-                let piece = &self.link.inbox.pending()[..len];
+                let piece = &self.socket.inbox.pending()[..len];
                 is_of_bytes(piece);
                 self.received = self.received.saturating_add(len as u64);
                 self.given.push(&Input::Piece, piece);
                 let is_complete = take_portion(
-                    &mut self.running,
+                    &mut self.association,
                     piece,
                     limit,
-                    &mut self.link.outbox,
+                    &mut self.socket.outbox,
                     &mut self.filing,
                 );
                 let portion = Portion {
@@ -299,40 +233,55 @@ impl<S: Read + Write, F: Settling> Connection<S, F> {
                     is_complete,
                     is_held: self.filing.waits(),
                 };
-                self.link
-                    .show_taken(portion, &self.running, &mut self.told, observer);
-                self.link.inbox.drop_front(len);
-                self.waiting.hear(now);
-                self.waiting.follow(now, self.running.state());
+                let taken = self.socket.taken(portion, &self.association);
+                self.observer.took(&taken);
+                self.socket.inbox.drop_front(len);
+                self.deadlines.hear(now);
+                self.deadlines.follow(now, self.association.state());
+                let left = Snapshot::of(&self.deadlines);
+                self.moments.push(&Moment {
+                    is_asked: false,
+                    left,
+                    now,
+                });
             }
             Arrival::End(end) => {
-                self.give(Input::Closed, now);
-                observer.read_ended(end, 0);
+                self.give(Input::Closed, false, now);
+                self.observer.read_ended(end, 0);
             }
         }
         arrival
     }
 
-    /// Writes what waits, has the association take what was read and what has come, at most so many bytes,
-    /// and writes what it sends for them, until a file waits to be settled. Returns whether it then waits
-    /// for its socket.
-    fn advance<B: Observer>(&mut self, now: Instant, most: usize, observer: &B) -> bool
+    /// Writes what waits, has the association take what was read and what has come, at most so many bytes in
+    /// at most [`MOST_PORTIONS`], and writes what it sends for them, until more was read than one answer is
+    /// for, or a file waits to be settled. Returns whether it then waits for its socket.
+    fn advance(&mut self, now: Instant, most: usize) -> bool
         requires settled { F.waits (filing_of self.old) ≡ false }
         ensures settings { settings_at self.new ≡ settings_at self.old }
         ensures opening { opening_of self.new ≡ opening_of self.old }
         ensures rests { result ≡ true → waiting_at self.new ≡ [] → untaken_at self.new ≡ [] }
+        ensures peers { own_of (inputs_at self.new) ≡ own_of (inputs_at self.old) }
+        ensures unasked { asked_at (moments_at self.new) ≡ asked_at (moments_at self.old) }
+        ensures same_start { begun_of self.new ≡ begun_of self.old }
+        ensures same_flags { (aborted_at self.new ≡ aborted_at self.old) × (stopped_at self.new ≡ stopped_at self.old) }
     {
         let mut left = most;
-        for _ in 0..=most {
-            match self.flush(now, observer) {
+        let mut has_answered = false;
+        for _ in 0..MOST_PORTIONS {
+            match self.flush(now) {
                 Flush::All => {}
                 Flush::Blocked => return true,
                 Flush::Over => return false,
             }
-            if left == 0 || left < self.running.input_limit().min(most) {
+            let has_more = !self.socket.inbox.pending().is_empty();
+            if has_answered && has_more
+                || left == 0
+                || left < self.association.input_limit().min(most)
+            {
                 return false;
             }
-            match self.receive(now, left, observer) {
+            match self.receive(now, left) {
                 Arrival::Bytes(len) => left = left.saturating_sub(len),
                 Arrival::Nothing => return true,
                 Arrival::End(_) => return false,
@@ -340,12 +289,14 @@ impl<S: Read + Write, F: Settling> Connection<S, F> {
             if self.waits() {
                 return false;
             }
+            has_answered = has_answered || !self.socket.outbox.pending().is_empty();
         }
         false
     }
 
     /// Takes a turn at this time: writes what waits, has the association take what was read and what has
-    /// come, at most so many bytes, and writes what it sends for them. A portion of which fewer may be taken
+    /// come, and writes what it sends for them. A turn ends after so many bytes or [`MOST_PORTIONS`], and where
+    /// more was read than one answer is for, so that no peer keeps the others waiting. A portion of which fewer bytes may be taken
     /// yet waits for the next turn, so that no fragment is cut where a turn ends.
     ///
     /// `over`: it is over exactly where its association has ended.
@@ -355,18 +306,24 @@ impl<S: Read + Write, F: Settling> Connection<S, F> {
     ///
     /// `waits`: it waits for its filing exactly where a file is to be settled, unless its association has
     /// ended. `quiet`: where one was before, nothing is done.
-    pub fn turn<B: Observer>(&mut self, now: Instant, most: usize, observer: &B) -> Turn
+    ///
+    /// `peers`: the association is given pieces and the transport's close, and nothing of the server's own.
+    pub fn turn(&mut self, now: Instant, most: usize) -> Turn
         ensures settings { settings_at self.new ≡ settings_at self.old }
         ensures opening { opening_of self.new ≡ opening_of self.old }
         ensures over { (result ≡ Turn.Over) ↔ (is_ended (state_at self.new) ≡ true) }
         ensures rests { result ≡ Turn.Socket → waiting_at self.new ≡ [] → untaken_at self.new ≡ [] }
         ensures waits { (result ≡ Turn.Filing) ↔ ((is_ended (state_at self.new) ≡ false) × (F.waits (filing_of self.new) ≡ true)) }
         ensures quiet { F.waits (filing_of self.old) ≡ true → self.new ≡ self.old }
+        ensures peers { own_of (inputs_at self.new) ≡ own_of (inputs_at self.old) }
+        ensures unasked { asked_at (moments_at self.new) ≡ asked_at (moments_at self.old) }
+        ensures same_start { begun_of self.new ≡ begun_of self.old }
+        ensures same_flags { (aborted_at self.new ≡ aborted_at self.old) × (stopped_at self.new ≡ stopped_at self.old) }
     {
         if self.is_over() {
             return Turn::Over;
         }
-        let rests = !self.filing.waits() && self.advance(now, most, observer);
+        let rests = !self.filing.waits() && self.advance(now, most);
         if self.is_over() {
             return Turn::Over;
         }

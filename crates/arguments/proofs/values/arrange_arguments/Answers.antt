@@ -32,4 +32,9 @@ returns-clause-some c =
         on = λ e. c.get_flag-dry_run.ensures.value (one_text-rows found (codes "dry-run") ∙ e);
         off = λ e. c.get_flag-dry_run.ensures.other (one_text-rows found (codes "dry-run") ∙ e);
       };
+      ignore_others = record {
+        none = λ e. c.get_flag-ignore_others.ensures.none (one_text-rows found (codes "ignore-others") ∙ e);
+        on = λ e. c.get_flag-ignore_others.ensures.value (one_text-rows found (codes "ignore-others") ∙ e);
+        off = λ e. c.get_flag-ignore_others.ensures.other (one_text-rows found (codes "ignore-others") ∙ e);
+      };
     }

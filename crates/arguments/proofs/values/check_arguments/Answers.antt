@@ -23,6 +23,11 @@ returns c =
         on = λ e. c.get_flag-with_values.ensures.value (one_text-rows found (codes "values") ∙ e);
         off = λ e. c.get_flag-with_values.ensures.other (one_text-rows found (codes "values") ∙ e);
       };
+      ignore_others = record {
+        none = λ e. c.get_flag-ignore_others.ensures.none (one_text-rows found (codes "ignore-others") ∙ e);
+        on = λ e. c.get_flag-ignore_others.ensures.value (one_text-rows found (codes "ignore-others") ∙ e);
+        off = λ e. c.get_flag-ignore_others.ensures.other (one_text-rows found (codes "ignore-others") ∙ e);
+      };
       json = record {
         none = λ e. c.get_flag-json.ensures.none (one_text-rows found (codes "json") ∙ e);
         on = λ e. c.get_flag-json.ensures.value (one_text-rows found (codes "json") ∙ e);

@@ -32,14 +32,29 @@ returns-clause-some c =
         on = λ e. c.get_flag-all_syntaxes.ensures.value (one_text-rows found (codes "all-syntaxes") ∙ e);
         off = λ e. c.get_flag-all_syntaxes.ensures.other (one_text-rows found (codes "all-syntaxes") ∙ e);
       };
+      any_name = record {
+        none = λ e. c.get_flag-any_name.ensures.none (one_text-rows found (codes "any-name") ∙ e);
+        on = λ e. c.get_flag-any_name.ensures.value (one_text-rows found (codes "any-name") ∙ e);
+        off = λ e. c.get_flag-any_name.ensures.other (one_text-rows found (codes "any-name") ∙ e);
+      };
       keep = record {
         none = λ e. c.get_flag-2.ensures.none (one_text-rows found (codes "keep") ∙ e);
         on = λ e. c.get_flag-2.ensures.value (one_text-rows found (codes "keep") ∙ e);
         off = λ e. c.get_flag-2.ensures.other (one_text-rows found (codes "keep") ∙ e);
       };
+      drop = record {
+        none = λ e. c.get_flag-drop.ensures.none (one_text-rows found (codes "drop") ∙ e);
+        on = λ e. c.get_flag-drop.ensures.value (one_text-rows found (codes "drop") ∙ e);
+        off = λ e. c.get_flag-drop.ensures.other (one_text-rows found (codes "drop") ∙ e);
+      };
       replace = record {
         none = λ e. c.get_flag-3.ensures.none (one_text-rows found (codes "replace") ∙ e);
         on = λ e. c.get_flag-3.ensures.value (one_text-rows found (codes "replace") ∙ e);
         off = λ e. c.get_flag-3.ensures.other (one_text-rows found (codes "replace") ∙ e);
+      };
+      strict = record {
+        none = λ e. c.get_flag-strict.ensures.none (one_text-rows found (codes "strict") ∙ e);
+        on = λ e. c.get_flag-strict.ensures.value (one_text-rows found (codes "strict") ∙ e);
+        off = λ e. c.get_flag-strict.ensures.other (one_text-rows found (codes "strict") ∙ e);
       };
     }

@@ -10,10 +10,10 @@ returns-clause-some c =
     let is = c.in_ok-file.ensures.some in
     let vs = c.in_ok-file.field-0.0 in
     record {
-      file = text_at _ vs 4 0 _ is (omega arith) (omega arith);
-      out = text_at _ vs 4 1 _ is (omega arith) (omega arith);
-      ae = text_at _ vs 4 2 _ is (omega arith) (omega arith);
-      cut = text_at _ vs 4 3 _ is (omega arith) (omega arith);
+      file = text_at _ vs 3 0 _ is (omega arith) (omega arith);
+      out = text_at _ vs 3 1 _ is (omega arith) (omega arith);
+      titles = c.in_ok-titles.ensures.some;
+      cut = text_at _ vs 3 2 _ is (omega arith) (omega arith);
       per = sym (c.get_str-per.ensures ∙ first_value-rows found (codes "per"));
       all_storage = record {
         none = λ e. c.get_flag.ensures.none (one_text-rows found (codes "all-storage") ∙ e);

@@ -10,16 +10,22 @@ returns-clause-some c =
     let is = c.in_ok-port.ensures.some in
     let vs = c.in_ok-port.field-0.0 in
     record {
-      port = text_at _ vs 10 0 _ is (omega arith) (omega arith);
-      out = text_at _ vs 10 1 _ is (omega arith) (omega arith);
-      bind = text_at _ vs 10 2 _ is (omega arith) (omega arith);
-      ae = text_at _ vs 10 3 _ is (omega arith) (omega arith);
+      port = text_at _ vs 9 0 _ is (omega arith) (omega arith);
+      out = text_at _ vs 9 1 _ is (omega arith) (omega arith);
+      bind = text_at _ vs 9 2 _ is (omega arith) (omega arith);
+      listen = c.in_ok-listen.ensures.some;
+      titles = c.in_ok-titles.ensures.some;
+      any_called = record {
+        none = λ e. c.get_flag.ensures.none (one_text-rows found (codes "any-called") ∙ e);
+        on = λ e. c.get_flag.ensures.value (one_text-rows found (codes "any-called") ∙ e);
+        off = λ e. c.get_flag.ensures.other (one_text-rows found (codes "any-called") ∙ e);
+      };
       callers = c.in_ok-callers.ensures.some;
       callers_file = sym (c.get_str-callers_file.ensures ∙ first_value-rows found (codes "callers"));
-      timeout = text_at _ vs 10 4 _ is (omega arith) (omega arith);
-      idle = text_at _ vs 10 5 _ is (omega arith) (omega arith);
-      max_pdu = text_at _ vs 10 6 _ is (omega arith) (omega arith);
-      max_data = text_at _ vs 10 7 _ is (omega arith) (omega arith);
+      timeout = text_at _ vs 9 3 _ is (omega arith) (omega arith);
+      idle = text_at _ vs 9 4 _ is (omega arith) (omega arith);
+      max_pdu = text_at _ vs 9 5 _ is (omega arith) (omega arith);
+      max_data = text_at _ vs 9 6 _ is (omega arith) (omega arith);
       verbose = c.get_count-verbose.ensures.value;
       quiet = record {
         none = λ e. c.get_flag-quiet.ensures.none (one_text-rows found (codes "quiet") ∙ e);
@@ -32,31 +38,31 @@ returns-clause-some c =
       quarantine = sym (c.get_str-quarantine.ensures ∙ first_value-rows found (codes "quarantine"));
       quarantine_most = sym (c.get_str-quarantine_most.ensures ∙ first_value-rows found (codes "quarantine-most"));
       no_sync = record {
-        none = λ e. c.get_flag.ensures.none (one_text-rows found (codes "no-sync") ∙ e);
-        on = λ e. c.get_flag.ensures.value (one_text-rows found (codes "no-sync") ∙ e);
-        off = λ e. c.get_flag.ensures.other (one_text-rows found (codes "no-sync") ∙ e);
+        none = λ e. c.get_flag-2.ensures.none (one_text-rows found (codes "no-sync") ∙ e);
+        on = λ e. c.get_flag-2.ensures.value (one_text-rows found (codes "no-sync") ∙ e);
+        off = λ e. c.get_flag-2.ensures.other (one_text-rows found (codes "no-sync") ∙ e);
       };
       once = record {
-        none = λ e. c.get_flag-2.ensures.none (one_text-rows found (codes "once") ∙ e);
-        on = λ e. c.get_flag-2.ensures.value (one_text-rows found (codes "once") ∙ e);
-        off = λ e. c.get_flag-2.ensures.other (one_text-rows found (codes "once") ∙ e);
+        none = λ e. c.get_flag-3.ensures.none (one_text-rows found (codes "once") ∙ e);
+        on = λ e. c.get_flag-3.ensures.value (one_text-rows found (codes "once") ∙ e);
+        off = λ e. c.get_flag-3.ensures.other (one_text-rows found (codes "once") ∙ e);
       };
-      at_once = text_at _ vs 10 8 _ is (omega arith) (omega arith);
+      at_once = text_at _ vs 9 7 _ is (omega arith) (omega arith);
       per_peer = sym (c.get_str-per_peer.ensures ∙ first_value-rows found (codes "per-peer"));
       longest = sym (c.get_str-longest.ensures ∙ first_value-rows found (codes "longest"));
       stop_file = sym (c.get_str-stop_file.ensures ∙ first_value-rows found (codes "stop-file"));
-      grace = text_at _ vs 10 9 _ is (omega arith) (omega arith);
+      grace = text_at _ vs 9 8 _ is (omega arith) (omega arith);
       metrics = sym (c.get_str-metrics.ensures ∙ first_value-rows found (codes "metrics"));
       all_storage = record {
-        none = λ e. c.get_flag-3.ensures.none (one_text-rows found (codes "all-storage") ∙ e);
-        on = λ e. c.get_flag-3.ensures.value (one_text-rows found (codes "all-storage") ∙ e);
-        off = λ e. c.get_flag-3.ensures.other (one_text-rows found (codes "all-storage") ∙ e);
+        none = λ e. c.get_flag-4.ensures.none (one_text-rows found (codes "all-storage") ∙ e);
+        on = λ e. c.get_flag-4.ensures.value (one_text-rows found (codes "all-storage") ∙ e);
+        off = λ e. c.get_flag-4.ensures.other (one_text-rows found (codes "all-storage") ∙ e);
       };
       storage_classes = c.in_ok-storage_classes.ensures.some;
       all_syntaxes = record {
-        none = λ e. c.get_flag-4.ensures.none (one_text-rows found (codes "all-syntaxes") ∙ e);
-        on = λ e. c.get_flag-4.ensures.value (one_text-rows found (codes "all-syntaxes") ∙ e);
-        off = λ e. c.get_flag-4.ensures.other (one_text-rows found (codes "all-syntaxes") ∙ e);
+        none = λ e. c.get_flag-5.ensures.none (one_text-rows found (codes "all-syntaxes") ∙ e);
+        on = λ e. c.get_flag-5.ensures.value (one_text-rows found (codes "all-syntaxes") ∙ e);
+        off = λ e. c.get_flag-5.ensures.other (one_text-rows found (codes "all-syntaxes") ∙ e);
       };
       transfer_syntaxes = c.in_ok-transfer_syntaxes.ensures.some;
     }

@@ -18,6 +18,16 @@ returns c =
         on = λ e. c.get_flag-values.ensures.value (one_text-rows found (codes "values") ∙ e);
         off = λ e. c.get_flag-values.ensures.other (one_text-rows found (codes "values") ∙ e);
       };
+      full = record {
+        none = λ e. c.get_flag-full.ensures.none (one_text-rows found (codes "full") ∙ e);
+        on = λ e. c.get_flag-full.ensures.value (one_text-rows found (codes "full") ∙ e);
+        off = λ e. c.get_flag-full.ensures.other (one_text-rows found (codes "full") ∙ e);
+      };
+      meta = record {
+        none = λ e. c.get_flag-meta.ensures.none (one_text-rows found (codes "meta") ∙ e);
+        on = λ e. c.get_flag-meta.ensures.value (one_text-rows found (codes "meta") ∙ e);
+        off = λ e. c.get_flag-meta.ensures.other (one_text-rows found (codes "meta") ∙ e);
+      };
       tags = c.in_ok-tags.ensures;
       json = record {
         none = λ e. c.get_flag-json.ensures.none (one_text-rows found (codes "json") ∙ e);

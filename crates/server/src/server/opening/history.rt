@@ -58,7 +58,7 @@ pub struct ServerHistory<F> {
 
 impl<F> ServerHistory<F> {
     /// Creates that of a server without slots.
-    pub(super) fn new() -> ServerHistory<F>
+    pub fn new() -> ServerHistory<F>
         ensures { slots_in result ≡ [] }
     {
         ServerHistory {
@@ -71,7 +71,7 @@ impl<F> ServerHistory<F> {
 pub(crate) struct ClosedSlots<F: Filing, P: Policy> {
     history: ServerHistory<F>,
     policy: PhantomData<P>,
-    ghost each: { ∥ All (AllEnded F.store P.settings) (slots_in history) ∥₁ },
+    ghost each: { ∥ All (AllEnded F.store P.terms) (slots_in history) ∥₁ },
 }
 
 impl<F: Filing, P: Policy> ClosedSlots<F, P> {
@@ -87,7 +87,7 @@ impl<F: Filing, P: Policy> ClosedSlots<F, P> {
 
     /// Adds that of a slot that was closed.
     pub(crate) fn push(&mut self, slot: SlotHistory<F>)
-        requires { AllEnded F.store P.settings slot }
+        requires { AllEnded F.store P.terms slot }
         ensures { slots_in self.new.history ≡ slots_in self.old.history ++ slot ∷ [] }
     {
         self.history.slots.push(&slot);
@@ -100,7 +100,7 @@ impl<F: Filing, P: Policy> ClosedSlots<F, P> {
     /// Returns the history of a server that has no other slots.
     pub(super) fn into_history(self) -> ServerHistory<F>
         ensures same { result ≡ self.history }
-        ensures ended { ∥ All (AllEnded F.store P.settings) (slots_in result) ∥₁ }
+        ensures ended { ∥ All (AllEnded F.store P.terms) (slots_in result) ∥₁ }
     {
         let ClosedSlots {
             history,

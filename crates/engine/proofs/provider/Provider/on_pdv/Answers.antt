@@ -107,7 +107,7 @@ returns-in-Ok-DataDue-clause-does g c = rw c.in-Established.is (λ p begun six w
     subst (λ (x : Joining). Does rooms s p (At (entry_of begun)) (record (with_storing z (with_join x k)) { decided = decision.DataDue }) [] [] (devices (g.W.Wire.line c.args.devices.wire.now) so) (devices (g.W.Wire.line c.args.devices.wire.now) (g.F.Filing.store c.begin.new.filing)))
     (sym c.begin.ensures.join)
     (does_due rooms s p begun g.row.C k j z _ so _ later h pdv.taken got.1 got.2 due got.4
-    (subst (λ (x : Begun). Proceeds g.row.D c.args.self.now.config.max_data p.request x false z so (g.F.Filing.store c.begin.new.filing)) same proceeds)))
+    (subst (λ (x : Begun). Proceeds g.row.D c.args.self.now.config.now.max_data p.request x false z so (g.F.Filing.store c.begin.new.filing)) same proceeds)))
 
 pub returns-in-Err-clause-does : goal.returns-in-Err-clause-does
 returns-in-Err-clause-does g c = rw c.in-Established.is (λ p begun six whole h.

@@ -9,13 +9,13 @@ use Rattle.folder_filing.proofs.folder_filing.FolderFiling.begin_draft.Goals as 
 pub invariant_of-self : goal.invariant_of-self
 invariant_of-self g c =
     let asked = c.in_err-file.ensures.refused in
-    let was = subst (λ z. ∥ IsOrderly z.names ∥₁) (sym c.self-inside.view_is) c.self.invariant.0 in
-    let last = subst (λ z. ∥ IsNamedLast z.pending (standing z.names.calls) ∥₁) (sym c.self-inside.view_is) c.self.invariant.1 in
-    (∥∥₁_map was (goes_on _ _ refl (omega arith) (keeps_same _) asked.standing asked.loses), same_last _ _ _ asked.standing last)
+    let was = subst (λ z. ∥ IsOrderly z.names ∥₁) (sym c.self-inside-2.view_is) c.self-2.invariant.0 in
+    let last = subst (λ z. ∥ IsNamedLast z.pending (standing z.names.calls) ∥₁) (sym c.self-inside-2.view_is) c.self-2.invariant.1 in
+    (∥∥₁_map was (goes_on _ _ refl (omega arith) (keeps_same _) asked.standing (asked.loses _ _)), same_last _ _ _ asked.standing last)
 
 pub invariant_of-self-2 : goal.invariant_of-self-2
 invariant_of-self-2 g c =
     let created = c.in_ok-file.ensures.created in
-    let was = subst (λ z. ∥ IsOrderly z.names ∥₁) (sym c.self-inside.view_is) c.self.invariant.0 in
-    let last = subst (λ z. ∥ IsNamedLast z.pending (standing z.names.calls) ∥₁) (sym c.self-inside.view_is) c.self.invariant.1 in
-    (∥∥₁_map was (goes_on _ _ refl (omega arith) (keeps_same _) (rw created refl) (λ h. rw created h)), same_last _ _ _ (rw created refl) last)
+    let was = subst (λ z. ∥ IsOrderly z.names ∥₁) (sym c.self-inside-2.view_is) c.self-2.invariant.0 in
+    let last = subst (λ z. ∥ IsNamedLast z.pending (standing z.names.calls) ∥₁) (sym c.self-inside-2.view_is) c.self-2.invariant.1 in
+    (∥∥₁_map was (goes_on _ _ refl (omega arith) (keeps_same _) (rw created refl) (λ h. rw created (refl, h))), same_last _ _ _ (rw created refl) last)

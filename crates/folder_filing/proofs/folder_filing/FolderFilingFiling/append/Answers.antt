@@ -14,6 +14,6 @@ invariant_of-self g c =
     elim c.match-self.branch [
       | in-Some w ↦
           let asked = passed_on _ _ _ w.write_all-written.ensures.taken w.write_all-written.ensures.refused in
-          rw w.self-inside-is (∥∥₁_map was (goes_on _ _ refl (omega arith) (keeps_same _) asked.0 asked.1), same_last _ _ _ asked.0 last)
+          rw w.self-inside-is (∥∥₁_map was (goes_on _ _ refl (omega arith) (keeps_same _) asked.0 (asked.1 _ _)), same_last _ _ _ asked.0 last)
       | in-None w ↦ rw w.self-inside-is (was, last)
     ]

@@ -9,7 +9,7 @@ pub returns-in_err-check_path-clause-orderly : goal.returns-in_err-check_path-cl
 returns-in_err-check_path-clause-orderly g c = λ h.
     let was = subst (λ z. ∥ IsOrderly z ∥₁) (sym c.names.view_is) h in
     let asked = c.in_err-check_path.ensures.refused in
-    ∥∥₁_map was (goes_on _ _ refl (omega arith) (keeps_same _) asked.standing asked.loses)
+    ∥∥₁_map was (goes_on _ _ refl (omega arith) (keeps_same _) asked.standing (asked.loses _ _))
 
 pub returns-in_err-path-clause-orderly : goal.returns-in_err-path-clause-orderly
 returns-in_err-path-clause-orderly g c = λ h.
@@ -24,4 +24,4 @@ returns-clause-orderly g c = λ h.
     let newest = subst (λ z. ∥ IsNewest c.args.place (standing z.calls) ∥₁) (sym c.names.view_is) c.requires.newest in
     let same = c.in_ok-path.ensures.taken ∙ c.in_ok-check_path.ensures.taken in
     ∥∥₁_elim newest ∥∥₁_prop (λ n.
-    ∥∥₁_map was (takes_back_or_fails c.remove.result _ _ c.args.place _ refl refl refl same c.remove.ensures.removed c.remove.ensures.refused n))
+    ∥∥₁_map was (takes_back_or_fails c.remove.result _ _ c.args.place _ (refl, refl, refl, refl) refl same c.remove.ensures.removed c.remove.ensures.refused n))

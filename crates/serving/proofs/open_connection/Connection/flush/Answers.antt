@@ -1,7 +1,8 @@
 -- What is written to a socket does not show whether it had closed: an association that has not ended was not given the close.
 use Rattle.std.proofs.Common.{◌∙◌, ap, arith, sym}
-use Rattle.engine.specs.Fields.{association_in}
+use Rattle.std.proofs.Math.Logic.{∥∥₁_map}
 use Rattle.serving.proofs.ClosesWithItsSocket.{open_unclosed}
+use Rattle.serving.proofs.InputsAreTimed.{only_taken, still_timed}
 use Rattle.serving.proofs.SentIsSettledFirst.{sent_at}
 use Rattle.serving.proofs.open_connection.Connection.flush.Goals as goal
 
@@ -14,7 +15,7 @@ invariant_of-self-clause-taken g c = rw c.flush.ensures.same_sent c.args.self.no
 pub invariant_of-self-clause-closed : goal.invariant_of-self-clause-closed
 invariant_of-self-clause-closed g c =
     let was = c.args.self.now in
-    open_unclosed (association_in was.running.value) _ _ _ _ _ _ _ _ _ was.taken (sym c.is_over.ensures.over ∙ c.if-is_over.false)
+    open_unclosed was.association.value _ _ _ _ _ _ _ _ _ was.taken (sym c.is_over.ensures.over ∙ c.if-is_over.false)
 
 pub invariant_of-self-else-pending-before-clause-whole : goal.invariant_of-self-else-pending-before-clause-whole
 invariant_of-self-else-pending-before-clause-whole g c = rw (c.flush.ensures.same_inbox, c.flush.ensures.same_read) c.args.self.now.whole
@@ -25,13 +26,16 @@ invariant_of-self-else-pending-before-clause-taken g c = rw c.flush.ensures.same
 pub invariant_of-self-else-pending-before-clause-closed : goal.invariant_of-self-else-pending-before-clause-closed
 invariant_of-self-else-pending-before-clause-closed g c =
     let was = c.args.self.now in
-    open_unclosed (association_in was.running.value) _ _ _ _ _ _ _ _ _ was.taken (sym c.is_over.ensures.over ∙ c.if-is_over.false)
+    open_unclosed was.association.value _ _ _ _ _ _ _ _ _ was.taken (sym c.is_over.ensures.over ∙ c.if-is_over.false)
 
 pub invariant_of-self-clause-sent : goal.invariant_of-self-clause-sent
-invariant_of-self-clause-sent g c = sent_at _ _ _ _ _ c.args.self.now.link.stream.traced.written.bytes c.args.self.now.link.outbox.bytes.items _ _ _ c.flush.ensures.same_sent (ap g.F.Filing.store c.of.ensures) c.args.self.now.taken
+invariant_of-self-clause-sent g c = sent_at _ _ _ _ _ c.args.self.now.socket.traced.written.bytes c.args.self.now.socket.outbox.bytes.items _ _ _ c.flush.ensures.same_sent (ap g.F.Filing.store c.of.ensures) c.args.self.now.taken
 
 pub invariant_of-self-else-pending-before-clause-sent : goal.invariant_of-self-else-pending-before-clause-sent
-invariant_of-self-else-pending-before-clause-sent g c = sent_at _ _ _ _ _ c.args.self.now.link.stream.traced.written.bytes c.args.self.now.link.outbox.bytes.items _ _ _ c.flush.ensures.same_sent (ap g.F.Filing.store c.of.ensures) c.args.self.now.taken
+invariant_of-self-else-pending-before-clause-sent g c = sent_at _ _ _ _ _ c.args.self.now.socket.traced.written.bytes c.args.self.now.socket.outbox.bytes.items _ _ _ c.flush.ensures.same_sent (ap g.F.Filing.store c.of.ensures) c.args.self.now.taken
+
+pub invariant_of-self-clause-timed : goal.invariant_of-self-clause-timed
+invariant_of-self-clause-timed g c = ∥∥₁_map c.args.self.now.timed (λ h. still_timed _ _ _ _ _ (only_taken _ _ _ c.note_taken.ensures) h)
 
 pub invariant_of-self-in-Err-1 : goal.invariant_of-self-in-Err-1
 invariant_of-self-in-Err-1 g c =
@@ -40,12 +44,19 @@ invariant_of-self-in-Err-1 g c =
       there = was.there;
       never = rw c.flush.ensures.same_failures was.never;
       fits = omega (arith, c.flush.ensures.fewer, was.fits);
+      spare = λ none. omega (arith, c.flush.ensures.fewer, was.spare none);
       bytes = was.bytes;
       followed = was.followed;
       whole = rw (c.flush.ensures.same_inbox, c.flush.ensures.same_read) was.whole;
       heard = was.heard;
       taken = rw c.flush.ensures.same_sent was.taken;
-      sent = sent_at _ _ _ _ _ c.args.self.now.link.stream.traced.written.bytes c.args.self.now.link.outbox.bytes.items _ _ _ c.flush.ensures.same_sent (ap g.F.Filing.store c.of.ensures) was.taken;
+      sent = sent_at _ _ _ _ _ c.args.self.now.socket.traced.written.bytes c.args.self.now.socket.outbox.bytes.items _ _ _ c.flush.ensures.same_sent (ap g.F.Filing.store c.of.ensures) was.taken;
       rested = λ _. rw c.of.ensures c.requires.settled;
-      closed = open_unclosed (association_in was.running.value) _ _ _ _ _ _ _ _ _ was.taken (sym c.is_over.ensures.over ∙ c.if-is_over.false);
+      timed = was.timed;
+      closed = open_unclosed was.association.value _ _ _ _ _ _ _ _ _ was.taken (sym c.is_over.ensures.over ∙ c.if-is_over.false);
+      begins = was.begins;
+      lasts = was.lasts;
+      once = was.once;
+      unasked = was.unasked;
+      reasons = was.reasons;
     }

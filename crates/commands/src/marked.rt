@@ -1,0 +1,70 @@
+//! The arguments, which need not be UTF-8: file names are bytes.
+use arguments::Job;
+use std::alloc::Global;
+use std::env::{self, Env, FillError};
+use std::{io, str};
+
+/// A byte that no argument and no file name has. It stands for each byte that is no ASCII in an argument that is not
+/// UTF-8, so that this one reaches its command as the name of a file that can't be opened.
+const MARK: u8 = 0;
+
+/// The arguments of the program, marked where they are not UTF-8.
+#[derive(Clone, Copy)]
+struct MarkedArguments<'a>(&'a HostRuntime);
+
+impl Env for MarkedArguments<'_> {
+    fn arg(&self, place: usize, room: &mut [u8]) -> Result<usize, FillError> {
+        let count = self.0.arg(place, room)?;
+        let bytes = &mut room[..count];
+        if str::from_utf8(bytes).is_err() {
+            for byte in bytes {
+                if !byte.is_ascii() {
+                    *byte = MARK;
+                }
+            }
+        }
+        Ok(count)
+    }
+
+    fn var(&self, name: &str, room: &mut [u8]) -> Result<usize, FillError> {
+        self.0.var(name, room)
+    }
+
+    fn var_at(&self, place: usize, room: &mut [u8]) -> Result<usize, FillError> {
+        self.0.var_at(place, room)
+    }
+}
+
+/// Returns the arguments of the program, marked where they are not UTF-8. Fails if memory runs out.
+pub(crate) fn owned_words(rt: &HostRuntime) -> io::Result<Vec<String, Global>> {
+    let mut owned = Vec::new(rt.alloc());
+    for word in env::args(&(MarkedArguments(rt), rt.alloc()))? {
+        owned.push(word)?;
+    }
+    Ok(owned)
+}
+
+/// Returns whether a word is among these.
+fn has(words: &[&str], word: &str) -> bool {
+    words.iter().any(|one| *one == word)
+}
+
+/// Returns whether a word is a file that a command reads among others, so that it stops none of them if it can't be opened.
+fn is_file(job: &Job<'_>, word: &str) -> bool {
+    match job {
+        Job::Show(arguments) => has(arguments.files.as_slice(), word),
+        Job::Check(arguments) => has(arguments.files.as_slice(), word),
+        _ => false,
+    }
+}
+
+/// Returns the number of the first argument that is not UTF-8 and no such file, and the argument.
+pub(crate) fn refused_word<'a>(owned: &'a [String], job: &Job<'_>) -> Option<(usize, &'a str)> {
+    for (place, word) in owned.iter().enumerate().skip(1) {
+        let word = word.as_str();
+        if word.as_bytes().contains(&MARK) && !is_file(job, word) {
+            return Some((place, word));
+        }
+    }
+    None
+}

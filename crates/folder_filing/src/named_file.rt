@@ -1,0 +1,61 @@
+//! A file that was just named.
+ghost use Rattle.std.specs.Prelude.{◌≡◌};
+ghost use Rattle.folder_filing.specs.Naming.{IsNewest, standing};
+ghost use Rattle.folder_filing.specs.Synced.{is_at};
+
+use crate::folder_calls::FolderCalls;
+use crate::folder_identity::FolderIdentity;
+use crate::location::Location;
+use crate::naming::{Named, Target};
+
+/// A file that the system has just named: only [`NamedFile::newest`] makes one.
+#[derive(Clone, Copy)]
+pub(crate) struct NamedFile {
+    place: Location,
+    how: Named,
+    /// The subfolder that had its number right before.
+    folder: Option<FolderIdentity>,
+}
+
+impl NamedFile {
+    /// Returns the file that was named last, by the name of this target.
+    pub(crate) fn newest(target: Target<'_>, how: Named, _calls: &FolderCalls) -> NamedFile
+        requires { ∥ IsNewest target.place (standing _calls.now) ∥₁ }
+        ensures place { result.place ≡ target.entry.place }
+        ensures how { result.how ≡ how }
+    {
+        NamedFile {
+            place: target.place,
+            how,
+            folder: target.folder,
+        }
+    }
+
+    pub(crate) fn place(self) -> Location
+        ensures { result ≡ self.place }
+    {
+        self.place
+    }
+
+    pub(crate) fn how(self) -> Named
+        ensures { result ≡ self.how }
+    {
+        self.how
+    }
+
+    pub(crate) fn folder(self) -> Option<FolderIdentity> {
+        self.folder
+    }
+
+    /// Returns whether it has this place.
+    pub(crate) fn is_at(self, place: Location) -> bool
+        ensures { result ≡ is_at place self }
+    {
+        self.place.folder == place.folder && self.place.file == place.file
+    }
+
+    /// Returns whether its draft was renamed from another folder.
+    pub(crate) fn has_left(self) -> bool {
+        self.place.folder != 0 && self.how == Named::Renamed
+    }
+}

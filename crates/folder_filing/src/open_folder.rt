@@ -1,0 +1,102 @@
+//! A folder that is open, with the number in its path.
+ghost use Rattle.std.specs.Prelude.{◌≡◌, IfOk};
+
+use crate::folder_identity::FolderIdentity;
+use crate::listing::folder_path;
+use crate::stored_file::StoredFile;
+use std::fs::{OpenFile, TryLockError};
+use std::io::{Error, ErrorKind};
+use std::marker::Model;
+use std::rt::Files;
+use std::{fs, io};
+
+/// The folder that files go to, or a subfolder of it, open. Contracts see its number.
+#[derive(Drop)]
+pub(crate) struct OpenFolder<F: Drop> {
+    /// The number in the path by which it was opened; 0 for the folder that files go to.
+    number: u32,
+    identity: FolderIdentity,
+    file: F,
+}
+
+impl<F: Drop> Model for OpenFolder<F> {
+    ghost use Rattle.std.specs.Prelude.{ℕ};
+
+    ghost Value = { ℕ };
+
+    ghost view = { λ f. f.number };
+}
+
+fn open<R: Files>(rt: &R, path: &str, number: u32) -> io::Result<OpenFolder<R::File>>
+    ensures { IfOk result (λ f. f ≡ number) }
+{
+    let file = fs::open(rt, path)?;
+    let identity = FolderIdentity::of(&file.metadata()?);
+    Ok(OpenFolder {
+        number,
+        identity,
+        file,
+    })
+}
+
+/// Opens a folder that is no subfolder, and locks it.
+///
+/// Fails with `WouldBlock` if another writer has locked it, and if it was replaced by another one before
+/// it was locked.
+pub(crate) fn lock<R: Files>(rt: &R, dir: &str) -> io::Result<OpenFolder<R::File>>
+where
+    R::File: StoredFile,
+    ensures { IfOk result (λ f. f ≡ 0) }
+{
+    let folder = open(rt, dir, 0)?;
+    match folder.file.try_lock() {
+        Ok(()) => {}
+        Err(TryLockError::WouldBlock) => {
+            return Err(Error::new(
+                ErrorKind::WouldBlock,
+                "the folder is in use by another writer",
+            ));
+        }
+        Err(TryLockError::Error(error)) => return Err(error),
+    }
+    folder.identity.check_at(rt, dir)?;
+    Ok(folder)
+}
+
+/// Opens the subfolder with this number of the folder at a path.
+pub(crate) fn open_subfolder<R: Files + Alloc>(
+    rt: &R,
+    dir: &str,
+    number: u32,
+) -> io::Result<OpenFolder<R::File>>
+    ensures { IfOk result (λ f. f ≡ number) }
+{
+    let path = folder_path(rt.alloc(), dir, number)?;
+    open(rt, path.as_str(), number)
+}
+
+impl<F: Drop> OpenFolder<F> {
+    pub(crate) fn number(&self) -> u32
+        ensures { result ≡ self.now }
+    {
+        self.number
+    }
+
+    pub(crate) fn identity(&self) -> FolderIdentity {
+        self.identity
+    }
+
+    /// Returns whether the other is the same folder. A subfolder that took the place of one that was moved
+    /// away has its number, and is another one.
+    pub(crate) fn is(&self, other: &OpenFolder<F>) -> bool {
+        self.number == other.number && self.identity == other.identity
+    }
+
+    /// Syncs the folder to the disk.
+    pub(crate) fn sync(&self) -> io::Result<()>
+    where
+        F: OpenFile,
+    {
+        self.file.sync_all()
+    }
+}

@@ -1,0 +1,31 @@
+-- Readers of which the same bytes were read give the same where they do so after them (`before`), and where both are at their
+-- end (`at_end`). Stands on the definitions alone.
+use Rattle.std.proofs.Common.{◌≡◌, ℕ, Bool, true, false, ◌&&◌, nat_eq, List, [], ◌∷◌, ◌++◌, Option, Some, None, arith, refl, sym, ap, ◌∙◌}
+use Rattle.std.proofs.lemmas.Bool.Decides.{nat_tests}
+use Rattle.std.specs.Cmp.Lexicographic.{pointwise}
+use Rattle.std.specs.Io.KnownBytes.{Consumes, IsAtEnd}
+use Rattle.keyed_files.specs.SameBytes.{GiveTheSame}
+
+pub same_text : (xs ys : List ℕ) → pointwise nat_eq xs ys ≡ true → xs ≡ ys
+same_text [] [] h = refl
+same_text [] (y ∷ ys) h = absurd cc
+same_text (x ∷ xs) [] h = absurd cc
+same_text (x ∷ xs) (y ∷ ys) h = by (nat_eq x y) refl h (λ k. same_text xs ys k) where
+  by : (t : Bool) → nat_eq x y ≡ t → (t && pointwise nat_eq xs ys) ≡ true → (pointwise nat_eq xs ys ≡ true → xs ≡ ys) → x ∷ xs ≡ y ∷ ys
+  by true e k later = let first : x ≡ y = grind (arith, nat_tests) in let rest = later k in cc
+  by false e k later = absurd cc
+
+pub before : (one one_left other other_left : Option (List ℕ)) (front front_other : List ℕ) → Consumes one one_left front → Consumes other other_left front_other → front ≡ front_other → GiveTheSame one_left other_left → GiveTheSame one other
+before None one_left other other_left front front_other took took_other fronts same = _
+before (Some one) one_left None other_left front front_other took took_other fronts same = _
+before (Some one) None (Some other) other_left front front_other took took_other fronts same = absurd took
+before (Some one) (Some one_left) (Some other) None front front_other took took_other fronts same = absurd took_other
+before (Some one) (Some one_left) (Some other) (Some other_left) front front_other took took_other fronts same =
+    took ∙ ap (λ (rest : List ℕ). front ++ rest) same ∙ ap (λ (bytes : List ℕ). bytes ++ other_left) fronts ∙ sym took_other
+
+pub at_end : (one one_left other other_left : Option (List ℕ)) → Consumes one one_left [] → IsAtEnd one_left → Consumes other other_left [] → IsAtEnd other_left → GiveTheSame one other
+at_end None one_left other other_left took ended took_other ended_other = _
+at_end (Some one) one_left None other_left took ended took_other ended_other = _
+at_end (Some one) None (Some other) other_left took ended took_other ended_other = absurd took
+at_end (Some one) (Some one_left) (Some other) None took ended took_other ended_other = absurd took_other
+at_end (Some one) (Some one_left) (Some other) (Some other_left) took ended took_other ended_other = took ∙ ended ∙ sym ended_other ∙ sym took_other

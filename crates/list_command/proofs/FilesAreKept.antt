@@ -1,0 +1,91 @@
+-- Where the part at one place has one file more, all parts have one file more (`one_more`): a series that counts one more
+-- (`one_image`), or lists one more (`one_path`). What is found by a UID has it (`found_or_none`), and so has what is added
+-- (`added`). The count of some series and of the next one is the count of both (`images_more`). Stands on the definitions alone.
+use Rattle.std.proofs.Common.{◌≡◌, ◌+◌, ℕ, zero, suc, List, [], ◌∷◌, ◌++◌, length, map, get_or, take, position, Option, Some, None, refl, sym, ap, subst, ◌∙◌, append-nil, add-one, arith, min, ◌-◌, ◌^◌}
+use Rattle.std.specs.Prelude.{IfSome, IsPermutation, Vec, replicate, slice_get}
+use Rattle.std.specs.List.{flat_map, position_or_len}
+use Rattle.std.specs.Map.{keys_of, values_of, lookup}
+use Rattle.std.specs.Option.{option_map}
+use Rattle.std.specs.Cmp.Lexicographic.{bytes_decides}
+use Rattle.std.proofs.lemmas.List.Quantifiers.{position-Some}
+use Rattle.std.proofs.lemmas.List.Sorted.{IsPermutation-trans, IsPermutation-sym, IsPermutation-middle, IsPermutation-append_left, IsPermutation-append_right, IsPermutation-refl, IsPermutation-to_front}
+use Rattle.std.proofs.lemmas.Option.{slice_get-map, slice_get-get_or}
+use Rattle.std.proofs.lemmas.List.{length-append, length-replicate, map-append}
+use Rattle.indexmap.specs.IndexMap.{set_value_at, insert_entry}
+use Rattle.indexmap.proofs.MapLemmas.{absent_from_lookup, insert_entry-absent, or_len-absent}
+use Rattle.std.specs.String.{string_bytes}
+use Rattle.list_command.specs.Tree.{files_in, is_uid, one_or_none, HasPath, HasUid, IsAdded}
+use Rattle.list_command.specs.declared.studies.Instance.{Instance}
+use Rattle.list_command.specs.declared.studies.Series.{Series}
+
+pub one_more : {A T X : Type 0} (f : Vec ℕ A × T → List X) (es : List (Vec ℕ A × T)) (i : ℕ) (uid : List ℕ) (v w : T) (x : X) → HasUid uid i es → slice_get (values_of es) i ≡ Some v → ((k : Vec ℕ A) → k.items ≡ uid → IsPermutation (x ∷ f (k, v)) (f (k, w))) → IsPermutation (x ∷ flat_map f es) (flat_map f (set_value_at es i w))
+one_more f [] i uid v w x has at more = absurd cc
+one_more {A} {T} f (e ∷ es) zero uid v w x has at more =
+    let named : e.0.items ≡ uid = cc in
+    let same : v ≡ e.1 = cc in
+    IsPermutation-append_left (flat_map f es) (x ∷ f e) (f (e.0, w)) (subst (λ (given : T). IsPermutation (x ∷ f (e.0, given)) (f (e.0, w))) same (more e.0 named))
+one_more f (e ∷ es) (suc i) uid v w x has at more =
+    IsPermutation-trans _ _ _ (IsPermutation-sym _ _ (IsPermutation-middle (f e) x (flat_map f es)))
+    (IsPermutation-append_right (f e) (x ∷ flat_map f es) (flat_map f (set_value_at es i w)) (one_more f es i uid v w x has at more))
+
+found_uid : {A T : Type 0} (uid : List ℕ) (es : List (Vec ℕ A × T)) (i : ℕ) → position (is_uid uid) (keys_of es) ≡ Some i → HasUid uid i es
+found_uid uid [] i found = absurd cc
+found_uid {A} {T} uid (e ∷ es) i found =
+    let at = position-Some (is_uid uid) (keys_of (e ∷ es)) i e.0 found in
+    let named : uid ≡ (get_or (keys_of (e ∷ es)) i e.0).items = (bytes_decides uid (get_or (keys_of (e ∷ es)) i e.0).items).0 at.1 in
+    slice_get-map (λ (key : Vec ℕ A). key.items) (keys_of (e ∷ es)) i ∙ ap (option_map (λ (key : Vec ℕ A). key.items)) (slice_get-get_or (keys_of (e ∷ es)) i e.0 at.0) ∙ ap Some (sym named)
+
+added_uid : {A T : Type 0} (es : List (Vec ℕ A × T)) (key : Vec ℕ A) (new : T) → HasUid key.items (length es) (es ++ (key, new) ∷ [])
+added_uid [] key new = refl
+added_uid (e ∷ es) key new = added_uid es key new
+
+pub found_or_none : {A T : Type 0} (uid : List ℕ) (es : List (Vec ℕ A × T)) (found : Option ℕ) → found ≡ position (is_uid uid) (keys_of es) → IfSome found (λ place. HasUid uid place es)
+found_or_none uid es None is = _
+found_or_none uid es (Some i) is = found_uid uid es i (sym is)
+
+pub added : {A T : Type 0} (uid : List ℕ) (key : Vec ℕ A) (new : T) (old entries : List (Vec ℕ A × T)) (place : ℕ) → key.items ≡ uid → lookup (is_uid uid) old ≡ None → place ≡ position_or_len (is_uid key.items) (keys_of old) → entries ≡ insert_entry (λ (one other : Vec ℕ A). is_uid one.items other) old key new → HasUid uid place entries × IsAdded uid new old entries
+added {A} {T} uid key new old entries place named none at made =
+    let lacks : lookup (is_uid key.items) old ≡ None = subst (λ (text : List ℕ). lookup (is_uid text) old ≡ None) (sym named) none in
+    let absent = absent_from_lookup (is_uid key.items) old lacks in
+    let end : entries ≡ old ++ (key, new) ∷ [] = made ∙ insert_entry-absent (λ (one other : Vec ℕ A). is_uid one.items other) key new old absent in
+    let last : place ≡ length old = at ∙ or_len-absent (is_uid key.items) old absent in
+    (rw (end, last, sym named) (added_uid old key new), record { key = key; named = named; at_end = end })
+
+pub one_image : (study uid key : List ℕ) (n m : ℕ) → key ≡ uid → m ≡ n + 1 → IsPermutation {X = List ℕ × List ℕ} ((study, uid) ∷ replicate n (study, key)) (replicate m (study, key))
+one_image study uid key n m named more =
+    let file : List ℕ × List ℕ = (study, key) in
+    let old : List (List ℕ × List ℕ) = (study, uid) ∷ replicate n file in
+    let next : m ≡ suc n = more ∙ add-one n in
+    let new : replicate m file ≡ file ∷ replicate n file = ap (λ (k : ℕ). replicate k file) next in
+    let same : replicate m file ≡ old = new ∙ ap (λ (text : List ℕ). (study, text) ∷ replicate n file) named in
+    subst (IsPermutation old) (sym same) (IsPermutation-refl old)
+
+images_to : {A : Type 0} (study : List ℕ) (es : List (Vec ℕ A × Series A)) (i : ℕ) (k : Vec ℕ A) (s : Series A) → slice_get es i ≡ Some (k, s) → length (files_in study (take (suc i) es)) ≡ length (files_in study (take i es)) + s.images
+images_to study [] i k s at = absurd cc
+images_to {A} study (e ∷ es) zero k s at =
+    let same : e.1.images ≡ s.images = ap (λ (given : Vec ℕ A × Series A). given.1.images) (let p : e ≡ (k, s) = cc in p) in
+    let file : List ℕ × List ℕ = (study, e.0.items) in
+    let counted : length (replicate e.1.images file ++ []) ≡ e.1.images = ap length (append-nil (replicate e.1.images file)) ∙ length-replicate e.1.images file in
+    counted ∙ same ∙ omega arith
+images_to study (e ∷ es) (suc i) k s at =
+    let front : List (List ℕ × List ℕ) = replicate e.1.images (study, e.0.items) in
+    let rest = images_to study es i k s at in
+    let more = length-append front (files_in study (take (suc i) es)) in
+    let less = length-append front (files_in study (take i es)) in
+    more ∙ omega (arith, rest, less)
+
+pub images_more : {A : Type 0} (study : List ℕ) (es : List (Vec ℕ A × Series A)) (i : ℕ) (k : Vec ℕ A) (s : Series A) (images more : ℕ) → slice_get es i ≡ Some (k, s) → images ≡ min (length (files_in study (take i es))) (2 ^ 64 - 1) → more ≡ min (images + s.images) (2 ^ 64 - 1) → more ≡ min (length (files_in study (take (i + 1) es))) (2 ^ 64 - 1)
+images_more study es i k s images more at so_far next =
+    let one = images_to study es i k s at in
+    rw (add-one i, one) (grind (arith, so_far, next))
+
+pub one_path : {A : Type 0} (study uid key path : List ℕ) (listed after : List (Instance A)) (instance : Option (Instance A)) → key ≡ uid → HasPath path instance → after ≡ listed ++ one_or_none instance
+    → IsPermutation {X = List ℕ × (List ℕ × List ℕ)} ((study, (uid, path)) ∷ map (λ one. (study, (key, string_bytes one.path))) listed) (map (λ one. (study, (key, string_bytes one.path))) after)
+one_path study uid key path listed after None named has more = absurd has
+one_path {A} study uid key path listed after (Some instance) named has more =
+    let show : Instance A → List ℕ × (List ℕ × List ℕ) = λ one. (study, (key, string_bytes one.path)) in
+    let last : List ℕ × (List ℕ × List ℕ) = show instance in
+    let same : last ≡ (study, (uid, path)) = ap (λ (text : List ℕ). (study, (key, text))) has ∙ ap (λ (text : List ℕ). (study, (text, path))) named in
+    let all : map show after ≡ map show listed ++ last ∷ [] = ap (map show) more ∙ map-append show listed (instance ∷ []) in
+    subst (λ (given : List ℕ × (List ℕ × List ℕ)). IsPermutation (given ∷ map show listed) (map show after)) same
+    (subst (IsPermutation (last ∷ map show listed)) (sym all) (IsPermutation-sym _ _ (IsPermutation-to_front (map show listed) last)))

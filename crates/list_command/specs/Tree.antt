@@ -1,0 +1,49 @@
+-- What a listing has of each file: its place in one series of one study. This product's own profile.
+use Rattle.std.specs.Prelude.{◌≡◌, ℕ, Bool, List, [], ◌∷◌, ◌++◌, map, Option, Some, None, nat_eq, replicate, slice_get, Vec}
+use Rattle.std.specs.Cmp.Lexicographic.{pointwise}
+use Rattle.std.specs.List.{flat_map}
+use Rattle.std.specs.Map.{keys_of}
+use Rattle.std.specs.String.{string_bytes}
+use Rattle.list_command.specs.declared.studies.Instance.{Instance}
+use Rattle.list_command.specs.declared.studies.Series.{Series}
+use Rattle.list_command.specs.declared.studies.Study.{Study}
+
+-- the files of a study's series, each as the UIDs of its study and its series: as many of each series as it counts
+abbrev pub files_in : {A : Type 0} → List ℕ → List (Vec ℕ A × Series A) → List (List ℕ × List ℕ)
+files_in study entries = flat_map (λ entry. replicate entry.1.images (study, entry.0.items)) entries
+
+-- the files of all studies
+abbrev pub files_of : {A : Type 0} → List (Vec ℕ A × Study A) → List (List ℕ × List ℕ)
+files_of entries = flat_map (λ entry. files_in entry.0.items entry.1.series.entries) entries
+
+-- the listed files of a study's series, each as the UIDs of its study and its series, and its path
+abbrev pub paths_in : {A : Type 0} → List ℕ → List (Vec ℕ A × Series A) → List (List ℕ × (List ℕ × List ℕ))
+paths_in study entries = flat_map (λ entry. map (λ instance. (study, (entry.0.items, string_bytes instance.path))) entry.1.instances.items) entries
+
+-- the listed files of all studies
+abbrev pub paths_of : {A : Type 0} → List (Vec ℕ A × Study A) → List (List ℕ × (List ℕ × List ℕ))
+paths_of entries = flat_map (λ entry. paths_in entry.0.items entry.1.series.entries) entries
+
+-- the file at this path is to be listed
+abbrev pub HasPath : {A : Type 0} → List ℕ → Option (Instance A) → Type 0
+HasPath path None = ⊥
+HasPath path (Some instance) = string_bytes instance.path ≡ path
+
+-- the study or series at this place has this UID
+abbrev pub HasUid : {A T : Type 0} → List ℕ → ℕ → List (Vec ℕ A × T) → Type 0
+HasUid uid place entries = slice_get (map (λ key. key.items) (keys_of entries)) place ≡ Some uid
+
+-- whether a UID is this one
+abbrev pub is_uid : {A : Type 0} → List ℕ → Vec ℕ A → Bool
+is_uid uid key = pointwise nat_eq uid key.items
+
+-- the studies or series have a new one at their end, with this UID
+pub record IsAdded {A T : Type 0} (uid : List ℕ) (new : T) (old entries : List (Vec ℕ A × T)) : Type 0 where
+  pub key : Vec ℕ A
+  pub named : key.items ≡ uid
+  pub at_end : entries ≡ old ++ (key, new) ∷ []
+
+-- an element, or none
+abbrev pub one_or_none : {X : Type 0} → Option X → List X
+one_or_none None = []
+one_or_none (Some x) = x ∷ []

@@ -1,0 +1,62 @@
+//! The listeners of a server.
+use mio::net::{TcpListener, TcpStream};
+use mio::{Interest, Poll, Token};
+use std::io::{Error, ErrorKind};
+use std::net::SocketAddr;
+use std::{io, net};
+
+/// Listeners of which each has its turn to accept a connection.
+#[derive(Drop)]
+pub(crate) struct Listeners {
+    all: Vec<TcpListener>,
+    /// The place of that which has the next turn.
+    next: usize,
+}
+
+impl Listeners {
+    /// Watches these listeners under one token.
+    pub(crate) fn watched(
+        poll: &Poll,
+        token: Token,
+        listeners: Vec<net::TcpListener>,
+    ) -> io::Result<Listeners> {
+        let mut all = Vec::with_capacity(*listeners.allocator(), listeners.len())?;
+        for listener in listeners {
+            listener.set_nonblocking(true)?;
+            let mut listener = TcpListener::from_std(listener);
+            poll.registry()
+                .register(&mut listener, token, Interest::READABLE)?;
+            all.push(listener)?;
+        }
+        Ok(Listeners { all, next: 0 })
+    }
+
+    /// Has the poll report at once each listener that has a connection.
+    pub(crate) fn watch_anew(&mut self, poll: &Poll, token: Token) {
+        for listener in &mut self.all {
+            // A socket that is registered anew is reported at once if it is ready.
+            let _ = poll
+                .registry()
+                .reregister(listener, token, Interest::READABLE);
+        }
+    }
+
+    /// Accepts a connection of the next listener that has one.
+    ///
+    /// Fails with `WouldBlock` if none has, and as the listener whose turn it is.
+    pub(crate) fn accept(&mut self) -> io::Result<(TcpStream, SocketAddr)> {
+        for _ in 0..self.all.len() {
+            let place = if self.next < self.all.len() {
+                self.next
+            } else {
+                0
+            };
+            self.next = place.saturating_add(1);
+            match self.all[place].accept() {
+                Err(failure) if failure.kind() == ErrorKind::WouldBlock => {}
+                accepted => return accepted,
+            }
+        }
+        Err(Error::from(ErrorKind::WouldBlock))
+    }
+}

@@ -1,0 +1,174 @@
+//! How a connection ends an association, where it is asked to or the peer's time is up.
+ghost use Rattle.std.specs.Prelude.{◌≡◌, ◌≢◌, ◌<◌, ◌+◌, ◌++◌, ◌||◌, ◌∷◌, [], length, IsNone, IsSome, true, false};
+ghost use Rattle.engine.specs.Inputs.{Expiry, UserAbort};
+ghost use Rattle.engine.specs.OutputLaws.{most_beside_answers};
+ghost use Rattle.serving.specs.Capacities.{outbox_size};
+ghost use Rattle.serving.specs.Own.{own_of};
+ghost use Rattle.serving.specs.Timed.{asked_at, with_asked};
+ghost use Rattle.serving.specs.Told.{pieces_of};
+ghost use Rattle.serving.specs.Waits.{HasExpired, IsSilent, has_lasted};
+ghost use Rattle.std.specs.Time.{instant_nanos};
+
+use super::Connection;
+use super::turns::Flush;
+use crate::deadlines::Wait;
+use connection::{Observer, ReadEnd};
+use engine::Input;
+use part10::Settling;
+use std::io::{Error, ErrorKind, Write};
+use std::time::Instant;
+
+impl<'c, S: Write, F: Settling, B: Observer> Connection<'c, S, F, B> {
+    ghost use Rattle.engine.specs.Held.{is_ended};
+    ghost use Rattle.serving.specs.Connections.{aborted_at, begun_of, filing_of, inputs_at, moments_at, settings_at, opening_of, refusals_at, socket_of, state_at, stopped_at, times_at, waiting_at};
+
+    /// Has the local user abort the association, once, where there is a reason for it and it has not ended: an
+    /// A-ABORT goes out, where one is due and the peer takes it, and the ARTIM timer starts. The observer is
+    /// shown `why`.
+    ///
+    /// `aborts`: of the server's own inputs it is given one abort. `once`: that is the only one.
+    ///
+    /// `quiet`: while a file waits to be settled, nothing is sent; the A-ABORT goes out after the reply to
+    /// its store.
+    pub(super) fn abort(&mut self, why: ReadEnd, now: Instant)
+        requires reason { (stopped_at self.old || has_lasted (begun_of self.old).longest (begun_of self.old).opened (instant_nanos now)) ≡ true }
+        ensures settings { settings_at self.new ≡ settings_at self.old }
+        ensures opening { opening_of self.new ≡ opening_of self.old }
+        ensures quiet { F.waits (filing_of self.old) ≡ true → socket_of self.new ≡ socket_of self.old }
+        ensures over { is_ended (state_at self.old) ≡ true → self.new ≡ self.old }
+        ensures once { IsSome (aborted_at self.old) → self.new ≡ self.old }
+        ensures aborted { is_ended (state_at self.old) ≡ false → IsSome (aborted_at self.new) }
+        ensures aborts { is_ended (state_at self.old) ≡ false → IsNone (aborted_at self.old)
+            → own_of (inputs_at self.new) ≡ own_of (inputs_at self.old) ++ UserAbort ∷ [] }
+        ensures asked { asked_at (moments_at self.new) ≢ asked_at (moments_at self.old) → asked_at (moments_at self.new) ≡ asked_at (moments_at self.old) ++ instant_nanos now ∷ [] }
+        ensures same_pieces { pieces_of (inputs_at self.new) ≡ pieces_of (inputs_at self.old) }
+        ensures same_start { begun_of self.new ≡ begun_of self.old }
+        ensures unstopped { stopped_at self.new ≡ stopped_at self.old }
+    {
+        if self.is_over() || self.aborted.is_some() {
+            return;
+        }
+        self.aborted = Some(now);
+        self.is_ready = true;
+        self.abort_by(true, now, why);
+    }
+
+    /// Has the local user abort the association, since it was asked to, or since the peer was silent.
+    fn abort_by(&mut self, is_asked: bool, now: Instant, why: ReadEnd)
+        requires open { is_ended (state_at self.old) ≡ false }
+        requires room { length (waiting_at self.old) + most_beside_answers < outbox_size }
+        requires silent { is_asked ≡ false → IsSilent (times_at self.old) (instant_nanos now) (times_at self.old).started }
+        requires nothing_waits { is_asked ≡ false → waiting_at self.old ≡ [] }
+        requires first { is_asked ≡ true → asked_at (moments_at self.old) ≡ [] }
+        requires noted { is_asked ≡ true → IsSome (aborted_at self.old) }
+        requires reason { is_asked ≡ true → (stopped_at self.old || has_lasted (begun_of self.old).longest (begun_of self.old).opened (instant_nanos now)) ≡ true }
+        ensures settings { settings_at self.new ≡ settings_at self.old }
+        ensures opening { opening_of self.new ≡ opening_of self.old }
+        ensures quiet { F.waits (filing_of self.old) ≡ true → socket_of self.new ≡ socket_of self.old }
+        ensures aborts { own_of (inputs_at self.new) ≡ own_of (inputs_at self.old) ++ UserAbort ∷ [] }
+        ensures asked { asked_at (moments_at self.new) ≡ asked_at (moments_at self.old) ++ with_asked is_asked (instant_nanos now) [] }
+        ensures unasked { is_asked ≡ false → asked_at (moments_at self.new) ≡ asked_at (moments_at self.old) }
+        ensures same_pieces { pieces_of (inputs_at self.new) ≡ pieces_of (inputs_at self.old) }
+        ensures same_start { begun_of self.new ≡ begun_of self.old }
+        ensures same_flags { (aborted_at self.new ≡ aborted_at self.old) × (stopped_at self.new ≡ stopped_at self.old) }
+    {
+        let waited = self.filing.waits();
+        let before = self.socket.outbox.pending().len();
+        self.give(Input::LocalAbort, is_asked, now);
+        let written = self.socket.outbox.pending().len().saturating_sub(before);
+        self.observer.read_ended(why, written);
+        if !waited && !self.filing.waits() {
+            self.flush(now);
+        }
+    }
+
+    /// Closes a connection whose peer takes nothing: nor would it take an A-ABORT.
+    fn give_up(&mut self, now: Instant)
+        requires open { is_ended (state_at self.old) ≡ false }
+        requires some { waiting_at self.old ≢ [] }
+        requires refused { 0 < refusals_at self.old }
+        ensures settings { settings_at self.new ≡ settings_at self.old }
+        ensures opening { opening_of self.new ≡ opening_of self.old }
+        ensures peers { own_of (inputs_at self.new) ≡ own_of (inputs_at self.old) }
+        ensures same_pieces { pieces_of (inputs_at self.new) ≡ pieces_of (inputs_at self.old) }
+        ensures unasked { asked_at (moments_at self.new) ≡ asked_at (moments_at self.old) }
+        ensures same_start { begun_of self.new ≡ begun_of self.old }
+        ensures same_flags { (aborted_at self.new ≡ aborted_at self.old) × (stopped_at self.new ≡ stopped_at self.old) }
+    {
+        self.observer.send_failed(&Error::from(ErrorKind::TimedOut));
+        self.give(Input::Closed, false, now);
+    }
+
+    /// Ends an established association whose peer was silent for the idle time: it is aborted, or the
+    /// connection closed if the peer did not take what waits. That is offered to it once more: a peer that
+    /// takes some of it is not silent.
+    fn end_silence(&mut self, now: Instant)
+        requires open { is_ended (state_at self.old) ≡ false }
+        requires settled { F.waits (filing_of self.old) ≡ false }
+        requires silent { IsSilent (times_at self.old) (instant_nanos now) (times_at self.old).started }
+        ensures settings { settings_at self.new ≡ settings_at self.old }
+        ensures opening { opening_of self.new ≡ opening_of self.old }
+        ensures aborts { waiting_at self.old ≡ [] → own_of (inputs_at self.new) ≡ own_of (inputs_at self.old) ++ UserAbort ∷ [] }
+        ensures spares { waiting_at self.old ≢ [] → own_of (inputs_at self.new) ≡ own_of (inputs_at self.old) }
+        ensures same_pieces { pieces_of (inputs_at self.new) ≡ pieces_of (inputs_at self.old) }
+        ensures unasked { asked_at (moments_at self.new) ≡ asked_at (moments_at self.old) }
+        ensures same_start { begun_of self.new ≡ begun_of self.old }
+        ensures same_flags { (aborted_at self.new ≡ aborted_at self.old) × (stopped_at self.new ≡ stopped_at self.old) }
+    {
+        let waits = self.socket.outbox.pending().len();
+        if waits == 0 {
+            self.abort_by(false, now, ReadEnd::Idle);
+            return;
+        }
+        match self.flush(now) {
+            Flush::Blocked if self.socket.outbox.pending().len() == waits => {
+                self.give_up(now);
+            }
+            _ => {}
+        }
+    }
+
+    /// Ends what the peer took too long for: once the ARTIM timer has expired, the association; where an
+    /// established association was silent for the idle time, it is aborted, or the connection closed if the
+    /// peer did not take what waits.
+    ///
+    /// `quiet`: while a file waits to be settled, nothing is done: the peer is not the one that is waited
+    /// for. `waits`: nor is anything while the peer may be waited for yet.
+    ///
+    /// `expires`, `aborts`, `spares`: where the timer has expired, that is the one input that is given; where
+    /// the peer was silent, the abort is, unless something waits to be taken.
+    pub fn expire(&mut self, now: Instant)
+        ensures settings { settings_at self.new ≡ settings_at self.old }
+        ensures opening { opening_of self.new ≡ opening_of self.old }
+        ensures quiet { F.waits (filing_of self.old) ≡ true → self.new ≡ self.old }
+        ensures over { is_ended (state_at self.old) ≡ true → self.new ≡ self.old }
+        ensures waits { (HasExpired (times_at self.old) (instant_nanos now) (times_at self.old).started → ⊥)
+            → (IsSilent (times_at self.old) (instant_nanos now) (times_at self.old).started → ⊥) → self.new ≡ self.old }
+        ensures expires { is_ended (state_at self.old) ≡ false → F.waits (filing_of self.old) ≡ false
+            → HasExpired (times_at self.old) (instant_nanos now) (times_at self.old).started → inputs_at self.new ≡ inputs_at self.old ++ Expiry ∷ [] }
+        ensures aborts { is_ended (state_at self.old) ≡ false → F.waits (filing_of self.old) ≡ false → waiting_at self.old ≡ []
+            → IsSilent (times_at self.old) (instant_nanos now) (times_at self.old).started → own_of (inputs_at self.new) ≡ own_of (inputs_at self.old) ++ UserAbort ∷ [] }
+        ensures spares { waiting_at self.old ≢ []
+            → IsSilent (times_at self.old) (instant_nanos now) (times_at self.old).started → own_of (inputs_at self.new) ≡ own_of (inputs_at self.old) }
+        ensures same_pieces { pieces_of (inputs_at self.new) ≡ pieces_of (inputs_at self.old) }
+        ensures unasked { asked_at (moments_at self.new) ≡ asked_at (moments_at self.old) }
+        ensures same_start { begun_of self.new ≡ begun_of self.old }
+        ensures same_flags { (aborted_at self.new ≡ aborted_at self.old) × (stopped_at self.new ≡ stopped_at self.old) }
+    {
+        if self.is_over() || self.filing.waits() {
+            return;
+        }
+        match self.deadlines.wait(now) {
+            Wait::Left(_) => {}
+            Wait::Expired => {
+                self.is_ready = true;
+                self.give(Input::Expired, false, now);
+                self.observer.read_ended(ReadEnd::Timer, 0);
+            }
+            Wait::Silent => {
+                self.is_ready = true;
+                self.end_silence(now);
+            }
+        }
+    }
+}

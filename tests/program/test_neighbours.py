@@ -1,0 +1,152 @@
+"""What peers and other programs do to the log, the queue, the folders and the files of a box."""
+import os
+import re
+import struct
+import time
+
+import pytest
+from box import wait_for
+from peer import CT, ECHO, ECHO_ANSWER, ECHO_REQUEST, EXPLICIT, RELEASE, store_command
+from samples import IMAGE
+from test_quarantine import BAD, data_set, names, send
+
+NO_FILE = "it is a pipe, a socket or a device, and no file"
+NOT_STORED = r"WARN .* not stored: status C000 .*"
+
+
+def refused_stores(box, count):
+    """Has so many stores refused in one association, and releases it."""
+    with box.connect() as peer:
+        assert peer.associate([(CT, EXPLICIT)]) == [(0, EXPLICIT)]
+        for number in range(1, count + 1):
+            peer.send(store_command(1, CT, "1.2.840.99.1", number))
+            body = data_set(more=BAD)
+            peer.send(struct.pack(">BxLLBB", 4, len(body) + 6, len(body) + 2, 1, 2) + body)
+            assert b"\0\0\0\x09\2\0\0\0\0\xc0" in peer.receive_pdu()[1]
+        peer.until_released(RELEASE)
+
+
+def test_ten_lines_tell_of_stores_that_were_not_filed(serve, form):
+    box = serve("--metrics", "box.prom", *form)
+    refused_stores(box, 35)
+    box.until_logged("released")
+    lines = [line for line in box.lines if "not stored" in line]
+    assert len(lines) == 11, box.log
+    assert re.search(r'not stored: 25 more, the last with status C000 .*"SCANNER1"', lines[-1])
+
+
+def test_few_stores_that_were_not_filed_have_a_line_each(serve):
+    box = serve()
+    refused_stores(box, 10)
+    box.until_logged("released")
+    assert len(re.findall(NOT_STORED, box.log)) == 10 and "more, the last" not in box.log
+
+
+def test_who_has_closed_leaves_the_queue(serve):
+    """Peers that give up while they wait, with a request or without, leave their places."""
+    box = serve("--at-once", "2", "--per-peer", "1")
+    with box.connect() as first:
+        first.send(ECHO_REQUEST)
+        assert first.receive(20)
+        for sent in (ECHO, b"", ECHO_REQUEST, b"", ECHO) * 4:
+            with box.connect() as peer:
+                peer.send(sent)
+                assert peer.is_silent(0.05)
+            time.sleep(0.05)
+        with box.connect() as last:
+            last.send(ECHO)
+            assert last.is_silent(0.2), box.log
+            first.close()
+            assert last.receive(len(ECHO_ANSWER)) == ECHO_ANSWER
+    assert "too many wait" not in box.log
+
+
+def test_that_too_many_wait_is_told_once(serve):
+    box = serve("--at-once", "2", "--per-peer", "1")
+    peers = [box.connect() for _ in range(9)]
+    box.until_logged("too many wait for a place")
+    wait_for(lambda: all(peer.receive(1) == b"" for peer in peers[3:]), "the others are closed")
+    assert box.log.count("too many wait for a place") == 1
+    for peer in peers:
+        peer.close()
+
+
+@pytest.mark.parametrize(
+    "arguments",
+    [
+        "show no\33[31m",
+        "check no\33[31m",
+        "list no\33[31m",
+        "show ct.dcm --tag a\33[2J",
+        "serve --out in --port \33[2J",
+    ],
+)
+def test_what_a_user_gave_does_not_change_the_terminal(run, arguments):
+    done = run(*arguments.split(" "))
+    assert done.returncode in (2, 3) and "?[" in done.stderr and "\33" not in done.stderr
+
+
+def test_a_draft_of_a_directory_is_no_link(run, put, work):
+    """What a link of that name leads to is not written over."""
+    put({"in/I0000001": IMAGE, "kept": b"kept"})
+    (work / "in/DIRDRAFT").symlink_to(work / "kept")
+    assert run("index", "in", "--uid", "1.2.3").returncode == 0
+    assert (work / "kept").read_bytes() == b"kept"
+    assert not (work / "in/DICOMDIR").is_symlink() and not (work / "in/DIRDRAFT").is_symlink()
+
+
+@pytest.mark.parametrize("option", ["--numbers", "--metrics"])
+def test_a_file_that_is_replaced_is_no_link(serve, put, work, option):
+    put({"kept": b"kept"})
+    (work / "there.new").symlink_to(work / "kept")
+    box = serve(option, "there")
+    wait_for(lambda: (work / "there").exists(), "the file is there")
+    assert box.echoes()
+    assert (work / "kept").read_bytes() == b"kept" and not (work / "there").is_symlink()
+
+
+@pytest.mark.parametrize("command", ["show", "check", "show --values"])
+def test_a_pipe_is_not_waited_for(run, work, command):
+    (work / "in").mkdir()
+    os.mkfifo(work / "in/I0000009")
+    done = run(*command.split(), "in/I0000009")
+    assert done.returncode == 3 and NO_FILE in done.stderr
+
+
+@pytest.mark.parametrize(
+    "command, status",
+    [("list in", 0), ("check -r in", 0), ("arrange in --to tree", 0), ("index in --uid 1.2.3", 0)],
+)
+def test_a_pipe_among_files(run, put, work, command, status):
+    """It is told of, and the others are taken."""
+    put({"in/I0000001": IMAGE})
+    os.mkfifo(work / "in/I0000009")
+    done = run(*command.split())
+    assert done.returncode == status, (done.stdout, done.stderr)
+    assert f"in/I0000009: {NO_FILE}" in done.stderr
+    if command.startswith("index"):
+        assert "skipped I0000009 fault 54" in done.stdout and "images 1 left out 1" in done.stderr
+
+
+def test_a_full_quarantine_is_not_counted_for_each_store(serve, trace, calls, work):
+    """Its files are listed once it was changed, and at the start."""
+    (work / "aside").mkdir()
+    bad = data_set(more=BAD)
+    strace = trace("-f", "-y", "-e", "trace=getdents64")
+    box = serve("--quarantine", "aside", "--quarantine-most", "1", before=strace)
+    assert send(box, bad) == "C000" and names(work / "aside") == ["000001.dcm", "000001.txt"]
+    time.sleep(1.2)
+    assert [send(box, bad) for _ in range(8)] == ["C000"] * 8
+    (work / "aside/000001.dcm").unlink()
+    assert send(box, bad) == "C000" and "000002.dcm" in names(work / "aside")
+    box.stop()
+    listed = [line for line in calls() if "/aside>" in line and not line.rstrip().endswith("= 0")]
+    assert len(listed) in (2, 3, 4), listed
+
+
+def test_a_folder_named_as_a_draft(serve, work):
+    (work / "received/DRAFT").mkdir(parents=True)
+    box = serve(waits=False)
+    assert box.ended() == 3
+    assert "a folder in it has the name of a draft, DRAFT or DRAFT with digits" in box.log
+    assert (work / "received/DRAFT").is_dir()
