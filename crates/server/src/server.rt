@@ -312,7 +312,7 @@ impl<
             self.arrivals.note(now);
             self.look(files, now);
             self.turn_each(now);
-            self.settle_due(now);
+            self.settle_due(now)?;
             // A slot that was freed is given on before the poll, which may wait long.
             self.admit_all(now);
             self.measure(files, now);

@@ -1,6 +1,6 @@
 //! When files that wait to be settled are settled together.
 ghost use Rattle.std.specs.Prelude.{◌≡◌, ◌≢◌, ◌≤◌, ◌-◌, Some, true, false};
-ghost use Rattle.std.specs.Time.{instant_nanos};
+ghost use Rattle.std.specs.Time.{as_nanos, instant_nanos};
 
 use std::time::{Duration, Instant};
 
@@ -50,6 +50,8 @@ pub(super) struct Group {
     since: Option<Instant>,
     /// Whether the last poll found anything.
     is_busy: bool,
+    /// How long the last settling took: to wait longer than that for a file costs more than to settle it alone.
+    took: Duration,
 }
 
 impl Group {
@@ -58,7 +60,15 @@ impl Group {
         Group {
             since: None,
             is_busy: false,
+            took: Duration::ZERO,
         }
+    }
+
+    /// Records how long a settling took.
+    pub(super) fn settled(&mut self, took: Duration)
+        ensures took { self.new.took ≡ took }
+    {
+        self.took = took;
     }
 
     /// Records whether a poll found anything.
@@ -67,12 +77,14 @@ impl Group {
     }
 
     /// Returns whether the files that wait are to be settled now: each connection has one, or a poll since
-    /// then found nothing, so that no other is about to come, or the first has waited for long enough.
+    /// then found nothing, so that no other is about to come, or the first has waited for as long as the last
+    /// settling took, or for `GATHERING_MILLISECONDS`.
     pub(super) fn is_due(&mut self, waiting: Waiting, now: Instant) -> bool
         ensures none { waiting.files ≡ 0 → result ≡ false }
         ensures all { waiting.files ≢ 0 → waiting.has_others ≡ false → result ≡ true }
         ensures idle { waiting.files ≢ 0 → self.old.since ≢ None → self.old.is_busy ≡ false → waiting.is_ready ≡ false → result ≡ true }
         ensures late { (since : Instant) → waiting.files ≢ 0 → self.old.since ≡ Some since → 20000000 ≤ instant_nanos now - instant_nanos since → result ≡ true }
+        ensures cheap { (since : Instant) → waiting.files ≢ 0 → self.old.since ≡ Some since → as_nanos self.old.took ≤ instant_nanos now - instant_nanos since → result ≡ true }
         ensures noted { waiting.files ≢ 0 → result ≡ false → self.new.since ≢ None }
     {
         let since = self.since;
@@ -84,7 +96,7 @@ impl Group {
             Some(first) => {
                 let waited = now.duration_since(first);
                 let is_late = waited >= Duration::from_millis(GATHERING_MILLISECONDS);
-                is_late || !(self.is_busy || waiting.is_ready)
+                is_late || waited >= self.took || !(self.is_busy || waiting.is_ready)
             }
             None => false,
         };

@@ -7,6 +7,7 @@ use journal::{Journal, Limited, NamesNotSynced};
 use log::Log;
 use std::alloc::Global;
 use std::fs::File;
+use std::io;
 use std::rt::Files;
 use std::time::{Clock, Instant};
 
@@ -28,11 +29,17 @@ impl<
     }
 
     /// Settles the files that wait, once no other is about to come.
-    pub(super) fn settle_due(&mut self, now: Instant) {
+    ///
+    /// Fails if the clock does.
+    pub(super) fn settle_due(&mut self, now: Instant) -> io::Result<()> {
         let waiting = self.waiting();
         if self.group.is_due(waiting, now) {
+            let before = Instant::now(self.rt)?;
             self.settle_all(now);
+            let after = Instant::now(self.rt)?;
+            self.group.settled(after.duration_since(before));
         }
+        Ok(())
     }
 
     /// Writes the files that wait to the disk, each with its name, then the names of all, and sends the
