@@ -1,3 +1,4 @@
 pub mod SevenDigitsFit
 pub mod NamesStayOrderly
 pub mod WaitingFileIsNewest
+pub mod ReportsAreDurable

@@ -1,10 +1,10 @@
 -- The names of a filing stay orderly from call to call (`goes_on`, `names_one`, `tries_one`), and along a search for a
 -- free name (`search_begins`, `search_goes_on`, `search_ends`, `search_fails`); places that rise differ (`are_apart`).
 -- Stands on the definitions alone.
-use Rattle.std.proofs.Common.{◌≢◌, inl, inr, Result, Ok, Err, ◌^◌, ◌∙◌, ◌≡◌, ℕ, ◌+◌, ◌<◌, ◌≤◌, Bool, true, List, [], ◌∷◌, Option, Some, None, refl, ap, subst, arith, nat_lt, false}
+use Rattle.std.proofs.Common.{◌≢◌, inl, inr, Result, Ok, Err, ◌^◌, ◌∙◌, ◌≡◌, ℕ, ◌+◌, ◌<◌, ◌≤◌, Bool, true, List, [], ◌∷◌, Option, Some, None, refl, sym, ap, subst, arith, nat_lt, false}
 use Rattle.std.specs.Result.{OnOk, OnErr}
 use Rattle.folder_filing.specs.declared.call.Call.{Call}
-use Rattle.folder_filing.specs.declared.call.Call.TheVariants.{Refused, Written}
+use Rattle.folder_filing.specs.declared.call.Call.TheVariants.{Refused, Reported, Written}
 use Rattle.std.specs.List.{AllByRecursion}
 use Rattle.std.proofs.lemmas.Bool.{le-leb, le-ltb, leb-true}
 use Rattle.std.specs.declared.io.Error.{Error}
@@ -14,7 +14,7 @@ use Rattle.folder_filing.specs.declared.location.Layout.TheVariants.{Flat, Level
 use Rattle.folder_filing.specs.declared.location.Location.{Location}
 use Rattle.folder_filing.specs.Numbers.{Keeps, is_covered}
 use Rattle.folder_filing.specs.Examples.{WorkedNames}
-use Rattle.folder_filing.specs.Naming.{AreApart, IsKept, IsNameSynced, IsOrderly, IsWritten, KeepsAll, LeavesNames, LosesNone, WasRefused, Naming, Rises, standing, refusals}
+use Rattle.folder_filing.specs.Naming.{AreApart, IsKept, IsNameSynced, IsNewest, IsOrderly, IsWritten, KeepsAll, LeavesNames, LosesNone, WasRefused, Naming, Own, Rises, standing, refusals}
 use Rattle.folder_filing.specs.Locations.{next_location, order}
 use Rattle.folder_filing.specs.declared.named_file.NamedFile.{NamedFile}
 use Rattle.folder_filing.specs.declared.naming.Attempt.{Attempt}
@@ -56,7 +56,7 @@ keeps_same (Some kept) = (omega arith, omega arith)
 
 -- A filing goes on: its last place is no earlier, no kept number is missing, and the calls name no file and lose none.
 pub goes_on : (old new : Naming) → new.layout ≡ old.layout → order old.last ≤ order new.last → KeepsAll old.kept new.kept
-    → standing new.calls ≡ standing old.calls → (LosesNone old.has_sync old.draft old.calls → LosesNone new.has_sync new.draft new.calls) → IsOrderly old → IsOrderly new
+    → standing new.calls ≡ standing old.calls → (LosesNone old.has_sync old.own old.calls → LosesNone new.has_sync new.own new.calls) → IsOrderly old → IsOrderly new
 goes_on old new layout last kept same loses was =
     record {
       loses = loses was.loses;
@@ -67,19 +67,19 @@ goes_on old new layout last kept same loses was =
 
 -- A call that was passed on, or with which the draft was synced, names no file and loses none.
 pub passed_on : {T E : Type 0} (result : Result T E) (old new : List Call) → OnOk result (new ≡ old) → OnErr result (new ≡ Refused ∷ old)
-    → (standing new ≡ standing old) × ((has_sync : Bool) (own : ℕ) → LosesNone has_sync own old → LosesNone has_sync own new)
+    → (standing new ≡ standing old) × ((has_sync : Bool) (own : Own) → LosesNone has_sync own old → LosesNone has_sync own new)
 passed_on (Ok value) old new taken refused = (ap standing taken, λ has_sync own h. rw taken h)
 passed_on (Err error) old new taken refused = (rw refused refl, λ has_sync own h. rw refused h)
 
 pub written_on : {T E : Type 0} (result : Result T E) (old new : List Call) → OnOk result (new ≡ Written ∷ old) → OnErr result (new ≡ Refused ∷ old)
-    → (standing new ≡ standing old) × ((has_sync : Bool) (own : ℕ) → LosesNone has_sync own old → LosesNone has_sync own new)
+    → (standing new ≡ standing old) × ((has_sync : Bool) (own : Own) → LosesNone has_sync own old → LosesNone has_sync own new)
 written_on (Ok value) old new taken refused = (rw taken refl, λ has_sync own h. rw taken h)
 written_on (Err error) old new taken refused = (rw refused refl, λ has_sync own h. rw refused h)
 
 -- It names a file: at a place after the last one, whose number is kept, and which is the last one or before it.
 pub names_one : (old new : Naming) (place : Location) → new.layout ≡ old.layout → new.kept ≡ old.kept → order old.last < order place
     → order place ≤ order new.last → IsKept old.layout old.kept place
-    → standing new.calls ≡ place ∷ standing old.calls → (LosesNone old.has_sync old.draft old.calls → LosesNone new.has_sync new.draft new.calls) → IsOrderly old → IsOrderly new
+    → standing new.calls ≡ place ∷ standing old.calls → (LosesNone old.has_sync old.own old.calls → LosesNone new.has_sync new.own new.calls) → IsOrderly old → IsOrderly new
 names_one old new place layout kept after behind is more loses was =
     record {
       loses = loses was.loses;
@@ -93,7 +93,7 @@ names_one old new place layout kept after behind is more loses was =
 
 -- A try at a place after the last one, whose number is kept, goes on, whatever came of it.
 pub tries_one : {E : Type 0} (result : Result Attempt E) (old new : Naming) (place : Location) → order old.last < order place → IsKept old.layout old.kept place
-    → PlaceLeaves place result old new → SameTerms old new → (LosesNone old.has_sync old.draft old.calls → LosesNone new.has_sync new.draft new.calls) → IsOrderly old → IsOrderly new
+    → PlaceLeaves place result old new → SameTerms old new → (LosesNone old.has_sync old.own old.calls → LosesNone new.has_sync new.own new.calls) → IsOrderly old → IsOrderly new
 tries_one (Ok (Named how)) old new place after is left same loses was =
     names_one old new place same.0 same.1 after (rw left.2 (omega arith)) is left.0 loses was
 tries_one (Ok (Met obstacle)) old new place after is left same loses was =
@@ -103,12 +103,18 @@ tries_one (Err error) old new place after is left same loses was = elim left.0 [
   | inr more ↦ names_one old new place same.0 same.1 after (rw more.1 (omega arith)) is more.0 loses was
 ]
 
+-- The commit of the file that was named last is reported, with syncs after its folder was synced.
+pub reports : (old new : Naming) (place : Location) → new ≡ record old { own = record old.own { reported = place ∷ old.own.reported }; calls = Reported place ∷ old.calls }
+    → IsNewest place (standing old.calls) → (old.has_sync ≡ true → IsNameSynced old.calls) → IsOrderly old → IsOrderly new
+reports old new place is newest synced was =
+    subst IsOrderly (sym is) (record { loses = (newest, synced, refl, was.loses); rises = was.rises; behind = was.behind; kept = was.kept })
+
 -- the search for a free name, after so many places that were met
 pub record Searches (old now : Naming) (met : ℕ) : Type 0 where
   pub same : standing now.calls ≡ standing old.calls
   pub refused : refusals now.calls ≡ refusals old.calls
   pub sync : now.has_sync ≡ old.has_sync
-  pub number : now.draft ≡ old.draft
+  pub own : now.own ≡ old.own
   pub orderly : IsOrderly old → IsOrderly now
   pub written : IsWritten now.has_sync now.calls
   pub far : met ≤ order now.last
@@ -119,7 +125,7 @@ search_begins old now terms calls last written =
       same = ap standing calls;
       refused = ap refusals calls;
       sync = terms.2;
-      number = terms.3;
+      own = terms.3;
       orderly = goes_on old now terms.0 last (rw terms.1 (keeps_same old.kept)) (ap standing calls) (λ h. rw (calls, terms.2, terms.3) h);
       written = rw (calls, terms.2) written;
       far = omega arith;
@@ -129,7 +135,7 @@ search_begins old now terms calls last written =
 pub record Reaches (now next : Naming) (place : Location) : Type 0 where
   pub calls : next.calls ≡ now.calls
   pub sync : next.has_sync ≡ now.has_sync
-  pub number : next.draft ≡ now.draft
+  pub own : next.own ≡ now.own
   pub rises : order now.last ≤ order next.last
   pub behind : order next.last < order place
   pub kept : IsKept next.layout next.kept place
@@ -139,7 +145,7 @@ pub record Reaches (now next : Naming) (place : Location) : Type 0 where
 pub record Tries {E : Type 0} (result : Result Attempt E) (place : Location) (next tried : Naming) : Type 0 where
   pub left : PlaceLeaves place result next tried
   pub same : SameTerms next tried
-  pub loses : LosesNone next.has_sync next.draft next.calls → LosesNone tried.has_sync tried.draft tried.calls
+  pub loses : LosesNone next.has_sync next.own next.calls → LosesNone tried.has_sync tried.own tried.calls
 
 orderly_then : {E : Type 0} (result : Result Attempt E) (old now next tried : Naming) (place : Location) (met : ℕ)
     → Searches old now met → Reaches now next place → Tries result place next tried → IsOrderly old → IsOrderly tried
@@ -177,7 +183,7 @@ search_goes_on old now next tried over place met (Met obstacle) _ is was reaches
       same = ap standing calls ∙ tries.left.0 ∙ same.0;
       refused = ap refusals calls ∙ tries.left.1 ∙ same.1;
       sync = terms.2 ∙ tries.same.2 ∙ reaches.sync ∙ was.sync;
-      number = terms.3 ∙ tries.same.3 ∙ reaches.number ∙ was.number;
+      own = terms.3 ∙ tries.same.3 ∙ reaches.own ∙ was.own;
       orderly = λ h. goes_on tried over terms.0 last (rw terms.1 (keeps_same tried.kept)) (ap standing calls) (λ l. rw (calls, terms.2, terms.3) l)
           (orderly_then (Ok (Met obstacle)) old now next tried place met was reaches tries h);
       written = rw (calls, terms.2, tries.same.2, tries.left.3, reaches.sync, reaches.calls) was.written;
@@ -234,15 +240,19 @@ worked_names =
     record {
       names = refl;
       count = refl;
-      loses = (refl, (refl, (λ synced. refl), (refl, (refl, refl, (λ synced. refl), (refl, (refl, (λ synced. refl), (refl, tt)))))));
+      loses = (refl, (refl, (λ synced. refl), (refl, (refl, refl, (λ synced. refl), (refl, (refl, (λ synced. refl), (refl, refl)))))));
       unwritten = λ loses. absurd (let same = loses.1 refl in cc);
       rises = ((omega arith, tt), (tt, tt));
       unseen = λ loses. loses.1;
       other = λ loses. absurd (let same = ap (λ z. z.file) loses.1 in omega (arith, same));
       earlier = λ loses. absurd (let same = ap (λ z. z.file) loses.0 in omega (arith, same));
-      again = (refl, (λ synced. refl), (refl, (refl, (λ synced. refl), (refl, tt))));
+      again = (refl, (λ synced. refl), (refl, (refl, (λ synced. refl), (refl, refl))));
       both = λ loses. absurd (let same = loses.1 refl in cc);
       gone = λ loses. absurd (let same = loses.1 refl in cc);
       foreign = λ loses. absurd (let same = loses.0 in omega (arith, same));
+      reported = (refl, (λ synced. refl), refl, (refl, (λ synced. refl), (refl, refl)));
+      unsynced = λ loses. loses.1 refl;
+      early = λ loses. loses.1 refl;
+      elsewhere = λ loses. absurd (let same = loses.1 refl in omega (arith, same));
       twice = λ rises. absurd (omega (arith, rises.0.0));
     }

@@ -1,17 +1,22 @@
 -- The file that waits is the newest, the one that was named last (`same_last`, `just_named`, `is_newest`), and the
--- names stay orderly where its name is removed, or where that fails (`takes_back_or_fails`). Stands on
+-- names stay orderly where its name is removed, or where that fails (`takes_back_or_fails`), or where its commit is reported
+-- (`in_its_folder`, `one_reported`, `one_more_reported`, `still_reported`). Stands on
 -- NamesStayOrderly.
-use Rattle.std.proofs.Common.{◌≡◌, ◌≤◌, ◌∙◌, List, [], ◌∷◌, Result, Ok, Err, ap, arith, drop, refl, subst, sym}
+use Rattle.std.proofs.Common.{◌≡◌, ◌≤◌, ◌∙◌, ℕ, suc, ◌+◌, List, [], ◌∷◌, ◌++◌, map, Result, Ok, Err, ap, arith, drop, length, refl, subst, sym}
+use Rattle.std.proofs.Math.Logic.{∥∥₁_elim}
+use Rattle.std.proofs.lemmas.List.{length-append, map-append}
+use Rattle.std.specs.Coded.{Coded-set, coded_ℕ}
 use Rattle.std.specs.Result.{OnOk, OnErr}
 use Rattle.std.specs.List.{AllByRecursion}
 use Rattle.folder_filing.specs.declared.call.Call.{Call}
 use Rattle.folder_filing.specs.declared.call.Call.TheVariants.{Refused, Removed}
-use Rattle.folder_filing.specs.Naming.{IsKept, IsNewest, IsOrderly, Naming, Rises, standing}
+use Rattle.folder_filing.specs.Naming.{IsKept, IsNewest, IsNewestIn, IsOrderly, Naming, Own, Rises, standing}
 use Rattle.folder_filing.specs.Locations.{order}
 use Rattle.folder_filing.specs.declared.location.Location.{Location}
 use Rattle.folder_filing.specs.declared.pending.Pending.{Pending}
 use Rattle.folder_filing.specs.declared.pending.Pending.TheVariants.{Settled, Unnamed, Named}
-use Rattle.folder_filing.specs.Settling.{IsNamedLast}
+use Rattle.folder_filing.specs.Settling.{IsNamedLast, is_waiting}
+use Rattle.folder_filing.specs.Synced.{one_if}
 use Rattle.folder_filing.specs.machine.Naming.{SameTerms}
 use Rattle.folder_filing.proofs.NamesStayOrderly.{goes_on, keeps_same}
 
@@ -65,3 +70,28 @@ takes_back_or_fails (Ok value) old new place before terms last same removed refu
 takes_back_or_fails (Err error) old new place before terms last same removed refused newest was =
     let calls : new.calls ≡ Refused ∷ old.calls = refused ∙ ap (λ z. Refused ∷ z) same in
     goes_on old new terms.0 (rw last (omega arith)) (rw terms.1 (keeps_same old.kept)) (rw calls refl) (λ l. rw (terms.2, terms.3, calls) l) was
+
+-- The folder of the file that was named last.
+pub in_its_folder : (place : Location) (places : List Location) → ∥ IsNewest place places ∥₁ → IsNewestIn place.folder places
+in_its_folder place [] newest = absurd (∥∥₁_elim newest (λ a b. absurd a) (λ a. a))
+in_its_folder place (other ∷ places) newest = ∥∥₁_elim newest (Coded-set coded_ℕ _ _) (λ is. ap (λ z. z.folder) is)
+
+-- The commit that waits is reported.
+pub one_reported : (files : ℕ) (pending : Pending) (place : Location) (old new : List Location) → pending ≡ Named place → files ≡ length old + one_if (is_waiting pending)
+    → new ≡ place ∷ old → files ≡ length new + 0
+one_reported files pending place old new is counted more =
+    let waits : files ≡ length old + 1 = subst (λ z. files ≡ length old + one_if (is_waiting z)) is counted in
+    let longer : length new ≡ length old + 1 = ap length more ∙ (let next : suc (length old) ≡ length old + 1 = omega arith in next) in
+    omega (arith, waits, longer)
+
+-- The same commits are reported.
+pub still_reported : (files waiting : ℕ) (old new : Own) → new ≡ old → files ≡ length old.reported + waiting → files ≡ length new.reported + waiting
+still_reported files waiting old new same counted = subst (λ z. files ≡ length z.reported + waiting) (sym same) counted
+
+-- One file more was committed, and its commit is reported.
+pub one_more_reported : {X Y : Type 0} (f : X → Y) (kept more : List X) (x : X) (waiting : ℕ) (place : Location) (old same new : List Location) → more ≡ kept ++ x ∷ []
+    → length (map f kept) ≡ length old + waiting → same ≡ old → new ≡ place ∷ same → length (map f more) ≡ length new + waiting
+one_more_reported f kept more x waiting place old same new is counted now reported =
+    let longer : length (map f more) ≡ length (map f kept) + 1 = ap (λ z. length (map f z)) is ∙ ap length (map-append f kept (x ∷ [])) ∙ length-append (map f kept) (f x ∷ []) in
+    let next : length new ≡ length old + 1 = ap length (reported ∙ ap (λ z. place ∷ z) now) ∙ (let one : suc (length old) ≡ length old + 1 = omega arith in one) in
+    omega (arith, counted, longer, next)

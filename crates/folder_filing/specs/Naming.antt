@@ -3,7 +3,7 @@
 use Rattle.std.specs.Prelude.{◌≡◌, ◌≢◌, ℕ, ◌+◌, ◌<◌, ◌≤◌, ◌⊎◌, Bool, true, false, List, [], ◌∷◌, drop, Option, Some, None, ⊤}
 use Rattle.std.specs.List.{AllByRecursion}
 use Rattle.folder_filing.specs.declared.call.Call.{Call}
-use Rattle.folder_filing.specs.declared.call.Call.TheVariants.{Created, Written, Linked, SeenFree, Renamed, Removed, Synced, Refused, Replaced}
+use Rattle.folder_filing.specs.declared.call.Call.TheVariants.{Created, Written, Linked, SeenFree, Renamed, Removed, Synced, Reported, Refused, Replaced}
 use Rattle.folder_filing.specs.declared.numbers.Numbers.{Numbers}
 use Rattle.folder_filing.specs.declared.location.Layout.{Layout}
 use Rattle.folder_filing.specs.declared.location.Location.{Location}
@@ -21,6 +21,7 @@ standing (SeenFree place ∷ before) = standing before
 standing (Renamed draft place ∷ before) = place ∷ standing before
 standing (Removed place ∷ before) = drop 1 (standing before)
 standing (Synced folder ∷ before) = standing before
+standing (Reported place ∷ before) = standing before
 standing (Refused ∷ before) = standing before
 standing (Replaced ∷ before) = standing before
 
@@ -34,6 +35,7 @@ refusals (SeenFree place ∷ before) = refusals before
 refusals (Renamed draft place ∷ before) = refusals before
 refusals (Removed place ∷ before) = refusals before
 refusals (Synced folder ∷ before) = refusals before
+refusals (Reported place ∷ before) = refusals before
 refusals (Refused ∷ before) = refusals before + 1
 refusals (Replaced ∷ before) = refusals before + 1
 
@@ -47,6 +49,7 @@ FoundFree place (Linked draft other ∷ before) = ⊥
 FoundFree place (Renamed draft other ∷ before) = ⊥
 FoundFree place (Removed other ∷ before) = ⊥
 FoundFree place (Synced folder ∷ before) = ⊥
+FoundFree place (Reported other ∷ before) = ⊥
 FoundFree place (Refused ∷ before) = ⊥
 FoundFree place (Replaced ∷ before) = ⊥
 
@@ -67,6 +70,7 @@ abbrev mutual
   is_written (Renamed draft place ∷ before) = false
   is_written (Removed place ∷ before) = was_written before
   is_written (Synced folder ∷ before) = is_written before
+  is_written (Reported place ∷ before) = is_written before
   is_written (Refused ∷ before) = is_written before
   is_written (Replaced ∷ before) = is_written before
 
@@ -79,6 +83,7 @@ abbrev mutual
   was_written (Renamed draft place ∷ before) = false
   was_written (Removed place ∷ before) = false
   was_written (Synced folder ∷ before) = false
+  was_written (Reported place ∷ before) = false
   was_written (Refused ∷ before) = false
   was_written (Replaced ∷ before) = false
 
@@ -91,7 +96,7 @@ abbrev pub IsNewestIn : ℕ → List Location → Type 0
 IsNewestIn folder [] = ⊥
 IsNewestIn folder (newest ∷ before) = newest.folder ≡ folder
 
--- the last call synced the folder of the file that was named last
+-- the last call, but for reports, synced the folder of the file that was named last
 abbrev pub IsNameSynced : List Call → Type 0
 IsNameSynced [] = ⊥
 IsNameSynced (Created draft ∷ before) = ⊥
@@ -101,22 +106,31 @@ IsNameSynced (SeenFree place ∷ before) = ⊥
 IsNameSynced (Renamed draft place ∷ before) = ⊥
 IsNameSynced (Removed place ∷ before) = ⊥
 IsNameSynced (Synced folder ∷ before) = IsNewestIn folder (standing before)
+IsNameSynced (Reported place ∷ before) = IsNameSynced before
 IsNameSynced (Refused ∷ before) = ⊥
 IsNameSynced (Replaced ∷ before) = ⊥
 
--- No file is overwritten or lost: with syncs, a file gets its name only after its bytes were synced; a file is renamed
--- only to a name that the call before found free; no file is removed but the one that was named last, whose commit has
--- not been reported yet; and no draft is created or named but the filing's own, the one with this number.
-abbrev pub LosesNone : Bool → ℕ → List Call → Type 0
-LosesNone has_sync own [] = ⊤
-LosesNone has_sync own (Created draft ∷ before) = (draft ≡ own) × LosesNone has_sync own before
+-- what is a filing's own: the number of its draft, and the places of the files whose commits were reported, newest first
+pub record Own : Type 0 where
+  pub draft : ℕ
+  pub reported : List Location
+
+-- No file is overwritten or lost: with syncs, a file gets its name only after its bytes were synced, and its commit is
+-- reported only after its folder was synced, with that name; a file is renamed only to a name that the call before found
+-- free; no file is removed but the one that was named last; and no draft is created or named but the filing's own.
+abbrev pub LosesNone : Bool → Own → List Call → Type 0
+LosesNone has_sync own [] = own.reported ≡ []
+LosesNone has_sync own (Created draft ∷ before) = (draft ≡ own.draft) × LosesNone has_sync own before
 LosesNone has_sync own (Written ∷ before) = LosesNone has_sync own before
-LosesNone has_sync own (Linked draft place ∷ before) = (draft ≡ own) × IsWritten has_sync before × LosesNone has_sync own before
+LosesNone has_sync own (Linked draft place ∷ before) = (draft ≡ own.draft) × IsWritten has_sync before × LosesNone has_sync own before
 LosesNone has_sync own (SeenFree place ∷ before) = LosesNone has_sync own before
 LosesNone has_sync own (Renamed draft place ∷ before) =
-    (draft ≡ own) × FoundFree place before × IsWritten has_sync before × LosesNone has_sync own before
+    (draft ≡ own.draft) × FoundFree place before × IsWritten has_sync before × LosesNone has_sync own before
 LosesNone has_sync own (Removed place ∷ before) = IsNewest place (standing before) × LosesNone has_sync own before
 LosesNone has_sync own (Synced folder ∷ before) = LosesNone has_sync own before
+LosesNone has_sync own (Reported place ∷ before) =
+    IsNewest place (standing before) × (has_sync ≡ true → IsNameSynced before)
+    × (own.reported ≡ place ∷ drop 1 own.reported) × LosesNone has_sync (record own { reported = drop 1 own.reported }) before
 LosesNone has_sync own (Refused ∷ before) = LosesNone has_sync own before
 LosesNone has_sync own (Replaced ∷ before) = LosesNone has_sync own before
 
@@ -142,11 +156,11 @@ KeepsAll None (Some more) = ⊥
 KeepsAll (Some kept) None = ⊥
 KeepsAll (Some kept) (Some more) = Keeps kept more
 
--- the state of a filing's numbering, as contracts see it: the number of its draft; the layout of the folder; the place
+-- the state of a filing's numbering, as contracts see it: what is its own; the layout of the folder; the place
 -- after which the next file comes; the contents of the file of numbers, if one is in use; whether files and names are
 -- synced; and the system calls so far, newest first
 pub record Naming : Type 0 where
-  pub draft : ℕ
+  pub own : Own
   pub layout : Layout
   pub last : Location
   pub kept : Option Numbers
@@ -155,7 +169,7 @@ pub record Naming : Type 0 where
 
 -- the invariant of a filing's numbering
 pub record IsOrderly (naming : Naming) : Type 0 where
-  pub loses : LosesNone naming.has_sync naming.draft naming.calls
+  pub loses : LosesNone naming.has_sync naming.own naming.calls
   pub rises : Rises (standing naming.calls)
   pub behind : AllByRecursion (λ place. order place ≤ order naming.last) (standing naming.calls)
   pub kept : AllByRecursion (IsKept naming.layout naming.kept) (standing naming.calls)
@@ -169,7 +183,7 @@ NoneIsLeft naming = next_location naming.layout naming.last ≡ None
 pub record Asks (names : List Location) (refused : ℕ) (old new : List Call) : Type 0 where
   pub standing : standing new ≡ names
   pub refusals : refusals new ≡ refused
-  pub loses : (has_sync : Bool) (own : ℕ) → LosesNone has_sync own old → LosesNone has_sync own new
+  pub loses : (has_sync : Bool) (own : Own) → LosesNone has_sync own old → LosesNone has_sync own new
 
 -- why a name was not given: a call failed or found another folder, or all numbers are in use
 abbrev pub WasRefused : Naming → Naming → Type 0
@@ -178,6 +192,10 @@ WasRefused old new = (refusals old.calls < refusals new.calls) ⊎ NoneIsLeft ne
 -- the second list is the first with one place more
 abbrev pub IsOneMore : List Location → List Location → Type 0
 IsOneMore old new = (place : Location) × (new ≡ place ∷ old)
+
+-- a commit was reported: one place more has a name, and is the last one that was reported
+abbrev pub IsCommitted : Naming → Naming → Type 0
+IsCommitted old new = (place : Location) × (standing new.calls ≡ place ∷ standing old.calls) × (new.own ≡ record old.own { reported = place ∷ old.own.reported })
 
 -- after a failed commit: the same files have names, or one more, whose name could not be removed again
 abbrev pub LeavesNames : List Location → List Location → Type 0

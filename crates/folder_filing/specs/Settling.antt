@@ -1,9 +1,11 @@
 -- How the commits of a filing over a folder are settled in groups. This product's own profile.
-use Rattle.std.specs.Prelude.{◌≡◌, ◌<◌, ◌⊎◌, Bool, true, false, List, ◌∷◌, drop, ⊤}
+use Rattle.std.specs.Prelude.{◌≡◌, ◌+◌, ◌<◌, ◌⊎◌, ℕ, Bool, ◌||◌, not, nat_eq, true, false, List, ◌∷◌, drop, length, ⊤}
+use Rattle.folder_filing.specs.declared.call.Call.TheVariants.{Reported, Synced}
 use Rattle.folder_filing.specs.declared.location.Location.{Location}
 use Rattle.folder_filing.specs.declared.pending.Pending.{Pending}
 use Rattle.folder_filing.specs.declared.pending.Pending.TheVariants.{Settled, Unnamed, Named, Lost}
-use Rattle.folder_filing.specs.Synced.{FolderNames, is_synced}
+use Rattle.folder_filing.specs.Synced.{FolderNames, durable_reports, is_synced, one_if}
+use Rattle.folder_filing.specs.States.{FolderState}
 use Rattle.folder_filing.specs.Naming.{IsNewest, LeavesNames, Naming, WasRefused, refusals, standing}
 
 -- a commit waits to be settled, or its file was lost
@@ -12,6 +14,18 @@ is_waiting Settled = false
 is_waiting Unnamed = true
 is_waiting (Named place) = true
 is_waiting Lost = true
+
+-- each of so many files that were committed was reported, but for the last one while it waits, or as it was lost
+abbrev pub AreReported : ℕ → Pending → Naming → Type 0
+AreReported files pending names = files ≡ length names.own.reported + one_if (is_waiting pending)
+
+-- all files are on the disk: with syncs, so many commits were reported of files that were on the disk then
+abbrev pub are_durable : ℕ → Naming → Bool
+are_durable files names = not names.has_sync || nat_eq (durable_reports names.calls) files
+
+-- a filing waits: its last commit is not settled, or not all of its files are on the disk
+abbrev pub is_unsettled : FolderState → Bool
+is_unsettled filing = is_waiting filing.pending || not (are_durable (length filing.contents.files) filing.names)
 
 -- the file that waits, once it has a name, is the one that the filing has named last
 abbrev pub IsNamedLast : Pending → List Location → Type 0
@@ -26,8 +40,8 @@ abbrev pub IsWrittenOut : Pending → Naming → Naming → Type 0
 IsWrittenOut Settled old new = ⊥
 IsWrittenOut Unnamed old new = ⊥
 IsWrittenOut (Named place) old new =
-    (standing new.calls ≡ place ∷ standing old.calls) × (refusals new.calls ≡ refusals old.calls) × (new.has_sync ≡ old.has_sync) × (new.draft ≡ old.draft)
-IsWrittenOut Lost old new = LeavesNames (standing old.calls) (standing new.calls) × WasRefused old new × (new.has_sync ≡ old.has_sync) × (new.draft ≡ old.draft)
+    (standing new.calls ≡ place ∷ standing old.calls) × (refusals new.calls ≡ refusals old.calls) × (new.has_sync ≡ old.has_sync) × (new.own ≡ old.own)
+IsWrittenOut Lost old new = LeavesNames (standing old.calls) (standing new.calls) × WasRefused old new × (new.has_sync ≡ old.has_sync) × (new.own ≡ old.own)
 
 -- the effect of writing out the last commit, which was in the first state and is in the second one: nothing, but for a
 -- file that has no name yet
@@ -58,10 +72,15 @@ TakesBack old new =
     ((standing new.calls ≡ drop 1 (standing old.calls)) × (refusals new.calls ≡ refusals old.calls))
     ⊎ ((standing new.calls ≡ standing old.calls) × (refusals old.calls < refusals new.calls))
 
--- the effect of settling the last commit on the names: none, but that a file whose name could not be synced loses it
+-- a commit was reported, after the sync of the folder in which its file has this place
+abbrev pub reported : Location → Naming → Naming
+reported place names =
+    record names { own = record names.own { reported = place ∷ names.own.reported }; calls = Reported place ∷ Synced place.folder ∷ names.calls }
+
+-- the effect of settling the last commit on the names: it is reported, or a file whose name could not be synced loses it
 abbrev pub SettlesNames : Bool → Pending → Naming → Naming → Type 0
 SettlesNames are_named Settled old new = new ≡ old
 SettlesNames are_named Unnamed old new = new ≡ old
-SettlesNames true (Named place) old new = new ≡ old
-SettlesNames false (Named place) old new = TakesBack old new × (new.has_sync ≡ old.has_sync) × (new.draft ≡ old.draft)
+SettlesNames true (Named place) old new = new ≡ reported place old
+SettlesNames false (Named place) old new = TakesBack old new × (new.has_sync ≡ old.has_sync) × (new.own ≡ old.own)
 SettlesNames are_named Lost old new = new ≡ old

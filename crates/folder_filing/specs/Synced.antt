@@ -1,10 +1,11 @@
 -- Which names of files are on the disk. This product's own profile.
-use Rattle.std.specs.Prelude.{ℕ, Bool, ◌&&◌, ◌||◌, false, List, [], ◌∷◌, nat_eq}
+use Rattle.std.specs.Prelude.{ℕ, ◌+◌, Bool, ◌&&◌, ◌||◌, true, false, List, [], ◌∷◌, nat_eq}
 use Rattle.std.specs.List.{list_any}
 use Rattle.folder_filing.specs.declared.call.Call.{Call}
-use Rattle.folder_filing.specs.declared.call.Call.TheVariants.{Created, Written, Linked, SeenFree, Renamed, Removed, Synced, Refused, Replaced}
+use Rattle.folder_filing.specs.declared.call.Call.TheVariants.{Created, Written, Linked, SeenFree, Renamed, Removed, Synced, Reported, Refused, Replaced}
 use Rattle.folder_filing.specs.declared.location.Location.{Location}
 use Rattle.folder_filing.specs.declared.named_file.NamedFile.{NamedFile}
+use Rattle.folder_filing.specs.Naming.{is_written}
 
 -- a folder, by its number; files that were named; and the system calls after that
 pub record FolderNames : Type 0 where
@@ -22,6 +23,7 @@ was_synced folder (SeenFree place ∷ before) = was_synced folder before
 was_synced folder (Renamed draft place ∷ before) = was_synced folder before
 was_synced folder (Removed place ∷ before) = was_synced folder before
 was_synced folder (Synced other ∷ before) = nat_eq other folder || was_synced folder before
+was_synced folder (Reported place ∷ before) = was_synced folder before
 was_synced folder (Refused ∷ before) = was_synced folder before
 was_synced folder (Replaced ∷ before) = was_synced folder before
 
@@ -37,3 +39,54 @@ is_synced_in place names =
 -- the file of this place is one of those whose folders the system has synced after they were named
 abbrev pub is_synced : Location → List FolderNames → Bool
 is_synced place synced = list_any (is_synced_in place) synced
+
+-- two places are the same
+abbrev pub is_same : Location → Location → Bool
+is_same place other = nat_eq place.folder other.folder && nat_eq place.file other.file
+
+-- the file of this place got its name after its bytes were synced
+abbrev pub was_named : Location → List Call → Bool
+was_named place [] = false
+was_named place (Created draft ∷ before) = was_named place before
+was_named place (Written ∷ before) = was_named place before
+was_named place (Linked draft other ∷ before) = (is_same place other && is_written before) || was_named place before
+was_named place (SeenFree other ∷ before) = was_named place before
+was_named place (Renamed draft other ∷ before) = (is_same place other && is_written before) || was_named place before
+was_named place (Removed other ∷ before) = was_named place before
+was_named place (Synced folder ∷ before) = was_named place before
+was_named place (Reported other ∷ before) = was_named place before
+was_named place (Refused ∷ before) = was_named place before
+was_named place (Replaced ∷ before) = was_named place before
+
+-- the file of this place is on the disk: its folder was synced after it got its name, and that after its bytes were synced
+abbrev pub is_durable : Location → List Call → Bool
+is_durable place [] = false
+is_durable place (Created draft ∷ before) = is_durable place before
+is_durable place (Written ∷ before) = is_durable place before
+is_durable place (Linked draft other ∷ before) = is_durable place before
+is_durable place (SeenFree other ∷ before) = is_durable place before
+is_durable place (Renamed draft other ∷ before) = is_durable place before
+is_durable place (Removed other ∷ before) = is_durable place before
+is_durable place (Synced folder ∷ before) = (nat_eq folder place.folder && was_named place before) || is_durable place before
+is_durable place (Reported other ∷ before) = is_durable place before
+is_durable place (Refused ∷ before) = is_durable place before
+is_durable place (Replaced ∷ before) = is_durable place before
+
+-- one, if so
+abbrev pub one_if : Bool → ℕ
+one_if true = 1
+one_if false = 0
+
+-- how many commits were reported of files that were on the disk then
+abbrev pub durable_reports : List Call → ℕ
+durable_reports [] = 0
+durable_reports (Created draft ∷ before) = durable_reports before
+durable_reports (Written ∷ before) = durable_reports before
+durable_reports (Linked draft other ∷ before) = durable_reports before
+durable_reports (SeenFree other ∷ before) = durable_reports before
+durable_reports (Renamed draft other ∷ before) = durable_reports before
+durable_reports (Removed other ∷ before) = durable_reports before
+durable_reports (Synced folder ∷ before) = durable_reports before
+durable_reports (Reported place ∷ before) = one_if (is_durable place before) + durable_reports before
+durable_reports (Refused ∷ before) = durable_reports before
+durable_reports (Replaced ∷ before) = durable_reports before

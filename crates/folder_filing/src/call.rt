@@ -4,7 +4,7 @@ use crate::location::Location;
 
 /// A system call of a [`FolderFiling`](crate::FolderFiling), as contracts see it: each that created,
 /// named or removed a file, each check of a name that found it free, each sync of a draft or of names, and
-/// each call that failed.
+/// each call that failed; and among them each commit that was reported.
 #[derive(Clone, Copy)]
 pub enum Call {
     /// The file of the draft with this number was created, under a name that was free.
@@ -23,6 +23,8 @@ pub enum Call {
     Removed(Location),
     /// The subfolder with this number was synced, or for 0 the folder itself.
     Synced(u32),
+    /// The commit of the file of this place was reported as a success.
+    Reported(Location),
     /// A system call failed, or memory ran out.
     Refused,
     /// The path of the folder led to another folder than the one that is locked.

@@ -4,7 +4,7 @@
 //! discarded. Each method makes its system
 //! calls and records their outcome, so that contracts can require, for example, that a name is checked
 //! before a rename, or that a failure has a failed call as its cause.
-ghost use Rattle.std.specs.Prelude.{◌≡◌, ◌+◌, List, [], ◌∷◌, ◌++◌, OnOk, OnErr, reverse, true};
+ghost use Rattle.std.specs.Prelude.{◌≡◌, ◌+◌, List, [], ◌∷◌, ◌++◌, OnOk, OnErr, reverse, true, false};
 ghost use Rattle.folder_filing.specs.declared.call.Call.{Call as SeenCall};
 ghost use Rattle.folder_filing.specs.declared.call.Call.TheVariants as seen;
 
@@ -12,6 +12,7 @@ use crate::call::Call;
 use crate::drafts::DraftPath;
 use crate::folder_identity::FolderIdentity;
 use crate::location::{Layout, Location};
+use crate::names_synced::NamesSynced;
 use crate::naming::{Obstacle, Target, check_free, is_without_links, obstacle_of};
 use crate::numbers::NumbersFile;
 use crate::open_folder::OpenFolder;
@@ -68,6 +69,7 @@ fn create_folder<R: Files>(rt: &R, path: &str) -> io::Result<()> {
 impl FolderCalls {
     ghost use Rattle.folder_filing.specs.Naming.{Asks, standing, refusals};
     ghost use Rattle.folder_filing.specs.Numbers.{Keeps, is_covered};
+    ghost use Rattle.folder_filing.specs.Synced.{is_synced};
     ghost use Rattle.folder_filing.specs.machine.Naming.{TriesLeave};
 
     /// Creates an empty list of calls.
@@ -206,6 +208,30 @@ impl FolderCalls {
         self.passed(folder.sync())?;
         self.push(&Call::Synced(folder.number()));
         Ok(())
+    }
+
+    /// Records the sync of the folder of this place, if this sync of names has its file. Returns whether it has.
+    pub(crate) fn has_synced<A: Allocator>(
+        &mut self,
+        synced: &NamesSynced<A>,
+        place: Location,
+    ) -> bool
+        ensures covers { result ≡ is_synced place synced.now }
+        ensures has { result ≡ true → self.new ≡ seen.Synced place.folder ∷ self.old }
+        ensures has_not { result ≡ false → self.new ≡ self.old }
+    {
+        let has = synced.has(place);
+        if has {
+            self.push(&Call::Synced(place.folder));
+        }
+        has
+    }
+
+    /// Records that the commit of the file of this place is reported.
+    pub(crate) fn report(&mut self, place: Location)
+        ensures { self.new ≡ seen.Reported place ∷ self.old }
+    {
+        self.push(&Call::Reported(place));
     }
 
     /// Creates a folder for files, unless something with this path exists already, and records a failure.

@@ -1,6 +1,6 @@
 //! A [`Filing`] that stores files in a folder.
 ghost use Rattle.std.specs.Prelude.{◌≡◌, ◌≤◌, ◌<◌, ◌+◌, [], ◌∷◌, ◌++◌, None, Some, ◌⊎◌, IfOk, OnOk, OnErr, is_err, is_some, true, false};
-ghost use Rattle.folder_filing.specs.Naming.{IsNameSynced, IsOneMore, IsOrderly, IsWritten, LeavesNames, WasRefused, refusals, standing};
+ghost use Rattle.folder_filing.specs.Naming.{IsCommitted, IsNameSynced, IsOrderly, IsWritten, LeavesNames, WasRefused, refusals, standing};
 ghost use Rattle.folder_filing.specs.Settling.{is_waiting};
 ghost use Rattle.part10.specs.Store.{LeavesStore, appended, committed, nothing_filed, or_nothing, stepped, store_of, without_draft};
 ghost use Rattle.folder_filing.specs.declared.call.Call.TheVariants as seen;
@@ -86,9 +86,9 @@ impl<R: Files + Alloc + Clone + Drop> Model for FolderFiling<R>
 where
     R::File: StoredFile,
 {
-    ghost use Rattle.std.specs.Prelude.{map, option_map};
+    ghost use Rattle.std.specs.Prelude.{length, map, option_map};
     ghost use Rattle.folder_filing.specs.Naming.{IsOrderly, standing};
-    ghost use Rattle.folder_filing.specs.Settling.{IsNamedLast};
+    ghost use Rattle.folder_filing.specs.Settling.{AreReported, IsNamedLast};
     ghost use Rattle.folder_filing.specs.States.{FolderState};
 
     ghost Value = { FolderState };
@@ -99,7 +99,7 @@ where
       pending = f.pending;
     } };
 
-    ghost invariant = { λ f. ∥ IsOrderly f.names ∥₁ × ∥ IsNamedLast f.pending (standing f.names.calls) ∥₁ };
+    ghost invariant = { λ f. ∥ IsOrderly f.names ∥₁ × ∥ IsNamedLast f.pending (standing f.names.calls) ∥₁ × AreReported (length (map (λ t. t.bytes) f.kept)) f.pending f.names };
 }
 
 impl<R: Files + Alloc + Clone + Drop> FolderFiling<R>
@@ -137,6 +137,7 @@ where
         quarantine: Option<Rc<Quarantine<R>, R::A>>,
     ) -> io::Result<FolderFiling<R>>
         requires orderly { ∥ IsOrderly names ∥₁ }
+        requires none { names.own.reported ≡ [] }
         ensures empty { IfOk result (λ filing. filing.contents ≡ nothing_filed) }
         ensures settled { IfOk result (λ filing. filing.pending ≡ pending.Settled) }
         ensures names { IfOk result (λ filing. filing.names ≡ names) }
@@ -227,10 +228,10 @@ where
     }
 
     fn begin_draft(&mut self) -> io::Result<()>
-        ensures created { OnOk result (self.new.names.calls ≡ seen.Created self.old.names.draft ∷ self.old.names.calls) }
+        ensures created { OnOk result (self.new.names.calls ≡ seen.Created self.old.names.own.draft ∷ self.old.names.calls) }
         ensures refused { OnErr result (refusals self.old.names.calls < refusals self.new.names.calls) }
         ensures sync { self.new.names.has_sync ≡ self.old.names.has_sync }
-        ensures number { self.new.names.draft ≡ self.old.names.draft }
+        ensures own { self.new.names.own ≡ self.old.names.own }
         ensures same_names { standing self.new.names.calls ≡ standing self.old.names.calls }
         ensures same_pending { self.new.pending ≡ self.old.pending }
         ensures draft { OnOk result (self.new.contents.draft ≡ Some []) }
@@ -256,7 +257,7 @@ where
         ensures same_names { standing self.new.names.calls ≡ standing self.old.names.calls }
         ensures written { OnOk result (IsWritten self.new.names.has_sync self.new.names.calls) }
         ensures sync { self.new.names.has_sync ≡ self.old.names.has_sync }
-        ensures number { self.new.names.draft ≡ self.old.names.draft }
+        ensures own { self.new.names.own ≡ self.old.names.own }
         ensures taken { OnOk result (refusals self.new.names.calls ≡ refusals self.old.names.calls) }
         ensures refused { OnErr result (refusals self.old.names.calls < refusals self.new.names.calls) }
     {
@@ -274,30 +275,29 @@ where
         }
     }
 
-    /// Gives the draft its name, which makes it a file for contracts, too.
-    fn name_draft(&mut self) -> io::Result<()>
+    /// Gives the draft its name, and reports its commit: for contracts it is a file from now on. Returns its place.
+    fn name_draft(&mut self) -> io::Result<Location>
         requires draft { is_some self.old.contents.draft ≡ true }
         requires none_waits { self.old.pending ≡ pending.Settled }
         requires written { IsWritten self.old.names.has_sync self.old.names.calls }
         ensures same_pending { self.new.pending ≡ self.old.pending }
-        ensures next { OnOk result (IsOneMore (standing self.old.names.calls) (standing self.new.names.calls)) }
+        ensures next { OnOk result (IsCommitted self.old.names self.new.names) }
         ensures settled { OnOk result (refusals self.new.names.calls ≡ refusals self.old.names.calls) }
         ensures left { OnErr result (LeavesNames (standing self.old.names.calls) (standing self.new.names.calls)) }
         ensures refused { OnErr result (WasRefused self.old.names self.new.names) }
         ensures sync { self.new.names.has_sync ≡ self.old.names.has_sync }
-        ensures number { self.new.names.draft ≡ self.old.names.draft }
+        ensures own { OnErr result (self.new.names.own ≡ self.old.names.own) }
         ensures synced { self.old.names.has_sync ≡ true → OnOk result (IsNameSynced self.new.names.calls) }
         ensures named { OnOk result (self.new.contents.files ≡ self.old.contents.files ++ or_nothing self.old.contents.draft ∷ []) }
         ensures failed { OnErr result (self.new.contents.files ≡ self.old.contents.files) }
         ensures same_count { self.new.contents.failures ≡ self.old.contents.failures }
     {
         let place = self.folder.name_draft(false, &mut self.names)?;
-        self.note(place);
-        self.committed = self.committed.saturating_add(1);
+        self.names.report(place);
         if let Some(draft) = &self.draft {
             self.kept.push(draft.trace());
         }
-        Ok(())
+        Ok(place)
     }
 
     /// Removes the draft name of a file that was just committed, if it still has it after a hard link,
@@ -310,12 +310,12 @@ where
         requires draft { is_some self.old.contents.draft ≡ true }
         requires none_waits { self.old.pending ≡ pending.Settled }
         ensures same_pending { self.new.pending ≡ self.old.pending }
-        ensures next { OnOk result (IsOneMore (standing self.old.names.calls) (standing self.new.names.calls)) }
+        ensures next { OnOk result (IsCommitted self.old.names self.new.names) }
         ensures settled { OnOk result (refusals self.new.names.calls ≡ refusals self.old.names.calls) }
         ensures left { OnErr result (LeavesNames (standing self.old.names.calls) (standing self.new.names.calls)) }
         ensures refused { OnErr result (WasRefused self.old.names self.new.names) }
         ensures sync { self.new.names.has_sync ≡ self.old.names.has_sync }
-        ensures number { self.new.names.draft ≡ self.old.names.draft }
+        ensures own { OnErr result (self.new.names.own ≡ self.old.names.own) }
         ensures synced { self.old.names.has_sync ≡ true → OnOk result (IsNameSynced self.new.names.calls) }
         ensures committed { OnOk result (self.new.contents.files ≡ self.old.contents.files ++ or_nothing self.old.contents.draft ∷ []) }
         ensures failed { OnErr result (self.new.contents.files ≡ self.old.contents.files) }
@@ -323,9 +323,11 @@ where
         ensures same_count { self.new.contents.failures ≡ self.old.contents.failures }
     {
         self.sync_draft()?;
-        self.name_draft()?;
+        let place = self.name_draft()?;
         self.draft = None;
         self.remove_old_name();
+        self.note(place);
+        self.committed = self.committed.saturating_add(1);
         Ok(())
     }
 
@@ -353,11 +355,11 @@ where
     /// path of the folder leads to another folder, or the last commit waits to be settled.
     fn begin(&mut self) -> Result<(), FilingFailed>
         ensures leaves { LeavesStore without_draft true result (store_of self.old.contents) (store_of self.new.contents) }
-        ensures created { OnOk result (self.new.names.calls ≡ seen.Created self.old.names.draft ∷ self.old.names.calls) }
+        ensures created { OnOk result (self.new.names.calls ≡ seen.Created self.old.names.own.draft ∷ self.old.names.calls) }
         ensures refused { is_waiting self.old.pending ≡ false → OnErr result (refusals self.old.names.calls < refusals self.new.names.calls) }
         ensures waits { is_waiting self.old.pending ≡ true → is_err result ≡ true }
         ensures sync { self.new.names.has_sync ≡ self.old.names.has_sync }
-        ensures number { self.new.names.draft ≡ self.old.names.draft }
+        ensures own { self.new.names.own ≡ self.old.names.own }
         ensures same_names { standing self.new.names.calls ≡ standing self.old.names.calls }
         ensures same_pending { self.new.pending ≡ self.old.pending }
     {
@@ -379,7 +381,7 @@ where
         ensures taken { OnOk result (self.new.names ≡ self.old.names) }
         ensures refused { OnErr result (refusals self.old.names.calls < refusals self.new.names.calls) }
         ensures sync { self.new.names.has_sync ≡ self.old.names.has_sync }
-        ensures number { self.new.names.draft ≡ self.old.names.draft }
+        ensures own { self.new.names.own ≡ self.old.names.own }
         ensures same_names { standing self.new.names.calls ≡ standing self.old.names.calls }
         ensures same_pending { self.new.pending ≡ self.old.pending }
     {
@@ -405,9 +407,9 @@ where
     fn commit(&mut self) -> Result<(), FilingFailed>
         requires { (store_of self.old.contents).has_draft ≡ true }
         ensures leaves { LeavesStore committed false result (store_of self.old.contents) (store_of self.new.contents) }
-        ensures next { self.new.pending ≡ pending.Settled → OnOk result (IsOneMore (standing self.old.names.calls) (standing self.new.names.calls)) }
+        ensures next { self.new.pending ≡ pending.Settled → OnOk result (IsCommitted self.old.names self.new.names) }
         ensures sync { self.new.names.has_sync ≡ self.old.names.has_sync }
-        ensures number { self.new.names.draft ≡ self.old.names.draft }
+        ensures own { OnErr result (self.new.names.own ≡ self.old.names.own) }
         ensures synced { self.old.names.has_sync ≡ true → self.new.pending ≡ pending.Settled → OnOk result (IsNameSynced self.new.names.calls) }
         ensures settled { OnOk result (refusals self.new.names.calls ≡ refusals self.old.names.calls) }
         ensures left { OnErr result (LeavesNames (standing self.old.names.calls) (standing self.new.names.calls)) }
@@ -417,7 +419,7 @@ where
         ensures pending { OnOk result ((self.new.pending ≡ pending.Settled) ⊎ (self.new.pending ≡ pending.Unnamed)) }
         ensures same_pending { OnErr result (self.new.pending ≡ self.old.pending) }
     {
-        if self.waits() {
+        if self.pending.is_waiting() {
             self.fail(Error::new(ErrorKind::ResourceBusy, WAITS));
             return Err(FilingFailed);
         }

@@ -183,7 +183,7 @@ where
         ensures counted { OnOk result (self.new ≡ record self.old { filings = self.old.filings + 1 }) }
         ensures failed { OnErr result (self.new ≡ self.old) }
         ensures sync { IfOk result (λ filing. filing.names.has_sync ≡ self.old.has_sync) }
-        ensures number { IfOk result (λ filing. filing.names.draft ≡ self.new.filings) }
+        ensures number { IfOk result (λ filing. filing.names.own.draft ≡ self.new.filings) }
         ensures empty { IfOk result (λ filing. filing.contents ≡ nothing_filed) }
         ensures settled { IfOk result (λ filing. filing.pending ≡ pending.Settled) }
     {

@@ -1,11 +1,12 @@
 //! The state of a filing's numbering of files.
-ghost use Rattle.std.specs.Prelude.{◌≡◌, ◌≤◌, OnOk, OnErr, ◌∷◌, [], None};
+ghost use Rattle.std.specs.Prelude.{◌≡◌, ◌≤◌, OnOk, OnErr, ◌∷◌, [], None, true};
 ghost use Rattle.folder_filing.specs.declared.call.Call.TheVariants as seen;
 
 use crate::drafts::DraftPath;
 use crate::folder_calls::FolderCalls;
 use crate::location::{Layout, Location};
 use crate::numbers::NumbersFile;
+use element::history::History;
 use std::alloc::Allocator;
 use std::marker::Model;
 
@@ -22,19 +23,28 @@ pub(crate) struct GivenNames<A: Allocator> {
     /// Whether files and their names are synced to the disk.
     pub(crate) has_sync: bool,
     pub(crate) calls: FolderCalls,
+    /// For contracts: the places of the files whose commits were reported, oldest first.
+    reported: History<Location>,
 }
 
 impl<A: Allocator> Model for GivenNames<A> {
-    ghost use Rattle.std.specs.Prelude.{option_map};
+    ghost use Rattle.std.specs.Prelude.{option_map, reverse};
     ghost use Rattle.folder_filing.specs.Naming.{Naming};
 
     ghost Value = { Naming };
 
-    ghost view = { λ n. record { draft = n.draft; layout = n.layout; last = n.last; kept = option_map (λ f. f.kept) n.numbers; has_sync = n.has_sync; calls = n.calls } };
+    ghost view = { λ n. record {
+      own = record { draft = n.draft; reported = reverse n.reported };
+      layout = n.layout;
+      last = n.last;
+      kept = option_map (λ f. f.kept) n.numbers;
+      has_sync = n.has_sync;
+      calls = n.calls;
+    } };
 }
 
 impl<A: Allocator> GivenNames<A> {
-    ghost use Rattle.folder_filing.specs.Naming.{IsOrderly};
+    ghost use Rattle.folder_filing.specs.Naming.{IsNameSynced, IsNewest, IsOrderly, standing};
 
     /// Creates the state before the first commit. The next file comes after `last`.
     pub(crate) fn new(
@@ -44,7 +54,7 @@ impl<A: Allocator> GivenNames<A> {
         numbers: Option<NumbersFile<A>>,
         has_sync: bool,
     ) -> GivenNames<A>
-        ensures draft { result.draft ≡ draft }
+        ensures own { result.own ≡ record { draft = draft; reported = [] } }
         ensures none { result.calls ≡ [] }
         ensures layout { result.layout ≡ layout }
         ensures last { result.last ≡ last }
@@ -58,6 +68,21 @@ impl<A: Allocator> GivenNames<A> {
             numbers,
             has_sync,
             calls: FolderCalls::new(),
+            reported: History::new(),
         }
+    }
+
+    /// Records that the commit of the file of this place, the one that was named last, is reported.
+    pub(crate) fn report(&mut self, place: Location)
+        requires newest { ∥ IsNewest place (standing self.old.calls) ∥₁ }
+        requires synced { self.old.has_sync ≡ true → IsNameSynced self.old.calls }
+        ensures reported { self.new ≡ record self.old {
+          own = record self.old.own { reported = place ∷ self.old.own.reported };
+          calls = seen.Reported place ∷ self.old.calls;
+        } }
+        ensures orderly { ∥ IsOrderly self.old ∥₁ → ∥ IsOrderly self.new ∥₁ }
+    {
+        self.calls.report(place);
+        self.reported.push(&place);
     }
 }

@@ -138,7 +138,7 @@ where
         numbers: Option<NumbersFile<R::A>>,
         has_sync: bool,
     ) -> Result<GivenNames<R::A>, AllocError>
-        ensures draft { IfOk result (λ names. names.draft ≡ number) }
+        ensures own { IfOk result (λ names. names.own ≡ record { draft = number; reported = [] }) }
         ensures none { IfOk result (λ names. names.calls ≡ []) }
         ensures sync { IfOk result (λ names. names.has_sync ≡ has_sync) }
         ensures orderly { IfOk result IsOrderly }

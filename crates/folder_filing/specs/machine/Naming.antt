@@ -7,7 +7,7 @@ use Rattle.folder_filing.specs.declared.naming.Attempt.TheVariants.{Named, Met}
 use Rattle.folder_filing.specs.declared.naming.Named.TheVariants.{Linked}
 use Rattle.folder_filing.specs.declared.naming.Obstacle.{Obstacle}
 use Rattle.folder_filing.specs.declared.location.Location.{Location}
-use Rattle.folder_filing.specs.Naming.{IsNameSynced, IsWritten, LosesNone, Naming, is_written, refusals, standing, was_written}
+use Rattle.folder_filing.specs.Naming.{IsNameSynced, IsWritten, LosesNone, Naming, Own, is_written, refusals, standing, was_written}
 
 -- the calls after an attempt: with this one if it succeeded, the same after an obstacle, else with a failed one
 abbrev pub TriesLeave : {E : Type 0} → Call → Result (Option Obstacle) E → List Call → List Call → Type 0
@@ -20,7 +20,7 @@ TriesLeave call (Err error) old new = new ≡ Refused ∷ old
 pub record Attempted (has_sync : Bool) (draft : ℕ) (names : List Location) (refused : ℕ) (old new : List Call) : Type 0 where
   pub standing : standing new ≡ names
   pub refusals : refusals new ≡ refused
-  pub loses : IsWritten has_sync old → LosesNone has_sync draft old → LosesNone has_sync draft new
+  pub loses : (own : Own) → own.draft ≡ draft → IsWritten has_sync old → LosesNone has_sync own old → LosesNone has_sync own new
 
 -- the effect of an attempt to name a file: one named place more, beside the draft's name where it was linked, or the
 -- same ones; after an error one failed call more
@@ -50,6 +50,6 @@ SyncsName (Ok (Met obstacle)) new = ⊤
 SyncsName (Err error) new = ⊤
 
 -- the layout of the folder (with or without subfolders), the numbers in the file of numbers, whether names are synced, and
--- the number of the draft stay the same
+-- what is the filing's own stay the same
 abbrev pub SameTerms : Naming → Naming → Type 0
-SameTerms old new = (new.layout ≡ old.layout) × (new.kept ≡ old.kept) × (new.has_sync ≡ old.has_sync) × (new.draft ≡ old.draft)
+SameTerms old new = (new.layout ≡ old.layout) × (new.kept ≡ old.kept) × (new.has_sync ≡ old.has_sync) × (new.own ≡ old.own)

@@ -1,7 +1,8 @@
 //! Commits of a filing over a folder that are settled in groups.
 ghost use Rattle.std.specs.Prelude.{◌≡◌, ◌∷◌, ◌++◌, ◌<◌, ◌&&◌, [], None, IfOk, OnOk, OnErr, is_some, not, true, false};
 ghost use Rattle.folder_filing.specs.Naming.{LeavesNames, WasRefused, is_written, refusals, standing};
-ghost use Rattle.folder_filing.specs.Settling.{SettlesNames, WritesOut, is_on_disk, is_waiting, settled};
+ghost use Rattle.folder_filing.specs.Settling.{SettlesNames, WritesOut, is_on_disk, is_unsettled, is_waiting, reported, settled};
+ghost use Rattle.folder_filing.specs.Synced.{is_synced};
 ghost use Rattle.part10.specs.Store.{or_nothing, store_of};
 ghost use Rattle.folder_filing.specs.declared.call.Call.TheVariants as seen;
 ghost use Rattle.folder_filing.specs.declared.pending.Pending.TheVariants as pending;
@@ -28,6 +29,7 @@ where
     /// Hands the draft over, to be settled later. For contracts it is a file from now on.
     pub(super) fn hand_over(&mut self)
         requires draft { is_some self.old.contents.draft ≡ true }
+        requires none_waits { self.old.pending ≡ pending.Settled }
         ensures same_names { self.new.names ≡ self.old.names }
         ensures waits { self.new.pending ≡ pending.Unnamed }
         ensures committed { self.new.contents.files ≡ self.old.contents.files ++ or_nothing self.old.contents.draft ∷ [] }
@@ -46,7 +48,7 @@ where
         ensures same { self.new.contents ≡ self.old.contents }
         ensures same_pending { self.new.pending ≡ self.old.pending }
         ensures sync { self.new.names.has_sync ≡ self.old.names.has_sync }
-        ensures number { self.new.names.draft ≡ self.old.names.draft }
+        ensures own { self.new.names.own ≡ self.old.names.own }
         ensures same_names { standing self.new.names.calls ≡ standing self.old.names.calls }
         ensures written { OnOk result (is_written self.new.names.calls ≡ true) }
         ensures taken { OnOk result (refusals self.new.names.calls ≡ refusals self.old.names.calls) }
@@ -67,7 +69,7 @@ where
         ensures same { self.new.contents ≡ self.old.contents }
         ensures same_pending { self.new.pending ≡ self.old.pending }
         ensures sync { self.new.names.has_sync ≡ self.old.names.has_sync }
-        ensures number { self.new.names.draft ≡ self.old.names.draft }
+        ensures own { self.new.names.own ≡ self.old.names.own }
         ensures named { IfOk result (λ place. standing self.new.names.calls ≡ place ∷ standing self.old.names.calls) }
         ensures settled { OnOk result (refusals self.new.names.calls ≡ refusals self.old.names.calls) }
         ensures left { OnErr result (LeavesNames (standing self.old.names.calls) (standing self.new.names.calls)) }
@@ -79,6 +81,7 @@ where
 
     /// Records that the file that waits is lost, with the error, and removes its draft name.
     fn lose(&mut self, error: Error)
+        requires waits { is_waiting self.old.pending ≡ true }
         ensures same { self.new.contents ≡ self.old.contents }
         ensures same_names { self.new.names ≡ self.old.names }
         ensures lost { self.new.pending ≡ pending.Lost }
@@ -103,14 +106,23 @@ where
         self.lose(Error::other("the names of the group could not be synced"));
     }
 
-    /// Returns whether the file that waits has its name on the disk, by this sync of names.
-    fn is_on_disk(&self, synced: &NamesSynced<R::A>) -> bool
-        ensures { result ≡ is_on_disk self.now.pending synced.now }
+    /// Reports the commit of the file of this place, which waits, if this sync of names has it. Returns
+    /// whether it has; otherwise nothing changes.
+    fn report(&mut self, place: Location, synced: &NamesSynced<R::A>) -> bool
+        requires named { self.old.pending ≡ pending.Named place }
+        ensures covers { result ≡ is_synced place synced.now }
+        ensures same { self.new.contents ≡ self.old.contents }
+        ensures settled { result ≡ true → self.new.pending ≡ pending.Settled }
+        ensures on_disk { result ≡ true → is_unsettled self.new ≡ false }
+        ensures reported { result ≡ true → self.new.names ≡ reported place self.old.names }
+        ensures waits { result ≡ false → self.new ≡ self.old }
     {
-        match self.pending {
-            Pending::Named(place) => synced.has(place),
-            _ => false,
+        let has = self.names.calls.has_synced(synced, place);
+        if has {
+            self.names.report(place);
+            self.pending = Pending::Settled;
         }
+        has
     }
 }
 
@@ -120,7 +132,7 @@ where
 {
     type Synced = NamesSynced<R::A>;
 
-    ghost waits = { λ f. is_waiting f.pending };
+    ghost waits = { is_unsettled };
 
     ghost covers = { λ f synced. is_on_disk f.pending synced };
 
@@ -138,7 +150,7 @@ where
     /// lost.
     fn write_out(&mut self)
         ensures store { store_of self.new.contents ≡ store_of self.old.contents }
-        ensures waits { is_waiting self.new.pending ≡ is_waiting self.old.pending }
+        ensures waits { is_unsettled self.new ≡ is_unsettled self.old }
         ensures names { WritesOut self.old.pending self.new.pending self.old.names self.new.names }
     {
         if !matches!(self.pending, Pending::Unnamed) {
@@ -157,23 +169,21 @@ where
     /// not be synced, or was named later; and fails if the file was lost before or was not written out.
     fn settle(&mut self, synced: &NamesSynced<R::A>) -> Result<(), FilingFailed>
         ensures store { store_of self.new.contents ≡ store_of self.old.contents }
-        ensures waits { is_waiting self.new.pending ≡ (is_waiting self.old.pending && not (is_on_disk self.old.pending synced.now)) }
-        ensures settled { OnOk result (is_waiting self.new.pending ≡ false) }
-        ensures lost { OnErr result (is_waiting self.new.pending ≡ true) }
+        ensures waits { is_unsettled self.new ≡ (is_unsettled self.old && not (is_on_disk self.old.pending synced.now)) }
+        ensures settled { OnOk result (is_unsettled self.new ≡ false) }
+        ensures lost { OnErr result (is_unsettled self.new ≡ true) }
         ensures pending { self.new.pending ≡ settled (is_on_disk self.old.pending synced.now) self.old.pending }
         ensures names { SettlesNames (is_on_disk self.old.pending synced.now) self.old.pending self.old.names self.new.names }
     {
-        let is_on_disk = self.is_on_disk(synced);
         match self.pending {
             Pending::Settled => Ok(()),
-            Pending::Named(place) if is_on_disk => {
-                self.remove_old_name();
-                self.note(place);
-                self.committed = self.committed.saturating_add(1);
-                self.pending = Pending::Settled;
-                Ok(())
-            }
             Pending::Named(place) => {
+                if self.report(place, synced) {
+                    self.remove_old_name();
+                    self.note(place);
+                    self.committed = self.committed.saturating_add(1);
+                    return Ok(());
+                }
                 self.take_back(place);
                 Err(FilingFailed)
             }

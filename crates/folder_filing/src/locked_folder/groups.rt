@@ -88,7 +88,7 @@ where
     pub(crate) fn remove_at(&self, place: Location, names: &mut GivenNames<R::A>) -> io::Result<()>
         requires newest { ∥ IsNewest place (standing names.old.calls) ∥₁ }
         ensures sync { names.new.has_sync ≡ names.old.has_sync }
-        ensures number { names.new.draft ≡ names.old.draft }
+        ensures own { names.new.own ≡ names.old.own }
         ensures removed { OnOk result (standing names.new.calls ≡ drop 1 (standing names.old.calls)) }
         ensures settled { OnOk result (refusals names.new.calls ≡ refusals names.old.calls) }
         ensures left { OnErr result (standing names.new.calls ≡ standing names.old.calls) }

@@ -48,7 +48,7 @@ where
     fn keep_number(&self, place: Location, names: &mut GivenNames<R::A>) -> io::Result<()>
         ensures kept { OnOk result (IsKept names.old.layout names.new.kept place) }
         ensures keeps { KeepsAll names.old.kept names.new.kept }
-        ensures same { (names.new.layout ≡ names.old.layout) × (names.new.last ≡ names.old.last) × (names.new.has_sync ≡ names.old.has_sync) × (names.new.draft ≡ names.old.draft) }
+        ensures same { (names.new.layout ≡ names.old.layout) × (names.new.last ≡ names.old.last) × (names.new.has_sync ≡ names.old.has_sync) × (names.new.own ≡ names.old.own) }
         ensures taken { OnOk result (names.new.calls ≡ names.old.calls) }
         ensures refused { OnErr result (names.new.calls ≡ seen.Refused ∷ names.old.calls) }
     {
@@ -76,7 +76,7 @@ where
     ) -> io::Result<bool>
         ensures same { (names.new.last ≡ names.old.last) × SameTerms names.old names.new }
         ensures names { standing names.new.calls ≡ standing names.old.calls }
-        ensures loses { LosesNone names.old.has_sync names.old.draft names.old.calls → LosesNone names.new.has_sync names.new.draft names.new.calls }
+        ensures loses { LosesNone names.old.has_sync names.old.own names.old.calls → LosesNone names.new.has_sync names.new.own names.new.calls }
         ensures settled { OnOk result (refusals names.new.calls ≡ refusals names.old.calls) }
         ensures refused { OnErr result (refusals names.old.calls < refusals names.new.calls) }
         ensures synced { names.old.has_sync ≡ true → in_group ≡ false → IfOk result (λ is_there. is_there ≡ true → names.new.calls ≡ seen.Synced file.place.folder ∷ names.old.calls) }
@@ -160,7 +160,7 @@ where
         ensures left { PlaceLeaves place result names.old names.new }
         ensures same { SameTerms names.old names.new }
         ensures synced { names.old.has_sync ≡ true → in_group ≡ false → SyncsName result names.new.calls }
-        ensures loses { LosesNone names.old.has_sync names.old.draft names.old.calls → LosesNone names.new.has_sync names.new.draft names.new.calls }
+        ensures loses { LosesNone names.old.has_sync names.old.own names.old.calls → LosesNone names.new.has_sync names.new.own names.new.calls }
     {
         let path = names.calls.text(self.path_of(place))?;
         let target = Target {
@@ -205,7 +205,7 @@ where
         ensures behind { IfOk result (λ place. order names.new.last < order place) }
         ensures rises { order names.old.last ≤ order names.new.last }
         ensures sync { names.new.has_sync ≡ names.old.has_sync }
-        ensures number { names.new.draft ≡ names.old.draft }
+        ensures own { names.new.own ≡ names.old.own }
         ensures calls { OnOk result (names.new.calls ≡ names.old.calls) }
         ensures names { standing names.new.calls ≡ standing names.old.calls }
         ensures refused { OnErr result (WasRefused names.old names.new) }
@@ -260,7 +260,7 @@ where
     ) -> io::Result<Location>
         requires written { IsWritten names.old.has_sync names.old.calls }
         ensures sync { names.new.has_sync ≡ names.old.has_sync }
-        ensures number { names.new.draft ≡ names.old.draft }
+        ensures own { names.new.own ≡ names.old.own }
         ensures named { IfOk result (λ place. standing names.new.calls ≡ place ∷ standing names.old.calls) }
         ensures settled { OnOk result (refusals names.new.calls ≡ refusals names.old.calls) }
         ensures left { OnErr result (LeavesNames (standing names.old.calls) (standing names.new.calls)) }

@@ -1,0 +1,33 @@
+use Rattle.std.proofs.Common.{◌≡◌, ◌∙◌, length, map, refl, arith, ap, subst, sym}
+use Rattle.std.proofs.Math.Logic.{∥∥₁_map}
+use Rattle.folder_filing.specs.Naming.{IsNameSynced, IsNewest, IsOrderly, standing}
+use Rattle.folder_filing.specs.declared.pending.Pending.TheVariants.{Settled}
+use Rattle.folder_filing.specs.Settling.{AreReported}
+use Rattle.folder_filing.proofs.NamesStayOrderly.{goes_on, keeps_same}
+use Rattle.folder_filing.proofs.ReportsAreDurable.{waits_as}
+use Rattle.folder_filing.proofs.WaitingFileIsNewest.{in_its_folder, is_newest, one_reported}
+use Rattle.folder_filing.proofs.folder_filing.FolderFiling.report.Goals as goal
+
+pub report-requires-clause-synced : goal.report-requires-clause-synced
+report-requires-clause-synced g c =
+    let newest = is_newest _ c.args.place _ (ap (λ z. z.pending) c.self.view_is ∙ c.requires.named) c.self.invariant.1 in
+    let now = subst (λ z. ∥ IsNewest c.args.place (standing z.names.calls) ∥₁) (sym c.self-inside.view_is) newest in
+    λ has. subst IsNameSynced (sym (c.has_synced-has.ensures.has c.if-has.true)) (in_its_folder c.args.place _ now)
+
+pub invariant_of-self : goal.invariant_of-self
+invariant_of-self g c =
+    let was = subst (λ z. ∥ IsOrderly z.names ∥₁) (sym c.self-inside.view_is) c.self.invariant.0 in
+    let named = ap (λ z. z.pending) c.self-inside.view_is ∙ ap (λ z. z.pending) c.self.view_is ∙ c.requires.named in
+    let counted = subst (λ z. AreReported (length (map (λ t. t.bytes) z.kept)) z.pending z.names) (sym c.self-inside.view_is) c.self.invariant.2 in
+    let has = c.has_synced-has.ensures.has c.if-has.true in
+    let orderly = c.report.ensures.orderly (∥∥₁_map was (goes_on _ _ refl (omega arith) (keeps_same _) (rw has refl) (λ h. rw has h))) in
+    (orderly, ∣ tt ∣₁, one_reported _ _ c.args.place _ _ named counted (ap (λ z. z.own.reported) c.report.ensures.reported))
+
+pub returns-then-has-clause-on_disk : goal.returns-then-has-clause-on_disk
+returns-then-has-clause-on_disk g c =
+    let was = subst (λ z. ∥ IsOrderly z.names ∥₁) (sym c.self-inside.view_is) c.self.invariant.0 in
+    let named = ap (λ z. z.pending) c.self-inside.view_is ∙ ap (λ z. z.pending) c.self.view_is ∙ c.requires.named in
+    let counted = subst (λ z. AreReported (length (map (λ t. t.bytes) z.kept)) z.pending z.names) (sym c.self-inside.view_is) c.self.invariant.2 in
+    let has = c.has_synced-has.ensures.has c.if-has.true in
+    let orderly = c.report.ensures.orderly (∥∥₁_map was (goes_on _ _ refl (omega arith) (keeps_same _) (rw has refl) (λ h. rw has h))) in
+    λ _. waits_as _ Settled _ orderly (one_reported _ _ c.args.place _ _ named counted (ap (λ z. z.own.reported) c.report.ensures.reported))
