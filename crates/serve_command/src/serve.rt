@@ -5,6 +5,7 @@ ghost use Rattle.std.specs.List.{All};
 ghost use Rattle.arguments.specs.declared.options.LogForm.TheVariants as asked;
 ghost use Rattle.journal.specs.declared.form.Form.TheVariants as form;
 ghost use Rattle.negotiate.specs.Settings.{settings_of};
+ghost use Rattle.folder_filing.specs.Settling.{is_unsettled};
 ghost use Rattle.server.specs.FolderStore.{folder_store};
 ghost use Rattle.server.specs.Histories.{AllEnded, slots_in};
 
@@ -72,7 +73,7 @@ pub fn serve_one<
     folder: (FolderWriter<S>, FolderFiling<S>),
 ) -> (ServerHistory<FolderFiling<S>>, io::Result<()>)
     ensures all { OnOk result.1 (length (slots_in result.0) ≡ settings.now.service.associations) }
-    ensures ended { ∥ All (AllEnded folder_store (record {
+    ensures ended { ∥ All (AllEnded folder_store is_unsettled (record {
       settings = settings_of settings.now.config;
       artim = as_nanos settings.now.service.timeouts.artim;
       idle = as_nanos settings.now.service.timeouts.idle;

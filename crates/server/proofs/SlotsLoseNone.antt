@@ -1,5 +1,5 @@
 -- What a connection left that has ended is kept, once, beside what those before it left.
-use Rattle.std.proofs.Common.{◌≡◌, ℕ, ◌≤◌, Bool, true, refl, sym, ap, subst, ◌∙◌, List, [], ◌∷◌, ◌++◌, length, map, Option, None, Some}
+use Rattle.std.proofs.Common.{◌≡◌, ◌≢◌, ℕ, ◌≤◌, Bool, true, false, refl, sym, ap, subst, ◌∙◌, List, [], ◌∷◌, ◌++◌, length, map, Option, None, Some}
 use Rattle.std.proofs.Math.Logic.{∥∥₁_map}
 use Rattle.std.proofs.lemmas.List.{append-nil, map-append}
 use Rattle.std.proofs.lemmas.List.Elements.{All-push}
@@ -7,6 +7,7 @@ use Rattle.std.specs.List.{All}
 use Rattle.part10.specs.Store.{Store}
 use Rattle.negotiate.specs.Settings.{Settings}
 use Rattle.serving.specs.Served.{IsServed}
+use Rattle.serving.specs.Settled.{SettlesFirst, sent_by}
 use Rattle.serving.specs.Timed.{GivenInTime, asked_at}
 use Rattle.serving.specs.Waits.{Waits, had_reasons, opened_at}
 use Rattle.serving.specs.declared.open_connection.ConnectionEnd.{ConnectionEnd}
@@ -37,12 +38,15 @@ pub terms_as : (t : Terms) (settings s : Settings) (begun : Waits) (artim idle :
 terms_as t settings s begun artim idle longest now e f h = rw (e, f) h
 
 -- a connection left what its terms give, where it was closed so
-pub left_by : {F : Type 0} (store : F → Store) (t : Terms) (e : ConnectionEnd Socket F) (filing : F) (s : Settings) (begun : Waits) (stopped : Bool)
+pub left_by : {F : Type 0} (store : F → Store) (waits : F → Bool) (t : Terms) (e : ConnectionEnd Socket F) (filing : F) (s : Settings) (begun : Waits) (stopped : Bool)
     → record { settings = s; artim = begun.artim; idle = begun.idle; longest = begun.longest } ≡ t → e.opened.value ≡ filing → e.begun.value ≡ begun → e.is_stopped ≡ stopped
-    → begun ≡ opened_at begun.artim begun.idle begun.longest begun.opened → ∥ IsServed s e.exchange (store filing) (store e.filing) ∥₁ → ∥ GivenInTime s e.exchange (store filing) (store e.filing) begun e.moments ∥₁
-    → length (asked_at e.moments) ≤ 1 → had_reasons stopped begun.longest begun.opened (asked_at e.moments) ≡ true → LeftBy store t e
-left_by store t e filing s begun stopped is opened from stop begins left in_time once reasons = subst (λ (u : Terms). LeftBy store u e) is (record {
+    → begun ≡ opened_at begun.artim begun.idle begun.longest begun.opened → ∥ IsServed s e.exchange (store filing) (store e.filing) ∥₁
+    → ∥ SettlesFirst s e.exchange (store filing) (store e.settled.value) (store e.filing) ∥₁ → (sent_by e.exchange ≢ [] → waits e.settled.value ≡ false) → ∥ GivenInTime s e.exchange (store filing) (store e.filing) begun e.moments ∥₁
+    → length (asked_at e.moments) ≤ 1 → had_reasons stopped begun.longest begun.opened (asked_at e.moments) ≡ true → LeftBy store waits t e
+left_by store waits t e filing s begun stopped is opened from stop begins left sent rested in_time once reasons = subst (λ (u : Terms). LeftBy store waits u e) is (record {
   left = rw opened left;
+  sent = rw opened sent;
+  rested = rested;
   begun = rw from begins;
   in_time = rw (opened, from) in_time;
   once = once;
@@ -50,37 +54,37 @@ left_by store t e filing s begun stopped is opened from stop begins left in_time
 })
 
 -- one connection has ended
-pub one_ended : {F : Type 0} (store : F → Store) (t : Terms) (old new : SlotHistory F) (e : ConnectionEnd Socket F) (filing : F)
+pub one_ended : {F : Type 0} (store : F → Store) (waits : F → Bool) (t : Terms) (old new : SlotHistory F) (e : ConnectionEnd Socket F) (filing : F)
     → opened_in new ≡ opened_in old → ended_in new ≡ ended_in old ++ e ∷ [] → e.opened.value ≡ filing
-    → LeftBy store t e → HaveEnded store t (filing ∷ []) old new
-one_ended store t old new e filing opened ended over by =
+    → LeftBy store waits t e → HaveEnded store waits t (filing ∷ []) old new
+one_ended store waits t old new e filing opened ended over by =
     record {
       opened = opened;
       ended = ap (map opened_over) ended ∙ (map-append opened_over (ended_in old) (e ∷ []) ∙ ap (λ f. map opened_over (ended_in old) ++ f ∷ []) over);
-      left = λ was. ∥∥₁_map was (λ all. subst (All (LeftBy store t)) (sym ended) (All-push (LeftBy store t) (ended_in old) e all by));
+      left = λ was. ∥∥₁_map was (λ all. subst (All (LeftBy store waits t)) (sym ended) (All-push (LeftBy store waits t) (ended_in old) e all by));
     }
 
 -- one connection more was opened, after the one before it has ended
-pub opened_next : {F T : Type 0} (see : T → F) (store : F → Store) (t : Terms) (old noted new : SlotHistory F) (filing : F) (there had now : Option T) (connection : T)
+pub opened_next : {F T : Type 0} (see : T → F) (store : F → Store) (waits : F → Bool) (t : Terms) (old noted new : SlotHistory F) (filing : F) (there had now : Option T) (connection : T)
     → opened_in old ≡ map opened_over (ended_in old) ++ seen_of there see → had ≡ there
     → opened_in noted ≡ opened_in old ++ filing ∷ [] → ended_in noted ≡ ended_in old
-    → HaveEnded store t (seen_of had see) noted new → now ≡ Some connection → see connection ≡ filing → opened_in new ≡ map opened_over (ended_in new) ++ seen_of now see
-opened_next see store t old noted new filing there had now connection none same opened ended ends is over =
+    → HaveEnded store waits t (seen_of had see) noted new → now ≡ Some connection → see connection ≡ filing → opened_in new ≡ map opened_over (ended_in new) ++ seen_of now see
+opened_next see store waits t old noted new filing there had now connection none same opened ended ends is over =
     let before : seen_of there see ≡ seen_of had see = ap (λ o. seen_of o see) (sym same) in
     let all : opened_in old ≡ map opened_over (ended_in new) = none ∙ (ap (λ fs. map opened_over (ended_in old) ++ fs) before ∙ sym (ends.ended ∙ ap (λ es. map opened_over es ++ seen_of had see) ended)) in
     let last : seen_of now see ≡ filing ∷ [] = ap (λ o. seen_of o see) is ∙ ap (λ f. f ∷ []) over in
     ends.opened ∙ (opened ∙ (ap (λ fs. fs ++ filing ∷ []) all ∙ ap (λ fs. map opened_over (ended_in new) ++ fs) (sym last)))
 
 -- and each has left what the settings give
-pub still_left : {F : Type 0} (store : F → Store) (t : Terms) (openings : List F) (old noted new : SlotHistory F)
-    → ended_in noted ≡ ended_in old → HaveEnded store t openings noted new → ∥ All (LeftBy store t) (ended_in old) ∥₁ → ∥ All (LeftBy store t) (ended_in new) ∥₁
-still_left store t openings old noted new ended ends was = ends.left (subst (λ es. ∥ All (LeftBy store t) es ∥₁) (sym ended) was)
+pub still_left : {F : Type 0} (store : F → Store) (waits : F → Bool) (t : Terms) (openings : List F) (old noted new : SlotHistory F)
+    → ended_in noted ≡ ended_in old → HaveEnded store waits t openings noted new → ∥ All (LeftBy store waits t) (ended_in old) ∥₁ → ∥ All (LeftBy store waits t) (ended_in new) ∥₁
+still_left store waits t openings old noted new ended ends was = ends.left (subst (λ es. ∥ All (LeftBy store waits t) es ∥₁) (sym ended) was)
 
 -- none is there any more, and the one that was has ended
-pub none_left : {F T : Type 0} (see : T → F) (store : F → Store) (t : Terms) (old new : SlotHistory F) (there had now : Option T)
-    → opened_in old ≡ map opened_over (ended_in old) ++ seen_of there see → had ≡ there → HaveEnded store t (seen_of had see) old new → now ≡ None
+pub none_left : {F T : Type 0} (see : T → F) (store : F → Store) (waits : F → Bool) (t : Terms) (old new : SlotHistory F) (there had now : Option T)
+    → opened_in old ≡ map opened_over (ended_in old) ++ seen_of there see → had ≡ there → HaveEnded store waits t (seen_of had see) old new → now ≡ None
     → opened_in new ≡ map opened_over (ended_in new) ++ seen_of now see
-none_left see store t old new there had now none same ends is =
+none_left see store waits t old new there had now none same ends is =
     let before : seen_of there see ≡ seen_of had see = ap (λ o. seen_of o see) (sym same) in
     let all : opened_in old ≡ map opened_over (ended_in new) = none ∙ (ap (λ fs. map opened_over (ended_in old) ++ fs) before ∙ sym ends.ended) in
     let empty : [] ≡ seen_of now see = ap (λ o. seen_of o see) (sym is) in

@@ -2,7 +2,7 @@
 ghost use Rattle.std.specs.Prelude.{◌≡◌, [], ◌++◌, map, IfSome, false};
 ghost use Rattle.std.specs.List.{All};
 ghost use Rattle.serving.specs.Connections.{opening_of};
-ghost use Rattle.folder_filing.specs.Settling.{is_waiting};
+ghost use Rattle.folder_filing.specs.Settling.{is_unsettled};
 ghost use Rattle.server.specs.FolderStore.{folder_store};
 ghost use Rattle.server.specs.Histories.{AllEnded, LeftBy, ended_in, opened_in, opened_over};
 ghost use Rattle.server.specs.Terms.{terms_at, terms_of};
@@ -51,8 +51,8 @@ where
     history: SlotHistory<FolderFiling<S>>,
     policy: PhantomData<P>,
     /// None of it waits to be settled, or was lost before that.
-    ghost rested: { ∥ IfSome filing (λ f. is_waiting f.pending ≡ false) ∥₁ },
-    ghost left: { ∥ All (LeftBy folder_store P.terms) (ended_in history) ∥₁ },
+    ghost rested: { ∥ IfSome filing (λ f. is_unsettled f ≡ false) ∥₁ },
+    ghost left: { ∥ All (LeftBy folder_store is_unsettled P.terms) (ended_in history) ∥₁ },
     /// Its connection is held to what its server is.
     ghost held: { seen_of connection (λ c. terms_at c) ≡ seen_of connection (λ c. P.terms) },
     /// Each connection that was opened has ended, except the one that it has.
@@ -168,7 +168,7 @@ impl<'a, R: Log + Clock, S: Files<File = File> + Alloc<A = Global> + Clone + Dro
 
     /// Closes its connection, if it has one. Returns what its connections left.
     pub(crate) fn close(self, now: Instant) -> SlotHistory<FolderFiling<S>>
-        ensures { AllEnded folder_store P.terms result }
+        ensures { AllEnded folder_store is_unsettled P.terms result }
     {
         let Slot {
             connection,
@@ -189,7 +189,7 @@ impl<'a, R: Log + Clock, S: Files<File = File> + Alloc<A = Global> + Clone + Dro
 fn at_rest<S: Files<File = File> + Alloc<A = Global> + Clone + Drop>(
     filing: FolderFiling<S>,
 ) -> Option<FolderFiling<S>>
-    ensures { IfSome result (λ f. is_waiting f.pending ≡ false) }
+    ensures { IfSome result (λ f. is_unsettled f ≡ false) }
 {
     if filing.waits() {
         return None;
@@ -207,7 +207,7 @@ fn closed<'a, R: Log + Clock, S: Files<File = File> + Alloc<A = Global> + Clone 
     now: Instant,
 ) -> Option<(FolderFiling<S>, ConnectionMemory<'a>)>
     requires held { seen_of connection (λ c. terms_at c) ≡ seen_of connection (λ c. P.terms) }
-    ensures { HaveEnded folder_store P.terms (seen_of connection.entry (λ c. opening_of c)) history.old history.new }
+    ensures { HaveEnded folder_store is_unsettled P.terms (seen_of connection.entry (λ c. opening_of c)) history.old history.new }
 {
     match connection {
         Some(connection) => {

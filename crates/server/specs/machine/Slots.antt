@@ -1,5 +1,5 @@
 -- What a slot's history becomes.
-use Rattle.std.specs.Prelude.{◌≡◌, List, [], ◌∷◌, ◌++◌, map, Option, Some, None}
+use Rattle.std.specs.Prelude.{◌≡◌, Bool, List, [], ◌∷◌, ◌++◌, map, Option, Some, None}
 use Rattle.std.specs.List.{All}
 use Rattle.part10.specs.Store.{Store}
 use Rattle.server.specs.declared.server.opening.history.SlotHistory.{SlotHistory}
@@ -12,7 +12,7 @@ seen_of None see = []
 seen_of (Some connection) see = see connection ∷ []
 
 -- connections have ended that were opened over these filings, and left what these terms give
-pub record HaveEnded {F : Type 0} (store : F → Store) (t : Terms) (openings : List F) (old new : SlotHistory F) : Type 0 where
+pub record HaveEnded {F : Type 0} (store : F → Store) (waits : F → Bool) (t : Terms) (openings : List F) (old new : SlotHistory F) : Type 0 where
   pub opened : opened_in new ≡ opened_in old
   pub ended : map opened_over (ended_in new) ≡ map opened_over (ended_in old) ++ openings
-  pub left : ∥ All (LeftBy store t) (ended_in old) ∥₁ → ∥ All (LeftBy store t) (ended_in new) ∥₁
+  pub left : ∥ All (LeftBy store waits t) (ended_in old) ∥₁ → ∥ All (LeftBy store waits t) (ended_in new) ∥₁

@@ -1,6 +1,7 @@
 //! A server from its start to its end.
 ghost use Rattle.std.specs.Prelude.{◌≡◌, ◌+◌, length, vec_len, IfOk, OnOk};
 ghost use Rattle.std.specs.List.{All};
+ghost use Rattle.folder_filing.specs.Settling.{is_unsettled};
 ghost use Rattle.server.specs.FolderStore.{folder_store};
 ghost use Rattle.server.specs.Histories.{AllEnded, slots_in};
 ghost use Rattle.server.specs.Terms.{terms_of};
@@ -204,7 +205,7 @@ fn served<
     requires terms { terms_of terms ≡ P.terms }
     requires at_once { terms.service.associations ≡ P.at_once }
     ensures all { OnOk result.1 (length (slots_in result.0) ≡ P.at_once) }
-    ensures ended { ∥ All (AllEnded folder_store P.terms) (slots_in result.0) ∥₁ }
+    ensures ended { ∥ All (AllEnded folder_store is_unsettled P.terms) (slots_in result.0) ∥₁ }
 {
     let mut events = match begin(rt, listeners.as_slice(), &terms, files) {
         Ok(events) => events,
@@ -242,7 +243,7 @@ pub fn serve_many<
     folder: (FolderWriter<S>, FolderFiling<S>),
 ) -> (ServerHistory<FolderFiling<S>>, io::Result<()>)
     ensures all { OnOk result.1 (length (slots_in result.0) ≡ terms.entry.service.associations) }
-    ensures ended { ∥ All (AllEnded folder_store (terms_of terms.entry)) (slots_in result.0) ∥₁ }
+    ensures ended { ∥ All (AllEnded folder_store is_unsettled (terms_of terms.entry)) (slots_in result.0) ∥₁ }
 {
     let (history, served) = served::<R, S, Brand>(rt, listeners, terms, files, folder);
     let logger = terms.logger(rt);

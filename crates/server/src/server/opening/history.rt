@@ -9,7 +9,7 @@ ghost use Rattle.server.specs.Histories.{AllEnded, ended_in, opened_in, slots_in
 use crate::policy::Policy;
 use crate::socket::Socket;
 use element::history::History;
-use part10::Filing;
+use part10::Settling;
 use serving::ConnectionEnd;
 use std::marker::PhantomData;
 
@@ -68,13 +68,13 @@ impl<F> ServerHistory<F> {
 }
 
 /// What there was of the connections of slots that were closed. It is not `Drop`.
-pub(crate) struct ClosedSlots<F: Filing, P: Policy> {
+pub(crate) struct ClosedSlots<F: Settling, P: Policy> {
     history: ServerHistory<F>,
     policy: PhantomData<P>,
-    ghost each: { ∥ All (AllEnded F.store P.terms) (slots_in history) ∥₁ },
+    ghost each: { ∥ All (AllEnded F.store F.waits P.terms) (slots_in history) ∥₁ },
 }
 
-impl<F: Filing, P: Policy> ClosedSlots<F, P> {
+impl<F: Settling, P: Policy> ClosedSlots<F, P> {
     /// Creates that of no slots.
     pub(super) fn new() -> ClosedSlots<F, P>
         ensures { slots_in result.history ≡ [] }
@@ -87,7 +87,7 @@ impl<F: Filing, P: Policy> ClosedSlots<F, P> {
 
     /// Adds that of a slot that was closed.
     pub(crate) fn push(&mut self, slot: SlotHistory<F>)
-        requires { AllEnded F.store P.terms slot }
+        requires { AllEnded F.store F.waits P.terms slot }
         ensures { slots_in self.new.history ≡ slots_in self.old.history ++ slot ∷ [] }
     {
         self.history.slots.push(&slot);
@@ -100,7 +100,7 @@ impl<F: Filing, P: Policy> ClosedSlots<F, P> {
     /// Returns the history of a server that has no other slots.
     pub(super) fn into_history(self) -> ServerHistory<F>
         ensures same { result ≡ self.history }
-        ensures ended { ∥ All (AllEnded F.store P.terms) (slots_in result) ∥₁ }
+        ensures ended { ∥ All (AllEnded F.store F.waits P.terms) (slots_in result) ∥₁ }
     {
         let ClosedSlots {
             history,
