@@ -419,7 +419,7 @@ where
         ensures pending { OnOk result ((self.new.pending ≡ pending.Settled) ⊎ (self.new.pending ≡ pending.Unnamed)) }
         ensures same_pending { OnErr result (self.new.pending ≡ self.old.pending) }
     {
-        if self.pending.is_waiting() {
+        if !matches!(self.pending, Pending::Settled) {
             self.fail(Error::new(ErrorKind::ResourceBusy, WAITS));
             return Err(FilingFailed);
         }
