@@ -9,7 +9,7 @@ use Rattle.folder_filing.specs.declared.call.Call.TheVariants.{Created, Written,
 use Rattle.folder_filing.specs.declared.location.Location.{Location}
 use Rattle.folder_filing.specs.declared.pending.Pending.{Pending}
 use Rattle.folder_filing.specs.declared.pending.Pending.TheVariants.{Settled, Unnamed, Named, Lost}
-use Rattle.folder_filing.specs.Naming.{IsNameSynced, IsNewest, IsNewestIn, IsOrderly, LosesNone, Naming, Own, is_written, standing}
+use Rattle.folder_filing.specs.Naming.{IsNameSynced, IsNewest, IsNewestIn, IsOrderly, LosesNone, Naming, Own, standing}
 use Rattle.folder_filing.specs.Settling.{AreReported, are_durable, is_waiting}
 use Rattle.folder_filing.specs.Synced.{durable_reports, is_durable, is_same, was_named}
 

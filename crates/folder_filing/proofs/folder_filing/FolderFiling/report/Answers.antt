@@ -1,4 +1,4 @@
-use Rattle.std.proofs.Common.{◌≡◌, ◌∙◌, length, map, refl, arith, ap, subst, sym}
+use Rattle.std.proofs.Common.{◌∙◌, length, map, refl, arith, ap, subst, sym}
 use Rattle.std.proofs.Math.Logic.{∥∥₁_map}
 use Rattle.folder_filing.specs.Naming.{IsNameSynced, IsNewest, IsOrderly, standing}
 use Rattle.folder_filing.specs.declared.pending.Pending.TheVariants.{Settled}
