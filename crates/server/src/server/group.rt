@@ -1,6 +1,7 @@
 //! When files that wait to be settled are settled together.
 ghost use Rattle.std.specs.Prelude.{◌≡◌, ◌≢◌, ◌≤◌, ◌-◌, Some, true, false};
-ghost use Rattle.std.specs.Time.{as_nanos, instant_nanos};
+ghost use Rattle.std.specs.Duration.{as_nanos};
+ghost use Rattle.std.specs.Time.{instant_nanos};
 
 use std::time::{Duration, Instant};
 

@@ -1,0 +1,8 @@
+-- What the connections before left is the same.
+use Rattle.server.proofs.server.settling.Server+R+S+P+Journal+R+S.settle_all.Goals as goal
+
+pub invariant_of-slot-clause-rested : goal.invariant_of-slot-clause-rested
+invariant_of-slot-clause-rested g c = c.in-Some-get_mut.slot.now.rested
+
+pub invariant_of-slot-clause-left : goal.invariant_of-slot-clause-left
+invariant_of-slot-clause-left g c = c.in-Some-get_mut.slot.now.left
