@@ -1,5 +1,5 @@
 //! Gives files their paths in the tree.
-ghost use Rattle.std.specs.Prelude.{◌≡◌, IfOk, OnOk, true, false, nat_eq, if◌then◌else◌};
+ghost use Rattle.std.specs.Prelude.{◌≡◌, ⊤, IfOk, OnOk, true, false, nat_eq, if◌then◌else◌};
 ghost use Rattle.arrange_command.specs.Placing.{HasFound, HasGiven, IsPlaced, TakesNone};
 ghost use Rattle.arrange_command.specs.declared.comparing.Present.TheVariants.{Nothing};
 ghost use Rattle.arrange_command.specs.declared.placing.Placed.TheVariants.{Put, Renamed};
@@ -236,6 +236,8 @@ impl<R: Files + Alloc, O: Write> Taking for Placer<'_, R, O>
 where
     R::A: Copy,
 {
+    ghost took = { λ old path keys new. ⊤ };
+
     fn take(&mut self, file: FoundFile<'_>) -> Result<(), ProgramError> {
         self.place(file)
     }

@@ -1,1 +1,2 @@
 pub mod FrontsAreSame
+pub mod VisitsGoOn

@@ -1,1 +1,4 @@
+pub mod Counting
+pub mod Visiting
+pub mod Keys
 pub mod SameBytes

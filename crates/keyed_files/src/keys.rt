@@ -1,4 +1,7 @@
 //! The values that were read of a file.
+ghost use Rattle.std.specs.Prelude.{◌≡◌, option_map};
+ghost use Rattle.keyed_files.specs.Keys.{file_text, file_value};
+
 use arrayvec::ArrayVec;
 use element::{Tag, unpadded};
 
@@ -77,7 +80,9 @@ impl FileKeys {
 
     /// Returns the value with this tag, including padding, or `None` if the file has none. Of a value
     /// of more than 256 bytes it returns the first 256.
-    pub fn value(&self, tag: Tag) -> Option<&[u8]> {
+    pub fn value(&self, tag: Tag) -> Option<&[u8]>
+        ensures { option_map (λ v. v.now) result ≡ file_value self.now tag }
+    {
         let starts = self.starts.as_slice();
         for number in 0..starts.len() {
             if starts[number].tag == tag {
@@ -92,7 +97,9 @@ impl FileKeys {
     }
 
     /// Returns the value with this tag without its padding, or an empty slice if the file has none.
-    pub fn text(&self, tag: Tag) -> &[u8] {
+    pub fn text(&self, tag: Tag) -> &[u8]
+        ensures { result.now ≡ file_text self.now tag }
+    {
         unpadded(self.value(tag).unwrap_or(&[]))
     }
 }

@@ -1,4 +1,7 @@
 //! Counts the files of a folder that were left out or passed by.
+ghost use Rattle.std.specs.Prelude.{◌≡◌};
+ghost use Rattle.keyed_files.specs.Counting.{with_ignored, with_left_out, with_unread, with_vanished};
+
 use failures::ProgramError;
 use inspection::Outcome;
 use std::io::Write;
@@ -18,7 +21,9 @@ pub struct Tally {
 
 impl Tally {
     /// Creates counts of zero.
-    pub(crate) fn new() -> Tally {
+    pub(crate) fn new() -> Tally
+        ensures { result ≡ record { left_out = 0; unread = 0; ignored = 0; vanished = 0 } }
+    {
         Tally {
             left_out: 0,
             unread: 0,
@@ -40,22 +45,30 @@ impl Tally {
     }
 
     /// Counts a file that is passed by.
-    pub(crate) fn add_ignored(&mut self) {
+    pub(crate) fn add_ignored(&mut self)
+        ensures { self.new ≡ with_ignored self.old }
+    {
         self.ignored = self.ignored.saturating_add(1);
     }
 
     /// Counts a file or a folder that has vanished.
-    pub(crate) fn add_vanished(&mut self) {
+    pub(crate) fn add_vanished(&mut self)
+        ensures { self.new ≡ with_vanished self.old }
+    {
         self.vanished = self.vanished.saturating_add(1);
     }
 
     /// Counts a file that was left out.
-    pub(crate) fn add_left_out(&mut self) {
+    pub(crate) fn add_left_out(&mut self)
+        ensures { self.new ≡ with_left_out self.old }
+    {
         self.left_out = self.left_out.saturating_add(1);
     }
 
     /// Counts a file or a folder that cannot be read.
-    pub(crate) fn add_unread(&mut self) {
+    pub(crate) fn add_unread(&mut self)
+        ensures { self.new ≡ with_unread self.old }
+    {
         self.unread = self.unread.saturating_add(1);
         self.add_left_out();
     }

@@ -1,4 +1,8 @@
 //! Visits the files in a folder and its subfolders.
+ghost use Rattle.std.specs.Prelude.{◌≡◌, ℕ, List, Result, true, IfErr, IfOk, OnErr, OnOk, is_ok};
+ghost use Rattle.keyed_files.specs.Counting.{after_fault, after_read, is_over};
+ghost use Rattle.keyed_files.specs.Visiting.{state_of_visit, unvisited, with_read, CountsUnread, FailsUncounted, IsDone, Stops, Visited};
+
 use crate::counter::Counter;
 use crate::drafts::is_draft;
 use crate::folder_names::{FolderName, NameListing, masked_path_in, path_in, split_name};
@@ -8,6 +12,7 @@ use crate::node_id::NodeId;
 use crate::reading::{NoKeys, read_keys};
 use crate::tally::{Tally, tell_passed_by};
 use element::Tag;
+use element::history::History;
 use failures::{Failure, ProgramError};
 use inspection::{Judgement, Printable};
 use part10::MetaFault;
@@ -29,9 +34,15 @@ pub struct FoundFile<'a> {
 
 /// The action for each file that is found.
 pub trait Taking {
+    ghost use Rattle.keyed_files.specs.declared.keys.FileKeys.{FileKeys};
+
+    /// For contracts: what a file at this path with these values changes.
+    ghost took: { Self → List ℕ → FileKeys → Self → Type 0 };
+
     /// Handles a file. If it fails because the file cannot be read, that is reported and the visit
     /// continues; any other error ends it.
-    fn take(&mut self, file: FoundFile<'_>) -> Result<(), ProgramError>;
+    fn take(&mut self, file: FoundFile<'_>) -> Result<(), ProgramError>
+        ensures took { OnOk result (took self.old file.entry.path.now file.entry.keys.now self.new) };
 }
 
 /// Visits the DICOM files in a folder and its subfolders, in the order in which the system lists them,
@@ -52,6 +63,8 @@ pub struct Visitor<'a, R, E: Write + Drop> {
     err: E,
     counter: Counter,
     tally: Tally,
+    /// For contracts: what was read of each file.
+    reads: History<Result<FileKeys, NoKeys>>,
 }
 
 impl<'a, R: Files + Alloc + Clone + Drop, E: Write + Drop> Visitor<'a, R, E>
@@ -60,7 +73,9 @@ where
 {
     /// Creates a visitor that reads the values with these tags, at most eleven, and reports files that are
     /// left out on `err`.
-    pub fn new(rt: &'a R, tags: &'a [Tag], err: E, counter: Counter) -> Visitor<'a, R, E> {
+    pub fn new(rt: &'a R, tags: &'a [Tag], err: E, counter: Counter) -> Visitor<'a, R, E>
+        ensures { state_of_visit result ≡ unvisited }
+    {
         Visitor {
             rt,
             tags,
@@ -69,21 +84,28 @@ where
             err,
             counter,
             tally: Tally::new(),
+            reads: History::new(),
         }
     }
 
     /// Leaves out this folder, by whatever path it is found.
-    pub fn spare(&mut self, folder: NodeId) {
+    pub fn spare(&mut self, folder: NodeId)
+        ensures { state_of_visit self.new ≡ state_of_visit self.old }
+    {
         self.spared = Some(folder);
     }
 
     /// Passes by files that are no DICOM files: they are counted, and not left out.
-    pub fn ignore_others(&mut self) {
+    pub fn ignore_others(&mut self)
+        ensures { state_of_visit self.new ≡ record (state_of_visit self.old) { ignores_others = true } }
+    {
         self.ignores_others = true;
     }
 
     /// Reports on standard error what is wrong with what has this path.
-    fn tell<D: Display>(&mut self, path: &str, what: &D) {
+    fn tell<D: Display>(&mut self, path: &str, what: &D)
+        ensures same { state_of_visit self.new ≡ state_of_visit self.old }
+    {
         let path = Printable(path.as_bytes());
         self.counter.clear(&mut self.err);
         let _ = writeln!(self.err, "dcmbox: {path}: {what}");
@@ -91,7 +113,10 @@ where
 
     /// Counts and reports a file or folder that cannot be read; one that has vanished is only counted. Any other error is
     /// returned.
-    fn tell_unread(&mut self, path: &str, error: ProgramError) -> Result<(), ProgramError> {
+    fn tell_unread(&mut self, path: &str, error: ProgramError) -> Result<(), ProgramError>
+        ensures counted { OnOk result (CountsUnread (state_of_visit self.old) (state_of_visit self.new)) }
+        ensures same { OnErr result (state_of_visit self.new ≡ state_of_visit self.old) }
+    {
         if !error.failure().is_some_and(Failure::is_of_input) {
             return Err(error);
         }
@@ -105,7 +130,9 @@ where
     }
 
     /// Counts a file with a fault, and reports it if it is not passed by.
-    fn tell_fault(&mut self, path: &str, fault: &Judgement) {
+    fn tell_fault(&mut self, path: &str, fault: &Judgement)
+        ensures counted { state_of_visit self.new ≡ record (state_of_visit self.old) { tally = after_fault self.old.ignores_others fault.now self.old.tally } }
+    {
         if let (true, Judgement::BadHeader(MetaFault::NotPart10)) = (self.ignores_others, fault) {
             self.tally.add_ignored();
             return;
@@ -118,26 +145,38 @@ where
 
     /// Reads the requested values of a file. The outer error is that it cannot be opened, or memory ran
     /// out; the inner one why it has no values.
-    fn keys_of(&self, path: &str) -> Result<Result<FileKeys, NoKeys>, ProgramError> {
+    fn keys_of(&mut self, path: &str) -> Result<Result<FileKeys, NoKeys>, ProgramError>
+        ensures read { IfOk result (λ read. state_of_visit self.new ≡ with_read read (state_of_visit self.old)) }
+        ensures none { OnErr result (state_of_visit self.new ≡ state_of_visit self.old) }
+    {
         let file = match open_file(self.rt, path) {
             Ok(file) => file,
             Err(error) => return Err(ProgramError::of(Failure::Open, error)),
         };
         match BufReader::with_capacity(self.rt.alloc(), READ, file) {
-            Ok(mut reader) => Ok(read_keys(&mut reader, self.tags)),
+            Ok(mut reader) => {
+                let read = read_keys(&mut reader, self.tags);
+                self.reads.push(&read);
+                Ok(read)
+            }
             Err(error) => Err(ProgramError::of(Failure::Read, error)),
         }
     }
 
-    /// Reads and handles a file, or reports why it is left out.
-    fn take<T: Taking>(
+    /// Handles a file by what was read of it: one with a fault is counted, a DICOMDIR is passed over.
+    fn handle<T: Taking>(
         &mut self,
         path: &str,
         metadata: &Metadata,
+        read: Result<FileKeys, NoKeys>,
         taking: &mut T,
-    ) -> Result<(), ProgramError> {
-        self.counter.show(&mut self.err);
-        match self.keys_of(path)? {
+    ) -> Result<(), ProgramError>
+        ensures taken { IfOk read (λ keys. OnOk result (T.took taking.old path.now keys taking.new)) }
+        ensures same { OnErr read (taking.new ≡ taking.old) }
+        ensures counted { state_of_visit self.new ≡ record (state_of_visit self.old) { tally = after_read self.old.ignores_others read self.old.tally } }
+        ensures over { IfErr read (λ why. is_ok result ≡ is_over why) }
+    {
+        match read {
             Ok(keys) => taking.take(FoundFile {
                 path,
                 metadata,
@@ -152,6 +191,21 @@ where
         }
     }
 
+    /// Reads and handles a file.
+    fn take<T: Taking>(
+        &mut self,
+        path: &str,
+        metadata: &Metadata,
+        taking: &mut T,
+    ) -> Result<(), ProgramError>
+        ensures done { OnOk result ((read : Result FileKeys NoKeys) × IsDone T.took path.now read taking.old taking.new (state_of_visit self.old) (state_of_visit self.new)) }
+        ensures fails { OnErr result (FailsUncounted T.took taking.old taking.new (state_of_visit self.old) (state_of_visit self.new)) }
+    {
+        self.counter.show(&mut self.err);
+        let read = self.keys_of(path)?;
+        self.handle(path, metadata, read, taking)
+    }
+
     /// Visits a path that was found in a folder: handles a file, if it is no draft, and appends a folder to those still to
     /// be visited. Symbolic links are not followed.
     fn visit<T: Taking>(
@@ -160,7 +214,10 @@ where
         is_draft: bool,
         folders: &mut Vec<String<R::A>, R::A>,
         taking: &mut T,
-    ) -> Result<(), ProgramError> {
+    ) -> Result<(), ProgramError>
+        ensures visited { OnOk result (Visited T.took taking.old taking.new (state_of_visit self.old) (state_of_visit self.new)) }
+        ensures fails { OnErr result (FailsUncounted T.took taking.old taking.new (state_of_visit self.old) (state_of_visit self.new)) }
+    {
         match fs::symlink_metadata(self.rt, path) {
             Ok(found) if found.is_dir() => {
                 if self.spared != Some(NodeId::of(&found)) {
@@ -185,7 +242,10 @@ where
         name: FolderName<'_>,
         folders: &mut Vec<String<R::A>, R::A>,
         taking: &mut T,
-    ) -> Result<(), ProgramError> {
+    ) -> Result<(), ProgramError>
+        ensures visited { OnOk result (Visited T.took taking.old taking.new (state_of_visit self.old) (state_of_visit self.new)) }
+        ensures fails { OnErr result (FailsUncounted T.took taking.old taking.new (state_of_visit self.old) (state_of_visit self.new)) }
+    {
         let text = match name {
             FolderName::Text(text) => text,
             FolderName::Bytes(bytes) => {
@@ -208,7 +268,10 @@ where
         names: &[u8],
         folders: &mut Vec<String<R::A>, R::A>,
         taking: &mut T,
-    ) -> Result<(), ProgramError> {
+    ) -> Result<(), ProgramError>
+        ensures visited { OnOk result (Visited T.took taking.old taking.new (state_of_visit self.old) (state_of_visit self.new)) }
+        ensures stops { OnErr result (Stops T.took taking.old taking.new (state_of_visit self.old) (state_of_visit self.new)) }
+    {
         let mut rest = names;
         for _ in 0..names.len() {
             if rest.is_empty() {
@@ -229,7 +292,10 @@ where
         dir: &str,
         folders: &mut Vec<String<R::A>, R::A>,
         taking: &mut T,
-    ) -> Result<(), ProgramError> {
+    ) -> Result<(), ProgramError>
+        ensures visited { OnOk result (Visited T.took taking.old taking.new (state_of_visit self.old) (state_of_visit self.new)) }
+        ensures stops { OnErr result (Stops T.took taking.old taking.new (state_of_visit self.old) (state_of_visit self.new)) }
+    {
         let mut listing = NameListing::open(self.rt, dir).map_err(ProgramError::of_folder)?;
         for _ in 0..u64::MAX {
             match listing.read() {
@@ -241,18 +307,20 @@ where
         Ok(())
     }
 
-    /// Visits the folders that are still to be visited, and their subfolders.
-    fn visit_waiting<T: Taking>(
-        &mut self,
-        folders: &mut Vec<String<R::A>, R::A>,
-        taking: &mut T,
-    ) -> Result<(), ProgramError> {
+    /// Visits a folder and its subfolders. Fails if the folder itself can't be listed.
+    fn visit_folders<T: Taking>(&mut self, dir: &str, taking: &mut T) -> Result<(), ProgramError>
+        ensures visited { OnOk result (Visited T.took taking.old taking.new (state_of_visit self.old) (state_of_visit self.new)) }
+        ensures stops { OnErr result (Stops T.took taking.old taking.new (state_of_visit self.old) (state_of_visit self.new)) }
+    {
+        let mut folders = Vec::new(self.rt.alloc());
+        self.visit_folder(dir, &mut folders, taking)?;
         for _ in 0..u64::MAX {
             let Some(dir) = folders.pop() else {
                 break;
             };
-            if let Err(error) = self.visit_folder(dir.as_str(), folders, taking) {
-                self.tell_unread(dir.as_str(), error)?;
+            match self.visit_folder(dir.as_str(), &mut folders, taking) {
+                Ok(()) => {}
+                Err(error) => self.tell_unread(dir.as_str(), error)?,
             }
         }
         Ok(())
@@ -263,16 +331,11 @@ where
     ///
     /// Fails if the folder itself cannot be listed, if memory runs out, or with the error of
     /// [`Taking::take`], except that of a file that cannot be read.
-    pub fn visit_all<T: Taking>(
-        &mut self,
-        dir: &str,
-        taking: &mut T,
-    ) -> Result<Tally, ProgramError> {
-        let mut folders = Vec::new(self.rt.alloc());
-        let visited = match self.visit_folder(dir, &mut folders, taking) {
-            Ok(()) => self.visit_waiting(&mut folders, taking),
-            Err(error) => Err(error),
-        };
+    pub fn visit_all<T: Taking>(&mut self, dir: &str, taking: &mut T) -> Result<Tally, ProgramError>
+        ensures visited { OnOk result (Visited T.took taking.old taking.new (state_of_visit self.old) (state_of_visit self.new)) }
+        ensures tally { IfOk result (λ tally. tally ≡ (state_of_visit self.new).tally) }
+    {
+        let visited = self.visit_folders(dir, taking);
         self.counter.clear(&mut self.err);
         tell_passed_by(self.tally.ignored, self.tally.vanished, &mut self.err);
         visited?;

@@ -1,9 +1,11 @@
 -- What a listing has of each file: its place in one series of one study. This product's own profile.
-use Rattle.std.specs.Prelude.{◌≡◌, ℕ, Bool, List, [], ◌∷◌, ◌++◌, map, Option, Some, None, nat_eq, replicate, slice_get, Vec}
+use Rattle.std.specs.Prelude.{◌≡◌, ℕ, Bool, true, List, [], ◌∷◌, ◌++◌, map, Option, Some, None, nat_eq, replicate, slice_get, Vec, IsPermutation}
 use Rattle.std.specs.Cmp.Lexicographic.{pointwise}
 use Rattle.std.specs.List.{flat_map}
 use Rattle.std.specs.Map.{keys_of}
 use Rattle.std.specs.String.{string_bytes}
+use Rattle.keyed_files.specs.Keys.{file_text}
+use Rattle.keyed_files.specs.declared.keys.FileKeys.{FileKeys}
 use Rattle.list_command.specs.declared.studies.Instance.{Instance}
 use Rattle.list_command.specs.declared.studies.Series.{Series}
 use Rattle.list_command.specs.declared.studies.Study.{Study}
@@ -23,6 +25,20 @@ paths_in study entries = flat_map (λ entry. map (λ instance. (study, (entry.0.
 -- the listed files of all studies
 abbrev pub paths_of : {A : Type 0} → List (Vec ℕ A × Study A) → List (List ℕ × (List ℕ × List ℕ))
 paths_of entries = flat_map (λ entry. paths_in entry.0.items entry.1.series.entries) entries
+
+-- Study Instance UID (0020,000D), without padding
+abbrev pub study_uid : FileKeys → List ℕ
+study_uid keys = file_text keys (record { 0 = 0x0020; 1 = 0x000d })
+
+-- Series Instance UID (0020,000E), without padding
+abbrev pub series_uid : FileKeys → List ℕ
+series_uid keys = file_text keys (record { 0 = 0x0020; 1 = 0x000e })
+
+-- A file with these values is one more in the series of the study that they name, and every other file stays where it was.
+-- Where files are listed, so is its path.
+pub record IsFiled {A : Type 0} (is_listed : Bool) (path : List ℕ) (keys : FileKeys) (old new : List (Vec ℕ A × Study A)) : Type 0 where
+  pub counted : IsPermutation {X = List ℕ × List ℕ} ((study_uid keys, series_uid keys) ∷ files_of old) (files_of new)
+  pub listed : is_listed ≡ true → IsPermutation {X = List ℕ × (List ℕ × List ℕ)} ((study_uid keys, (series_uid keys, path)) ∷ paths_of old) (paths_of new)
 
 -- the file at this path is to be listed
 abbrev pub HasPath : {A : Type 0} → List ℕ → Option (Instance A) → Type 0

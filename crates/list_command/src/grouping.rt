@@ -1,7 +1,7 @@
 //! Groups the files of a folder by study and series.
 ghost use Rattle.std.specs.Prelude.{◌≡◌, ◌∷◌, [], ℕ, List, None, true, OnOk, IfOk, IfSome, IfNone, IsPermutation};
 ghost use Rattle.indexmap.specs.IndexMap.{get_by};
-ghost use Rattle.list_command.specs.Tree.{files_in, files_of, paths_in, paths_of, is_uid, HasPath, HasUid, IsAdded};
+ghost use Rattle.list_command.specs.Tree.{files_in, files_of, paths_in, paths_of, is_uid, HasPath, HasUid, IsAdded, IsFiled};
 
 use crate::studies::{ByUid, Instance, Series, Study};
 use element::Tag;
@@ -201,6 +201,8 @@ impl<A: Allocator + Copy> Grouping<A> {
 }
 
 impl<A: Allocator + Copy> Taking for Grouping<A> {
+    ghost took = { λ old path keys new. IsFiled old.has_instances path keys old.studies.entries new.studies.entries };
+
     fn take(&mut self, file: FoundFile<'_>) -> Result<(), ProgramError> {
         self.add(file.keys.text(STUDY_UID), file.keys.text(SERIES_UID), file)?;
         Ok(())
