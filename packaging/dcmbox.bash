@@ -29,10 +29,10 @@ _dcmbox() {
     replay) options='--out --ae --cut --per --all-storage --storage-class --all-syntaxes --transfer-syntax --help' ;;
     show) options='--recursive --values --full --meta --tag --json --all-syntaxes --help' ;;
     check) options='--recursive --strict --values --ignore-others --json --all-syntaxes --help' ;;
-    index) options='--uid --new-uid --descriptions --all-syntaxes --any-name --keep --drop --replace --strict --help' ;;
-    checkdir) options='--help' ;;
+    index) options='--uid --new-uid --descriptions --all-syntaxes --any-name --keep --drop --replace --strict --json --help' ;;
+    checkdir) options='--json --help' ;;
     list) options='--series --instances --ignore-others --json --help' ;;
-    arrange) options='--to --copy --dry-run --ignore-others --help' ;;
+    arrange) options='--to --copy --dry-run --ignore-others --json --help' ;;
     help) options='serve replay show check index checkdir list arrange' ;;
     *) return ;;
   esac

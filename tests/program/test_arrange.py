@@ -1,4 +1,5 @@
 """The tree that `arrange` makes of a folder: links, copies, names, and what is there already."""
+import json
 import os
 import pathlib
 import re
@@ -155,6 +156,27 @@ def test_a_dry_run_of_instances_that_repeat(arrange, put, work):
         assert same if done in ("link", "rename") else done == "pass over"
         assert (work / path).read_bytes() == (work / file).read_bytes()
     assert {path for done, _, path in planned} == {f"tree/{name}" for name in tree_of(work / "tree")}
+
+
+def test_one_object(arrange, put):
+    """The numbers by name, and the actions of a dry run, of which there may be none."""
+    quoted = 'in/a"\\\n\u00e9'
+    put({quoted: image(), "in/notes.txt": b"no image"})
+    action = {"action": "copy", "file": quoted, "path": f"tree/{PATH}"}
+    status, output, errors = arrange("--json", "--dry-run", "--copy")
+    assert status == 1 and output.count("\n") == 1 and errors.count("\n") == 1
+    numbers = {"passed_over": 0, "renamed": 0, "left_out": 1}
+    assert json.loads(output) == {"actions": [action], "copied": 1, **numbers}
+    put({"in/b": image(), "in/c": image(number="2")})
+    output = arrange("--json", "--dry-run", "--ignore-others")[1]
+    actions = json.loads(output)["actions"]
+    assert sorted(action["action"] for action in actions) == ["link", "pass over", "rename"]
+    output = arrange("--json", "--ignore-others")[1]
+    assert output == '{"linked":1,"passed_over":1,"renamed":1,"left_out":0}\n'
+    (put({"none/x": b"x"})).unlink()
+    none = '{"actions":[],"linked":0,"passed_over":0,"renamed":0,"left_out":0}\n'
+    assert arrange("--json", "--dry-run", folder="none") == (0, none, "")
+    assert arrange("--json", folder="missing")[:2] == (3, "")
 
 
 def test_copies(arrange, put, work):

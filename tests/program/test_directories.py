@@ -1,4 +1,5 @@
 """The directories (DICOMDIR) that `index` writes, and that `checkdir` lists."""
+import json
 import re
 import subprocess
 
@@ -58,6 +59,29 @@ def test_a_file_that_is_no_directory(expect, put):
     expect(1, "fault .*", errors, "checkdir", "listed.bin")
 
 
+def test_one_object_of_checkdir(run, put, work):
+    """Of a directory that is good, cut, of a quoted type, at fault outside its data set, and unread."""
+    quoted = changed(DIRECTORY, 676, b'"\\\33\t')
+    cycle = changed(DIRECTORY, 336, b"\100\1\0\0")
+    put({"good": DIRECTORY, 'cut"': DIRECTORY[:710], "quoted": quoted, "cycle": cycle})
+    found = []
+    for name, status in (("good", 0), ('cut"', 1), ("quoted", 0), ("cycle", 1), (".", 3), ("no", 3)):
+        done = run("checkdir", "--json", name)
+        assert done.returncode == status and done.stdout.count("\n") == 1
+        found.append(json.loads(done.stdout))
+        assert found[-1].pop("file") == name
+    rows = [(320, 0, "PATIENT", None), (404, 1, "STUDY", None), (534, 2, "SERIES", None)]
+    rows = [dict(zip(("place", "level", "type", "file"), row)) for row in rows]
+    last = {"place": 626, "level": 3, "type": "IMAGE", "file": "I0000001"}
+    assert found[0] == {"records": [*rows, last], "result": "good", "record_count": 4}
+    fault = {"number": 20, "name": "Truncated", "place": 710, "tag": "0004,1510"}
+    assert found[1] == {"result": "fault", **fault}
+    assert found[2]["records"][3] == {**last, "type": '"\\%1b\tE'}
+    assert found[3] == {"result": "fault", "number": 61, "name": "Cycle", "place": 320}
+    assert found[4:] == [{"result": "unread"}] * 2
+    assert json.loads(run("checkdir", "-", "--json", stdin=open(work / "good")).stdout)["file"] == "-"
+
+
 NAMES = ("CT1", "ECG1", "PDF1", "SR1")
 KINDS = (("ECG1", "WAVEFORM"), ("PDF1", "ENCAP DOC"), ("SR1", "SR DOCUMENT"))
 
@@ -97,6 +121,32 @@ class TestIndex:
             *("PATIENT", "STUDY", "SERIES", "IMAGE I0000001", "IMAGE I0000002"),
             *("SERIES", "IMAGE I0000003", "records 7"),
         ]
+
+
+    def test_one_object(self, run, put, work):
+        """Of files without a record, of a directory that stays, and of one with a fault."""
+        report = IMAGE.replace(b"1.2.840.10008.5.1.4.1.1.2\0", b"1.2.840.10008.5.1.4.1.1.66")
+        put({"in/I0000001": IMAGE, "in/I0000002": IMAGE[:406] + b"\0\0" + IMAGE[410:]})
+        put({"in/I0000003": b"text", "in/I0000004": IMAGE, "in/I0000005": report})
+        index = ["index", "in", "--uid", "2.25.1", "--json"]
+        lines = [line.split() for line in run(*index[:-1]).stdout.splitlines()]
+        done = run(*index, "--strict")
+        assert done.returncode == 1 and done.stdout.count("\n") == 1
+        found = json.loads(done.stdout)
+        rows = [["skipped", *(str(word) for pair in row.items() for word in pair)] for row in found["skipped"]]
+        doubles = [["double", name] for name in found["doubles"]]
+        assert found.pop("result") == "good" and len(rows) == 3 and len(doubles) == 1
+        rows = [[row[0], *row[2:]] for row in rows]
+        assert [*rows, *doubles, ["records", str(found["record_count"])]] == lines
+        (work / "in/I0000001").unlink()
+        kept = json.loads(run(*index, "--keep").stdout)
+        missing = {"file": "I0000001", "fault": 54}
+        assert kept == {"skipped": [missing], "doubles": [], "result": "kept"}
+        put({"in/DICOMDIR": DIRECTORY[:710]})
+        done = run(*index, "--keep")
+        fault = {"number": 20, "name": "Truncated", "place": 710, "tag": "0004,1510"}
+        none = {"skipped": [], "doubles": [], "result": "fault"}
+        assert (done.returncode, json.loads(done.stdout)) == (1, {**none, **fault})
 
 
     def test_of_doubles(self, expect, put):

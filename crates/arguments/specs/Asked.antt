@@ -109,3 +109,4 @@ pub record IsIndexed (index : Index) (a : IndexArguments) : Type 0 where
   pub drop : index.drop ≡ a.drop
   pub replace : index.replace ≡ a.replace
   pub strict : index.strict ≡ a.strict
+  pub json : index.json ≡ a.json

@@ -97,7 +97,7 @@ serve_app = with_rules (with_rules filing_app (optional (codes "at-once") (codes
 
 -- a command that takes one file
 abbrev pub file_app : Text → App
-file_app name = with_rule (new_app name) (positional (codes "FILE"))
+file_app name = with_rules (new_app name) (positional (codes "FILE") ∷ flag_rule (codes "json") ∷ [])
 
 -- `show` and `check` take several files; -r
 abbrev pub files_app : Text → App
@@ -113,13 +113,13 @@ abbrev pub index_app : App
 index_app = with_rules (new_app (codes "index"))
     (positional (codes "DIR") ∷ free (codes "uid") ∷ flag_rule (codes "new-uid") ∷ flag_rule (codes "descriptions")
     ∷ flag_rule (codes "all-syntaxes") ∷ flag_rule (codes "any-name") ∷ flag_rule (codes "keep") ∷ flag_rule (codes "drop")
-    ∷ flag_rule (codes "replace") ∷ flag_rule (codes "strict") ∷ [])
+    ∷ flag_rule (codes "replace") ∷ flag_rule (codes "strict") ∷ flag_rule (codes "json") ∷ [])
 
 abbrev pub list_app : App
 list_app = with_rules (new_app (codes "list")) (positional (codes "DIR") ∷ flag_rule (codes "series") ∷ flag_rule (codes "instances") ∷ flag_rule (codes "ignore-others") ∷ flag_rule (codes "json") ∷ [])
 
 abbrev pub arrange_app : App
-arrange_app = with_rules (new_app (codes "arrange")) (positional (codes "DIR") ∷ needed (codes "to") ∷ flag_rule (codes "copy") ∷ flag_rule (codes "dry-run") ∷ flag_rule (codes "ignore-others") ∷ [])
+arrange_app = with_rules (new_app (codes "arrange")) (positional (codes "DIR") ∷ needed (codes "to") ∷ flag_rule (codes "copy") ∷ flag_rule (codes "dry-run") ∷ flag_rule (codes "ignore-others") ∷ flag_rule (codes "json") ∷ [])
 
 abbrev pub with_subcommands : App → List App → App
 with_subcommands app [] = app
@@ -148,8 +148,9 @@ pub record IsFlag (rows : List Row) (id : Text) (given : Bool) : Type 0 where
   pub on : one_of id rows ≡ Some (codes "true") → given ≡ true
   pub off : one_of id rows ≡ Some (codes "false") → given ≡ false
 
-abbrev pub IsFile : FileArguments → List Row → Type 0
-IsFile a rows = first_of (codes "FILE") rows ≡ Some a.file.now
+pub record IsFile (a : FileArguments) (rows : List Row) : Type 0 where
+  pub file : first_of (codes "FILE") rows ≡ Some a.file.now
+  pub json : IsFlag rows (codes "json") a.json
 
 pub record IsShow (a : ShowArguments) (rows : List Row) : Type 0 where
   pub files : map (λ w. w.now) a.files.items ≡ values_of rows (codes "FILE")
@@ -192,6 +193,7 @@ pub record IsIndex (a : IndexArguments) (rows : List Row) : Type 0 where
   pub drop : IsFlag rows (codes "drop") a.drop
   pub replace : IsFlag rows (codes "replace") a.replace
   pub strict : IsFlag rows (codes "strict") a.strict
+  pub json : IsFlag rows (codes "json") a.json
 
 pub record IsList (a : ListArguments) (rows : List Row) : Type 0 where
   pub dir : first_of (codes "DIR") rows ≡ Some a.dir.now
@@ -206,6 +208,7 @@ pub record IsArrange (a : ArrangeArguments) (rows : List Row) : Type 0 where
   pub copy : IsFlag rows (codes "copy") a.copy
   pub dry_run : IsFlag rows (codes "dry-run") a.dry_run
   pub ignore_others : IsFlag rows (codes "ignore-others") a.ignore_others
+  pub json : IsFlag rows (codes "json") a.json
 
 pub record IsServe (a : ServeArguments) (rows : List Row) : Type 0 where
   pub port : first_of (codes "port") rows ≡ Some a.port.now

@@ -6,8 +6,8 @@ ghost use Rattle.arguments.specs.machine.Tables.{app_for};
 
 use crate::argument::{Argument, add_arguments};
 use crate::shared::{
-    AE, ALL_STORAGE, ALL_SYNTAXES, FILES, FOLDER, IGNORE_OTHERS, JSON_OF_EACH, OUT, PER, RECURSIVE,
-    STORAGE_CLASS, TRANSFER_SYNTAX,
+    AE, ALL_STORAGE, ALL_SYNTAXES, FILES, FOLDER, IGNORE_OTHERS, JSON, JSON_OF_EACH, OUT, PER,
+    RECURSIVE, STORAGE_CLASS, TRANSFER_SYNTAX,
 };
 use clap::Command;
 use std::alloc::{AllocError, Global};
@@ -234,6 +234,7 @@ const INDEX: Subcommand<'static> = Subcommand {
             "Writes over a DICOMDIR that another program wrote",
         ),
         Argument::Flag("strict", "Ends with status 1 where a file is left out"),
+        JSON,
     ],
 };
 
@@ -241,7 +242,7 @@ const CHECKDIR: Subcommand<'static> = Subcommand {
     name: "checkdir",
     about: "Checks a DICOMDIR, and lists its records",
     example: "Example: dcmbox checkdir received/DICOMDIR",
-    arguments: &[Argument::Positional("FILE", "A DICOMDIR")],
+    arguments: &[Argument::Positional("FILE", "A DICOMDIR"), JSON],
 };
 
 const LIST: Subcommand<'static> = Subcommand {
@@ -256,7 +257,7 @@ const LIST: Subcommand<'static> = Subcommand {
             "Lists the series of each study and their files, too",
         ),
         IGNORE_OTHERS,
-        Argument::Flag("json", "Writes one JSON object"),
+        JSON,
     ],
 };
 
@@ -270,6 +271,7 @@ const ARRANGE: Subcommand<'static> = Subcommand {
         Argument::Flag("copy", "Copies the files in place of linking them"),
         Argument::Flag("dry-run", "Prints what is to be done, and writes no file"),
         IGNORE_OTHERS,
+        JSON,
     ],
 };
 

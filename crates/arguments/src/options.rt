@@ -97,4 +97,6 @@ pub struct Index<'a> {
     pub replace: bool,
     /// Whether a file that is left out is a fault.
     pub strict: bool,
+    /// Whether what is left out is written as one JSON object.
+    pub json: bool,
 }

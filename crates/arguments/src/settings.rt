@@ -327,5 +327,6 @@ pub fn index_settings<'a>(
         drop: arguments.drop,
         replace: arguments.replace,
         strict: arguments.strict,
+        json: arguments.json,
     })
 }

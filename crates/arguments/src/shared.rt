@@ -68,6 +68,9 @@ pub(crate) const JSON_OF_EACH: Argument<'static> = Argument::Flag(
     "Writes a JSON object for each file",
 );
 
+/// Of the commands that read folders and directories: JSON.
+pub(crate) const JSON: Argument<'static> = Argument::Flag("json", "Writes one JSON object");
+
 /// Of `check`, `list` and `arrange`: files of other kinds.
 pub(crate) const IGNORE_OTHERS: Argument<'static> = Argument::Flag(
     "ignore-others",

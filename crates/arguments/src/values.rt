@@ -25,6 +25,7 @@ pub const MOST_SYNTAXES: usize = 16;
 #[derive(Debug, Drop)]
 pub struct FileArguments<'a> {
     pub file: &'a str,
+    pub json: bool,
 }
 
 /// The arguments of `show`.
@@ -82,6 +83,7 @@ pub struct IndexArguments<'a> {
     pub drop: bool,
     pub replace: bool,
     pub strict: bool,
+    pub json: bool,
 }
 
 /// The arguments of `list`.
@@ -102,6 +104,7 @@ pub struct ArrangeArguments<'a> {
     pub copy: bool,
     pub dry_run: bool,
     pub ignore_others: bool,
+    pub json: bool,
 }
 
 /// The arguments of `serve`.
@@ -170,7 +173,8 @@ pub fn file_arguments<'a>(matches: &ArgMatches<'a>) -> Option<FileArguments<'a>>
     ensures none { IfNone result (have_values (rows_of (found_of matches.now)) file_needs ≡ false) }
 {
     let file = matches.get_str("FILE")?;
-    Some(FileArguments { file })
+    let json = matches.get_flag("json");
+    Some(FileArguments { file, json })
 }
 
 /// Returns the values of an argument that may be given more than once.
@@ -272,6 +276,7 @@ pub fn index_arguments<'a>(matches: &ArgMatches<'a>) -> Option<IndexArguments<'a
     let any_name = matches.get_flag("any-name");
     let drop = matches.get_flag("drop");
     let strict = matches.get_flag("strict");
+    let json = matches.get_flag("json");
     Some(IndexArguments {
         dir: matches.get_str("DIR")?,
         uid: matches.get_str("uid"),
@@ -283,6 +288,7 @@ pub fn index_arguments<'a>(matches: &ArgMatches<'a>) -> Option<IndexArguments<'a
         drop,
         replace: matches.get_flag("replace"),
         strict,
+        json,
     })
 }
 
@@ -315,12 +321,14 @@ pub fn arrange_arguments<'a>(matches: &ArgMatches<'a>) -> Option<ArrangeArgument
     let copy = matches.get_flag("copy");
     let dry_run = matches.get_flag("dry-run");
     let ignore_others = matches.get_flag("ignore-others");
+    let json = matches.get_flag("json");
     Some(ArrangeArguments {
         dir,
         to,
         copy,
         dry_run,
         ignore_others,
+        json,
     })
 }
 

@@ -5,7 +5,7 @@ use crate::paths::ARRANGED;
 use crate::placing::Placer;
 use failures::{Failure, ProgramError, WordsError, flushed};
 use folder_filing::StoredFile;
-use inspection::Outcome;
+use inspection::{Outcome, OutputForm};
 use keyed_files::{Counter, NodeId, Visitor};
 use std::fs;
 use std::io::{self, BufWriter, ErrorKind, Write};
@@ -22,6 +22,7 @@ pub struct ArrangeOptions<'a> {
     pub dry_run: bool,
     /// Whether files that are no DICOM files are passed by.
     pub ignore_others: bool,
+    pub form: OutputForm,
 }
 
 /// Creates the folder of the tree, unless it is a dry run.
@@ -49,8 +50,8 @@ where
 
 /// Gives each DICOM file in a folder and its subfolders the path
 /// `PatientID/StudyInstanceUID/SeriesInstanceUID/SOPInstanceUID.dcm` in the tree, by a hard link or a
-/// copy, and writes a line with the numbers of files. If the tree is inside the folder, it is not
-/// visited.
+/// copy, and writes a line with the numbers of files, or one JSON object. If the tree is inside the
+/// folder, it is not visited.
 ///
 /// If the path is that of the same file already, or of one with the same bytes, the file is left as it
 /// is. If something else has the path, the file gets the name with `-2`, `-3` and so on. Nothing is

@@ -1,6 +1,7 @@
 //! Counts the files that were arranged.
 use crate::arranging::ArrangeOptions;
 use crate::placing::Placed;
+use inspection::OutputForm;
 use keyed_files::Tally;
 use std::io::{self, Write};
 
@@ -32,7 +33,8 @@ impl Counts {
         *count = count.saturating_add(1);
     }
 
-    /// Writes the line with the numbers, and that of the files that were left out.
+    /// Writes the numbers, and that of the files that were left out: as a line, or as the last members of
+    /// an object.
     pub fn write<O: Write>(
         &self,
         options: ArrangeOptions<'_>,
@@ -48,9 +50,13 @@ impl Counts {
             if options.copy { "copied" } else { "linked" },
             tally.left_out,
         );
-        writeln!(
-            out,
-            "{done} {put} passed over {passed_over} renamed {renamed} left out {left_out}"
-        )
+        if options.form == OutputForm::Lines {
+            return writeln!(
+                out,
+                "{done} {put} passed over {passed_over} renamed {renamed} left out {left_out}"
+            );
+        }
+        write!(out, "\"{done}\":{put},\"passed_over\":{passed_over},")?;
+        writeln!(out, "\"renamed\":{renamed},\"left_out\":{left_out}}}")
     }
 }

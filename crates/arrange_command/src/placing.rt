@@ -12,7 +12,7 @@ use crate::paths::{folder_of, path_of};
 use crate::planned::PlannedPaths;
 use crate::tree_calls::TreeCalls;
 use failures::{Failure, ProgramError};
-use inspection::Printable;
+use inspection::{JsonPath, OutputForm, Printable};
 use keyed_files::{FoundFile, TREE_DRAFT, Taking};
 use std::alloc::Allocator;
 use std::fs;
@@ -62,8 +62,13 @@ pub(crate) struct Placer<'a, R: Alloc, O: Write> {
     /// The paths that are given in a dry run.
     planned: PlannedPaths<R::A>,
     pub counts: Counts,
+    /// The text before the next action, in JSON.
+    before: &'static str,
     out: &'a mut O,
 }
+
+/// The text before the first action, in JSON.
+const FIRST: &str = "{\"actions\":[";
 
 impl<'a, R: Files + Alloc, O: Write> Placer<'a, R, O>
 where
@@ -82,6 +87,7 @@ where
             draft: format!(in rt.alloc(); "{tree}/{TREE_DRAFT}")?,
             planned: PlannedPaths::new(rt.alloc()),
             counts: Counts::new(),
+            before: FIRST,
             out,
         })
     }
@@ -199,8 +205,21 @@ where
             Placed::PassedOver => "pass over",
             Placed::Renamed => "rename",
         };
-        let (file, path) = (Printable(file.as_bytes()), Printable(path.as_bytes()));
-        writeln!(self.out, "{done}\t{file}\t{path}").map_err(ProgramError::of_output)
+        let told = match self.options.form {
+            OutputForm::Lines => {
+                let (file, path) = (Printable(file.as_bytes()), Printable(path.as_bytes()));
+                writeln!(self.out, "{done}\t{file}\t{path}")
+            }
+            OutputForm::Json => {
+                let (before, file, path) = (self.before, JsonPath(file), JsonPath(path));
+                self.before = ",";
+                write!(
+                    self.out,
+                    "{before}{{\"action\":\"{done}\",\"file\":{file},\"path\":{path}}}"
+                )
+            }
+        };
+        told.map_err(ProgramError::of_output)
     }
 
     /// Gives a file its path, or else the first one with a number that is free or has the same bytes
@@ -223,9 +242,16 @@ where
         Ok(())
     }
 
-    /// Writes the line with the numbers of files.
+    /// Writes the numbers of files, in JSON after the end of the actions of a dry run.
     pub fn finish(&mut self, left_out: keyed_files::Tally) -> Result<(), ProgramError> {
         let (counts, options) = (self.counts, self.options);
+        let front = match (options.form, options.dry_run) {
+            (OutputForm::Lines, _) => "",
+            (OutputForm::Json, false) => "{",
+            (OutputForm::Json, true) if self.before == FIRST => "{\"actions\":[],",
+            (OutputForm::Json, true) => "],",
+        };
+        write!(self.out, "{front}").map_err(ProgramError::of_output)?;
         counts
             .write(options, left_out, self.out)
             .map_err(ProgramError::of_output)

@@ -4,7 +4,7 @@ use crate::images::{FIRST, SECOND, file, has_bytes, has_image, is_free, put_imag
 use crate::trees::{Folders, arranged};
 use arrange_command::{ArrangeOptions, arrange_folder};
 use fixtures::folders::count;
-use inspection::Outcome;
+use inspection::{Outcome, OutputForm};
 use keyed_files::{Counter, NodeId};
 use std::fs;
 use std::test::Fail;
@@ -119,6 +119,7 @@ fn tells(rt: &HostRuntime, folders: &Folders, copy: bool, lines: &[u8]) -> Resul
         copy,
         dry_run: true,
         ignore_others: false,
+        form: OutputForm::Lines,
     };
     let (mut out, mut err) = (Vec::new(rt.alloc()), Vec::new(rt.alloc()));
     let told = (&mut err, Counter::hidden());

@@ -4,7 +4,7 @@ use arrange_command::{ArrangeOptions, arrange_folder};
 use failures::ProgramError;
 use fixtures::folders::{count, fresh};
 use folder_filing::StoredFile;
-use inspection::Outcome;
+use inspection::{Outcome, OutputForm};
 use keyed_files::Counter;
 use std::alloc::Global;
 use std::fs;
@@ -137,6 +137,7 @@ where
         copy,
         dry_run: false,
         ignore_others: false,
+        form: OutputForm::Lines,
     };
     let told = (err, Counter::hidden());
     arrange_folder(rt, folders.dir.as_str(), options, out, told)

@@ -4,7 +4,7 @@ use crate::texts::PathText;
 use dicomdir::{DirFault, Tree, TreeRecord, check};
 use element::{Tag, unpadded};
 use failures::{Failure, ProgramError, read_whole};
-use inspection::{Indent, Outcome, Printable, value_from};
+use inspection::{Indent, JsonText, Outcome, OutputForm, Printable, value_from};
 use std::alloc::{AllocError, Allocator};
 use std::io;
 use std::io::{Read, Write};
@@ -24,7 +24,7 @@ fn write_record<O: Write>(record: &TreeRecord<'_>, out: &mut O) -> io::Result<()
 }
 
 /// Writes a line for each record, and a last one with the number of records.
-fn write_tree<A: Allocator + Copy, O: Write>(tree: &Tree<'_, A>, out: &mut O) -> io::Result<()> {
+fn write_lines<A: Allocator + Copy, O: Write>(tree: &Tree<'_, A>, out: &mut O) -> io::Result<()> {
     for record in tree.records() {
         write_record(record, out)?;
     }
@@ -32,13 +32,46 @@ fn write_tree<A: Allocator + Copy, O: Write>(tree: &Tree<'_, A>, out: &mut O) ->
     writeln!(out, "records {count}")
 }
 
-/// Writes the line of a fault and returns `Outcome::Faulty`. Fails if the fault is 67, that memory ran
-/// out, or the output cannot be written.
-pub fn tell_fault<O: Write>(fault: DirFault, out: &mut O) -> Result<Outcome, ProgramError> {
+/// Writes a record as an object, with its level from 0 on.
+fn write_object<O: Write>(record: &TreeRecord<'_>, out: &mut O) -> io::Result<()> {
+    let (place, kind) = (record.place(), JsonText::ascii(record.kind()));
+    let level = record.level().saturating_sub(1);
+    write!(
+        out,
+        "{{\"place\":{place},\"level\":{level},\"type\":{kind},\"file\":"
+    )?;
+    match record.file_id() {
+        Some(file_id) => {
+            let path = PathText(file_id);
+            write!(out, "\"{path}\"}}")
+        }
+        None => write!(out, "null}}"),
+    }
+}
+
+/// Writes the last members of an object: the array of the records, and their number.
+fn write_members<A: Allocator + Copy, O: Write>(tree: &Tree<'_, A>, out: &mut O) -> io::Result<()> {
+    let mut before = "\"records\":[";
+    for record in tree.records() {
+        write!(out, "{before}")?;
+        write_object(record, out)?;
+        before = ",";
+    }
+    let count = tree.records().len();
+    writeln!(out, "],\"result\":\"good\",\"record_count\":{count}}}")
+}
+
+/// Writes a fault as [`write_dir_fault`] does, and returns `Outcome::Faulty`. Fails if the fault is 67, that
+/// memory ran out, or the output cannot be written.
+pub fn tell_fault<O: Write>(
+    fault: DirFault,
+    form: OutputForm,
+    out: &mut O,
+) -> Result<Outcome, ProgramError> {
     if fault.number == DirFault::OUT_OF_MEMORY {
         return Err(ProgramError::Memory(AllocError));
     }
-    match write_dir_fault(fault, out) {
+    match write_dir_fault(fault, form, out) {
         Ok(()) => Ok(Outcome::Faulty),
         Err(error) => Err(ProgramError::of_output(error)),
     }
@@ -83,28 +116,42 @@ fn tell_root_type<E: Write>(bytes: &[u8], fault: DirFault, file: &str, err: &mut
     }
 }
 
-/// Checks a directory file, and writes a line for each record, or its first fault, of which more may be told on `err`.
+/// Checks a directory file, and writes its records, or its first fault, of which more may be told on `err`.
 fn list_records<A: Allocator + Copy, O: Write, E: Write>(
     alloc: A,
-    bytes: &[u8],
-    file: &str,
+    (file, bytes): (&str, &[u8]),
+    form: OutputForm,
     (out, err): (&mut O, &mut E),
 ) -> Result<Outcome, ProgramError> {
-    match check(alloc, bytes) {
-        Ok(tree) => match write_tree(&tree, out) {
-            Ok(()) => Ok(Outcome::Good),
-            Err(error) => Err(ProgramError::of_output(error)),
+    let written = match check(alloc, bytes) {
+        Ok(tree) => match form {
+            OutputForm::Lines => write_lines(&tree, out),
+            OutputForm::Json => write_members(&tree, out),
         },
         Err(fault) => {
             tell_root_type(bytes, fault, file, err);
-            tell_fault(fault, out)
+            return tell_fault(fault, form, out);
+        }
+    };
+    match written {
+        Ok(()) => Ok(Outcome::Good),
+        Err(error) => Err(ProgramError::of_output(error)),
+    }
+}
+
+/// Writes that a directory can't be read, where members of an object are written, and returns the error of that.
+fn unread<O: Write>(form: OutputForm, error: ProgramError, out: &mut O) -> ProgramError {
+    if form == OutputForm::Json {
+        if let Err(error) = writeln!(out, "\"result\":\"unread\"}}") {
+            return ProgramError::of_output(error);
         }
     }
+    error
 }
 
 /// Checks the directory file in the input. Writes a line for each record, depth first, with its
 /// position in the file, its type and the path of its file, and a last line with their number; or the
-/// line of the first fault.
+/// line of the first fault. In JSON they are the last members of an object, which a line feed ends.
 ///
 /// Of a record that the standard has in the root, and whose type is not taken there, a line on `err` tells with the name of
 /// the file.
@@ -113,17 +160,25 @@ fn list_records<A: Allocator + Copy, O: Write, E: Write>(
 pub fn checkdir_named<A: Allocator + Copy, R: Read, O: Write, E: Write>(
     alloc: A,
     (file, input): (&str, &mut R),
-    told: (&mut O, &mut E),
+    form: OutputForm,
+    (out, err): (&mut O, &mut E),
 ) -> Result<Outcome, ProgramError> {
-    let bytes = read_whole(alloc, input, Failure::Read)?;
-    list_records(alloc, bytes.as_slice(), file, told)
+    match read_whole(alloc, input, Failure::Read) {
+        Ok(bytes) => list_records(alloc, (file, bytes.as_slice()), form, (out, err)),
+        Err(error) => Err(unread(form, error, out)),
+    }
 }
 
-/// Checks the directory file in the input as `checkdir_named` does, and tells nothing on standard error.
+/// Checks the directory file in the input as `checkdir_named` does, in lines, and tells nothing on standard error.
 pub fn checkdir_over<A: Allocator + Copy, R: Read, O: Write>(
     alloc: A,
     input: &mut R,
     out: &mut O,
 ) -> Result<Outcome, ProgramError> {
-    checkdir_named(alloc, ("", input), (out, &mut io::sink()))
+    checkdir_named(
+        alloc,
+        ("", input),
+        OutputForm::Lines,
+        (out, &mut io::sink()),
+    )
 }

@@ -1,18 +1,29 @@
 //! Prints the faults of a directory.
 use dicomdir::DirFault;
-use inspection::TagText;
+use inspection::{OutputForm, TagText};
 use std::io;
 use std::io::Write;
 
-/// Writes the line of a fault of a directory: number, name, position in bytes from the start of the
-/// file, and the tag of a fault of the data set (10 to 21).
-pub fn write_dir_fault<O: Write>(fault: DirFault, out: &mut O) -> io::Result<()> {
+/// Writes a fault of a directory as a line, or as the last members of an object: number, name, position in
+/// bytes from the start of the file, and the tag of a fault of the data set (10 to 21).
+pub fn write_dir_fault<O: Write>(fault: DirFault, form: OutputForm, out: &mut O) -> io::Result<()> {
     let DirFault { number, place, tag } = fault;
-    let name = fault.name();
-    if 10 <= number && number <= 21 {
-        let tag = TagText(tag);
-        writeln!(out, "fault {number} {name} at {place} tag {tag}")
-    } else {
-        writeln!(out, "fault {number} {name} at {place}")
+    let (name, tag) = (fault.name(), TagText(tag));
+    let has_tag = 10 <= number && number <= 21;
+    if form == OutputForm::Lines {
+        write!(out, "fault {number} {name} at {place}")?;
+        return if has_tag {
+            writeln!(out, " tag {tag}")
+        } else {
+            writeln!(out)
+        };
     }
+    write!(
+        out,
+        "\"result\":\"fault\",\"number\":{number},\"name\":\"{name}\",\"place\":{place}"
+    )?;
+    if has_tag {
+        write!(out, ",\"tag\":\"{tag}\"")?;
+    }
+    writeln!(out, "}}")
 }

@@ -145,6 +145,7 @@ fn perform_arrange(
         copy: arguments.copy,
         dry_run: arguments.dry_run,
         ignore_others: arguments.ignore_others,
+        form: form_of(arguments.json),
     };
     arrange(rt, arguments.dir, options)
 }
@@ -159,6 +160,9 @@ pub fn perform(rt: &HostRuntime, job: &Job) -> Result<Outcome, ProgramError> {
         Job::Index(arguments) => perform_index(rt, arguments),
         Job::List(arguments) => perform_list(rt, arguments),
         Job::Arrange(arguments) => perform_arrange(rt, arguments),
-        Job::CheckDir(arguments) => inspect(rt, arguments.file, Inspection::Directory),
+        Job::CheckDir(arguments) => {
+            let form = form_of(arguments.json);
+            inspect(rt, arguments.file, Inspection::Directory(form))
+        }
     }
 }

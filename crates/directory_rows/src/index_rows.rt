@@ -117,6 +117,7 @@ pub(crate) fn settings(dir: &str, keep: bool) -> Result<Index<'_>, Fail> {
         uid: Some(uid),
         descriptions: false,
         all_syntaxes: false,
+        json: false,
         any_name: false,
         keep,
         drop: keep,

@@ -2,7 +2,6 @@
 //! `dcmbox checkdir` reads, too.
 #![tactic(auto)]
 
-mod json_text;
 mod several;
 mod single;
 mod tally;

@@ -1,15 +1,14 @@
 //! The commands that read files and print what is in them.
-use crate::json_text::write_file_name;
 use checkdir_command::checkdir_named;
 use element::Uid;
 use failures::{Failure, ProgramError, flushed};
 use inspection::{
-    CheckOptions, FileFront, Inspected, InspectionError, MetaRule, Outcome, OutputForm, Printable,
-    ShowOptions, Syntaxes, broken_rule_of, check_with, class_of, other_syntax_of, show_with,
+    CheckOptions, FileFront, Inspected, InspectionError, JsonPath, MetaRule, Outcome, OutputForm,
+    Printable, ShowOptions, Syntaxes, broken_rule_of, check_with, class_of, other_syntax_of,
+    show_with,
 };
 use keyed_files::open_file;
 use keywords::{class_keyword, syntax_keyword};
-use std::alloc::Global;
 use std::fs::File;
 use std::io;
 use std::io::{BufWriter, Error, ErrorKind, Read, Write};
@@ -22,7 +21,7 @@ const DIRECTORY_CLASS: &[u8] = b"1.2.840.10008.1.3.10";
 pub enum Inspection<'a> {
     Show(ShowOptions<'a>),
     Check(CheckOptions),
-    Directory,
+    Directory(OutputForm),
 }
 
 impl Inspection<'_> {
@@ -31,7 +30,7 @@ impl Inspection<'_> {
         match self {
             Inspection::Show(options) => options.form,
             Inspection::Check(options) => options.form,
-            Inspection::Directory => OutputForm::Lines,
+            Inspection::Directory(form) => *form,
         }
     }
 
@@ -40,7 +39,7 @@ impl Inspection<'_> {
         match self {
             Inspection::Show(options) => options.syntaxes,
             Inspection::Check(options) => options.syntaxes,
-            Inspection::Directory => Syntaxes::Native,
+            Inspection::Directory(_) => Syntaxes::Native,
         }
     }
 
@@ -88,8 +87,8 @@ fn inspect_over<R: Read, O: Write>(
     match inspection {
         Inspection::Show(options) => show_with(input, options, out).map_err(failed),
         Inspection::Check(options) => check_with(input, options, out).map_err(failed),
-        Inspection::Directory => Ok(Inspected {
-            outcome: checkdir_named(rt.alloc(), (file, input), (out, &mut rt.stderr()))?,
+        Inspection::Directory(form) => Ok(Inspected {
+            outcome: checkdir_named(rt.alloc(), (file, input), form, (out, &mut rt.stderr()))?,
             notes: 0,
             unjudged: 0,
         }),
@@ -142,6 +141,12 @@ fn tell_header(rt: &HostRuntime, file: &str, beginning: &[u8], syntaxes: Syntaxe
     }
 }
 
+/// Writes the brace that opens a file's object, and its name. A comma follows.
+fn write_file_name<O: Write>(file: &str, out: &mut O) -> Result<(), ProgramError> {
+    let name = JsonPath(file);
+    write!(out, "{{\"file\":{name},").map_err(ProgramError::of_output)
+}
+
 /// Writes what is asked for of a file of this name that the reader gives, and tells of a transfer syntax that
 /// is not taken, and of a rule of the file meta information that is broken.
 fn inspect_named<R: Read, O: Write>(
@@ -151,13 +156,13 @@ fn inspect_named<R: Read, O: Write>(
     out: &mut O,
 ) -> Result<Inspected, ProgramError> {
     if inspection.form() == OutputForm::Json {
-        write_file_name(rt.alloc(), file, out)?;
+        write_file_name(file, out)?;
     }
     let mut front = FileFront::new(input);
     let inspected = inspect_over(rt, inspection, (file, &mut front), out)?;
     if inspected.outcome == Outcome::Faulty {
         match inspection {
-            Inspection::Directory => tell_class(rt, file, front.kept()),
+            Inspection::Directory(_) => tell_class(rt, file, front.kept()),
             _ => tell_header(rt, file, front.kept(), inspection.syntaxes()),
         }
     }
@@ -166,13 +171,12 @@ fn inspect_named<R: Read, O: Write>(
 
 /// Writes that a file can't be opened, where JSON is written, and returns the error of that.
 fn unopened<O: Write>(
-    rt: &HostRuntime,
     inspection: Inspection<'_>,
     (file, error): (&str, ProgramError),
     out: &mut O,
 ) -> ProgramError {
     if inspection.form() == OutputForm::Json {
-        if let Err(error) = write_file_name(rt.alloc(), file, out) {
+        if let Err(error) = write_file_name(file, out) {
             return error;
         }
         if let Err(error) = writeln!(out, "\"result\":\"unread\"}}") {
@@ -184,7 +188,7 @@ fn unopened<O: Write>(
 
 /// Tells of a file that is shown or checked and can't be read since it is a folder.
 fn tell_folder(rt: &HostRuntime, inspection: Inspection<'_>, (file, error): (&str, &ProgramError)) {
-    let is_of_files = !matches!(inspection, Inspection::Directory);
+    let is_of_files = !matches!(inspection, Inspection::Directory(_));
     if let ProgramError::System(Failure::Read, error) = error {
         if is_of_files && error.kind() == ErrorKind::IsADirectory {
             let file = Printable(file.as_bytes());
@@ -224,7 +228,7 @@ pub fn inspect_opened<O: Write>(
                 Err(error)
             }
         },
-        Err(error) => Err(unopened(rt, inspection, (file, error), out)),
+        Err(error) => Err(unopened(inspection, (file, error), out)),
     }
 }
 

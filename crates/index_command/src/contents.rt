@@ -163,7 +163,7 @@ where
 /// A file that gets no row, and why.
 #[derive(Drop)]
 pub(crate) struct Skipped {
-    id: FileId,
+    pub id: FileId,
     pub reason: Reason,
 }
 

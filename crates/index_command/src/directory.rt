@@ -1,14 +1,14 @@
 //! `dcmbox index`: the directory of a folder of received files.
-use crate::contents::{Contents, Skipped, read_rows, tell_skipped};
-use crate::doubles::{list_doubles, tell_doubles};
+use crate::contents::{Contents, read_rows};
+use crate::doubles::tell_doubles;
 use crate::indexed::{IndexCounts, Indexed};
 use crate::kept::{DIRECTORY, IndexedFiles, kept_files};
 use crate::left_out::tell_reasons;
 use crate::names::received_files;
 use crate::new_uid::new_uid;
 use crate::others::{ListedNames, other_files};
+use crate::output::{form_of, refuse, tell_built};
 use arguments::Index;
-use checkdir_command::tell_fault;
 use dicomdir::DirFault;
 use dicomdir_writing::{Built, build_within, write_dir};
 use dictionary::{IMPLEMENTATION_CLASS_UID, Transfer};
@@ -190,40 +190,21 @@ where
     }
 }
 
-/// Writes a line for each file that has no row, and a line for each row that is left out because an earlier one
-/// has the same instance.
-fn list_left_out<A: Allocator, O: Write>(
-    built: &Built<'_, A>,
-    skipped: &[Skipped],
-    out: &mut O,
-) -> io::Result<()> {
-    tell_skipped(skipped, out)?;
-    list_doubles(built, out)
-}
-
-/// Writes a line for each file that is left out, and the number of records.
-fn tell_built<A: Allocator, O: Write>(
-    built: &Built<'_, A>,
-    skipped: &[Skipped],
-    out: &mut O,
-) -> io::Result<()> {
-    list_left_out(built, skipped, out)?;
-    let records = built.records();
-    writeln!(out, "records {records}")?;
-    out.flush()
-}
-
 /// Tells what a new directory would leave out of the present one, which stays as it is.
 fn keep_old<A: Allocator, O: Write, E: Write>(
-    dir: &str,
+    settings: &Index,
     built: &Built<'_, A>,
     contents: &Contents<A>,
     (out, err): (&mut O, &mut E),
 ) -> Result<Indexed, ProgramError> {
-    list_left_out(built, contents.skipped.as_slice(), out).map_err(ProgramError::of_output)?;
-    out.flush().map_err(ProgramError::of_output)?;
+    tell_built(
+        form_of(settings),
+        (built, false),
+        contents.skipped.as_slice(),
+        out,
+    )?;
     let doubles = built.doubles().len();
-    let (dir, count) = (Printable(dir.as_bytes()), contents.count(doubles));
+    let (dir, count) = (Printable(settings.dir.as_bytes()), contents.count(doubles));
     let _ = writeln!(
         err,
         "dcmbox: {dir}: the DICOMDIR stays as it is: {count} of its records would be lost; leave them out with --drop"
@@ -235,7 +216,7 @@ fn keep_old<A: Allocator, O: Write, E: Write>(
 /// Compares doubles, puts the directory into the folder, tells what it left out, and counts that.
 fn put_and_tell<R: Files + Alloc, O: Write, E: Write>(
     rt: &R,
-    dir: &str,
+    settings: &Index,
     built: &Built<'_, R::A>,
     contents: &Contents<R::A>,
     (out, err): (&mut O, &mut E),
@@ -243,9 +224,14 @@ fn put_and_tell<R: Files + Alloc, O: Write, E: Write>(
 where
     R::A: Copy,
 {
-    tell_doubles(rt, dir, built, err)?;
-    put_directory(rt, dir, built)?;
-    tell_built(built, contents.skipped.as_slice(), out).map_err(ProgramError::of_output)?;
+    tell_doubles(rt, settings.dir, built, err)?;
+    put_directory(rt, settings.dir, built)?;
+    tell_built(
+        form_of(settings),
+        (built, true),
+        contents.skipped.as_slice(),
+        out,
+    )?;
     let counts = IndexCounts::of(built, contents);
     let _ = writeln!(err, "{counts}");
     tell_reasons(contents, built.doubles().len(), err);
@@ -258,12 +244,6 @@ fn uid_of<R: Files + Alloc>(rt: &R, settings: &Index) -> Result<Uid, ProgramErro
         Some(uid) => Ok(uid.copied()),
         None => new_uid(rt),
     }
-}
-
-/// Tells the fault of a directory, because of which none is written.
-fn refuse<O: Write>(fault: DirFault, out: &mut O) -> Result<Indexed, ProgramError> {
-    tell_fault(fault, out)?;
-    Ok(Indexed::Faulty)
 }
 
 /// Returns whether a new directory would not have records of the present one that are to be kept.
@@ -286,15 +266,12 @@ where
     match build_within(rt.alloc(), contents.rows.as_slice(), uid, most) {
         Ok(built) => {
             if loses(settings, &built, contents) {
-                keep_old(settings.dir, &built, contents, (out, err))
+                keep_old(settings, &built, contents, (out, err))
             } else {
-                put_and_tell(rt, settings.dir, &built, contents, (out, err))
+                put_and_tell(rt, settings, &built, contents, (out, err))
             }
         }
-        Err(fault) => {
-            tell_skipped(contents.skipped.as_slice(), out).map_err(ProgramError::of_output)?;
-            refuse(fault, out)
-        }
+        Err(fault) => refuse::<R::A, O>(form_of(settings), contents.skipped.as_slice(), fault, out),
     }
 }
 
@@ -305,10 +282,10 @@ fn additional_syntaxes(all: bool) -> &'static [Transfer] {
 
 /// Writes the file `DICOMDIR` of a folder: the directory of its received files or, with `keep`, of the
 /// images that its present directory keeps. Once it is there, a line tells of each file that gets no row,
-/// and why; then of each double; then how many records there are. Returns how many images it lists and how
-/// many files it leaves out. A directory that is not built, as one of more than `most` bytes, leaves an old one
-/// as it is, and its fault is told. So does one, with `keep` and without `drop`, that would not have each image of the
-/// old one.
+/// and why; then of each double; then how many records there are; in JSON it is one object. Returns how many images
+/// it lists and how many files it leaves out. A directory that is not built, as one of more than `most` bytes,
+/// leaves an old one as it is, and its fault is told. So does one, with `keep` and without `drop`, that would not have
+/// each image of the old one.
 ///
 /// On `err` a line tells of each record of the present directory that names a file and is no image's, of each file whose
 /// data set has another instance than its header, of how many DICOM files have names that are not listed, and of each double
@@ -340,7 +317,7 @@ where
             let contents = read_rows(rt, settings, files, additional, err)?;
             index_files(rt, settings, &contents, most, (out, err))
         }
-        Err(fault) => refuse(fault, out),
+        Err(fault) => refuse::<R::A, O>(form_of(settings), &[], fault, out),
     }
 }
 

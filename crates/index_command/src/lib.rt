@@ -6,11 +6,13 @@ mod directory;
 mod doubles;
 mod indexed;
 mod instances;
+mod json;
 mod kept;
 mod left_out;
 mod names;
 mod new_uid;
 mod others;
+mod output;
 
 pub use directory::{index, index_dir, index_folder};
 pub use indexed::{IndexCounts, Indexed};

@@ -1,4 +1,4 @@
-//! Texts of a data set in a string of JSON.
+//! Texts of a data set, and paths, in a string of JSON.
 use std::fmt;
 use values::Repertoire;
 
@@ -66,5 +66,45 @@ pub(crate) fn write_json_text<W: fmt::Write>(
     match repertoire {
         Repertoire::Utf8 => write_utf8(f, text),
         _ => write_bytes(f, repertoire, text),
+    }
+}
+
+/// A text of a repertoire that is printed as a JSON string, or as `null` if it is empty.
+#[derive(Clone, Copy)]
+pub struct JsonText<'a>(pub &'a [u8], pub Repertoire);
+
+impl<'a> JsonText<'a> {
+    /// Returns a text in ASCII.
+    pub fn ascii(text: &'a [u8]) -> JsonText<'a> {
+        JsonText(text, Repertoire::Ascii)
+    }
+}
+
+impl fmt::Display for JsonText<'_> {
+    fn fmt<W: fmt::Write>(&self, f: &mut fmt::Formatter<W>) -> fmt::Result {
+        if self.0.is_empty() {
+            return f.write_str("null");
+        }
+        f.write_char('"')?;
+        write_json_text(f, self.1, self.0)?;
+        f.write_char('"')
+    }
+}
+
+/// A path that is printed as a JSON string.
+#[derive(Clone, Copy)]
+pub struct JsonPath<'a>(pub &'a str);
+
+impl fmt::Display for JsonPath<'_> {
+    fn fmt<W: fmt::Write>(&self, f: &mut fmt::Formatter<W>) -> fmt::Result {
+        f.write_char('"')?;
+        for character in self.0.chars() {
+            match character {
+                '"' | '\\' => write!(f, "\\{character}")?,
+                '\0'..='\x1f' | '\x7f' => write!(f, "\\u{:04x}", u32::from(character))?,
+                _ => f.write_char(character)?,
+            }
+        }
+        f.write_char('"')
     }
 }

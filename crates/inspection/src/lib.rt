@@ -39,6 +39,7 @@ pub use check::{check_over, check_with};
 pub use counted::Counted;
 pub use error::InspectionError;
 pub use front::FileFront;
+pub use json_text::{JsonPath, JsonText};
 pub use judgement::Judgement;
 pub use keyword::known_keyword;
 pub use meta_rule::{MetaRule, broken_rule_of};

@@ -3,8 +3,9 @@ use crate::grouping::Grouping;
 use crate::listing::ListOptions;
 use crate::order::{modalities_of, order_of_instances, order_of_series, order_of_studies};
 use crate::studies::{Instance, Series, Study};
-use crate::texts::{JsonPath, JsonText, JsonTexts};
+use crate::texts::JsonTexts;
 use failures::ProgramError;
+use inspection::{JsonPath, JsonText};
 use std::alloc::Allocator;
 use std::io::{self, Write};
 

@@ -37,4 +37,9 @@ returns-clause-some c =
         on = λ e. c.get_flag-ignore_others.ensures.value (one_text-rows found (codes "ignore-others") ∙ e);
         off = λ e. c.get_flag-ignore_others.ensures.other (one_text-rows found (codes "ignore-others") ∙ e);
       };
+      json = record {
+        none = λ e. c.get_flag-json.ensures.none (one_text-rows found (codes "json") ∙ e);
+        on = λ e. c.get_flag-json.ensures.value (one_text-rows found (codes "json") ∙ e);
+        off = λ e. c.get_flag-json.ensures.other (one_text-rows found (codes "json") ∙ e);
+      };
     }

@@ -57,4 +57,9 @@ returns-clause-some c =
         on = λ e. c.get_flag-strict.ensures.value (one_text-rows found (codes "strict") ∙ e);
         off = λ e. c.get_flag-strict.ensures.other (one_text-rows found (codes "strict") ∙ e);
       };
+      json = record {
+        none = λ e. c.get_flag-json.ensures.none (one_text-rows found (codes "json") ∙ e);
+        on = λ e. c.get_flag-json.ensures.value (one_text-rows found (codes "json") ∙ e);
+        off = λ e. c.get_flag-json.ensures.other (one_text-rows found (codes "json") ∙ e);
+      };
     }
