@@ -179,6 +179,20 @@ def test_one_object(arrange, put):
     assert arrange("--json", folder="missing")[:2] == (3, "")
 
 
+def test_several_folders(run, put, work):
+    """Into one tree: the same bytes are passed over, other ones get a number; the tree is none of them."""
+    put({"a/a": image(), "b/b": image(), "c/c": image(number="2")})
+    done = run("arrange", "a", "b", "c", "--to", "b/tree")
+    assert (done.returncode, done.stdout, done.stderr) == (0, counts(1, 1, 1), "")
+    tree = tree_of(work / "b/tree")
+    assert tree[PATH].samefile(work / "a/a") and tree[SECOND].samefile(work / "c/c")
+    done = run("arrange", "b", "missing", "a", "--to", "b/tree")
+    assert (done.returncode, done.stdout) == (3, counts(0, 2, left=1))
+    assert done.stderr.startswith("dcmbox: missing: the folder can't be opened: ")
+    done = run("arrange", "a", "b/.", "--to", "b")
+    assert (done.returncode, done.stderr) == (2, "error: --to takes another folder than DIR\n")
+
+
 def test_copies(arrange, put, work):
     put({"in/a": image(), "in/b": image(instance="1.2.3.1.2"), "tree/.DRAFT": b"what was left"})
     assert arrange("--copy") == (0, counts(2, word="copied"), "")

@@ -88,6 +88,21 @@ def test_one_object(run, put):
     assert [row["number"] for row in series] == ["1", "10"] and "instances" not in series[0]
 
 
+def test_several_folders(run, put):
+    """One listing of all, also where a study is in two of them; one that is missing is told of."""
+    whole = run("list", put(FOUR).parent, "--json").stdout
+    for place, (name, data) in enumerate(FOUR.items()):
+        put({f"{place % 2}{name.removeprefix('in')}": data})
+    done = run("list", "0", "1/", "--json")
+    assert (done.returncode, done.stdout, done.stderr) == (0, whole, "")
+    put({"2/notes": b"text"})
+    done = run("list", "2", "missing", "1", "0", "--json", "--ignore-others")
+    assert (done.returncode, done.stdout) == (3, whole.replace('left_out":0', 'left_out":1'))
+    first, second, last = done.stderr.splitlines()
+    assert re.fullmatch("dcmbox: missing: the folder can't be opened: .*", first)
+    assert second == "dcmbox: ignored 1" and last.endswith("can't be read, as is told above")
+
+
 def test_the_order_is_that_of_numbers(run, put):
     """10 comes after 2, equal numbers by UID, and what has no number last; studies by date."""
     numbers = ["10", "2", "1", None, "-1", "2 ", "x"]

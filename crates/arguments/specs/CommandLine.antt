@@ -116,10 +116,10 @@ index_app = with_rules (new_app (codes "index"))
     ∷ flag_rule (codes "replace") ∷ flag_rule (codes "strict") ∷ flag_rule (codes "json") ∷ [])
 
 abbrev pub list_app : App
-list_app = with_rules (new_app (codes "list")) (positional (codes "DIR") ∷ flag_rule (codes "series") ∷ flag_rule (codes "instances") ∷ flag_rule (codes "ignore-others") ∷ flag_rule (codes "json") ∷ [])
+list_app = with_rules (new_app (codes "list")) (several (codes "DIR") ∷ flag_rule (codes "series") ∷ flag_rule (codes "instances") ∷ flag_rule (codes "ignore-others") ∷ flag_rule (codes "json") ∷ [])
 
 abbrev pub arrange_app : App
-arrange_app = with_rules (new_app (codes "arrange")) (positional (codes "DIR") ∷ needed (codes "to") ∷ flag_rule (codes "copy") ∷ flag_rule (codes "dry-run") ∷ flag_rule (codes "ignore-others") ∷ flag_rule (codes "json") ∷ [])
+arrange_app = with_rules (new_app (codes "arrange")) (several (codes "DIR") ∷ needed (codes "to") ∷ flag_rule (codes "copy") ∷ flag_rule (codes "dry-run") ∷ flag_rule (codes "ignore-others") ∷ flag_rule (codes "json") ∷ [])
 
 abbrev pub with_subcommands : App → List App → App
 with_subcommands app [] = app
@@ -196,14 +196,14 @@ pub record IsIndex (a : IndexArguments) (rows : List Row) : Type 0 where
   pub json : IsFlag rows (codes "json") a.json
 
 pub record IsList (a : ListArguments) (rows : List Row) : Type 0 where
-  pub dir : first_of (codes "DIR") rows ≡ Some a.dir.now
+  pub dirs : map (λ w. w.now) a.dirs.items ≡ values_of rows (codes "DIR")
   pub series : IsFlag rows (codes "series") a.series
   pub instances : IsFlag rows (codes "instances") a.instances
   pub ignore_others : IsFlag rows (codes "ignore-others") a.ignore_others
   pub json : IsFlag rows (codes "json") a.json
 
 pub record IsArrange (a : ArrangeArguments) (rows : List Row) : Type 0 where
-  pub dir : first_of (codes "DIR") rows ≡ Some a.dir.now
+  pub dirs : map (λ w. w.now) a.dirs.items ≡ values_of rows (codes "DIR")
   pub to : first_of (codes "to") rows ≡ Some a.to.now
   pub copy : IsFlag rows (codes "copy") a.copy
   pub dry_run : IsFlag rows (codes "dry-run") a.dry_run

@@ -6,7 +6,7 @@ ghost use Rattle.arguments.specs.machine.Tables.{app_for};
 
 use crate::argument::{Argument, add_arguments};
 use crate::shared::{
-    AE, ALL_STORAGE, ALL_SYNTAXES, FILES, FOLDER, IGNORE_OTHERS, JSON, JSON_OF_EACH, OUT, PER,
+    AE, ALL_STORAGE, ALL_SYNTAXES, FILES, FOLDERS, IGNORE_OTHERS, JSON, JSON_OF_EACH, OUT, PER,
     RECURSIVE, STORAGE_CLASS, TRANSFER_SYNTAX,
 };
 use clap::Command;
@@ -247,10 +247,10 @@ const CHECKDIR: Subcommand<'static> = Subcommand {
 
 const LIST: Subcommand<'static> = Subcommand {
     name: "list",
-    about: "Lists the studies of the DICOM files in a folder",
+    about: "Lists the studies of the DICOM files in folders",
     example: "Example: dcmbox list received --series",
     arguments: &[
-        FOLDER,
+        FOLDERS,
         Argument::Flag("series", "Lists the series of each study, too"),
         Argument::Flag(
             "instances",
@@ -263,10 +263,10 @@ const LIST: Subcommand<'static> = Subcommand {
 
 const ARRANGE: Subcommand<'static> = Subcommand {
     name: "arrange",
-    about: "Links the DICOM files in a folder into a tree of patients, studies and series",
+    about: "Links the DICOM files in folders into one tree of patients, studies and series",
     example: "Example: dcmbox arrange received --to tree",
     arguments: &[
-        FOLDER,
+        FOLDERS,
         Argument::Needed("to", "TREE", "The folder that the tree stands in"),
         Argument::Flag("copy", "Copies the files in place of linking them"),
         Argument::Flag("dry-run", "Prints what is to be done, and writes no file"),

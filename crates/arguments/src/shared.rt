@@ -77,8 +77,8 @@ pub(crate) const IGNORE_OTHERS: Argument<'static> = Argument::Flag(
     "Passes by files that are no DICOM files, and tells how many",
 );
 
-/// Of `list` and `arrange`: the folder.
-pub(crate) const FOLDER: Argument<'static> = Argument::Positional(
+/// Of `list` and `arrange`: the folders.
+pub(crate) const FOLDERS: Argument<'static> = Argument::Several(
     "DIR",
-    "The folder; the files in its folders are taken, too",
+    "A folder; the files in its folders are taken, too",
 );

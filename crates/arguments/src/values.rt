@@ -3,7 +3,7 @@ ghost use Rattle.std.specs.Prelude.{◌≡◌, ◌<◌, ◌≤◌, IfSome, IfNon
 ghost use Rattle.clap.specs.Matches.{found_of};
 ghost use Rattle.clap.specs.Walk.{rows_of, first_of};
 ghost use Rattle.arguments.specs.CommandLine.{IsFile, IsShow, IsCheck, IsReplay, IsIndex, IsList, IsArrange, IsServe, values_of};
-ghost use Rattle.arguments.specs.machine.Needs.{have_values, file_needs, index_needs, list_needs, arrange_needs, fits_replay, fits_serve};
+ghost use Rattle.arguments.specs.machine.Needs.{have_values, file_needs, index_needs, arrange_needs, fits_replay, fits_serve};
 
 use arrayvec::ArrayVec;
 use clap::ArgMatches;
@@ -89,7 +89,7 @@ pub struct IndexArguments<'a> {
 /// The arguments of `list`.
 #[derive(Debug, Drop)]
 pub struct ListArguments<'a> {
-    pub dir: &'a str,
+    pub dirs: Vec<&'a str>,
     pub series: bool,
     pub instances: bool,
     pub ignore_others: bool,
@@ -99,7 +99,7 @@ pub struct ListArguments<'a> {
 /// The arguments of `arrange`.
 #[derive(Debug, Drop)]
 pub struct ArrangeArguments<'a> {
-    pub dir: &'a str,
+    pub dirs: Vec<&'a str>,
     pub to: &'a str,
     pub copy: bool,
     pub dry_run: bool,
@@ -292,18 +292,20 @@ pub fn index_arguments<'a>(matches: &ArgMatches<'a>) -> Option<IndexArguments<'a
     })
 }
 
-/// Returns the arguments of `list`, where each has its value.
-pub fn list_arguments<'a>(matches: &ArgMatches<'a>) -> Option<ListArguments<'a>>
-    ensures some { IfSome result (λ a. IsList a (rows_of (found_of matches.now))) }
-    ensures none { IfNone result (have_values (rows_of (found_of matches.now)) list_needs ≡ false) }
+/// Returns the arguments of `list`.
+pub fn list_arguments<'a>(
+    alloc: Global,
+    matches: &ArgMatches<'a>,
+) -> Result<ListArguments<'a>, AllocError>
+    ensures { IfOk result (λ a. IsList a (rows_of (found_of matches.now))) }
 {
-    let dir = matches.get_str("DIR")?;
     let series = matches.get_flag("series");
     let instances = matches.get_flag("instances");
     let ignore_others = matches.get_flag("ignore-others");
     let json = matches.get_flag("json");
-    Some(ListArguments {
-        dir,
+    let dirs = all_values(alloc, matches, "DIR")?;
+    Ok(ListArguments {
+        dirs,
         series,
         instances,
         ignore_others,
@@ -312,24 +314,29 @@ pub fn list_arguments<'a>(matches: &ArgMatches<'a>) -> Option<ListArguments<'a>>
 }
 
 /// Returns the arguments of `arrange`, where each has its value.
-pub fn arrange_arguments<'a>(matches: &ArgMatches<'a>) -> Option<ArrangeArguments<'a>>
-    ensures some { IfSome result (λ a. IsArrange a (rows_of (found_of matches.now))) }
-    ensures none { IfNone result (have_values (rows_of (found_of matches.now)) arrange_needs ≡ false) }
+pub fn arrange_arguments<'a>(
+    alloc: Global,
+    matches: &ArgMatches<'a>,
+) -> Result<Option<ArrangeArguments<'a>>, AllocError>
+    ensures some { IfOk result (λ found. IfSome found (λ a. IsArrange a (rows_of (found_of matches.now)))) }
+    ensures none { IfOk result (λ found. IfNone found (have_values (rows_of (found_of matches.now)) arrange_needs ≡ false)) }
 {
-    let dir = matches.get_str("DIR")?;
-    let to = matches.get_str("to")?;
+    let Some(to) = matches.get_str("to") else {
+        return Ok(None);
+    };
     let copy = matches.get_flag("copy");
     let dry_run = matches.get_flag("dry-run");
     let ignore_others = matches.get_flag("ignore-others");
     let json = matches.get_flag("json");
-    Some(ArrangeArguments {
-        dir,
+    let dirs = all_values(alloc, matches, "DIR")?;
+    Ok(Some(ArrangeArguments {
+        dirs,
         to,
         copy,
         dry_run,
         ignore_others,
         json,
-    })
+    }))
 }
 
 /// Returns the values of an argument that may be given more than once, or `None` for more than `MOST`.

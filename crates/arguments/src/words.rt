@@ -33,9 +33,9 @@ pub enum Job<'a> {
     Index(IndexArguments<'a>),
     /// Check a directory and list its records.
     CheckDir(FileArguments<'a>),
-    /// List the studies of a folder.
+    /// List the studies of folders.
     List(ListArguments<'a>),
-    /// Link the files of a folder into a tree.
+    /// Link the files of folders into a tree.
     Arrange(ArrangeArguments<'a>),
 }
 
@@ -73,7 +73,7 @@ fn too_many(alloc: Global, matches: &ArgMatches) -> WordsError {
     }
 }
 
-/// Returns the job of a subcommand that takes no list of files, or `None` for more titles, storage classes or
+/// Returns the job of a subcommand that takes no list of files or folders, or `None` for more titles, storage classes or
 /// transfer syntaxes than the program keeps.
 fn job_without_files<'a>(name: &str, matches: &ArgMatches<'a>) -> Option<Job<'a>>
     ensures { IfSome result (λ job. Names job (Some (name.now, rows_of (found_of matches.now)))) }
@@ -83,8 +83,6 @@ fn job_without_files<'a>(name: &str, matches: &ArgMatches<'a>) -> Option<Job<'a>
         "replay" => Job::Replay(replay_arguments(matches)?),
         "index" => Job::Index(index_arguments(matches)?),
         "checkdir" => Job::CheckDir(file_arguments(matches)?),
-        "list" => Job::List(list_arguments(matches)?),
-        "arrange" => Job::Arrange(arrange_arguments(matches)?),
         _ => return None,
     };
     Some(job)
@@ -102,6 +100,11 @@ fn job_of<'a>(
     let job = match name {
         "show" => Job::Show(show_arguments(alloc, matches)?),
         "check" => Job::Check(check_arguments(alloc, matches)?),
+        "list" => Job::List(list_arguments(alloc, matches)?),
+        "arrange" => match arrange_arguments(alloc, matches)? {
+            Some(arguments) => Job::Arrange(arguments),
+            None => return Ok(None),
+        },
         _ => return Ok(job_without_files(name, matches)),
     };
     Ok(Some(job))

@@ -1,4 +1,4 @@
-//! `dcmbox arrange`: links or copies the files in a folder into a tree of folders by patient, study and
+//! `dcmbox arrange`: links or copies the files in folders into a tree of folders by patient, study and
 //! series.
 use crate::copying::locked;
 use crate::paths::ARRANGED;
@@ -48,9 +48,9 @@ where
     Ok(None)
 }
 
-/// Gives each DICOM file in a folder and its subfolders the path
+/// Gives each DICOM file in folders and their subfolders the path
 /// `PatientID/StudyInstanceUID/SeriesInstanceUID/SOPInstanceUID.dcm` in the tree, by a hard link or a
-/// copy, and writes a line with the numbers of files, or one JSON object. If the tree is inside the
+/// copy, and writes a line with the numbers of files, or one JSON object. If the tree is inside a
 /// folder, it is not visited.
 ///
 /// If the path is that of the same file already, or of one with the same bytes, the file is left as it
@@ -61,11 +61,13 @@ where
 /// the outcome is `Faulty` then. Files that cannot be read are reported, too, and the error is `Unread`
 /// then. Memory does not grow with the number of files.
 ///
-/// Fails also if the folder cannot be listed, a file cannot be linked, the tree or the output cannot be
+/// Of several folders one that cannot be listed is reported as a file that cannot be read.
+///
+/// Fails also if the only folder cannot be listed, a file cannot be linked, the tree or the output cannot be
 /// written, or memory runs out. Files that were linked or copied before stay.
-pub fn arrange_folder<R: Files + Alloc + Clone + Drop, O: Write, E: Write + Drop>(
+pub fn arrange_folders<R: Files + Alloc + Clone + Drop, O: Write, E: Write + Drop>(
     rt: &R,
-    dir: &str,
+    dirs: &[&str],
     options: ArrangeOptions<'_>,
     out: &mut O,
     (err, counter): (E, Counter),
@@ -86,7 +88,7 @@ where
         Err(error) => return Err(ProgramError::of(Failure::Tree, error)),
     }
     let mut placer = Placer::new(rt, options, out)?;
-    let tally = visitor.visit_all(dir, &mut placer)?;
+    let tally = visitor.visit_all(dirs, &mut placer)?;
     placer.finish(tally)?;
     tally.outcome()
 }
@@ -99,21 +101,21 @@ fn are_same(rt: &HostRuntime, one: &str, other: &str) -> bool {
     }
 }
 
-/// Arranges the files in a folder as [`arrange_folder`] does, and prints the numbers of files. What was
+/// Arranges the files in folders as [`arrange_folders`] does, and prints the numbers of files. What was
 /// written before an error is printed, too.
 ///
-/// Fails also if the tree is the folder itself.
+/// Fails also if the tree is one of the folders.
 pub fn arrange(
     rt: &HostRuntime,
-    dir: &str,
+    dirs: &[&str],
     options: ArrangeOptions<'_>,
 ) -> Result<Outcome, ProgramError> {
-    if are_same(rt, dir, options.tree) {
+    if dirs.iter().any(|dir| are_same(rt, *dir, options.tree)) {
         let text = String::from_str(rt.alloc(), "error: --to takes another folder than DIR\n")?;
         return Err(ProgramError::Words(WordsError::Refused(text)));
     }
     let mut out = BufWriter::new(rt.alloc(), io::writer(rt)).map_err(ProgramError::of_output)?;
     let told = (rt.stderr(), Counter::new(rt));
-    let arranged = arrange_folder(rt, dir, options, &mut out, told);
+    let arranged = arrange_folders(rt, dirs, options, &mut out, told);
     flushed(arranged, &mut out)
 }

@@ -1,4 +1,4 @@
-//! `dcmbox arrange`: links or copies the files in a folder into a tree of folders by patient, study and
+//! `dcmbox arrange`: links or copies the files in folders into a tree of folders by patient, study and
 //! series.
 #![tactic(auto)]
 
@@ -12,5 +12,5 @@ mod placing;
 mod planned;
 mod tree_calls;
 
-pub use arranging::{ArrangeOptions, arrange, arrange_folder};
+pub use arranging::{ArrangeOptions, arrange, arrange_folders};
 pub use name::{LONGEST_NAME, name_of};

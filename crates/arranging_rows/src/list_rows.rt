@@ -4,7 +4,7 @@ use failures::ProgramError;
 use fixtures::folders::fresh;
 use inspection::{Outcome, OutputForm};
 use keyed_files::Counter;
-use list_command::{ListOptions, list_folder};
+use list_command::{ListOptions, list_folders};
 use std::alloc::Global;
 use std::fs;
 use std::io::Write;
@@ -93,7 +93,7 @@ pub(crate) fn listed<R: Files + Alloc + Clone + Drop, O: Write>(
 where
     R::A: Copy,
 {
-    list_folder(rt, dir, options, out, (err, Counter::hidden()))
+    list_folders(rt, &[dir], options, out, (err, Counter::hidden()))
 }
 
 /// Returns what is printed of a folder where each file is good.

@@ -2,7 +2,7 @@
 use crate::failing::{CallCount, FailingFiles};
 use crate::images::{FIRST, SECOND, file, has_bytes, has_image, is_free, put_image};
 use crate::trees::{Folders, arranged};
-use arrange_command::{ArrangeOptions, arrange_folder};
+use arrange_command::{ArrangeOptions, arrange_folders};
 use fixtures::folders::count;
 use inspection::{Outcome, OutputForm};
 use keyed_files::{Counter, NodeId};
@@ -123,7 +123,7 @@ fn tells(rt: &HostRuntime, folders: &Folders, copy: bool, lines: &[u8]) -> Resul
     };
     let (mut out, mut err) = (Vec::new(rt.alloc()), Vec::new(rt.alloc()));
     let told = (&mut err, Counter::hidden());
-    let outcome = arrange_folder(&failing, folders.dir.as_str(), options, &mut out, told)?;
+    let outcome = arrange_folders(&failing, &[folders.dir.as_str()], options, &mut out, told)?;
     let is_told = outcome == Outcome::Good && out.as_slice() == lines && err.is_empty();
     Ok(is_told && !calls.has_changes())
 }

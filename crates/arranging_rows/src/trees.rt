@@ -1,6 +1,6 @@
 //! A folder of two images, and the tree that they are arranged in.
 use crate::images::{FIRST, MadeImage, SECOND, has_bytes, has_image, is_free, put_image};
-use arrange_command::{ArrangeOptions, arrange_folder};
+use arrange_command::{ArrangeOptions, arrange_folders};
 use failures::ProgramError;
 use fixtures::folders::{count, fresh};
 use folder_filing::StoredFile;
@@ -140,5 +140,5 @@ where
         form: OutputForm::Lines,
     };
     let told = (err, Counter::hidden());
-    arrange_folder(rt, folders.dir.as_str(), options, out, told)
+    arrange_folders(rt, &[folders.dir.as_str()], options, out, told)
 }

@@ -133,7 +133,7 @@ fn perform_list(rt: &HostRuntime, arguments: &ListArguments) -> Result<Outcome, 
         ignore_others: arguments.ignore_others,
         form: form_of(arguments.json),
     };
-    list(rt, arguments.dir, options)
+    list(rt, arguments.dirs.as_slice(), options)
 }
 
 fn perform_arrange(
@@ -147,7 +147,7 @@ fn perform_arrange(
         ignore_others: arguments.ignore_others,
         form: form_of(arguments.json),
     };
-    arrange(rt, arguments.dir, options)
+    arrange(rt, arguments.dirs.as_slice(), options)
 }
 
 /// Runs the command that the arguments name.

@@ -37,7 +37,7 @@ impl fmt::Display for Masked<'_> {
     }
 }
 
-/// Returns the only file, or an empty text if there are several.
+/// Returns the only file or folder, or an empty text if there are several.
 fn only<'a>(files: &[&'a str]) -> &'a str {
     match files {
         [file] => *file,
@@ -62,9 +62,13 @@ fn subject<'a>(job: &Job<'a>, error: &ProgramError) -> &'a str {
         (Job::Check(arguments), _) => only(arguments.files.as_slice()),
         (Job::Index(arguments), _) => arguments.dir,
         (Job::CheckDir(arguments), _) => arguments.file,
-        (Job::List(arguments), Some(failure)) if failure.is_of_folder() => arguments.dir,
+        (Job::List(arguments), Some(failure)) if failure.is_of_folder() => {
+            only(arguments.dirs.as_slice())
+        }
         (Job::Arrange(arguments), Some(failure)) if failure.is_of_tree() => arguments.to,
-        (Job::Arrange(arguments), Some(failure)) if failure.is_of_folder() => arguments.dir,
+        (Job::Arrange(arguments), Some(failure)) if failure.is_of_folder() => {
+            only(arguments.dirs.as_slice())
+        }
         _ => "",
     }
 }

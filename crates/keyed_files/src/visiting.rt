@@ -111,22 +111,32 @@ where
         let _ = writeln!(self.err, "dcmbox: {path}: {what}");
     }
 
-    /// Counts and reports a file or folder that cannot be read; one that has vanished is only counted. Any other error is
-    /// returned.
-    fn tell_unread(&mut self, path: &str, error: ProgramError) -> Result<(), ProgramError>
+    /// Counts and reports a file or folder that cannot be read. Any other error is returned.
+    fn tell_failure(&mut self, path: &str, error: ProgramError) -> Result<(), ProgramError>
         ensures counted { OnOk result (CountsUnread (state_of_visit self.old) (state_of_visit self.new)) }
         ensures same { OnErr result (state_of_visit self.new ≡ state_of_visit self.old) }
     {
         if !error.failure().is_some_and(Failure::is_of_input) {
             return Err(error);
         }
-        if has_vanished(self.rt, path, &error) {
-            self.tally.add_vanished();
-            return Ok(());
-        }
         self.tally.add_unread();
         self.tell(path, &error);
         Ok(())
+    }
+
+    /// Counts what was found in a folder and cannot be read, and reports it unless it has vanished. Any other error is
+    /// returned.
+    fn tell_unread(&mut self, path: &str, error: ProgramError) -> Result<(), ProgramError>
+        ensures counted { OnOk result (CountsUnread (state_of_visit self.old) (state_of_visit self.new)) }
+        ensures same { OnErr result (state_of_visit self.new ≡ state_of_visit self.old) }
+    {
+        if error.failure().is_some_and(Failure::is_of_input)
+            && has_vanished(self.rt, path, &error)
+        {
+            self.tally.add_vanished();
+            return Ok(());
+        }
+        self.tell_failure(path, error)
     }
 
     /// Counts a file with a fault, and reports it if it is not passed by.
@@ -326,16 +336,34 @@ where
         Ok(())
     }
 
-    /// Visits the files in a folder and its subfolders. Returns the number of those that were left out,
-    /// which are reported, too.
+    /// Visits folders and their subfolders. Of several folders one that cannot be listed is counted and reported.
+    fn visit_each<T: Taking>(&mut self, dirs: &[&str], taking: &mut T) -> Result<(), ProgramError>
+        ensures visited { OnOk result (Visited T.took taking.old taking.new (state_of_visit self.old) (state_of_visit self.new)) }
+    {
+        for dir in dirs {
+            match self.visit_folders(*dir, taking) {
+                Ok(()) => {}
+                Err(error) if dirs.len() > 1 => self.tell_failure(*dir, error)?,
+                Err(error) => return Err(error),
+            }
+        }
+        Ok(())
+    }
+
+    /// Visits the files in folders and their subfolders. Returns the number of those that were left out,
+    /// which are reported, too. Of several folders one that cannot be listed is reported, and the others are visited.
     ///
-    /// Fails if the folder itself cannot be listed, if memory runs out, or with the error of
+    /// Fails if the only folder cannot be listed, if memory runs out, or with the error of
     /// [`Taking::take`], except that of a file that cannot be read.
-    pub fn visit_all<T: Taking>(&mut self, dir: &str, taking: &mut T) -> Result<Tally, ProgramError>
+    pub fn visit_all<T: Taking>(
+        &mut self,
+        dirs: &[&str],
+        taking: &mut T,
+    ) -> Result<Tally, ProgramError>
         ensures visited { OnOk result (Visited T.took taking.old taking.new (state_of_visit self.old) (state_of_visit self.new)) }
         ensures tally { IfOk result (λ tally. tally ≡ (state_of_visit self.new).tally) }
     {
-        let visited = self.visit_folders(dir, taking);
+        let visited = self.visit_each(dirs, taking);
         self.counter.clear(&mut self.err);
         tell_passed_by(self.tally.ignored, self.tally.vanished, &mut self.err);
         visited?;

@@ -1,4 +1,4 @@
-//! `dcmbox list`: lists the studies of the files in a folder.
+//! `dcmbox list`: lists the studies of the files in folders.
 #![tactic(auto)]
 
 mod grouping;
@@ -9,4 +9,4 @@ mod order;
 mod studies;
 mod texts;
 
-pub use listing::{ListOptions, list, list_folder};
+pub use listing::{ListOptions, list, list_folders};

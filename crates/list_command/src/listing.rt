@@ -43,17 +43,19 @@ fn tell_several_patients<A: Allocator, E: Write>(studies: &ByUid<Study<A>, A>, e
     }
 }
 
-/// Writes the studies of the files in a folder and its subfolders, ordered by date and then by UID: as
+/// Writes the studies of the files in folders and their subfolders, ordered by date and then by UID: as
 /// a line each, or as one JSON object. Files that are no DICOM files, or have a fault before the listed
 /// values, are reported on `err`; the outcome is `Faulty` then. Files that cannot be read are reported,
 /// too, and the error is `Unread` then. So is each study whose files have several Patient IDs; its object says so.
 ///
 /// Memory grows with the number of studies and series, and with that of files if these are listed.
 ///
-/// Fails also if the folder cannot be listed, the output cannot be written, or memory runs out.
-pub fn list_folder<R: Files + Alloc + Clone + Drop, O: Write, E: Write + Drop>(
+/// Of several folders one that cannot be listed is reported as a file that cannot be read.
+///
+/// Fails also if the only folder cannot be listed, the output cannot be written, or memory runs out.
+pub fn list_folders<R: Files + Alloc + Clone + Drop, O: Write, E: Write + Drop>(
     rt: &R,
-    dir: &str,
+    dirs: &[&str],
     options: ListOptions,
     out: &mut O,
     (err, counter): (E, Counter),
@@ -67,7 +69,7 @@ where
     if options.ignore_others {
         visitor.ignore_others();
     }
-    let tally = visitor.visit_all(dir, &mut grouping)?;
+    let tally = visitor.visit_all(dirs, &mut grouping)?;
     tell_several_patients(&grouping.studies, &mut err);
     match options.form {
         OutputForm::Lines => write_lines(rt.alloc(), &grouping, options, out)?,
@@ -76,11 +78,15 @@ where
     tally.outcome()
 }
 
-/// Prints the studies of the files in a folder, as [`list_folder`] writes them. What was written before
+/// Prints the studies of the files in folders, as [`list_folders`] writes them. What was written before
 /// an error is printed, too.
-pub fn list(rt: &HostRuntime, dir: &str, options: ListOptions) -> Result<Outcome, ProgramError> {
+pub fn list(
+    rt: &HostRuntime,
+    dirs: &[&str],
+    options: ListOptions,
+) -> Result<Outcome, ProgramError> {
     let mut out = BufWriter::new(rt.alloc(), io::writer(rt)).map_err(ProgramError::of_output)?;
     let told = (rt.stderr(), Counter::new(rt));
-    let listed = list_folder(rt, dir, options, &mut out, told);
+    let listed = list_folders(rt, dirs, options, &mut out, told);
     flushed(listed, &mut out)
 }

@@ -18,11 +18,8 @@ replay_needs = codes "FILE" ∷ codes "out" ∷ codes "cut" ∷ []
 abbrev pub index_needs : List Text
 index_needs = codes "DIR" ∷ []
 
-abbrev pub list_needs : List Text
-list_needs = codes "DIR" ∷ []
-
 abbrev pub arrange_needs : List Text
-arrange_needs = codes "DIR" ∷ codes "to" ∷ []
+arrange_needs = codes "to" ∷ []
 
 abbrev pub serve_needs : List Text
 serve_needs = codes "port" ∷ codes "out" ∷ codes "bind" ∷ codes "timeout" ∷ codes "idle" ∷ codes "max-pdu" ∷ codes "max-data" ∷ codes "at-once" ∷ codes "grace" ∷ []

@@ -3,25 +3,20 @@ use Rattle.clap.specs.Matches.{found_of}
 use Rattle.clap.specs.Walk.{rows_of}
 use Rattle.clap.proofs.WalkLemmas.{first_value-rows, one_text-rows}
 use Rattle.arguments.specs.machine.Needs.{arrange_needs}
-use Rattle.arguments.proofs.ValuesKeepTheirOrder.{if_none, missing}
+use Rattle.arguments.proofs.ValuesKeepTheirOrder.{missing}
 use Rattle.arguments.proofs.values.arrange_arguments.Goals as goal
 
-pub returns-in_err-dir-clause-none : goal.returns-in_err-dir-clause-none
-returns-in_err-dir-clause-none c =
+pub returns-in_default-clause-none : goal.returns-in_default-clause-none
+returns-in_default-clause-none c =
     let found = found_of c.args.matches.now in
-    if_none c.from_residual.result _ (missing (rows_of found) arrange_needs 0 (omega arith) (c.in_err-dir.ensures ∙ first_value-rows found (codes "DIR")))
-
-pub returns-in_err-to-clause-none : goal.returns-in_err-to-clause-none
-returns-in_err-to-clause-none c =
-    let found = found_of c.args.matches.now in
-    if_none c.from_residual-in_err-to.result _ (missing (rows_of found) arrange_needs 1 (omega arith) (c.in_err-to.ensures ∙ first_value-rows found (codes "to")))
+    missing (rows_of found) arrange_needs 0 (omega arith) (c.in_default.ensures ∙ first_value-rows found (codes "to"))
 
 pub returns-clause-some : goal.returns-clause-some
 returns-clause-some c =
     let found = found_of c.args.matches.now in
     record {
-      dir = sym (c.in_ok-dir.ensures ∙ first_value-rows found (codes "DIR"));
-      to = sym (c.in_ok-to.ensures ∙ first_value-rows found (codes "to"));
+      dirs = c.in_ok-dirs.ensures;
+      to = sym (c.in-Some.ensures ∙ first_value-rows found (codes "to"));
       copy = record {
         none = λ e. c.get_flag-copy.ensures.none (one_text-rows found (codes "copy") ∙ e);
         on = λ e. c.get_flag-copy.ensures.value (one_text-rows found (codes "copy") ∙ e);

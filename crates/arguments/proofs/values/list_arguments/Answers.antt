@@ -1,18 +1,13 @@
-use Rattle.std.proofs.Common.{sym, ◌∙◌, codes, ap, is_some, ◌&&◌, true}
+use Rattle.std.proofs.Common.{◌∙◌, codes}
 use Rattle.clap.specs.Matches.{found_of}
-use Rattle.clap.proofs.WalkLemmas.{first_value-rows, one_text-rows}
-use Rattle.arguments.proofs.ValuesKeepTheirOrder.{if_none}
+use Rattle.clap.proofs.WalkLemmas.{one_text-rows}
 use Rattle.arguments.proofs.values.list_arguments.Goals as goal
 
-pub returns-in_err-dir-clause-none : goal.returns-in_err-dir-clause-none
-returns-in_err-dir-clause-none c =
-    if_none c.from_residual.result _ (ap (λ o. is_some o && true) (sym (c.in_err-dir.ensures ∙ first_value-rows (found_of c.args.matches.now) (codes "DIR"))))
-
-pub returns-clause-some : goal.returns-clause-some
-returns-clause-some c =
+pub returns : goal.returns
+returns c =
     let found = found_of c.args.matches.now in
     record {
-      dir = sym (c.in_ok-dir.ensures ∙ first_value-rows found (codes "DIR"));
+      dirs = c.in_ok-dirs.ensures;
       series = record {
         none = λ e. c.get_flag-series.ensures.none (one_text-rows found (codes "series") ∙ e);
         on = λ e. c.get_flag-series.ensures.value (one_text-rows found (codes "series") ∙ e);
