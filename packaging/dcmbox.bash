@@ -20,7 +20,7 @@ _dcmbox() {
       mapfile -t COMPREPLY < <(compgen -W 'text json' -- "$current")
       return
       ;;
-    --port | --listen | --ae | --caller | --callers | --timeout | --idle | --max-pdu | --max-data | --per | --numbers | --quarantine-most | --at-once | --per-peer | --longest | --stop-file | --grace | --metrics | --storage-class | --transfer-syntax | --cut | --tag | --uid)
+    --port | --listen | --ae | --caller | --callers | --timeout | --idle | --max-pdu | --max-data | --per | --numbers | --quarantine-most | --at-once | --per-peer | --longest | --stop-file | --grace | --metrics | --storage-class | --transfer-syntax | --cut | --tag | --uid | --where)
       return
       ;;
   esac
@@ -31,7 +31,7 @@ _dcmbox() {
     check) options='--recursive --strict --values --ignore-others --json --all-syntaxes --help' ;;
     index) options='--uid --new-uid --descriptions --all-syntaxes --any-name --keep --drop --replace --strict --json --help' ;;
     checkdir) options='--json --help' ;;
-    list) options='--series --instances --ignore-others --json --help' ;;
+    list) options='--series --instances --where --ignore-others --json --help' ;;
     arrange) options='--to --copy --dry-run --ignore-others --json --help' ;;
     help) options='serve replay show check index checkdir list arrange' ;;
     *) return ;;

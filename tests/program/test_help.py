@@ -59,7 +59,7 @@ def test_the_options_in_the_completion(text, command):
 def test_the_names_of_the_values_in_the_manual(text, command):
     """Each with its option, where it has one."""
     in_help = re.findall(rf"(?:{OPTION} )?<[^>]*>", without_example(text))
-    in_manual = re.findall(rf"(?:{OPTION} )?\b[A-Z]+\b(?::[A-Z]+\b)?", synopsis(command))
+    in_manual = re.findall(rf"(?:{OPTION} )?\b[A-Z]+\b(?:[:=][A-Z]+\b)?", synopsis(command))
     assert set(in_manual) == {re.sub("[<>]", "", name) for name in in_help}
 
 

@@ -103,6 +103,48 @@ def test_several_folders(run, put):
     assert second == "dcmbox: ignored 1" and last.endswith("can't be read, as is told above")
 
 
+def test_files_with_a_value(run, put):
+    """One of the values of a text, without padding; the others are not told of, and all conditions have to hold."""
+    put({**FOUR, "in/two": image(study="1.5", patient="A\\P1 \\B", comment="y" * 256, name="M\u00fcller")})
+
+    def studies(*conditions):
+        done = run("list", "in", *(word for text in conditions for word in ("--where", text)))
+        assert (done.returncode, done.stderr) == (0, "")
+        return [(line.split("\t")[-1], line.split("\t")[5]) for line in done.stdout.splitlines()]
+
+    both = [("1.2.3", "3"), ("1.5", "1")]
+    assert studies("PatientID=P1") == studies("0010,0020=P1 ") == both
+    assert studies("PatientID=P1", "Modality=CT") == [("1.2.3", "2"), ("1.5", "1")]
+    assert studies("PatientID=P1", "Modality=CT", "PatientID=B") == studies("PatientID=B") == [both[1]]
+    assert studies(*["StudyInstanceUID=1.2.4"] * 8) == [("1.2.4", "1")]
+    assert studies("SeriesDescription=", "Modality=PR") == [("1.2.3", "1")]
+    for none in ("PatientID=p1", "PatientID=P", "PatientID=A\\P1", f"ImageComments={'y' * 256}", "PatientName=Müller"):
+        assert studies(none) == []
+    put({"in/three": image(study="1.6", comment="y" * 254)})
+    assert studies(f"ImageComments={'y' * 254}") == [("1.6", "1")]
+    put({"in/notes": b"text", "in/cut": image()[:300]})
+    found = json.loads(run("list", "in", "--json", "--where", "PatientID=x").stdout)
+    assert found == {"studies": [], "left_out": 2}
+
+
+@pytest.mark.parametrize(
+    "condition, error",
+    [
+        ("PatientID", "KEYWORD=VALUE, as PatientID=P1, not 'PatientID'"),
+        ("Nonsense=1", "a tag as 0010,0020 or its keyword as PatientID, not 'Nonsense'"),
+        ("Rows=512", "an element of the data set whose value is text, not 'Rows'"),
+        ("TransferSyntaxUID=1.2", "an element of the data set .*, not 'TransferSyntaxUID'"),
+    ],
+)
+def test_a_condition_that_is_refused(expect, condition, error):
+    expect(2, "", f"error: --where takes {error}", "list", ".", "--where", condition)
+
+
+def test_too_many_conditions(expect):
+    words = ["--where", "PatientID=1"] * 9
+    expect(2, "", "error: --where may be given 8 times at most", "list", ".", *words)
+
+
 def test_the_order_is_that_of_numbers(run, put):
     """10 comes after 2, equal numbers by UID, and what has no number last; studies by date."""
     numbers = ["10", "2", "1", None, "-1", "2 ", "x"]

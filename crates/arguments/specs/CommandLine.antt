@@ -116,7 +116,7 @@ index_app = with_rules (new_app (codes "index"))
     ∷ flag_rule (codes "replace") ∷ flag_rule (codes "strict") ∷ flag_rule (codes "json") ∷ [])
 
 abbrev pub list_app : App
-list_app = with_rules (new_app (codes "list")) (several (codes "DIR") ∷ flag_rule (codes "series") ∷ flag_rule (codes "instances") ∷ flag_rule (codes "ignore-others") ∷ flag_rule (codes "json") ∷ [])
+list_app = with_rules (new_app (codes "list")) (several (codes "DIR") ∷ flag_rule (codes "series") ∷ flag_rule (codes "instances") ∷ repeated (codes "where") ∷ flag_rule (codes "ignore-others") ∷ flag_rule (codes "json") ∷ [])
 
 abbrev pub arrange_app : App
 arrange_app = with_rules (new_app (codes "arrange")) (several (codes "DIR") ∷ needed (codes "to") ∷ flag_rule (codes "copy") ∷ flag_rule (codes "dry-run") ∷ flag_rule (codes "ignore-others") ∷ flag_rule (codes "json") ∷ [])
@@ -199,6 +199,7 @@ pub record IsList (a : ListArguments) (rows : List Row) : Type 0 where
   pub dirs : map (λ w. w.now) a.dirs.items ≡ values_of rows (codes "DIR")
   pub series : IsFlag rows (codes "series") a.series
   pub instances : IsFlag rows (codes "instances") a.instances
+  pub conditions : map (λ w. w.now) a.conditions.items ≡ values_of rows (codes "where")
   pub ignore_others : IsFlag rows (codes "ignore-others") a.ignore_others
   pub json : IsFlag rows (codes "json") a.json
 

@@ -256,6 +256,11 @@ const LIST: Subcommand<'static> = Subcommand {
             "instances",
             "Lists the series of each study and their files, too",
         ),
+        Argument::Repeated(
+            "where",
+            "KEYWORD=VALUE",
+            "Lists only files that have this value, as PatientID=P1; up to 8 times, and all hold",
+        ),
         IGNORE_OTHERS,
         JSON,
     ],

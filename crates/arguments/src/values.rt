@@ -92,6 +92,7 @@ pub struct ListArguments<'a> {
     pub dirs: Vec<&'a str>,
     pub series: bool,
     pub instances: bool,
+    pub conditions: Vec<&'a str>,
     pub ignore_others: bool,
     pub json: bool,
 }
@@ -304,10 +305,12 @@ pub fn list_arguments<'a>(
     let ignore_others = matches.get_flag("ignore-others");
     let json = matches.get_flag("json");
     let dirs = all_values(alloc, matches, "DIR")?;
+    let conditions = all_values(alloc, matches, "where")?;
     Ok(ListArguments {
         dirs,
         series,
         instances,
+        conditions,
         ignore_others,
         json,
     })

@@ -10,12 +10,12 @@ use inspection::{Outcome, OutputForm};
 use list_command::ListOptions;
 use std::test::Fail;
 
-const ALL_LINES: ListOptions = ListOptions {
+const ALL_LINES: ListOptions<'static> = ListOptions {
     instances: true,
     ..LINES
 };
 
-const ALL_JSON: ListOptions = ListOptions {
+const ALL_JSON: ListOptions<'static> = ListOptions {
     instances: true,
     ignore_others: false,
     form: OutputForm::Json,
@@ -87,7 +87,7 @@ fn each_call_fails(rt: HostRuntime) -> Result<(), Fail> {
 /// Lists an image to a writer that takes so many bytes; returns whether it failed, and took a front of all.
 fn is_cut(
     rt: &HostRuntime,
-    options: ListOptions,
+    options: ListOptions<'_>,
     whole: &[u8],
     length: usize,
 ) -> Result<bool, Fail> {
@@ -118,7 +118,7 @@ fn an_output_that_is_full(rt: HostRuntime) -> Result<(), Fail> {
 /// memory ran out, and what is printed is a front of all.
 fn is_refused(
     rt: &HostRuntime,
-    options: ListOptions,
+    options: ListOptions<'_>,
     whole: &[u8],
     passed: u64,
 ) -> Result<bool, Fail> {
@@ -138,7 +138,7 @@ fn is_refused(
 }
 
 /// Refuses each allocation in turn, until a run meets no refusal; returns how many were refused.
-fn count_refused(rt: &HostRuntime, options: ListOptions, whole: &[u8]) -> Result<u64, Fail> {
+fn count_refused(rt: &HostRuntime, options: ListOptions<'_>, whole: &[u8]) -> Result<u64, Fail> {
     for passed in 0..1000u64 {
         if !is_refused(rt, options, whole, passed)? {
             return Ok(passed);

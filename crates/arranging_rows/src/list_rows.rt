@@ -48,9 +48,10 @@ const JSON: &[u8] =
 \"left_out\":0}\n";
 
 /// What is asked for of a folder.
-pub(crate) const LINES: ListOptions = ListOptions {
+pub(crate) const LINES: ListOptions<'static> = ListOptions {
     series: false,
     instances: false,
+    conditions: &[],
     ignore_others: false,
     form: OutputForm::Lines,
 };
@@ -86,7 +87,7 @@ pub(crate) fn put_four(rt: &HostRuntime, dir: &str) -> Result<(), Fail> {
 pub(crate) fn listed<R: Files + Alloc + Clone + Drop, O: Write>(
     rt: &R,
     dir: &str,
-    options: ListOptions,
+    options: ListOptions<'_>,
     out: &mut O,
     err: &mut Vec<u8, Global>,
 ) -> Result<Outcome, ProgramError>
@@ -100,7 +101,7 @@ where
 pub(crate) fn printed(
     rt: &HostRuntime,
     dir: &str,
-    options: ListOptions,
+    options: ListOptions<'_>,
 ) -> Result<Vec<u8, Global>, Fail> {
     let (mut out, mut err) = (Vec::new(rt.alloc()), Vec::new(rt.alloc()));
     let outcome = listed(rt, dir, options, &mut out, &mut err)?;

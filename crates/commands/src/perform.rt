@@ -9,7 +9,7 @@ use failures::{ProgramError, WordsError};
 use file_commands::{Files, Inspection, inspect, inspect_files};
 use index_command::index;
 use inspection::{CheckOptions, Outcome, OutputForm, ShowOptions, Syntaxes, tag_named};
-use list_command::{ListOptions, list};
+use list_command::{Condition, ListOptions, MOST_CONDITIONS, list};
 use replay_command::replay;
 use serve_command::{callers_text, serve_into};
 use std::alloc::Global;
@@ -73,24 +73,61 @@ fn is_repeating(keyword: &str) -> bool {
     keyword.starts_with("Overlay") || keyword.starts_with("Curve")
 }
 
+/// Reads a tag that an option names. Fails with a text for the user if it is invalid.
+fn tag_of(alloc: Global, option: &str, text: &str) -> Result<Tag, WordsError> {
+    if let Some(tag) = tag_named(text) {
+        return Ok(tag);
+    }
+    let also = if is_repeating(text) {
+        ", whose group repeats: name the element of one, as 6000,3000"
+    } else {
+        ""
+    };
+    let refused = format!(in alloc;
+        "error: --{option} takes a tag as 0010,0020 or its keyword as PatientID, not '{text}'{also}\n"
+    )?;
+    Err(WordsError::Refused(refused))
+}
+
 /// Reads the tags of the options `--tag`. Fails with a text for the user if one is invalid.
 fn tags_named(alloc: Global, texts: &[&str]) -> Result<Vec<Tag>, WordsError> {
     let mut tags = Vec::new(alloc);
     for text in texts {
-        let Some(tag) = tag_named(*text) else {
-            let also = if is_repeating(*text) {
-                ", whose group repeats: name the element of one, as 6000,3000"
-            } else {
-                ""
-            };
-            let refused = format!(in alloc;
-                "error: --tag takes a tag as 0010,0020 or its keyword as PatientID, not '{text}'{also}\n"
-            )?;
-            return Err(WordsError::Refused(refused));
-        };
-        tags.push(tag)?;
+        tags.push(tag_of(alloc, "tag", *text)?)?;
     }
     Ok(tags)
+}
+
+/// Reads a condition of the option `--where`. Fails with a text for the user if it is invalid.
+fn condition_of<'a>(alloc: Global, text: &'a str) -> Result<Condition<'a>, WordsError> {
+    let refused = match text.split_once('=') {
+        Some((name, value)) => match Condition::new(tag_of(alloc, "where", name)?, value) {
+            Some(condition) => return Ok(condition),
+            None => format!(in alloc;
+                "error: --where takes an element of the data set whose value is text, not '{name}'\n"
+            )?,
+        },
+        None => format!(in alloc;
+            "error: --where takes KEYWORD=VALUE, as PatientID=P1, not '{text}'\n"
+        )?,
+    };
+    Err(WordsError::Refused(refused))
+}
+
+/// Reads the conditions of the options `--where`. Fails with a text for the user if one is invalid, or there are too
+/// many.
+fn conditions_of<'a>(alloc: Global, texts: &[&'a str]) -> Result<Vec<Condition<'a>>, WordsError> {
+    let mut conditions = Vec::new(alloc);
+    for text in texts {
+        conditions.push(condition_of(alloc, *text)?)?;
+    }
+    if conditions.len() > MOST_CONDITIONS {
+        let refused = format!(in alloc;
+            "error: --where may be given {MOST_CONDITIONS} times at most\n"
+        )?;
+        return Err(WordsError::Refused(refused));
+    }
+    Ok(conditions)
 }
 
 fn perform_show(rt: &HostRuntime, arguments: &ShowArguments) -> Result<Outcome, ProgramError> {
@@ -127,9 +164,11 @@ fn perform_check(rt: &HostRuntime, arguments: &CheckArguments) -> Result<Outcome
 }
 
 fn perform_list(rt: &HostRuntime, arguments: &ListArguments) -> Result<Outcome, ProgramError> {
+    let conditions = conditions_of(rt.alloc(), arguments.conditions.as_slice())?;
     let options = ListOptions {
         series: arguments.series,
         instances: arguments.instances,
+        conditions: conditions.as_slice(),
         ignore_others: arguments.ignore_others,
         form: form_of(arguments.json),
     };

@@ -6,13 +6,13 @@ use arrayvec::ArrayVec;
 use element::{Tag, unpadded};
 
 /// The greatest number of values.
-const MOST_KEYS: usize = 11;
+const MOST_KEYS: usize = 19;
 
 /// The greatest number of bytes kept of a value.
-const LONGEST_KEPT: usize = 256;
+pub const LONGEST_KEPT: usize = 256;
 
 /// The greatest number of bytes of all values together.
-const ROOM: usize = 2816;
+const ROOM: usize = 4864;
 
 /// The tag of a value, and the index of its first byte in the buffer.
 #[derive(Clone, Copy)]
@@ -30,7 +30,7 @@ impl Default for Start {
     }
 }
 
-/// The requested values of a file: at most eleven, of each at most its first 256 bytes.
+/// The requested values of a file: at most nineteen, of each at most its first 256 bytes.
 #[derive(Drop)]
 pub struct FileKeys {
     starts: ArrayVec<Start, MOST_KEYS>,

@@ -16,7 +16,7 @@ mod visits;
 
 pub use counter::Counter;
 pub use drafts::{TREE_DRAFT, is_draft};
-pub use keys::FileKeys;
+pub use keys::{FileKeys, LONGEST_KEPT};
 pub use kinds::{NO_FILE, has_vanished, is_dicom, open_file};
 pub use node_id::NodeId;
 pub use reading::{NoKeys, read_keys};

@@ -106,7 +106,7 @@ fn walk<R: Read>(
     Ok(())
 }
 
-/// Reads the values of the elements with these tags, at most eleven, from a file in any transfer syntax of
+/// Reads the values of the elements with these tags, at most nineteen, from a file in any transfer syntax of
 /// the dictionary. The reader must be at the start of the file. It reads no further than to the first
 /// element with a tag above all of them, so that faults after it are not found.
 ///

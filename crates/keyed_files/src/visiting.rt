@@ -71,7 +71,7 @@ impl<'a, R: Files + Alloc + Clone + Drop, E: Write + Drop> Visitor<'a, R, E>
 where
     R::A: Copy,
 {
-    /// Creates a visitor that reads the values with these tags, at most eleven, and reports files that are
+    /// Creates a visitor that reads the values with these tags, at most nineteen, and reports files that are
     /// left out on `err`.
     pub fn new(rt: &'a R, tags: &'a [Tag], err: E, counter: Counter) -> Visitor<'a, R, E>
         ensures { state_of_visit result ≡ unvisited }

@@ -99,7 +99,7 @@ fn write_instances<A: Allocator + Copy, O: Write>(
 fn write_all_series<A: Allocator + Copy, O: Write>(
     alloc: A,
     study: &Study<A>,
-    options: ListOptions,
+    options: ListOptions<'_>,
     out: &mut O,
 ) -> Result<(), ProgramError> {
     let mut is_first = true;
@@ -122,7 +122,7 @@ fn write_all_series<A: Allocator + Copy, O: Write>(
 fn write_studies<A: Allocator + Copy, O: Write>(
     alloc: A,
     grouping: &Grouping<A>,
-    options: ListOptions,
+    options: ListOptions<'_>,
     out: &mut O,
 ) -> Result<(), ProgramError> {
     let mut is_first = true;
@@ -148,7 +148,7 @@ fn write_studies<A: Allocator + Copy, O: Write>(
 pub(crate) fn write_json<A: Allocator + Copy, O: Write>(
     alloc: A,
     grouping: &Grouping<A>,
-    options: ListOptions,
+    options: ListOptions<'_>,
     left_out: u64,
     out: &mut O,
 ) -> Result<(), ProgramError> {

@@ -1,6 +1,7 @@
 //! `dcmbox list`: lists the studies of the files in folders.
 #![tactic(auto)]
 
+mod conditions;
 mod grouping;
 mod json;
 mod lines;
@@ -9,4 +10,5 @@ mod order;
 mod studies;
 mod texts;
 
+pub use conditions::{Condition, MOST_CONDITIONS};
 pub use listing::{ListOptions, list, list_folders};

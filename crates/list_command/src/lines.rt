@@ -81,7 +81,7 @@ fn write_all_series<A: Allocator + Copy, O: Write>(
 pub(crate) fn write_lines<A: Allocator + Copy, O: Write>(
     alloc: A,
     grouping: &Grouping<A>,
-    options: ListOptions,
+    options: ListOptions<'_>,
     out: &mut O,
 ) -> Result<(), ProgramError> {
     for place in order_of_studies(alloc, &grouping.studies)? {

@@ -18,6 +18,7 @@ returns c =
         on = λ e. c.get_flag-instances.ensures.value (one_text-rows found (codes "instances") ∙ e);
         off = λ e. c.get_flag-instances.ensures.other (one_text-rows found (codes "instances") ∙ e);
       };
+      conditions = c.in_ok-conditions.ensures;
       ignore_others = record {
         none = λ e. c.get_flag-ignore_others.ensures.none (one_text-rows found (codes "ignore-others") ∙ e);
         on = λ e. c.get_flag-ignore_others.ensures.value (one_text-rows found (codes "ignore-others") ∙ e);
