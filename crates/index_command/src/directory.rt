@@ -271,7 +271,7 @@ where
                 put_and_tell(rt, settings, &built, contents, (out, err))
             }
         }
-        Err(fault) => refuse::<R::A, O>(form_of(settings), contents.skipped.as_slice(), fault, out),
+        Err(fault) => refuse(form_of(settings), contents.skipped.as_slice(), fault, out),
     }
 }
 
@@ -317,7 +317,7 @@ where
             let contents = read_rows(rt, settings, files, additional, err)?;
             index_files(rt, settings, &contents, most, (out, err))
         }
-        Err(fault) => refuse::<R::A, O>(form_of(settings), &[], fault, out),
+        Err(fault) => refuse(form_of(settings), &[], fault, out),
     }
 }
 

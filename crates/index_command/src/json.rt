@@ -1,7 +1,7 @@
 //! What a directory leaves out, as members of a JSON object.
 use crate::contents::{Reason, Skipped};
 use checkdir_command::PathText;
-use dicomdir_writing::{Row, Skip};
+use dicomdir_writing::{Built, Skip};
 use inspection::{Printable, TagText};
 use std::alloc::Allocator;
 use std::io::{self, Write};
@@ -24,30 +24,9 @@ fn write_skipped<O: Write>(skipped: &Skipped, out: &mut O) -> io::Result<()> {
     }
 }
 
-/// Writes the files of the rows at these places, as elements of an array.
-fn write_files<A: Allocator, O: Write>(
-    rows: &[Row<A>],
-    places: &[usize],
-    out: &mut O,
-) -> io::Result<()> {
-    let mut between = "";
-    for place in places {
-        if let Some(row) = rows.get(*place) {
-            let path = PathText(row.file_id());
-            write!(out, "{between}\"{path}\"")?;
-            between = ",";
-        }
-    }
-    Ok(())
-}
-
-/// Writes the brace that opens the object, and the arrays of the files that have no row, and of the doubles
-/// among the rows. A comma follows.
-pub(crate) fn write_left_out<A: Allocator, O: Write>(
-    skipped: &[Skipped],
-    (rows, doubles): (&[Row<A>], &[usize]),
-    out: &mut O,
-) -> io::Result<()> {
+/// Writes the brace that opens the object, the array of the files that have no row, and the bracket that opens
+/// that of the doubles.
+pub(crate) fn open_object<O: Write>(skipped: &[Skipped], out: &mut O) -> io::Result<()> {
     write!(out, "{{\"skipped\":[")?;
     let mut between = "";
     for file in skipped {
@@ -55,7 +34,34 @@ pub(crate) fn write_left_out<A: Allocator, O: Write>(
         write_skipped(file, out)?;
         between = ",";
     }
-    write!(out, "],\"doubles\":[")?;
-    write_files(rows, doubles, out)?;
-    write!(out, "],")
+    write!(out, "],\"doubles\":[")
+}
+
+/// Writes the file of the row at this place, as an element of an array.
+fn write_double<A: Allocator, O: Write>(
+    built: &Built<'_, A>,
+    place: usize,
+    between: &str,
+    out: &mut O,
+) -> io::Result<()> {
+    match built.rows().get(place) {
+        Some(row) => {
+            let path = PathText(row.file_id());
+            write!(out, "{between}\"{path}\"")
+        }
+        None => Ok(()),
+    }
+}
+
+/// Writes the files of the doubles, as elements of an array.
+pub(crate) fn write_doubles<A: Allocator, O: Write>(
+    built: &Built<'_, A>,
+    out: &mut O,
+) -> io::Result<()> {
+    let mut between = "";
+    for place in built.doubles() {
+        write_double(built, *place, between, out)?;
+        between = ",";
+    }
+    Ok(())
 }

@@ -2,7 +2,7 @@
 use crate::contents::{Skipped, tell_skipped};
 use crate::doubles::list_doubles;
 use crate::indexed::Indexed;
-use crate::json::write_left_out;
+use crate::json::{open_object, write_doubles};
 use arguments::Index;
 use checkdir_command::tell_fault;
 use dicomdir::DirFault;
@@ -43,12 +43,13 @@ fn write_object<A: Allocator, O: Write>(
     skipped: &[Skipped],
     out: &mut O,
 ) -> io::Result<()> {
-    write_left_out(skipped, (built.rows(), built.doubles()), out)?;
+    open_object(skipped, out)?;
+    write_doubles(built, out)?;
     if is_put {
         let records = built.records();
-        writeln!(out, "\"result\":\"good\",\"record_count\":{records}}}")?;
+        writeln!(out, "],\"result\":\"good\",\"record_count\":{records}}}")?;
     } else {
-        writeln!(out, "\"result\":\"kept\"}}")?;
+        writeln!(out, "],\"result\":\"kept\"}}")?;
     }
     out.flush()
 }
@@ -67,18 +68,23 @@ pub(crate) fn tell_built<A: Allocator, O: Write>(
     told.map_err(ProgramError::of_output)
 }
 
+/// Writes which files have no row, before the fault of a directory.
+fn tell_unlisted<O: Write>(form: OutputForm, skipped: &[Skipped], out: &mut O) -> io::Result<()> {
+    if form == OutputForm::Lines {
+        return tell_skipped(skipped, out);
+    }
+    open_object(skipped, out)?;
+    write!(out, "],")
+}
+
 /// Writes which files have no row, and the fault of a directory, because of which none is written.
-pub(crate) fn refuse<A: Allocator, O: Write>(
+pub(crate) fn refuse<O: Write>(
     form: OutputForm,
     skipped: &[Skipped],
     fault: DirFault,
     out: &mut O,
 ) -> Result<Indexed, ProgramError> {
-    let told = match form {
-        OutputForm::Lines => tell_skipped(skipped, out),
-        OutputForm::Json => write_left_out::<A, O>(skipped, (&[], &[]), out),
-    };
-    told.map_err(ProgramError::of_output)?;
+    tell_unlisted(form, skipped, out).map_err(ProgramError::of_output)?;
     tell_fault(fault, form, out)?;
     Ok(Indexed::Faulty)
 }
