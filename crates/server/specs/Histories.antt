@@ -16,7 +16,7 @@ use Rattle.server.specs.declared.server.opening.history.SlotHistory.{SlotHistory
 abbrev pub opened_over : {S F : Type 0} → ConnectionEnd S F → F
 opened_over e = e.opened.value
 
--- A connection left what these terms give, and when its socket last took bytes its filing had the files of what was answered
+-- A connection left what these terms give, and when its socket was last to take bytes its filing had the files of what was given
 -- till then, and did not wait. Its times began when it was opened, and each of its inputs was given when it was due. An abort was
 -- asked for once at most, and for a reason.
 pub record LeftBy {S F : Type 0} (store : F → Store) (waits : F → Bool) (t : Terms) (e : ConnectionEnd S F) : Type 0 where
