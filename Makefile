@@ -1,66 +1,66 @@
-# `make run` shows what the program does, in a minute or two; `make dcmbox` proves and builds it, and `make verify` says whether
-# the one at hand is that; `make kept` proves what `make check` begins with; `make quick` runs the tests of the tree and of the
-# crates without proof; `make test` is the whole gate.
+# `make run` shows what the program does, in a minute or two; `make dcmbox` proves and builds it, and `make verify` checks
+# whether a given program is that one; `make kept` proves what `make check` starts from; `make quick` runs the tests of the
+# tree and of the crates without proof; `make test` is the whole gate.
 PROGRAM := crates/cli/out/cli
 
-# The tests that look at the tree, and those that try the program from outside: as many side by side as there are
-# processors. Of the tree, those of a group, which look at one run of a tool, stay together.
+# The tests of the tree, and those of the program from outside: as many in parallel as there are processors. Tests of the
+# tree that share one run of a tool form a group, which runs in one process.
 WORKERS ?= $(shell nproc)
 PYTEST := PYTHONDONTWRITEBYTECODE=1 /usr/bin/python3 -m pytest -c tests/pytest.ini -n $(WORKERS)
 TREE := $(PYTEST) --dist loadgroup
-# Without those that prove small crates, which take nearly all of its time.
+# Leaves out the tests that prove small crates, which need nearly all the time.
 UNPROVED := -m 'not proves'
 OUTSIDE := $(PYTEST) --program=$(PROGRAM)
 
-# Where `make install` puts the program, its manual page, its completion and its systemd units. Their options,
-# /etc/default/dcmbox, it leaves as they are where they are there; `make uninstall` leaves them too.
+# Where `make install` puts the program, its manual page, its completion and its systemd units. Neither `make install` nor
+# `make uninstall` changes an existing /etc/default/dcmbox, the options of the units.
 PREFIX ?= /usr/local
 DESTDIR ?=
 
-.PHONY: run verify kept quick packages test steps tree outside bench probe docs check wrong-bodies fmt gate-table clean install uninstall deb
+.PHONY: run verify kept quick packages test steps tree outside bench probe docs check mutants fmt gate-table clean install uninstall deb release
 
 run:
 	@tools/run
 
-# Proves every crate that the program stands on as the gate does, several side by side, compiles it, and puts it here, with
-# dcmbox.proved beside it: the digests of the program and of the sources as they stood when it began, and the toolchain.
+# Proves every crate that the program depends on as the gate does, several in parallel, compiles the program, and puts it
+# here, with dcmbox.proved: the digests of the program and of the sources at the start of the build, and the toolchain.
 dcmbox: FORCE
 	@mkdir -p crates/cli/out && tools/is-proved --sources >crates/cli/out/sources
 	tools/build cli
 	install -m 755 $(PROGRAM) dcmbox
 	@tools/is-proved --note "$$(cat crates/cli/out/sources)"
 
-# Does the same, changes no program, and says in one line whether ./dcmbox, or another as OF=/usr/bin/dcmbox, is the one that is
-# proved of these sources.
+# Proves and builds in the same way, replaces no program, and reports in one line whether ./dcmbox, or another program given
+# as OF=/usr/bin/dcmbox, is the program proved of these sources.
 verify:
 	@tools/verify $(OF)
 
 .PHONY: FORCE
 FORCE:
 
-# Proves them, and keeps the work: `make check` then proves of a crate what changed.
+# Proves the libraries of the program and keeps the results: `make check` then proves only what changed in a crate.
 kept:
 	tools/build --keep
 
-# The tests of the tree, and every test of the crates, compiled with checks and without proof: some minutes. The former use
-# what `make packages` installs.
+# Runs the tests of the tree, and every test of the crates, compiled with checks and without proof: some minutes. The tests
+# of the tree need what `make packages` installs.
 quick:
 	$(TREE) $(UNPROVED) tests/tree
 	tools/quick
 
-# Installs what the tests use of Debian (tests/packages.txt) where some of it is missing.
+# Installs the Debian packages that the tests need (tests/packages.txt), if one is missing.
 packages:
 	@wanted=$$(grep -v '^#' tests/packages.txt); \
 	if [ "$$(dpkg-query -W -f '$${db:Status-Status}\n' $$wanted 2>/dev/null | grep -cx installed)" -ne "$$(echo $$wanted | wc -w)" ]; then \
 		apt-get update && DEBIAN_FRONTEND=noninteractive apt-get install -y --no-install-recommends $$wanted; \
 	fi
 
-# Looks at the tree: what the crates cite of each other, whether what tools write is fresh, whether what claims and links
-# name is there, and that each of these checks can fail. Proves every crate and its tests from nothing, runs the tests and
-# the program, computes the examples of DEFINITIONS, tries the wrong bodies, and then tries the program from outside: with
-# invalid arguments and missing files, along docs/TOUR.md, under strace, with the tools of DCMTK, also on compressed images,
-# by what its log tells, with several peers at once, as a Debian package, and as docs/DEPLOY.md has it. It says of the long
-# steps what they took, and at the end what each crate cost.
+# The whole gate. Checks the tree: what the crates cite of each other, whether generated files are up to date, whether the
+# targets of claims and links exist, and that each of these checks can fail. Proves every crate and its tests from nothing,
+# runs the tests and the program, computes the examples of the definitions, tries the mutants, and then tests the program from
+# outside: with invalid arguments and missing files, along docs/TOUR.md, under strace, with the tools of DCMTK, also on
+# compressed images, by its log, with several peers at once, as a Debian package, and as docs/DEPLOY.md describes. Prints
+# the times of the long steps, and at the end what each crate cost.
 test: packages
 	tools/gate-table $(MAKE) --no-print-directory steps
 
@@ -68,54 +68,54 @@ steps:
 	tools/timed env $(TREE) tests/tree
 	tools/timed env RT_JOBS=$$(tools/build --lanes) rt ci
 	tools/timed tools/examples
-	tools/timed tools/wrong-bodies
+	tools/timed tools/mutants
 	tools/timed env $(OUTSIDE) tests/program
 
-# The tests of the tree alone: all but those that prove small crates, all of one file as FILE=layers, or those whose name has
-# words, as TEST='stale index'.
+# Runs the tests of the tree alone: all but those that prove small crates, all of one file (FILE=layers), or those whose
+# names contain given words (TEST='stale index').
 tree:
 	$(TREE) $(if $(FILE),,$(UNPROVED)) $(if $(TEST),-k '$(TEST)') tests/tree$(if $(FILE),/test_$(FILE).py)
 
-# The tests from outside alone: all, those of one file as FILE=log, or those whose name has words, as TEST='log and calling title'.
+# Runs the tests from outside alone: all, those of one file (FILE=log), or those whose names contain given words
+# (TEST='log and calling title').
 outside:
 	$(OUTSIDE) $(if $(TEST),-k '$(TEST)') tests/program$(if $(FILE),/test_$(FILE).py)
 
-# The program beside DCMTK's storescp and a floor that checks nothing: prints tables of ratios, and draws the figures of
-# docs/PERFORMANCE.md (Debian's python3-matplotlib).
+# Compares the program with DCMTK's storescp and with a baseline that checks nothing: prints tables of ratios, and draws the
+# figures of docs/PERFORMANCE.md (with Debian's python3-matplotlib).
 bench: dcmbox
 	/usr/bin/python3 bench/bench.py ./dcmbox --draw docs/figures
 
-# The program beside DCMTK's storescp (and Orthanc, with ORTHANC=its program), asked from outside: prints the table of
-# docs/COMPARISON.md.
+# Compares the program with DCMTK's storescp (and with Orthanc, whose program is given as ORTHANC=..) from outside: prints
+# the table of docs/COMPARISON.md.
 probe: dcmbox
 	bench/probe.py ./dcmbox $(if $(ORTHANC),--orthanc $(ORTHANC))
 
-# Writes anew what tools write of the documents: the index of definitions, the booklet, the tables of options, limits,
-# statuses and faults, the list of names that mean two things, and the diagram of crates.
+# Writes what tools write of the documents: the definitions of an evening's reading, the tables of options, limits, statuses
+# and faults, and the diagram of crates; and in docs/out, which is not committed, the whole booklet and the index of definitions.
 docs:
 	tools/definitions
 	tools/tables
 	tools/booklet
-	tools/names
 	tools/diagram
 
-# One crate, with what earlier checks left: make check CRATE=pdu
+# Checks one crate, starting from what earlier checks kept: make check CRATE=pdu
 check:
 	cd crates/$(CRATE) && rt check
 
-# The wrong bodies of one crate: make wrong-bodies CRATE=pdu
-wrong-bodies:
-	tools/wrong-bodies --all $(CRATE)
+# Tries the mutants of one crate: make mutants CRATE=pdu
+mutants:
+	tools/mutants --all $(CRATE)
 
-# Lays out every .rt and .antt file as the gate wants it.
+# Formats every .rt and .antt file as the gate requires.
 fmt:
 	set -e; for crate in crates/*/; do (cd $$crate && rt fmt); done
 
-# Proves every crate and its tests from nothing, tries the wrong bodies, and prints what each crate cost; docs/GATE.md has it.
+# Proves every crate and its tests from nothing, tries the mutants, and prints what each crate cost (docs/GATE.md).
 gate-table:
-	tools/gate-table sh -c 'rt ci && tools/wrong-bodies --all'
+	tools/gate-table sh -c 'rt ci && tools/mutants --all'
 
-# Installs what `make dcmbox` proved and built. A package sets DESTDIR to the folder that it packs.
+# Installs what `make dcmbox` proved and built. A package build sets DESTDIR to the folder that it packs.
 install:
 	@tools/is-proved
 	install -D -m 755 dcmbox $(DESTDIR)$(PREFIX)/bin/dcmbox
@@ -124,10 +124,16 @@ install:
 	packaging/make-units $(PREFIX) $(DESTDIR)$(PREFIX)/lib/systemd/system
 	test -e $(DESTDIR)/etc/default/dcmbox || install -D -m 644 packaging/dcmbox.default $(DESTDIR)/etc/default/dcmbox
 
-# Builds a Debian package of what `make dcmbox` proved and built, here.
+# Builds a Debian package here of what `make dcmbox` proved and built.
 deb:
 	@tools/is-proved
 	packaging/make-deb dcmbox .
+
+# Puts the files of a release of what `make dcmbox` proved and built into the folder release, from a tree without changes.
+release:
+	@tools/is-proved
+	@test -z "$$(git status --porcelain)" || { echo "there are changes that are not committed" >&2; exit 1; }
+	packaging/make-release dcmbox release
 
 uninstall:
 	rm -f $(DESTDIR)$(PREFIX)/bin/dcmbox $(DESTDIR)$(PREFIX)/share/man/man1/dcmbox.1 \
@@ -135,4 +141,4 @@ uninstall:
 		$(DESTDIR)$(PREFIX)/lib/systemd/system/dcmbox.service $(DESTDIR)$(PREFIX)/lib/systemd/system/dcmbox@.service
 
 clean:
-	rm -rf dcmbox dcmbox.proved dcmbox_*.deb crates/*/out
+	rm -rf dcmbox dcmbox.proved dcmbox_*.deb release docs/out crates/*/out

@@ -1,11 +1,11 @@
 #!/usr/bin/env python3
-"""Measures `dcmbox serve` beside DCMTK's storescp and beside the floor, a sink that checks nothing.
+"""Compares `dcmbox serve` with DCMTK's storescp and with the baseline, a sink that checks nothing.
 
 bench.py PROGRAM [--rounds N] [--part PART] [--beside PROGRAM]
 
-Each round sends each corpus to each server, one after the other, so that what the machine does meanwhile falls on all of
-them. The table has the medians of the rounds as ratios to the sink's: wall time by the client's clock, processor time
-and peak resident memory of the server's process. One part alone is measured where it is named.
+Each round sends each corpus to each server, one after the other, so that other load on the machine affects all of them.
+The table has the medians of the rounds as ratios to the sink's: wall time of the client, CPU time and peak resident memory
+of the server's process. --part measures one part only.
 """
 import argparse
 import os
@@ -27,7 +27,7 @@ from ports import free_port
 
 PORT = free_port()
 CORPORA = [("ct", "200 CT of 512 KiB"), ("large", "one of 160 MB"), ("tiny", "2,000 of 1 KiB")]
-# An object of JPEG frames, each a fragment of 64 KiB; its servers take compressed transfer syntaxes.
+# An object of JPEG frames, each a fragment of 64 KiB; its servers accept compressed transfer syntaxes.
 FRAMES = ("frames", "one of 160 MB in 2,441 fragments")
 
 
@@ -38,12 +38,12 @@ def compiled(work):
 
 
 def servers(program, work):
-    """The servers by name, each as the words that start it over a folder."""
-    return taking(program, work, [], [])
+    """Returns the servers by name, each as the function of a folder that returns its command."""
+    return servers_with(program, work, [], [])
 
 
-def taking(program, work, box_options, scp_options):
-    """The same with further options."""
+def servers_with(program, work, box_options, scp_options):
+    """Returns the servers with further options."""
     box = [program, "serve", "--port", str(PORT), *box_options, "--out"]
     scp = ["storescp", *scp_options, "-aet", "DCMBOX", "-od"]
     return {
@@ -56,33 +56,33 @@ def taking(program, work, box_options, scp_options):
 
 
 def compressed(program, work):
-    """The servers that take every transfer syntax."""
-    return taking(program, work, ["--all-syntaxes"], ["+xa"])
+    """Returns the servers with every transfer syntax accepted."""
+    return servers_with(program, work, ["--all-syntaxes"], ["+xa"])
 
 
 def is_listening(port):
-    """Whether a process listens at the port; without a connection, which would count as an association."""
-    wanted = f":{port:04X}"
+    """Returns whether a process listens on the port, without a connection, which would count as an association."""
+    suffix = f":{port:04X}"
     for table in ("/proc/net/tcp", "/proc/net/tcp6"):
         with open(table) as lines:
             for line in lines:
                 fields = line.split()
-                if fields[1].endswith(wanted) and fields[3] == "0A":
+                if fields[1].endswith(suffix) and fields[3] == "0A":
                     return True
     return False
 
 
-def start(words, log, port=PORT):
-    server = subprocess.Popen(words, stdout=log, stderr=log)
+def start(command, log, port=PORT):
+    server = subprocess.Popen(command, stdout=log, stderr=log)
     while not is_listening(port):
         if server.poll() is not None:
-            sys.exit(f"{words[0]} does not start")
+            sys.exit(f"{command[0]} does not start")
         time.sleep(0.002)
     return server
 
 
 def stop(server):
-    """Ends a server, and returns its processor seconds and its peak memory in KiB."""
+    """Ends a server, and returns its CPU seconds and its peak memory in KiB."""
     with open(f"/proc/{server.pid}/status") as status:
         peak = next(int(line.split()[1]) for line in status if line.startswith("VmHWM"))
     server.kill()
@@ -92,28 +92,28 @@ def stop(server):
 
 
 def empty(folder):
-    """Frees the disk. The files stay until the end: ext4 looks at each inode that was freed lately when it makes a file."""
+    """Frees the disk space. The files stay until the end: ext4 inspects each recently freed inode when it creates a file."""
     for name in os.listdir(folder):
         os.truncate(f"{folder}/{name}", 0)
 
 
-def measured(work, words_of, sender, log):
-    """Serves one sending, and returns wall seconds, processor seconds and peak memory."""
+def measured(work, command_of, sender, log):
+    """Runs a server and a sender, and returns wall seconds, CPU seconds and peak memory."""
     folder = tempfile.mkdtemp(dir=work)
-    # (what the server before it left to be written is not charged to this one)
+    # (pending writes of the previous server are not charged to this one)
     os.sync()
-    server = start(words_of(folder), log)
+    server = start(command_of(folder), log)
     try:
         seconds = sender(folder)
     finally:
-        processor, peak = stop(server)
+        cpu, peak = stop(server)
         empty(folder)
-    return seconds, processor, peak
+    return seconds, cpu, peak
 
 
-def send(work, *words):
+def send(work, *command):
     def sender(_folder):
-        client = subprocess.run([f"{work}/client", str(PORT), *words], stdout=subprocess.PIPE, check=True)
+        client = subprocess.run([f"{work}/client", str(PORT), *command], stdout=subprocess.PIPE, check=True)
         return float(client.stdout.split()[0])
 
     return sender
@@ -132,9 +132,9 @@ def last_replies(work, waits):
 
 def storescu(files):
     def sender(_folder):
-        begun = time.monotonic()
+        started = time.monotonic()
         subprocess.run(["storescu", "-aec", "DCMBOX", "127.0.0.1", str(PORT), *files], check=True)
-        return time.monotonic() - begun
+        return time.monotonic() - started
 
     return sender
 
@@ -148,17 +148,17 @@ def ratio(value, floor):
 
 
 def table(titles, names, results):
-    """Prints a row for each server, with its wall time, processor time and peak memory for each corpus."""
+    """Prints a row for each server, with its wall time, CPU time and peak memory for each corpus."""
     print("| Server | " + " | ".join(titles) + " |")
     print("|" + "---|" * (len(titles) + 1))
     for name in names:
         cells = []
         for title in titles:
-            got, floor = results[title, name], results[title, "sink"]
-            cells.append(f"{ratio(got[0], floor[0])}, {ratio(got[1], floor[1])}, {got[2] / 1024:.1f}")
+            results_of, floor = results[title, name], results[title, "sink"]
+            cells.append(f"{ratio(results_of[0], floor[0])}, {ratio(results_of[1], floor[1])}, {results_of[2] / 1024:.1f}")
         print(f"| `{name}` | " + " | ".join(cells) + " |")
     floors = [results[title, "sink"] for title in titles]
-    print("| `sink`, in s | " + " | ".join(f"{wall:.3f}, {processor:.3f}" for wall, processor, _ in floors) + " |")
+    print("| `sink`, in s | " + " | ".join(f"{wall:.3f}, {cpu:.3f}" for wall, cpu, _ in floors) + " |")
 
 
 def compare(program, work, rounds, log):
@@ -173,9 +173,9 @@ def compare(program, work, rounds, log):
     runs = {(title, name): [] for title in senders for name in starts}
     for _ in range(rounds):
         for title, sender in senders.items():
-            for name, words_of in (compressed(program, work) if title == FRAMES[1] else starts).items():
-                runs[title, name].append(measured(work, words_of, sender, log))
-    results = {key: medians(got) for key, got in runs.items()}
+            for name, command_of in (compressed(program, work) if title == FRAMES[1] else starts).items():
+                runs[title, name].append(measured(work, command_of, sender, log))
+    results = {key: medians(results_of) for key, results_of in runs.items()}
     table(list(senders), starts, results)
     servers_drawn = [name for name in starts if name != "sink"]
 
@@ -186,47 +186,47 @@ def compare(program, work, rounds, log):
 
 
 def fragments(program, work, rounds, log):
-    """The object in fragments beside the native one of its size, in turns, to the same box; and one of empty fragments."""
-    words_of = compressed(program, work)["dcmbox --no-sync"]
+    """Compares the object in fragments with a native one of the same size, alternately, and measures one of empty fragments."""
+    command_of = compressed(program, work)["dcmbox --no-sync"]
     runs = {"large": [], "frames": [], "empty": []}
     for _ in range(rounds):
-        for corpus, got in runs.items():
-            got.append(measured(work, words_of, send(work, corpus), log))
-    large, frames, empty = (medians(got) for got in runs.values())
-    print(f"\n160 MB in 2,441 fragments, beside 160 MB of native Pixel Data to `dcmbox serve --no-sync --all-syntaxes`: wall time "
-          f"{ratio(frames[0], large[0])}, processor time {ratio(frames[1], large[1])}, peak memory {frames[2] / 1024:.1f} and "
+        for corpus, results_of in runs.items():
+            results_of.append(measured(work, command_of, send(work, corpus), log))
+    large, frames, empty = (medians(results_of) for results_of in runs.values())
+    print(f"\n160 MB in 2,441 fragments, compared with 160 MB of native Pixel Data to `dcmbox serve --no-sync --all-syntaxes`: wall time "
+          f"{ratio(frames[0], large[0])}, CPU time {ratio(frames[1], large[1])}, peak memory {frames[2] / 1024:.1f} and "
           f"{large[2] / 1024:.1f} MiB ({rounds} rounds).")
-    print(f"2^20 fragments without a byte: {empty[1]:.3f} processor seconds, {empty[2] / 1024:.1f} MiB.")
+    print(f"2^20 fragments without a byte: {empty[1]:.3f} CPU seconds, {empty[2] / 1024:.1f} MiB.")
 
 
 def growth(program, work, rounds, log):
-    """Cost by the bytes of an object, and by the number of stores. It returns what draws it."""
-    words_of = servers(program, work)["dcmbox --no-sync"]
-    print("\nGrowth of `dcmbox serve --no-sync`: processor seconds for each 100 MB of one object, and for each 1,000 stores\n")
-    print("| What | Processor time |")
+    """Measures the cost by the bytes of an object, and by the number of stores. Returns the function that draws it."""
+    command_of = servers(program, work)["dcmbox --no-sync"]
+    print("\nGrowth of `dcmbox serve --no-sync`: CPU seconds for each 100 MB of one object, and for each 1,000 stores\n")
+    print("| What | CPU time |")
     print("|---|---|")
     sizes, counts = [], []
     for size in (40_000_000, 160_000_000, 640_000_000):
-        runs = [measured(work, words_of, send(work, "large", "1", str(size)), log) for _ in range(rounds)]
+        runs = [measured(work, command_of, send(work, "large", "1", str(size)), log) for _ in range(rounds)]
         sizes.append((size / 1e6, medians(runs)[1]))
         print(f"| one object of {size // 1_000_000} MB | {medians(runs)[1] / (size / 1e8):.3f} s |")
     for count in (1000, 2000, 4000):
-        runs = [measured(work, words_of, send(work, "tiny", str(count)), log) for _ in range(rounds)]
+        runs = [measured(work, command_of, send(work, "tiny", str(count)), log) for _ in range(rounds)]
         counts.append((count, medians(runs)[1]))
         print(f"| {count} stores of 1 KiB | {medians(runs)[1] / (count / 1e3):.3f} s |")
     return lambda draw, folder: draw.growth(f"{folder}/growth.svg", sizes, counts)
 
 
 def sent_at_once(work, corpus, count, ports):
-    """The seconds that clients take which send as many images each at once, one to each of the ports."""
-    begun = time.monotonic()
+    """Returns the seconds of clients that each send `count` images at once, one to each of the ports."""
+    started = time.monotonic()
     clients = [subprocess.Popen([f"{work}/client", str(port), corpus, str(count)], stdout=subprocess.DEVNULL) for port in ports]
     assert all(client.wait() == 0 for client in clients)
-    return time.monotonic() - begun
+    return time.monotonic() - started
 
 
 def together(work, corpus, count, at_once, senders=8):
-    """Clients that send as many images each, at once or one after the other."""
+    """Returns a sender of clients that each send `count` images, at once or one after the other."""
     def sender(_folder):
         if at_once:
             return sent_at_once(work, corpus, count, [PORT] * senders)
@@ -236,7 +236,7 @@ def together(work, corpus, count, at_once, senders=8):
 
 
 def apart(program, work, corpus, count, senders, log):
-    """The seconds that as many clients take at once, each with a box of its own."""
+    """Returns the seconds of `senders` clients at once, each with a box of its own."""
     ports = [free_port() for _ in range(senders)]
     folders = [tempfile.mkdtemp(dir=work) for _ in ports]
     os.sync()
@@ -250,51 +250,51 @@ def apart(program, work, corpus, count, senders, log):
 
 
 def several(program, work, rounds, log):
-    """Eight senders at once, and peers that come alone to a box for several."""
+    """Measures eight senders at once, and one sender to a box for several."""
     starts = servers(program, work)
     boxes = {}
     for name in ("dcmbox --no-sync", "dcmbox"):
         boxes[name] = starts[name]
         boxes[f"{name} --at-once 16"] = (
-            lambda words_of: lambda folder: words_of(folder) + ["--at-once", "16", "--per-peer", "16"])(starts[name])
+            lambda command_of: lambda folder: command_of(folder) + ["--at-once", "16", "--per-peer", "16"])(starts[name])
     print("\n### Eight senders at once\n")
-    print("Wall time beside that of the same eight, one after the other, and peak memory.\n")
+    print("Wall time compared with that of the same eight, one after the other, and peak memory.\n")
     print("| Box | Each sends | At once | Peak memory |")
     print("|---|---|---|---|")
     for corpus, count, title in (("ct", 50, "50 CT of 512 KiB"), ("tiny", 250, "250 of 1 KiB")):
         for name in ("dcmbox --no-sync --at-once 16", "dcmbox --at-once 16"):
             runs = {at_once: [] for at_once in (True, False)}
             for _ in range(rounds):
-                for at_once, got in runs.items():
-                    got.append(measured(work, boxes[name], together(work, corpus, count, at_once), log))
+                for at_once, results_of in runs.items():
+                    results_of.append(measured(work, boxes[name], together(work, corpus, count, at_once), log))
             one, other = medians(runs[True]), medians(runs[False])
             print(f"| `{name}` | {title} | {ratio(one[0], other[0])} | {one[2] / 1024:.1f} MiB |")
-    print("\nOne sender alone, beside the box that serves one after the other:\n")
-    print("| Box | Sends | Wall time | Processor time | Peak memory |")
+    print("\nOne sender alone, compared with a box that serves one association at a time:\n")
+    print("| Box | Sends | Wall time | CPU time | Peak memory |")
     print("|---|---|---|---|---|")
     for corpus, title in CORPORA:
         for name in ("dcmbox --no-sync", "dcmbox"):
             runs = {box: [] for box in (name, f"{name} --at-once 16")}
             for _ in range(rounds):
-                for box, got in runs.items():
-                    got.append(measured(work, boxes[box], send(work, corpus), log))
+                for box, results_of in runs.items():
+                    results_of.append(measured(work, boxes[box], send(work, corpus), log))
             one, other = medians(runs[f"{name} --at-once 16"]), medians(runs[name])
             print(f"| `{name} --at-once 16` | {title} | {ratio(one[0], other[0])} | {ratio(one[1], other[1])} | {one[2] / 1024:.1f} MiB |")
 
 
 def groups(program, work, rounds, log, beside=None):
-    """Synced stores of one, eight and sixteen senders at once, beside the same one after the other, beside as many boxes, and beside
-    those at once to another program."""
+    """Measures synced stores of one, eight and sixteen senders at once, compared with the same one after the other, with as many
+    boxes, and with another program."""
     kind = subprocess.run(["df", "--output=fstype", work], stdout=subprocess.PIPE, check=True, text=True).stdout.split()[-1]
     flush = []
     for _ in range(20):
         with open(f"{work}/flushed", "wb") as file:
             file.write(b"x")
-            begun = time.monotonic()
+            started = time.monotonic()
             os.fsync(file.fileno())
-            flush.append(time.monotonic() - begun)
+            flush.append(time.monotonic() - started)
     print(f"\n### Senders at once, synced, on {kind}, where an fsync of a byte takes {statistics.median(flush) * 1000:.1f} ms\n")
-    others = f" | Beside {beside}" if beside else ""
+    others = f" | Compared with {beside}" if beside else ""
     print(f"| Senders | Each sends | One after the other | Boxes of their own{others} |")
     print(f"|---|---|---|---|{'---|' if beside else ''}")
     box = lambda program: lambda folder: servers(program, work)["dcmbox"](folder) + ["--at-once", "16", "--per-peer", "16"]
@@ -307,41 +307,41 @@ def groups(program, work, rounds, log, beside=None):
                 runs["apart"].append(apart(program, work, corpus, count, senders, log))
                 if beside:
                     runs["beside"].append(measured(work, box(beside), together(work, corpus, count, True, senders), log)[0])
-            got = {name: statistics.median(seconds) for name, seconds in runs.items() if seconds}
-            ratios = [ratio(got["at once"], got[name]) for name in ("after", "apart", "beside") if name in got]
+            results_of = {name: statistics.median(seconds) for name, seconds in runs.items() if seconds}
+            ratios = [ratio(results_of["at once"], results_of[name]) for name in ("after", "apart", "beside") if name in results_of]
             print(f"| {senders} | {title} | {' | '.join(ratios)} |", flush=True)
 
 
 def replies(program, work, rounds, log, beside=None):
-    """From the last byte of an object of 160 MB to its reply, and the whole, where it is synced; in turns with another program."""
+    """Measures the time from the last byte of a synced object of 160 MB to the reply, and the whole, alternately with another program."""
     programs = [program] if beside is None else [program, beside]
     waits, runs = {name: [] for name in programs}, {name: [] for name in programs}
     for _ in range(rounds):
         for name in programs:
-            words_of = servers(name, work)["dcmbox"]
-            runs[name].append(measured(work, words_of, last_replies(work, waits[name]), log))
+            command_of = servers(name, work)["dcmbox"]
+            runs[name].append(measured(work, command_of, last_replies(work, waits[name]), log))
     waited = {name: statistics.median(waits[name]) for name in programs}
     whole = {name: medians(runs[name]) for name in programs}
     kind = subprocess.run(["df", "--output=fstype", work], stdout=subprocess.PIPE, check=True, text=True).stdout.split()[-1]
     print(f"\nFrom the last byte of 160 MB to its reply, synced, on {kind}: {waited[program] * 1000:.1f} ms "
           f"({min(waits[program]) * 1000:.1f} to {max(waits[program]) * 1000:.1f}, {rounds} rounds).")
     if beside is not None:
-        print(f"Beside {beside}: {ratio(waited[program], waited[beside])} of its {waited[beside] * 1000:.1f} ms "
+        print(f"Compared with {beside}: {ratio(waited[program], waited[beside])} of its {waited[beside] * 1000:.1f} ms "
               f"({min(waits[beside]) * 1000:.1f} to {max(waits[beside]) * 1000:.1f}); the whole in "
               f"{ratio(whole[program][0], whole[beside][0])} of its time, with {ratio(whole[program][1], whole[beside][1])} "
-              f"of its processor time.")
+              f"of its CPU time.")
 
 
 def fair(program, _work, rounds, log, beside=None):
-    """What a store takes beside floods of small messages."""
+    """Measures a store during floods of small messages."""
     fairness(start, stop, [program] if beside is None else [program, beside], PORT, rounds, log)
 
 
 def counted(program, work, count, log):
-    """The instructions of a whole program that serves one association with so many stores of 1 KiB."""
+    """Returns the instructions of a program that serves one association with `count` stores of 1 KiB."""
     profile = f"{work}/profile"
-    words = ["valgrind", "--tool=callgrind", f"--callgrind-out-file={profile}", program, "serve", "--port", str(PORT)]
-    server = start([*words, "--no-sync", "--once", "--out", tempfile.mkdtemp(dir=work)], log)
+    command = ["valgrind", "--tool=callgrind", f"--callgrind-out-file={profile}", program, "serve", "--port", str(PORT)]
+    server = start([*command, "--no-sync", "--once", "--out", tempfile.mkdtemp(dir=work)], log)
     send(work, "tiny", str(count))(None)
     if server.wait():
         sys.exit(f"{program} failed under callgrind")
@@ -350,19 +350,19 @@ def counted(program, work, count, log):
 
 
 def instructions(program, work, _rounds, log, beside=None):
-    """The instructions of a store of 1 KiB: those of 60 less those of 20, which are counted and so need no rounds."""
+    """Counts the instructions of a store of 1 KiB: those of 60 less those of 20. Counts need no rounds."""
     if shutil.which("valgrind") is None:
         print("\nThe instructions of a store are not counted: valgrind is missing.")
         return
     each = {name: (counted(name, work, 60, log) - counted(name, work, 20, log)) / 40 for name in [program, beside] if name}
     print(f"\nA store of 1 KiB with `--no-sync` takes {each[program]:,.0f} instructions (callgrind, 60 stores less 20).")
     if beside is not None:
-        print(f"Beside {beside}: {ratio(each[program], each[beside])} of its {each[beside]:,.0f}.")
+        print(f"Compared with {beside}: {ratio(each[program], each[beside])} of its {each[beside]:,.0f}.")
 
 
 def filled(program, work, rounds, log):
-    """Cost of 500 stores into an empty folder and into one that has 20,000 files."""
-    words_of = servers(program, work)["dcmbox --no-sync"]
+    """Measures 500 stores into an empty folder and into one with 20,000 files."""
+    command_of = servers(program, work)["dcmbox --no-sync"]
     folders = {there: tempfile.mkdtemp(dir=work) for there in (0, 20_000)}
     for there, folder in folders.items():
         for n in range(1, there + 1):
@@ -371,7 +371,7 @@ def filled(program, work, rounds, log):
     for _ in range(rounds):
         for there, folder in folders.items():
             os.sync()
-            server = start(words_of(folder), log)
+            server = start(command_of(folder), log)
             seconds = send(work, "tiny", "500")(folder)
             runs[there].append((seconds, *stop(server)))
     results = {there: medians(runs[there]) for there in folders}
@@ -379,13 +379,13 @@ def filled(program, work, rounds, log):
 
 
 def element(group, number, vr, value):
-    """An element in Explicit VR Little Endian, padded to an even length."""
+    """Returns an element in Explicit VR Little Endian, padded to an even length."""
     value += (b"\0" if vr == b"UI" else b" ") * (len(value) % 2)
     return struct.pack("<HH2sH", group, number, vr, len(value)) + value
 
 
 def own_patient(n):
-    """The file of an image that has a patient, a study and a series of its own."""
+    """Returns the file of an image with a patient, a study and a series of its own."""
     number = str(n).encode()
     meta = b"".join((
         element(2, 2, b"UI", b"1.2.840.10008.5.1.4.1.1.2"),
@@ -401,18 +401,18 @@ def own_patient(n):
     ))
 
 
-def spent(words, folder):
-    """Processor seconds and peak resident bytes of a command in a folder, or None where it fails."""
-    process = subprocess.Popen(words, cwd=folder, stdout=subprocess.DEVNULL, stderr=subprocess.DEVNULL)
+def spent(command, folder):
+    """Returns CPU seconds and peak resident bytes of a command in a folder, or `None` if it fails."""
+    process = subprocess.Popen(command, cwd=folder, stdout=subprocess.DEVNULL, stderr=subprocess.DEVNULL)
     _, status, usage = os.wait4(process.pid, 0)
     process.returncode = os.waitstatus_to_exitcode(status)
     return (usage.ru_utime + usage.ru_stime, usage.ru_maxrss * 1024) if process.returncode == 0 else None
 
 
 def indexing(program, work, rounds, _log):
-    """Cost of a directory by the number of its images, each of another patient, beside that of dcmmkdir."""
-    print("\nGrowth of `dcmbox index`: processor seconds for each 1,000 images, each of a patient of its own, and peak memory")
-    print("by the image above that for 1,000; beside DCMTK's `dcmmkdir`, which is not asked where it would take hours\n")
+    """Measures a directory by the number of its images, each of another patient, compared with dcmmkdir."""
+    print("\nGrowth of `dcmbox index`: CPU seconds for each 1,000 images, each of a patient of its own, and peak memory")
+    print("for each image above that for 1,000; compared with DCMTK's `dcmmkdir`, which is skipped if it would take hours\n")
     print("| Images | `index` | Memory | `dcmmkdir` | Memory |")
     print("|---|---|---|---|---|")
     least = {}
@@ -426,11 +426,11 @@ def indexing(program, work, rounds, _log):
             "index": [program, "index", folder, "--uid", "2.25.1", "--replace"],
             "dcmmkdir": ["dcmmkdir", "-Pgp", "+r", "+id", ".", "+D", "OTHER"],
         }
-        for name, words in commands.items():
+        for name, command in commands.items():
             if name == "dcmmkdir" and count > 4000:
                 row += " | |"
                 continue
-            runs = [spent(words, folder) for _ in range(rounds if count < 20_000 else 1)]
+            runs = [spent(command, folder) for _ in range(rounds if count < 20_000 else 1)]
             if None in runs:
                 row += " fails | |"
                 continue
@@ -443,39 +443,39 @@ def indexing(program, work, rounds, _log):
 
 
 def starting(program, work, rounds, log):
-    """From the start of the process to the first connection that is accepted."""
+    """Measures the time from the start of the process to the first accepted connection."""
     times = []
     folder = tempfile.mkdtemp(dir=work)
-    words = servers(program, work)["dcmbox"](folder)
+    command = servers(program, work)["dcmbox"](folder)
     for _ in range(4 * rounds):
-        begun = time.monotonic()
-        server = subprocess.Popen(words, stdout=log, stderr=log)
+        started = time.monotonic()
+        server = subprocess.Popen(command, stdout=log, stderr=log)
         while True:
             try:
                 socket.create_connection(("127.0.0.1", PORT)).close()
                 break
             except ConnectionRefusedError:
                 pass
-        times.append(time.monotonic() - begun)
+        times.append(time.monotonic() - started)
         stop(server)
     print(f"\nFrom the start to the first connection: {statistics.median(times) * 1000:.1f} ms.")
 
 
 def walks(program, work, rounds, _log):
-    """The walk alone: `check` and `show` of an object of 160 MB, beside `cat`."""
+    """Measures `check` and `show` of an object of 160 MB, compared with `cat`."""
     name = f"{work}/large.dcm"
     subprocess.run([f"{work}/client", "--file", name, "large", "0"], check=True)
     costs = {}
-    for words in (["cat", name], [program, "check", name], [program, "show", name]):
+    for command in (["cat", name], [program, "check", name], [program, "show", name]):
         runs = []
         for _ in range(rounds):
             before = resource.getrusage(resource.RUSAGE_CHILDREN)
             with open(f"{work}/copy", "wb") as out:
-                subprocess.run(words, stdout=out, check=True)
+                subprocess.run(command, stdout=out, check=True)
             after = resource.getrusage(resource.RUSAGE_CHILDREN)
             runs.append(after.ru_utime + after.ru_stime - before.ru_utime - before.ru_stime)
-        costs[words[1] if words[0] == program else "cat"] = statistics.median(runs)
-    print("\nThe walk of 160 MB in processor time, beside `cat` into a file:", end=" ")
+        costs[command[1] if command[0] == program else "cat"] = statistics.median(runs)
+    print("\nCPU time for 160 MB, compared with `cat` into a file:", end=" ")
     print(", ".join(f"`{what}` {ratio(costs[what], costs['cat'])}" for what in ("check", "show")) + ".")
 
 
@@ -484,7 +484,7 @@ def explicit(group, element, vr, value):
 
 
 def part10(syntax, data):
-    """A file of a CT image with this data set."""
+    """Returns a file of a CT image with this data set."""
     meta = explicit(2, 1, b"OB", b"")[:6] + b"\0\0\2\0\0\0\0\1"
     for element, value in ((2, b"1.2.840.10008.5.1.4.1.1.2\0"), (3, b"1.2.3\0"), (0x10, syntax)):
         meta += explicit(2, element, b"UI", value)
@@ -497,14 +497,14 @@ def in_implicit(group, element, value):
 
 
 def one_sequence(count):
-    """A View Code Sequence of defined length, with so many elements in items of ten."""
+    """Returns a View Code Sequence of defined length, with `count` elements in items of ten."""
     texts = (0x80, 0x90, 0x1010, 0x1030, 0x103E, 0x1040, 0x1050, 0x1060, 0x1070, 0x1090)
     item = b"".join(in_implicit(8, number, b"A ") for number in texts)
     return in_implicit(0x54, 0x220, in_implicit(0xFFFE, 0xE000, item) * (count // 10))
 
 
-def shows(program, work, rounds, _log):
-    """`show` and `show --values` of many elements, with and without a name, beside DCMTK's dcmdump."""
+def listing(program, work, rounds, _log):
+    """Measures `show` and `show --values` of many elements, with and without a name, compared with DCMTK's dcmdump."""
     explicit_syntax, implicit_syntax = b"1.2.840.10008.1.2.1\0", b"1.2.840.10008.1.2\0"
     private = b"".join(explicit(0x0009, 0x1000 + n, b"LO", b"AB") for n in range(2000))
     known = b"".join(explicit(0x0018, 0x1000 + n, b"LO", b"AB") for n in range(2000))
@@ -514,7 +514,7 @@ def shows(program, work, rounds, _log):
         "20,000 elements in a sequence, Implicit VR": (implicit_syntax, one_sequence(20_000)),
         "40,000 elements in a sequence, Implicit VR": (implicit_syntax, one_sequence(40_000)),
     }
-    print("\nProcessor milliseconds of ten runs over a file, and beside those of `show`\n")
+    print("\nCPU milliseconds of ten runs on a file, and compared with those of `show`\n")
     print("| File | `show` | `show --values` | `check --strict` | `dcmdump` |")
     print("|---|---|---|---|---|")
     for title, (syntax, data) in files.items():
@@ -522,13 +522,13 @@ def shows(program, work, rounds, _log):
         with open(name, "wb") as file:
             file.write(part10(syntax, data))
         costs = []
-        for words in (["show"], ["show", "--values"], ["check", "--strict"], None):
-            words = [program, *words, name] if words else ["dcmdump", "-q", name]
+        for command in (["show"], ["show", "--values"], ["check", "--strict"], None):
+            command = [program, *command, name] if command else ["dcmdump", "-q", name]
             runs = []
             for _ in range(rounds):
                 before = resource.getrusage(resource.RUSAGE_CHILDREN)
                 for _ in range(10):
-                    subprocess.run(words, stdout=subprocess.DEVNULL, stderr=subprocess.DEVNULL)
+                    subprocess.run(command, stdout=subprocess.DEVNULL, stderr=subprocess.DEVNULL)
                 after = resource.getrusage(resource.RUSAGE_CHILDREN)
                 runs.append(after.ru_utime + after.ru_stime - before.ru_utime - before.ru_stime)
             costs.append(statistics.median(runs))
@@ -549,30 +549,30 @@ PARTS = {
     "indexing": indexing,
     "starting": starting,
     "walks": walks,
-    "show": shows,
+    "show": listing,
 }
 
 
 def main():
-    words = argparse.ArgumentParser()
-    words.add_argument("program")
-    words.add_argument("--rounds", type=int, default=5)
-    words.add_argument("--part", choices=list(PARTS))
-    words.add_argument("--beside", metavar="PROGRAM", help="another build, for the parts fairness, groups, replies and instructions")
-    words.add_argument("--draw", metavar="FOLDER")
-    given = words.parse_args()
-    if given.draw:
+    parser = argparse.ArgumentParser()
+    parser.add_argument("program")
+    parser.add_argument("--rounds", type=int, default=5)
+    parser.add_argument("--part", choices=list(PARTS))
+    parser.add_argument("--beside", metavar="PROGRAM", help="another build, for the parts fairness, groups, replies and instructions")
+    parser.add_argument("--draw", metavar="FOLDER")
+    arguments = parser.parse_args()
+    if arguments.draw:
         # (Debian's python3-matplotlib, which nothing else here needs)
         import draw
-    program = os.path.abspath(given.program)
+    program = os.path.abspath(arguments.program)
     with tempfile.TemporaryDirectory() as work, open(os.devnull, "w") as log:
         compiled(work)
         for name, part in PARTS.items():
-            if given.part in (None, name):
-                others = [given.beside] if part in (fair, groups, replies, instructions) else []
-                drawn = part(program, work, given.rounds, log, *others)
-                if given.draw and drawn:
-                    drawn(draw, given.draw)
+            if arguments.part in (None, name):
+                others = [arguments.beside] if part in (fair, groups, replies, instructions) else []
+                drawn = part(program, work, arguments.rounds, log, *others)
+                if arguments.draw and drawn:
+                    drawn(draw, arguments.draw)
 
 
 if __name__ == "__main__":

@@ -1,5 +1,5 @@
-/* Sends a corpus to a storage SCP on one association, and prints the seconds that it took, and how many of them went by
-   between the last byte of each object and its reply.
+/* Sends a corpus to a storage SCP on one association, and prints the total seconds, and the seconds between the
+   last byte of each object and its reply.
    client PORT CORPUS [COUNT [PIXELS]]  sends; the next store goes out after the reply to the last.
    client --file FILE CORPUS N         writes object N as a file instead. */
 #define _GNU_SOURCE
@@ -56,7 +56,7 @@ static void put_be32(unsigned char *p, size_t n) {
   p[3] = (unsigned char)n;
 }
 
-/* A PDU of at most `room` bytes behind its head; returns its length. */
+/* Receives a PDU of at most `room` bytes after its header; returns its length. */
 static size_t read_pdu(int fd, unsigned char *kind, unsigned char *body, size_t room) {
   unsigned char head[6];
   read_all(fd, head, 6);
@@ -77,7 +77,7 @@ static size_t item(unsigned char *p, int kind, const char *text) {
   return n + 4;
 }
 
-/* Opens the association, and returns the greatest P-DATA length that the peer takes. */
+/* Opens the association, and returns the greatest P-DATA length that the peer accepts. */
 static size_t associate(int fd, const char *syntax) {
   unsigned char body[4096], kind;
   memset(body, 0, 68);
@@ -189,7 +189,7 @@ static void send_data(int fd, struct object *o, size_t most) {
   }
 }
 
-/* Waits for the reply, and wants its status to be success. */
+/* Waits for the reply, and requires its status to be success. */
 static void read_reply(int fd) {
   unsigned char body[4096], kind;
   size_t n = read_pdu(fd, &kind, body, sizeof body);

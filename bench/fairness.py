@@ -1,4 +1,4 @@
-"""What a store takes beside eight associations of another address that keep the box busy with small messages."""
+"""Measures a store while eight associations of another address keep the box busy with small messages."""
 import multiprocessing
 import select
 import statistics
@@ -13,16 +13,16 @@ from peer import CT, ECHO_COMMAND, ECHO_REQUEST, EXPLICIT, Peer, element, store_
 FLOODERS, OTHER = 8, "127.0.0.2"
 OPTIONS = ["--at-once", "16", "--per-peer", "8", "--ae", "DCMBOX"]
 INSTANCE = "1.2.840.99.1"
-# A store whose data set has a VR that the standard does not have: it is answered with C000.
+# A store whose data set has an unknown VR: the reply is C000.
 REFUSED = store_command(1, CT, INSTANCE) + values(1, 2, b"\x10\0\x10\0??\4\0Name")
-# One store without an end, in fragments of one byte: the value of an element of 4 GB.
+# A store without an end, in fragments of one byte: the value of an element of 4 GB.
 HEAD = store_command(1, CT, INSTANCE) + values(1, 0, element((0x0008, 0x0016), "UI", CT.encode() + b"\0")) + values(
     1, 0, b"\xe0\x7f\x10\0OB\0\0\xfe\xff\xff\xff")
 BYTE = values(1, 0, b"\0")
 
 
 def image(number):
-    """The instance UID and the data set of an image of 512 KiB."""
+    """Returns the instance UID and the data set of an image of 512 KiB."""
     uid = f"1.2.840.99.2.{number}"
     even = uid.encode() + b"\0" * (len(uid) % 2)
     data = element((0x0008, 0x0016), "UI", CT.encode() + b"\0") + element((0x0008, 0x0018), "UI", even)
@@ -30,7 +30,7 @@ def image(number):
 
 
 def flood(port, first, again, started):
-    """Associates, and sends this over and over, as fast as the box takes it; reads what comes."""
+    """Associates, and sends bytes repeatedly, as fast as the box reads them; reads the replies."""
     with Peer(port, OTHER) as peer:
         if first is None:
             peer.exchange(ECHO_REQUEST, 6)
@@ -55,16 +55,16 @@ def flood(port, first, again, started):
 
 
 def stores(port, count):
-    """The seconds of each of so many stores of an image, each in an association of its own."""
-    taken = []
+    """Returns the seconds of each of `count` stores of an image, each in an association of its own."""
+    times = []
     for number in range(count):
         uid, data = image(number)
-        begun = time.monotonic()
+        started_at = time.monotonic()
         with Peer(port) as peer:
             if (status := peer.store(EXPLICIT, CT, uid, data)) != "0000":
-                sys.exit(f"a store was answered with {status}")
-        taken.append(time.monotonic() - begun)
-    return taken
+                sys.exit(f"the reply to a store is {status}")
+        times.append(time.monotonic() - started_at)
+    return times
 
 
 CASES = {
@@ -76,7 +76,7 @@ CASES = {
 
 
 def measured(start, stop, program, port, log, case):
-    """The seconds of 20 stores beside this, in seconds."""
+    """Returns the seconds of each of 20 stores during this load."""
     with tempfile.TemporaryDirectory() as folder:
         server = start([program, "serve", "--port", str(port), *OPTIONS, "--out", folder], log)
         flooders = []
@@ -100,7 +100,7 @@ def measured(start, stop, program, port, log, case):
 
 
 def fairness(start, stop, programs, port, rounds, log):
-    """Prints what a store of 512 KiB takes beside each kind of flood, as a ratio to what it takes beside nothing."""
+    """Prints the time of a store of 512 KiB during each kind of flood, as a ratio to that without a flood."""
     print("\n| Beside eight associations of another address that send | " + " | ".join(
         f"`{Path(program).name}`" for program in programs) + " |")
     print("|" + "---|" * (len(programs) + 1))
@@ -108,8 +108,8 @@ def fairness(start, stop, programs, port, rounds, log):
     for name, case in CASES.items():
         cells = []
         for program in programs:
-            taken = [seconds for _ in range(rounds) for seconds in measured(start, stop, program, port, log, case)]
-            median = statistics.median(taken)
+            times = [seconds for _ in range(rounds) for seconds in measured(start, stop, program, port, log, case)]
+            median = statistics.median(times)
             alone.setdefault(program, median)
-            cells.append(f"{median / alone[program]:.1f} ({median * 1000:.0f} ms, at most {max(taken) * 1000:.0f})")
+            cells.append(f"{median / alone[program]:.1f} ({median * 1000:.0f} ms, at most {max(times) * 1000:.0f})")
         print(f"| {name} | {' | '.join(cells)} |", flush=True)

@@ -7,7 +7,7 @@
 
 #define CT_CLASS "1.2.840.10008.5.1.4.1.1.2"
 #define PATTERN 1048576
-/* A fragment of encapsulated Pixel Data (PS3.5 section A.4), with its header, and how many of them are told apart. */
+/* A fragment of encapsulated Pixel Data (PS3.5 section A.4), with its header, and the number of different ones. */
 #define FRAGMENT 65536
 #define FRAGMENTS (16 * (FRAGMENT + 8))
 #define EMPTY_FRAGMENTS 65536
@@ -15,8 +15,8 @@
 /* Pixel Data is native, or frames of a fragment each, or fragments without a byte. */
 enum kind { NATIVE, FRAMES, EMPTY };
 
-/* What stands before the pixels of an object; how many pixel bytes come after it, taken from a repeated pattern, in
-   which fragments have their headers; and how many bytes of a delimitation come then. */
+/* The bytes before the pixels of an object; the number of pixel bytes after them, from a repeated pattern, which includes
+   headers of fragments; and the number of bytes of a final delimitation. */
 struct object {
   char instance[65];
   size_t head;
@@ -43,7 +43,7 @@ static inline void make_pattern(void) {
   for (size_t i = 0; i < EMPTY_FRAGMENTS; i += 8) memcpy(empty_fragments + i, header, 4);
 }
 
-/* The bytes of an object from a place on, as far as they stand in one piece; none at its end. */
+/* Returns the bytes of an object from an offset, as far as they are contiguous; none at its end. */
 static inline size_t bytes_at(const struct object *o, uint64_t at, const unsigned char **bytes) {
   if (at < o->head) {
     *bytes = o->bytes + at;
@@ -93,7 +93,7 @@ static inline void us(struct object *o, unsigned number, unsigned n) {
   put16(o, n);
 }
 
-/* A sequence of undefined length with one item of undefined length, so many deep, round one element. */
+/* Writes nested sequences, each of undefined length with one item of undefined length, around one element. */
 static inline void nested(struct object *o, int depth) {
   put16(o, 0x40);
   put16(o, 0x0275);
@@ -162,7 +162,7 @@ static inline void make_object(struct object *o, unsigned n, uint64_t pixels, en
   if (kind != NATIVE) put(o, "\xfe\xff\0\xe0\0\0\0\0", 8);
 }
 
-/* The corpora: how many objects, the bytes of pixels of each, and their transfer syntax. */
+/* The corpora: the number of objects, the bytes of pixels of each, and their transfer syntax. */
 struct corpus {
   const char *name;
   unsigned count;

@@ -1,11 +1,11 @@
 #!/usr/bin/env python3
-"""Tries storage receivers from outside, and prints the table of docs/COMPARISON.md.
+"""Tests storage receivers from outside, and prints the table of docs/COMPARISON.md.
 
 probe.py PROGRAM [--orthanc ORTHANC]
 
-PROGRAM is dcmbox. Beside it DCMTK's storescp is tried, in its defaults and as an archive would run
-it, and Orthanc where its program is named. Each is started over an empty folder at a port of its
-own and spoken to over TCP.
+PROGRAM is dcmbox. It is compared with DCMTK's storescp, with its defaults and as an archive would run
+it, and with Orthanc if its program is given. Each is started with an empty folder on a port of its
+own, and tested over TCP.
 """
 import argparse
 import contextlib
@@ -29,7 +29,7 @@ from ports import free_port
 PORT, HTTP_PORT = free_port(), free_port()
 CT = "1.2.840.10008.5.1.4.1.1.2"
 EXPLICIT, IMPLICIT = "1.2.840.10008.1.2.1", "1.2.840.10008.1.2"
-# Storage classes that scanners of today send: PS3.4 annex B.5, without those that are retired.
+# Storage classes of present scanners: PS3.4 annex B.5, without retired ones.
 STORAGE = "1.2.840.10008.5.1.4.1.1."
 CLASSES = [
     STORAGE + end
@@ -59,7 +59,7 @@ def padded(text):
 
 
 def request(contexts):
-    """An A-ASSOCIATE-RQ that proposes each class with one transfer syntax."""
+    """Returns an A-ASSOCIATE-RQ that proposes each class with one transfer syntax."""
     items = item(0x10, b"1.2.840.10008.3.1.1.1")
     for number, (name, syntax) in enumerate(contexts):
         items += item(
@@ -97,7 +97,7 @@ def data_pdu(control, fragment):
 
 
 def image(instance, name=b"DOE^JANE"):
-    """A data set in Implicit VR Little Endian."""
+    """Returns a data set in Implicit VR Little Endian."""
     elements = (
         element(8, 0x16, padded(CT)) + element(8, 0x18, padded(instance)) + element(8, 0x60, b"CT")
     )
@@ -112,7 +112,7 @@ class Peer:
     def __init__(self, contexts=((CT, IMPLICIT),), seconds=10.0):
         self.socket = socket.create_connection(("127.0.0.1", PORT), timeout=seconds)
         self.socket.sendall(request(contexts))
-        self.kind, self.answer = self.pdu()
+        self.kind, self.reply = self.pdu()
 
     def exactly(self, n):
         bytes_read = b""
@@ -128,10 +128,10 @@ class Peer:
         return kind, self.exactly(length)
 
     def accepted(self):
-        """How many of the proposed contexts were accepted."""
+        """Returns how many of the proposed contexts were accepted."""
         if self.kind != 2:
             return 0
-        count, rest = 0, self.answer[68:]
+        count, rest = 0, self.reply[68:]
         while rest:
             kind, _, length = struct.unpack(">BBH", rest[:4])
             count += kind == 0x21 and rest[6] == 0
@@ -139,7 +139,7 @@ class Peer:
         return count
 
     def store(self, instance, data_set):
-        """The status of a store; nothing where the receiver aborts or says nothing."""
+        """Returns the status of a store; `None` if the receiver aborts or does not reply."""
         try:
             self.socket.sendall(data_pdu(3, command(instance)))
             for start in range(0, len(data_set), 16000):
@@ -162,7 +162,7 @@ class Peer:
 
 
 class Receiver:
-    def __init__(self, words, folder, traced=None):
+    def __init__(self, command, folder, traced=None):
         self.folder, self.traced = pathlib.Path(folder), traced
         trace = (
             [
@@ -178,7 +178,7 @@ class Receiver:
             else []
         )
         self.process = subprocess.Popen(
-            trace + words,
+            trace + command,
             stdout=subprocess.DEVNULL,
             stderr=subprocess.DEVNULL,
             start_new_session=True,
@@ -189,7 +189,7 @@ class Receiver:
                 time.sleep(0.2)
                 return
             time.sleep(0.05)
-        raise SystemExit(f"{words[0]} doesn't listen")
+        raise SystemExit(f"{command[0]} doesn't listen")
 
     def files(self):
         return [
@@ -202,7 +202,7 @@ class Receiver:
         ]
 
     def peak(self):
-        """Peak memory in MiB, of the process or of one that it forked."""
+        """Returns the peak memory in MiB, of the process or of one that it forked."""
         peaks = []
         for process in pathlib.Path("/proc").glob("[0-9]*/status"):
             with contextlib.suppress(OSError):
@@ -223,7 +223,7 @@ class Receiver:
             self.process.wait()
 
 
-def orthanc_words(orthanc, folder):
+def orthanc_command(orthanc, folder):
     settings = {
         "Name": "probe",
         "StorageDirectory": folder,
@@ -256,25 +256,25 @@ def receivers(program, orthanc):
         ],
     }
     if orthanc:
-        found["Orthanc"] = lambda folder: orthanc_words(orthanc, folder)
+        found["Orthanc"] = lambda folder: orthanc_command(orthanc, folder)
     return found
 
 
 # ---- questions
 
 
-def said(status):
+def status_text(status):
     return "no status" if status is None else f"{status:04X}"
 
 
-def asks_classes(receiver, _):
+def ask_classes(receiver, _):
     peer = Peer([(name, EXPLICIT) for name in CLASSES])
     count = peer.accepted()
     peer.close()
     return f"{count} of {len(CLASSES)}"
 
 
-def asks_syntaxes(receiver, _):
+def ask_syntaxes(receiver, _):
     count = 0
     for syntax in SYNTAXES:
         peer = Peer([(CT, syntax)])
@@ -283,8 +283,8 @@ def asks_syntaxes(receiver, _):
     return f"{count} of {len(SYNTAXES)}"
 
 
-def asks_twice(receiver, _):
-    """The same instance twice, with another name in it."""
+def ask_twice(receiver, _):
+    """Sends the same instance twice, with different names."""
     peer = Peer()
     statuses = [
         peer.store("2.25.7", image("2.25.7", name)) for name in (b"DOE^FIRST", b"DOE^OTHER")
@@ -299,11 +299,11 @@ def asks_twice(receiver, _):
         (False, True): "the first written over",
         (False, False): "none found",
     }
-    return f"{' and '.join(map(said, statuses))}: {kept[tuple(names)]}"
+    return f"{' and '.join(map(status_text, statuses))}: {kept[tuple(names)]}"
 
 
-def asks_damaged(receiver, _):
-    """A value that is cut off; an odd length; another instance than the command's."""
+def ask_damaged(receiver, _):
+    """Sends a truncated value, an odd length, and another instance than the command's."""
     good, answers = image("2.25.8"), []
     damages = (
         good + struct.pack("<HHL", 0x28, 0x10, 1000) + b"1234",
@@ -316,27 +316,27 @@ def asks_damaged(receiver, _):
         status = peer.store("2.25.8", data_set)
         peer.close()
         time.sleep(0.3)
-        answers.append(f"{said(status)}, {'kept' if len(receiver.files()) > before else 'no file'}")
+        answers.append(f"{status_text(status)}, {'kept' if len(receiver.files()) > before else 'no file'}")
     return "; ".join(answers)
 
 
-def asks_together(receiver, _):
-    """A second association while the first is open."""
+def ask_together(receiver, _):
+    """Opens a second association while the first is open."""
     first = Peer()
     try:
         second = Peer(seconds=3.0)
-        answer = (
+        reply = (
             "yes" if second.kind == 2 and second.store("2.25.10", image("2.25.10")) == 0 else "no"
         )
         second.close()
     except OSError:
-        answer = "no, it waits"
+        reply = "no, it waits"
     first.close()
-    return answer
+    return reply
 
 
-def asks_memory(receiver, _):
-    """Peak memory after one object of 160 MB."""
+def ask_memory(receiver, _):
+    """Returns the peak memory after one object of 160 MB."""
     peer = Peer(seconds=120.0)
     pixels = 160_000_000
     peer.socket.sendall(data_pdu(3, command("2.25.11")))
@@ -347,13 +347,13 @@ def asks_memory(receiver, _):
             data_pdu(2 if sent + 16000 >= pixels else 0, bytes(min(16000, pixels - sent)))
         )
     peer.pdu()
-    answer = f"{receiver.peak():.1f} MiB"
+    reply = f"{receiver.peak():.1f} MiB"
     peer.close()
-    return answer
+    return reply
 
 
-def asks_durable(receiver, traced):
-    """How many files were synced when the reply came, but for those of a database."""
+def ask_durable(receiver, traced):
+    """Returns how many files were synced before the reply, except those of a database."""
     peer = Peer()
     there = len(pathlib.Path(traced).read_text().splitlines())
     peer.store("2.25.12", image("2.25.12"))
@@ -367,38 +367,38 @@ def asks_durable(receiver, traced):
 
 
 QUESTIONS = [
-    ("Storage classes accepted", asks_classes),
-    ("Transfer syntaxes accepted for CT", asks_syntaxes),
-    ("A second association while one is open", asks_together),
-    ("The same instance sent twice, with other values", asks_twice),
+    ("Storage classes accepted", ask_classes),
+    ("Transfer syntaxes accepted for CT", ask_syntaxes),
+    ("A second association while one is open", ask_together),
+    ("The same instance sent twice, with other values", ask_twice),
     (
         "A data set that is cut off; one with an odd length; one of another instance than the command",
-        asks_damaged,
+        ask_damaged,
     ),
-    ("On the disk before success", asks_durable),
-    ("Peak memory with one object of 160 MB", asks_memory),
+    ("On the disk before success", ask_durable),
+    ("Peak memory with one object of 160 MB", ask_memory),
 ]
 
 
 def main():
-    words = argparse.ArgumentParser()
-    words.add_argument("program")
-    words.add_argument("--orthanc")
-    given = words.parse_args()
-    found = receivers(os.path.abspath(given.program), given.orthanc)
+    parser = argparse.ArgumentParser()
+    parser.add_argument("program")
+    parser.add_argument("--orthanc")
+    arguments = parser.parse_args()
+    found = receivers(os.path.abspath(arguments.program), arguments.orthanc)
     print(
         "| | " + " | ".join(f"`{name}`" for name in found) + " |\n|---" + "|---" * len(found) + "|"
     )
     for question, ask in QUESTIONS:
         answers = []
-        for words_of in found.values():
+        for command_of in found.values():
             work = tempfile.mkdtemp()
             folder, traced = (
                 os.path.join(work, "received"),
-                os.path.join(work, "trace") if ask is asks_durable else None,
+                os.path.join(work, "trace") if ask is ask_durable else None,
             )
             os.mkdir(folder)
-            receiver = Receiver(words_of(folder), folder, traced)
+            receiver = Receiver(command_of(folder), folder, traced)
             try:
                 answers.append(ask(receiver, traced))
             except OSError as error:

@@ -1,4 +1,4 @@
-/* The floor of the benchmark: answers PDUs and writes the bytes of each data set to a file of its own, checking nothing.
+/* The baseline of the benchmark: replies to PDUs and writes each data set to a file of its own, without any checks.
    sink PORT FOLDER */
 #define _GNU_SOURCE
 #include <arpa/inet.h>
@@ -12,24 +12,24 @@
 #include <unistd.h>
 
 #define ROOM 65536
-static unsigned char room[ROOM];
+static unsigned char buffer[ROOM];
 static size_t from, to;
 
 static int fill(int fd) {
   int on = 1;
   setsockopt(fd, IPPROTO_TCP, TCP_QUICKACK, &on, sizeof on);
-  ssize_t n = read(fd, room, ROOM);
+  ssize_t n = read(fd, buffer, ROOM);
   if (n <= 0) return 0;
   from = 0;
   to = (size_t)n;
   return 1;
 }
 
-static int take(int fd, unsigned char *bytes, size_t n) {
+static int read_exactly(int fd, unsigned char *bytes, size_t n) {
   while (n > 0) {
     if (from == to && !fill(fd)) return 0;
     size_t some = to - from < n ? to - from : n;
-    memcpy(bytes, room + from, some);
+    memcpy(bytes, buffer + from, some);
     from += some;
     bytes += some;
     n -= some;
@@ -37,12 +37,12 @@ static int take(int fd, unsigned char *bytes, size_t n) {
   return 1;
 }
 
-/* What is left of a fragment goes to the file straight from the room. */
+/* Writes the rest of a fragment to the file directly from the buffer. */
 static int pass(int fd, size_t n, int out) {
   while (n > 0) {
     if (from == to && !fill(fd)) return 0;
     size_t some = to - from < n ? to - from : n;
-    if (write(out, room + from, some) != (ssize_t)some) return 0;
+    if (write(out, buffer + from, some) != (ssize_t)some) return 0;
     from += some;
     n -= some;
   }
@@ -82,14 +82,14 @@ static void answer_request(int fd, const unsigned char *body, size_t n) {
   if (write(fd, text, to_send) < 0) exit(1);
 }
 
-/* Where the Message ID, (0000,0110), stands in a command set of n bytes. */
+/* Returns the value of the Message ID, (0000,0110), in a command set of n bytes. */
 static const unsigned char *message_id(const unsigned char *command, size_t n) {
   for (size_t at = 0; at + 10 <= n; at += 8 + le32(command + at + 4))
     if (memcmp(command + at, "\0\0\x10\1", 4) == 0) return command + at + 8;
   exit(1);
 }
 
-/* The reply to every store: success. */
+/* Sends the reply to a store: always success. */
 static void reply(int fd, unsigned char context, const unsigned char *message) {
   static const unsigned char text[] =
     "\4\0\0\0\0\x4c\0\0\0\x48\1\3" "\0\0\0\0\4\0\0\0\x38\0\0\0" "\0\0\2\0\2\0\0\0\x31\0"
@@ -119,19 +119,19 @@ int main(int argc, char **argv) {
     setsockopt(fd, IPPROTO_TCP, TCP_NODELAY, &on, sizeof on);
     from = to = 0;
     unsigned char head[6], message[2] = {0};
-    while (take(fd, head, 6)) {
+    while (read_exactly(fd, head, 6)) {
       size_t n = be32(head + 2);
       if (head[0] != 4) {
-        if (n > sizeof body || !take(fd, body, n)) break;
+        if (n > sizeof body || !read_exactly(fd, body, n)) break;
         if (head[0] == 1) answer_request(fd, body, n);
         if (head[0] == 5 && write(fd, "\6\0\0\0\0\4\0\0\0\0", 10) < 0) break;
         continue;
       }
       unsigned char pdv[6];
-      if (!take(fd, pdv, 6)) break;
+      if (!read_exactly(fd, pdv, 6)) break;
       n -= 6;
       if (pdv[5] & 1) {
-        if (!take(fd, body, n)) break;
+        if (!read_exactly(fd, body, n)) break;
         memcpy(message, message_id(body, n), 2);
         char name[16];
         snprintf(name, sizeof name, "I%07u", ++files);

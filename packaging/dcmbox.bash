@@ -20,19 +20,19 @@ _dcmbox() {
       mapfile -t COMPREPLY < <(compgen -W 'text json' -- "$current")
       return
       ;;
-    --port | --listen | --ae | --caller | --callers | --timeout | --idle | --max-pdu | --max-data | --per | --numbers | --quarantine-most | --at-once | --per-peer | --longest | --stop-file | --grace | --metrics | --storage-class | --transfer-syntax | --cut | --tag | --uid | --where)
+    --port | --listen | --ae | --caller | --callers | --timeout | --idle | --max-pdu | --max-data | --per | --numbers | --quarantine-most | --at-once | --per-peer | --longest | --stop-file | --grace | --metrics | --storage-class | --transfer-syntax | --cut | --tag | --uid | --where | --columns | --pattern)
       return
       ;;
   esac
   case ${COMP_WORDS[1]} in
     serve) options='--port --out --bind --listen --ae --any-called --caller --callers --timeout --idle --max-pdu --max-data --verbose --quiet --log --per --numbers --quarantine --quarantine-most --no-sync --once --at-once --per-peer --longest --stop-file --grace --metrics --all-storage --storage-class --all-syntaxes --transfer-syntax --help' ;;
     replay) options='--out --ae --cut --per --all-storage --storage-class --all-syntaxes --transfer-syntax --help' ;;
-    show) options='--recursive --values --full --meta --tag --json --all-syntaxes --help' ;;
-    check) options='--recursive --strict --values --ignore-others --json --all-syntaxes --help' ;;
+    show) options='--recursive --values --full --meta --tag --json --all-syntaxes --any --help' ;;
+    check) options='--recursive --strict --values --ignore-others --json --all-syntaxes --any --help' ;;
     index) options='--uid --new-uid --descriptions --all-syntaxes --any-name --keep --drop --replace --strict --json --help' ;;
     checkdir) options='--json --help' ;;
-    list) options='--series --instances --where --ignore-others --json --help' ;;
-    arrange) options='--to --copy --dry-run --ignore-others --json --help' ;;
+    list) options='--series --instances --where --columns --ignore-others --json --help' ;;
+    arrange) options='--to --pattern --copy --dry-run --ignore-others --json --help' ;;
     help) options='serve replay show check index checkdir list arrange' ;;
     *) return ;;
   esac

@@ -1,6 +1,6 @@
-"""What the tests of the tree and those of the program share.
+"""Options and fixtures that the tests of the tree and of the program share.
 
-A test installs nothing; `make packages` does.
+Tests install nothing; `make packages` does.
 """
 import os
 import pathlib
@@ -11,13 +11,13 @@ import pytest
 
 
 def pytest_configure(config):
-    """Takes `log and calling title` as -k does: `log and calling_title`."""
+    """Accepts spaces in names after -k: `log and calling title` means `log and calling_title`."""
     separate = r"(?<!\band)(?<!\bor)(?<!\bnot) (?!and\b|or\b|not\b)"
     config.option.keyword = re.sub(separate, "_", config.option.keyword)
 
 
 def pytest_sessionfinish(session):
-    """Fails where more is skipped than MAY_SKIP says."""
+    """Fails the run if more tests are skipped than MAY_SKIP allows."""
     reporter = session.config.pluginmanager.get_plugin("terminalreporter")
     skipped = len(reporter.stats.get("skipped", [])) if reporter else 0
     allowed = int(os.environ.get("MAY_SKIP", 0))
@@ -28,6 +28,6 @@ def pytest_sessionfinish(session):
 
 @pytest.fixture
 def work():
-    """A folder, which goes with all that is in it after the test."""
+    """A temporary folder, removed after the test."""
     with tempfile.TemporaryDirectory(prefix="dcmbox-") as folder:
         yield pathlib.Path(folder)

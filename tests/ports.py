@@ -1,7 +1,7 @@
 """Finds TCP ports for tests and benchmarks.
 
-A port is from 20000 to 31999, below those that the system gives to connections, and is this
-process's own until it ends: another run on this machine finds it locked.
+Ports are from 20000 to 31999, below those that the system assigns to connections. A port stays
+locked by this process until the process ends, so that no other run on this machine uses it.
 """
 import fcntl
 import os
@@ -14,9 +14,9 @@ HELD = []
 
 
 def sockets():
-    """The local address, the local port and the state of every TCP socket of this machine.
+    """Returns the local address, the local port and the state of every TCP socket of this machine.
 
-    The address and the state are in hexadecimal, as the system shows them.
+    The address and the state are in hexadecimal, as in /proc.
     """
     tables = (pathlib.Path(f"/proc/net/{name}") for name in ("tcp", "tcp6"))
     text = "\n".join(table.read_text() for table in tables if table.exists())
@@ -25,7 +25,7 @@ def sockets():
 
 
 def free_port():
-    """A port on which nobody listens."""
+    """Returns a port on which nobody listens."""
     LOCKS.mkdir(exist_ok=True)
     for port in random.Random().sample(range(20000, 32000), 200):
         lock = open(LOCKS / str(port), "a")

@@ -1,12 +1,13 @@
-"""Arranges the definitions of the booklet from the top: each after a contract or a definition that mentions it.
+"""Orders the definitions of the booklet top down: each follows a contract or a definition that mentions it.
 
-docs/booklet/parts.json has the parts, and the chapters of each: a title, what is said of it, the public functions whose
-contracts stand at its head (`contracts`), the definitions that it begins with (`first`), and what it takes: crates, files
-of definitions (`engine.Run`) or definitions (`engine.Run.Rooms`). A definition stands in the chapter that takes it by the
-longest name, of those of its part and of later ones; its part is the first whose contracts stand on it.
+docs/booklet/parts.json lists the parts and their chapters. A chapter has a title, a text, the public functions whose
+contracts open it (`contracts`), the definitions that it starts with (`first`), and what it includes (`takes`): crates,
+files of definitions (`engine.Run`) or single definitions (`engine.Run.Rooms`). A definition belongs to the chapter that
+includes it by the longest name, among those of its part and of later ones; its part is the first whose contracts depend
+on it.
 
-Within a chapter a file's definitions stand together. The file whose definition was mentioned first comes first, with all
-that is mentioned by then; what only later definitions mention comes after these. tools/booklet uses it.
+Within a chapter the definitions of a file are grouped. The file whose definition was mentioned first comes first, with
+its definitions mentioned so far; those that only later definitions mention follow later. tools/booklet uses this module.
 """
 import re
 
@@ -17,13 +18,13 @@ from texts import contract
 PARTS = "docs/booklet/parts.json"
 
 
-def name_of(word):
-    """A definition by its crate, file and name."""
-    return ".".join(word)
+def name_of(key):
+    """Returns the name of a definition with its crate and file."""
+    return ".".join(key)
 
 
 def first_mention(text, cited):
-    """Where a text mentions a word first."""
+    """Returns the position where a text first mentions a cited name, and the name."""
     found = re.search(rf"(?<![\w'-]){re.escape(cited[2].strip('◌'))}(?![\w'-])", text)
     return (found.start() if found else len(text), cited)
 
@@ -31,110 +32,110 @@ def first_mention(text, cited):
 class Arrangement:
     def __init__(self, definitions, texts, parts, headline):
         self.definitions, self.texts, self.parts, self.errors = definitions, texts, parts, []
-        # Those that were mentioned, in that order, and those that have their place: keys of dictionaries, which keep an order.
+        # The definitions mentioned so far, and those that have been placed: keys of dictionaries, which keep their order.
         self.mentioned, self.placed, self.known = {}, {}, {}
         self.heads = {tuple(function): self.heads_of(*function) for function in headline}
         self.check_contracts(headline)
-        self.reached = self.closure([word for heads in self.heads.values() for word in heads])
+        self.reached = self.closure([key for heads in self.heads.values() for key in heads])
         self.chapter_of = self.chapters()
 
     def found_in(self, text, cited):
-        """The definitions behind the words that a text cites, in the order in which it mentions them."""
-        ordered = sorted(cited, key=lambda word: first_mention(text, word))
+        """Returns the definitions that a text cites, in the order in which it mentions them."""
+        ordered = sorted(cited, key=lambda name: first_mention(text, name))
         return list(dict.fromkeys(filter(None, map(self.definitions.found, ordered))))
 
     def heads_of(self, crate, name):
-        """The definitions that the contract of a function mentions."""
+        """Returns the definitions that the contract of a function mentions."""
         path, lines = contract(crate, name)
-        words, modules = specs.imports(specs.without_comments(path.read_text(), "//"))
+        names, modules = specs.imports(specs.without_comments(path.read_text(), "//"))
         text = "\n".join(lines)
-        return self.found_in(text, specs.cited(text, words, modules))
+        return self.found_in(text, specs.cited(text, names, modules))
 
-    def mentions(self, word):
-        """The definitions that a definition mentions."""
-        if word not in self.known:
-            text = "\n".join(self.texts.of[word][2]) if word in self.texts.of else ""
-            self.known[word] = [found for found in self.found_in(text, self.definitions.cites[word]) if found != word]
-        return self.known[word]
+    def mentions(self, key):
+        """Returns the definitions that a definition mentions."""
+        if key not in self.known:
+            text = "\n".join(self.texts.of[key][2]) if key in self.texts.of else ""
+            self.known[key] = [found for found in self.found_in(text, self.definitions.cites[key]) if found != key]
+        return self.known[key]
 
-    def closure(self, words):
-        """These definitions and all that they stand on."""
-        seen, queue = {}, list(words)
+    def closure(self, keys):
+        """Returns these definitions and all that they depend on."""
+        seen, queue = {}, list(keys)
         while queue:
-            word = queue.pop()
-            if word not in seen:
-                seen[word] = None
-                queue += self.mentions(word)
+            key = queue.pop()
+            if key not in seen:
+                seen[key] = None
+                queue += self.mentions(key)
         return list(seen)
 
     def functions(self, chapter):
         return [tuple(function) for function in chapter.get("contracts", [])]
 
     def check_contracts(self, headline):
-        """Each headline contract stands at the head of one chapter, and no other contract does."""
+        """Reports headline contracts that do not open exactly one chapter, and other contracts that open one."""
         shown = [function for part in self.parts for chapter in part["chapters"] for function in self.functions(chapter)]
         for function in headline:
             if shown.count(function) != 1:
-                self.errors.append(f"{PARTS}: {'::'.join(function)} stands at the head of {shown.count(function)} chapters")
+                self.errors.append(f"{PARTS}: {'::'.join(function)} opens {shown.count(function)} chapters")
         for function in dict.fromkeys(shown):
             if function not in headline:
-                self.errors.append(f"{PARTS}: {'::'.join(function)} is no headline contract of tools/booklet")
+                self.errors.append(f"{PARTS}: {'::'.join(function)} is not a headline contract of tools/booklet")
 
     def chapters(self):
-        """The place of each definition's chapter: that of its part, and its own within it."""
+        """Returns the index of each definition's part, and of its chapter in the part."""
         home = {}
         for at, part in enumerate(self.parts):
-            heads = [word for chapter in part["chapters"] for function in self.functions(chapter) for word in self.heads.get(function, [])]
-            for word in self.closure(heads):
-                home.setdefault(word, at)
-        taken, used = {}, set()
-        for word in self.reached:
-            names = [name_of(word), f"{word[0]}.{word[1]}", word[0]]
+            heads = [key for chapter in part["chapters"] for function in self.functions(chapter) for key in self.heads.get(function, [])]
+            for key in self.closure(heads):
+                home.setdefault(key, at)
+        chapter_of, used = {}, set()
+        for key in self.reached:
+            names = [name_of(key), f"{key[0]}.{key[1]}", key[0]]
             eligible = [
-                (names.index(name), at, place, name)
+                (names.index(name), at, index, name)
                 for at, part in enumerate(self.parts)
-                for place, chapter in enumerate(part["chapters"])
+                for index, chapter in enumerate(part["chapters"])
                 for name in chapter.get("takes", [])
-                if name in names and at >= home.get(word, 0)
+                if name in names and at >= home.get(key, 0)
             ]
             if not eligible:
-                self.errors.append(f"{name_of(word)}: no chapter of {PARTS} takes this definition")
+                self.errors.append(f"{name_of(key)}: no chapter of {PARTS} includes this definition")
                 continue
-            _, at, place, name = min(eligible)
-            taken[word] = (at, place)
-            used.add((at, place, name))
+            _, at, index, name = min(eligible)
+            chapter_of[key] = (at, index)
+            used.add((at, index, name))
         for at, part in enumerate(self.parts):
-            for place, chapter in enumerate(part["chapters"]):
-                unused = [name for name in chapter.get("takes", []) if (at, place, name) not in used]
-                self.errors += [f"{PARTS}: {chapter['title']}: {name} has no definition that stands there" for name in unused]
-        return taken
+            for index, chapter in enumerate(part["chapters"]):
+                unused = [name for name in chapter.get("takes", []) if (at, index, name) not in used]
+                self.errors += [f"{PARTS}: {chapter['title']}: {name} has no definition that belongs there" for name in unused]
+        return chapter_of
 
-    def place(self, word):
-        self.placed[word] = None
-        self.mentioned |= dict.fromkeys(found for found in self.mentions(word) if found not in self.mentioned)
+    def append(self, key):
+        self.placed[key] = None
+        self.mentioned |= dict.fromkeys(found for found in self.mentions(key) if found not in self.mentioned)
 
-    def groups(self, at, place):
-        """The files of a chapter's definitions, each with those that are placed there. They have to be asked for in order."""
-        chapter = self.parts[at]["chapters"][place]
-        heads = [word for function in self.functions(chapter) for word in self.heads.get(function, [])]
-        self.mentioned |= dict.fromkeys(word for word in heads if word not in self.mentioned)
-        here = {word: None for word in self.reached if self.chapter_of.get(word) == (at, place)}
-        first = {name_of(word): word for word in here}
+    def groups(self, at, index):
+        """Returns the files of a chapter's definitions, each with its definitions. To be called in the order of the chapters."""
+        chapter = self.parts[at]["chapters"][index]
+        heads = [key for function in self.functions(chapter) for key in self.heads.get(function, [])]
+        self.mentioned |= dict.fromkeys(key for key in heads if key not in self.mentioned)
+        here = {key: None for key in self.reached if self.chapter_of.get(key) == (at, index)}
+        first = {name_of(key): key for key in here}
         leads = [first[name] for name in chapter.get("first", []) if name in first]
-        self.errors += [f"{PARTS}: {chapter['title']}: {name} does not stand there" for name in chapter.get("first", []) if name not in first]
+        self.errors += [f"{PARTS}: {chapter['title']}: {name} does not belong there" for name in chapter.get("first", []) if name not in first]
         found = []
 
         def ready():
             order = dict.fromkeys([*leads, *heads, *self.mentioned])
-            return [word for word in order if word in here and word in self.mentioned and word not in self.placed]
+            return [key for key in order if key in here and key in self.mentioned and key not in self.placed]
 
         while ready():
             module, group = ready()[0][:2], []
-            while mine := [word for word in ready() if word[:2] == module]:
-                group.append(mine[0])
-                self.place(mine[0])
+            while siblings := [key for key in ready() if key[:2] == module]:
+                group.append(siblings[0])
+                self.append(siblings[0])
             found.append((module, group))
-        for word in here:
-            if word not in self.placed:
-                self.errors.append(f"{name_of(word)}: it stands in {chapter['title']}, before all that mentions it")
+        for key in here:
+            if key not in self.placed:
+                self.errors.append(f"{name_of(key)}: it belongs to {chapter['title']}, before everything that mentions it")
         return found

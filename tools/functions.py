@@ -1,10 +1,10 @@
-"""Reads the functions of a crate's source, and what a check says of them. tools/wrong-bodies uses it."""
+"""Parses the functions of a crate's source, and the output of a check. tools/mutants uses this module."""
 import re
 
 FUNCTION = re.compile(r"^([ ]*)(?:pub(?:\([a-z]+\))? )?(const )?(?:unsafe )?fn (\w+).*", re.M)
 IMPL = re.compile(r"^([ ]*)(?:unsafe )?impl\b([^{;]*)\{", re.M)
 CALL = re.compile(r"(?:(\w+)::(?:<[^;()]*>::)?|(\bself)?(\.))?\b([a-z_]\w*)(?:::<[^;()]*>)?\(")
-# The methods that types of the library have too.
+# Methods that types of the standard library have, too.
 COMMON = "clear clone cmp eq fmt get insert is_empty iter len next of pop push read remove take write".split()
 NOTE = re.compile(r"note: src/\S+ it is not proved .*\(`([^`]+)`\)(.*)")
 ERROR = re.compile(r"(?:\./)?proofs/(\S+)\.antt:\d+:\d+: error: (?:`([^`]+)`)?")
@@ -19,19 +19,19 @@ class Function:
         self.name, self.is_const, self.start, self.end = found[3], bool(found[2]), found.start(), found.end()
         if not found[0].endswith("}"):
             self.end = end_of(text, found)
-        # (a body on one line with the head is none of its own)
+        # (a body on the same line as its head is not cut out)
         head = rf"^{found[1]}(?:\{{|(?:\)|(?:pub(?:\([a-z]+\))? )?(?:unsafe )?fn ).* \{{)$"
         body = re.compile(head, re.M).search(text, self.start, self.end)
         self.body = body.end() if body else self.end
         self.text = text[found.start(3) + len(self.name) : self.end]
         self.type = ([""] + [of for start, end, of in impls if start <= self.start < end])[-1]
         module = [it for it in file[len("src/") : -len(".rt")].split("/") if it not in ("lib", "main", "mod")]
-        # (a method stands below its type, which may be of another file, and a trait's one below the names of both)
+        # (a method's path has its type, which may be of another file; a trait's method has the names of both)
         of = rf"(?:\w+::)*{self.type}[\w+]*::" if self.type else "".join(f"{it}::" for it in module) + r"(?:\w+::)?"
         self.path = re.compile(f"{crate}::{of}{self.name}")
 
     def calls(self, functions):
-        """The functions that its text seems to call."""
+        """Returns the functions that the text of this function seems to call."""
         found = set()
         for of, own, dot, name in CALL.findall(self.text):
             if dot and not own:
@@ -43,13 +43,13 @@ class Function:
 
 
 def end_of(text, found):
-    """The end of an item that begins with this match, whose first group is its indentation."""
+    """Returns the end of an item that starts with this match, whose first group is its indentation."""
     end = re.compile(rf"^{found[1]}\}}", re.M).search(text, found.end())
     return end.end() if end else len(text)
 
 
 def type_of(header):
-    """The type of an impl by its header."""
+    """Returns the type of an impl by its header."""
     before = None
     while before != header:
         before, header = header, re.sub(r"<[^<>]*>", "", header.replace("->", ""))
@@ -62,7 +62,7 @@ def functions_in(crate, file, text):
 
 
 def without_bodies(text, functions):
-    """A text without the bodies of these functions and without comments of whole lines. Those of `const fn`s stay."""
+    """Returns a text without the bodies of these functions, except of `const fn`s, and without comments of whole lines."""
     parts, at = [], 0
     for it in functions:
         if not it.is_const and it.body >= at:
@@ -71,11 +71,16 @@ def without_bodies(text, functions):
     return re.sub(r"^[ ]*//.*\n", "", "".join([*parts, text[at:]]), flags=re.M)
 
 
-class Said:
-    """What a check said: what it proved, the goals that were left of the rest, and which callees that waits for."""
+def without_remarks(text):
+    """Returns a text of definitions or proofs without blank lines and lines of comments."""
+    return re.sub(r"^[ ]*(?:--|-- .*)?\n", "", text, flags=re.M)
+
+
+class Verdicts:
+    """The output of a check: what it proved, the open goals of the rest, and the callees that these wait for."""
 
     def __init__(self, crate, text, status):
-        self.status, self.text, self.proved, self.left, self.waits = status, text, set(), {}, {}
+        self.status, self.text, self.proved, self.open, self.waits = status, text, set(), {}, {}
         goals = []
         for line in text.splitlines():
             if found := NOTE.match(line):
@@ -84,7 +89,7 @@ class Said:
                 folder, _, file = found[1].rpartition("/")
                 is_own = folder and file in ("Answers", "Invariants", "Proof")
                 of = f"{crate}::{folder.replace('/', '::')}" if is_own else f"proofs/{found[1]}.antt"
-                self.left.setdefault(of, []).append((found[2] or "error", False))
+                self.open.setdefault(of, []).append((found[2] or "error", False))
             elif found := VERDICT.match(line):
                 of, verdict = found[1], found[2]
                 if verdict == "proved" or verdict.startswith("assumed"):
@@ -96,20 +101,20 @@ class Said:
                     _, _, names = verdict.partition("did not prove ")
                     goals += [(it, False) for it in NAMES.findall(names) if it not in dict(goals)]
                     goals += [("limit", False)] * ("could not tell" in verdict)
-                    self.left.setdefault(of, []).extend(goals)
+                    self.open.setdefault(of, []).extend(goals)
                 goals = []
         lines = [line for line in text.splitlines() if line.strip()] or ["nothing"]
         self.error = next((line for line in lines if re.search(r"\berror\b", line)), lines[-1])[:200]
 
     def was_reached(self):
-        """Whether the prover was reached: else the text does not compile, or names what is not there."""
-        return bool(self.proved or self.waits or any(not of.endswith(".antt") for of in self.left))
+        """Returns whether the prover ran: it does not if the text does not compile or names an unknown item."""
+        return bool(self.proved or self.waits or any(not of.endswith(".antt") for of in self.open))
 
     def judged(self):
-        """What fell on its own, functions first."""
-        return sorted((of for of in self.left if of not in self.waits), key=lambda of: (of.endswith(".antt"), of))
+        """Returns what failed on its own, functions first."""
+        return sorted((of for of in self.open if of not in self.waits), key=lambda of: (of.endswith(".antt"), of))
 
     def goals(self, of):
-        """The goals that were left, first those that are seen to be false, and then those that name a clause."""
-        order = sorted(self.left[of], key=lambda it: (it[0] in ("error", "limit"), not it[1], "clause" not in it[0]))
+        """Returns the open goals, first those that are seen to be false, then those that name a clause."""
+        order = sorted(self.open[of], key=lambda it: (it[0] in ("error", "limit"), not it[1], "clause" not in it[0]))
         return [goal for goal, _ in order] or ["unproved"]

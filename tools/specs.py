@@ -126,7 +126,7 @@ def public_items(crate):
 
 
 def closing(text, at):
-    """The place after the brace that closes the one at this place."""
+    """Returns the offset after the brace that closes the one at this offset."""
     depth = 0
     for place in range(at, len(text)):
         depth += {"{": 1, "}": -1}.get(text[place], 0)
@@ -139,7 +139,7 @@ CLAUSE = re.compile(r"\b(?:requires|ensures)(?:\s+\w+)?\s*(?=\{)")
 
 
 def clauses(text, at):
-    """The clauses of the function whose `fn` stands at this place, up to its body."""
+    """Returns the clauses of the function whose `fn` is at this offset, up to its body."""
     found, depth = [], 0
     while at < len(text):
         clause = CLAUSE.match(text, at) if depth == 0 else None
@@ -156,7 +156,7 @@ def clauses(text, at):
 
 
 def ghost(text, at):
-    """What a ghost item or field shows, whose name ends at this place."""
+    """Returns what a ghost item or field shows, whose name ends at this offset."""
     braces = re.compile(r"[^{;]*(\{)?").match(text, at)
     return text[at : closing(text, braces.start(1))] if braces[1] else braces[0]
 

@@ -19,6 +19,9 @@ class Texts:
                 path.relative_to(ROOT / "crates" / crate / "specs").with_suffix("").parts
             )
             self.read(crate, module, path.read_text().splitlines())
+        for _, _, block in self.of.values():
+            while not block[-1].strip():
+                block.pop()
 
     def read(self, crate, module, lines):
         heading = []
@@ -58,6 +61,18 @@ class Texts:
                 block.append(line)
             elif not line.strip():
                 comment = []
+
+    def said(self, word):
+        """A definition's sentence, which is the comment above it, and its examples: what stands after each `e.g.` of it."""
+        sentence, _, examples = "\n".join(["", *self.of[word][1]] if word in self.of else []).partition("\ne.g. ")
+        examples = examples.replace("\ne.g. ", "; ").replace("\n", " ")
+        found, depth, start = [], 0, 0
+        for at, sign in enumerate(examples):
+            depth += {"(": 1, "{": 1, ")": -1, "}": -1}.get(sign, 0)
+            if sign == ";" and depth == 0:
+                found.append(examples[start:at].strip())
+                start = at + 1
+        return sentence.replace("\n", " ").strip(), [*found, *filter(None, [examples[start:].strip()])]
 
 
 def contract(crate, name):

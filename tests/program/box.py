@@ -1,4 +1,4 @@
-"""The program as a server: started, waited for, asked what it logged, and ended."""
+"""The program as a server: tests start it, wait for it, read its log, and end it."""
 import ctypes
 import os
 import pathlib
@@ -11,18 +11,18 @@ import time
 from peer import ECHO, ECHO_ANSWER, Peer
 from ports import sockets
 
-# What waits for something waits so long, and fails then; a loaded machine is slow.
+# The limit of every wait, in seconds. It is long, since a loaded machine is slow.
 PATIENCE = 60
-# What a box has of memory where a test gives it little, in kilobytes.
+# The memory of a box in tests with little memory, in kilobytes.
 LITTLE = 16384
 LIBC = ctypes.CDLL(None)
 PR_SET_PDEATHSIG = 1
-# The state of a socket that listens, as the system shows it.
+# The state of a listening socket in /proc.
 LISTEN = "0A"
 
 
 def wait_for(condition, what, seconds=PATIENCE):
-    """The first true value of the condition."""
+    """Waits until the condition is true, and returns its value."""
     end = time.monotonic() + seconds
     while True:
         found = condition()
@@ -39,9 +39,9 @@ def limit_memory(kilobytes):
 
 
 def prepare(memory):
-    """What a process does before it runs the program.
+    """Returns a function that a process calls before it runs the program.
 
-    It ends when this one does, and has so much memory, in kilobytes.
+    The process ends when this one does, and has at most this memory, in kilobytes.
     """
 
     def prepared():
@@ -53,17 +53,17 @@ def prepare(memory):
 
 
 def listeners(port):
-    """The addresses on which a port is listened on, as the system shows them in hexadecimal."""
+    """Returns the addresses of the listening sockets of a port, in hexadecimal as in /proc."""
     return [address for address, used, state in sockets() if (used, state) == (port, LISTEN)]
 
 
 class Box:
-    """`dcmbox serve` over a folder, in a working folder that has its log and its output."""
+    """`dcmbox serve` over a folder; its log and its output are in the working folder."""
 
-    def __init__(self, program, port, work, folder, options, *, memory=None, before=(), **kinds):
+    def __init__(self, program, port, work, folder, options, *, memory=None, before=(), **keywords):
         """`memory` is in kilobytes.
 
-        `before` is a command that runs the program, as strace; `kinds` go to Popen.
+        `before` is a command that runs the program, as strace; `keywords` go to Popen.
         """
         self.port, self.folder = port, pathlib.Path(work, folder)
         self.log_path, self.out_path = pathlib.Path(work, "log.txt"), pathlib.Path(work, "out.txt")
@@ -71,14 +71,14 @@ class Box:
         command = [*before, program, "serve", "--port", str(port), "--out", folder, *options]
         with open(self.log_path, "wb") as log, open(self.out_path, "wb") as out:
             self.process = subprocess.Popen(
-                [str(word) for word in command],
+                [str(argument) for argument in command],
                 cwd=work,
                 stdin=subprocess.DEVNULL,
                 stdout=out,
                 stderr=log,
                 start_new_session=True,
                 preexec_fn=prepare(memory),
-                **kinds,
+                **keywords,
             )
 
     @property
@@ -98,16 +98,16 @@ class Box:
         return self.out_path.read_text()
 
     def most_resident(self):
-        """The most memory that it has had so far, in kilobytes, as the kernel counts it."""
+        """Returns the peak memory so far in kilobytes, as the kernel counts it."""
         status = pathlib.Path(f"/proc/{self.pid}/status").read_text()
         return int(re.search(r"VmHWM:\s*(\d+) kB", status)[1])
 
     def files(self):
-        """The names in its folder, in order."""
+        """Returns the names in the folder, in order."""
         return sorted(path.name for path in self.folder.iterdir())
 
     def until_listening(self):
-        """Waits until the port is listened on."""
+        """Waits until the box listens on its port."""
 
         def is_listening():
             assert self.process.poll() is None, f"the box has ended:\n{self.log}"
@@ -117,12 +117,12 @@ class Box:
         return self
 
     def until_waiting(self):
-        """Waits until it sleeps in a system call, as it does until a connection comes."""
+        """Waits until the box sleeps in a system call, as it does until a peer connects."""
         stat = pathlib.Path(f"/proc/{self.pid}/stat")
         wait_for(lambda: stat.read_text().rsplit(")")[-1].split()[0] == "S", "the box waits")
 
     def until_logged(self, pattern, count=1, seconds=PATIENCE):
-        """Waits until the pattern is found so many times in the log."""
+        """Waits until the log has the pattern `count` times."""
 
         def is_logged():
             return len(re.findall(pattern, self.log, re.M)) >= count
@@ -136,13 +136,13 @@ class Box:
         return Peer(self.port, address)
 
     def exchange(self, sent, size):
-        """What the box answers to these bytes, at most so many bytes of it."""
+        """Returns the reply of the box to these bytes, at most `size` bytes."""
         with self.connect() as peer:
             return peer.exchange(sent, size)
 
-    def answers(self, sent, wanted):
-        """Whether the answer to these bytes begins so."""
-        return self.exchange(sent, len(wanted)) == wanted
+    def answers(self, sent, expected):
+        """Returns whether the reply to these bytes starts with the expected bytes."""
+        return self.exchange(sent, len(expected)) == expected
 
     def ended(self, seconds=PATIENCE):
         """Waits until the box has ended, and returns its status."""
@@ -152,7 +152,7 @@ class Box:
             raise AssertionError(f"the box does not end:\n{self.log}") from None
 
     def stop(self, number=signal.SIGTERM):
-        """Ends the box by a signal, with what runs it, where it runs."""
+        """Ends the box, if it runs, and the command that runs it by a signal."""
         if self.process.poll() is None:
             os.killpg(self.pid, number)
             try:
@@ -162,5 +162,5 @@ class Box:
                 self.process.wait()
 
     def echoes(self):
-        """Whether the recorded association with one echo is answered."""
+        """Returns whether the box replies to the recorded association with one echo."""
         return self.answers(ECHO, ECHO_ANSWER)

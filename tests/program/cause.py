@@ -1,4 +1,4 @@
-"""A cause of lines of the log: what a peer sends, and what the log has to tell of it."""
+"""A cause of lines of the log: what a peer sends, and the lines expected in the log."""
 import dataclasses
 import struct
 
@@ -16,17 +16,16 @@ MR = "1.2.840.10008.5.1.4.1.1.4"
 
 @dataclasses.dataclass
 class Receive:
-    """So many bytes of the box's answer are read."""
+    """The peer reads this number of bytes of the box's reply."""
 
     size: int
 
 
 @dataclasses.dataclass
 class Cause:
-    """What happens on a connection, and what the log tells of it.
+    """What happens on a connection, and the lines of the log.
 
-    The steps are bytes that are sent, answers that are read, and calls; then the connection is
-    closed.
+    The steps are bytes to send, replies to read, and calls; then the connection is closed.
     """
 
     name: str
@@ -53,7 +52,7 @@ def reset(peer, box):
 
 
 def stop(peer, box):
-    """The box is stopped in what it does, so that what is sent now comes at once."""
+    """The box is stopped, so that it later receives all that is sent meanwhile at once."""
     box.process.send_signal(19)
 
 
@@ -75,20 +74,20 @@ def until_closed(peer, box):
 
 
 def established(name, steps, end, warned=(), request=STORES_REQUEST, answer=171, **more):
-    """What happens after a request was accepted."""
+    """Returns a cause that follows an accepted request."""
     steps = (request, Receive(answer), *steps)
     return Cause(name, steps, TITLES, end, more.pop("contexts", ACCEPTED), warned, **more)
 
 
-def aborted(name, sent, why, about="", **more):
-    """The box aborts an established association, and its warning says more about that."""
-    end = f"aborted by dcmbox, {why}"
+def aborted(name, sent, reason, about="", **more):
+    """Returns a cause by which the box aborts an established association; `about` is a further part of its warning."""
+    end = f"aborted by dcmbox, {reason}"
     return established(name, (sent, Receive(10)), end, (f"WARN {end}{about}{CALLING}",), **more)
 
 
-def in_store(name, sent, why):
-    """The box aborts an established association in a store."""
-    end = f"aborted by dcmbox, {why}"
-    lost = f"WARN not stored: no reply, {end} {STORE} stores 1{CALLING}"
-    warned = (f"WARN {end}{CALLING}", lost)
+def in_store(name, sent, reason):
+    """Returns a cause by which the box aborts an established association during a store."""
+    end = f"aborted by dcmbox, {reason}"
+    not_stored = f"WARN not stored: no reply, {end} {STORE} stores 1{CALLING}"
+    warned = (f"WARN {end}{CALLING}", not_stored)
     return established(name, (COMMAND + sent, Receive(10)), end, warned, dropped=1)

@@ -1,4 +1,4 @@
-"""What the tests of the program share: see the fixtures."""
+"""Fixtures of the tests of the program."""
 import functools
 import pathlib
 import re
@@ -16,11 +16,11 @@ ROOT = pathlib.Path(__file__).resolve().parents[2]
 
 
 def pytest_addoption(parser):
-    parser.addoption("--program", default=ROOT / "crates/cli/out/cli", help="the program to try")
+    parser.addoption("--program", default=ROOT / "crates/cli/out/cli", help="the program to test")
 
 
 def pytest_configure(config):
-    """The program's path holds in every folder."""
+    """Makes the path of the program absolute, so that it is valid in every folder."""
     config.option.program = str(pathlib.Path(config.option.program).resolve())
 
 
@@ -34,7 +34,7 @@ def program(pytestconfig):
 
 @pytest.fixture(scope="session")
 def shared():
-    """Makes folders for what several tests use; they go after the last one."""
+    """Makes folders that several tests share; they are removed after the last test."""
     with tempfile.TemporaryDirectory(prefix="dcmbox-") as folder:
 
         yield lambda name: pathlib.Path(tempfile.mkdtemp(prefix=f"{name}-", dir=folder))
@@ -58,20 +58,20 @@ def put(work):
 def run(program, work):
     """Runs the program with arguments in the folder.
 
-    `memory` is in kilobytes, `before` is a command that runs the program, and the other ones are
-    those of subprocess.run.
+    `memory` is in kilobytes, `before` is a command that runs the program, and the other keywords
+    are those of subprocess.run.
     """
 
-    def done(*arguments, memory=None, before=(), text=True, **kinds):
-        if "input" not in kinds:
-            kinds.setdefault("stdin", subprocess.DEVNULL)
+    def done(*arguments, memory=None, before=(), text=True, **keywords):
+        if "input" not in keywords:
+            keywords.setdefault("stdin", subprocess.DEVNULL)
         return subprocess.run(
             [*before, program, *arguments],
             cwd=work,
             text=text,
             timeout=PATIENCE,
             preexec_fn=prepare(memory) if memory else None,
-            **{"stdout": subprocess.PIPE, "stderr": subprocess.PIPE, **kinds},
+            **{"stdout": subprocess.PIPE, "stderr": subprocess.PIPE, **keywords},
         )
 
     return done
@@ -79,13 +79,13 @@ def run(program, work):
 
 @pytest.fixture
 def expect(run):
-    """Runs the program.
+    """Runs the program, and asserts its status.
 
-    Its status is this, and the patterns match the whole of its output and of its errors.
+    The patterns have to match its whole output and its whole standard error.
     """
 
-    def expected(status, output, errors, *arguments, **kinds):
-        done = run(*arguments, **kinds)
+    def expected(status, output, errors, *arguments, **keywords):
+        done = run(*arguments, **keywords)
         assert done.returncode == status, (done.stdout, done.stderr)
         assert re.fullmatch(output, done.stdout.rstrip("\n"), re.DOTALL), done.stdout
         assert re.fullmatch(errors, done.stderr.rstrip("\n"), re.DOTALL), done.stderr
@@ -102,12 +102,12 @@ def port():
 def serve(program, port, work, small_disk):
     """Starts a box over a folder in the working folder, and waits until it listens.
 
-    It is ended after the test, before disks are unmounted.
+    The box is ended after the test, before disks are unmounted.
     """
     boxes = []
 
-    def started(*options, folder="received", waits=True, **kinds):
-        box = Box(program, port, work, folder, options, **kinds)
+    def started(*options, folder="received", waits=True, **keywords):
+        box = Box(program, port, work, folder, options, **keywords)
         boxes.append(box)
         return box.until_listening() if waits else box
 
@@ -117,8 +117,8 @@ def serve(program, port, work, small_disk):
 
 
 @pytest.fixture
-def taking(serve):
-    """A box in 16 MB of memory that takes each transfer syntax."""
+def serve_all_syntaxes(serve):
+    """Starts a box with 16 MB of memory that accepts every transfer syntax."""
     return lambda *options: serve("--all-syntaxes", *options, memory=LITTLE)
 
 
@@ -157,7 +157,7 @@ def to_box(port):
 
 @pytest.fixture(params=[(), ("--at-once", "4")], ids=["one_after_the_other", "several_at_once"])
 def form(request):
-    """The options by which a box serves one association after the other, and several at once."""
+    """The options of a box that serves one association at a time, and of one that serves several."""
     return request.param
 
 
@@ -169,35 +169,35 @@ def samples(put):
 
 @pytest.fixture(scope="session")
 def refusing(shared):
-    """What refuses memory to a program that it is loaded before (see refusing.c)."""
+    """The library that makes allocations of a program fail (refusing.c)."""
     need("cc")
     library = shared("refusing") / "refusing.so"
     source = pathlib.Path(__file__).with_name("refusing.c")
-    words = ["cc", "-shared", "-fPIC", "-o", library, source]
-    subprocess.run(words, check=True, timeout=PATIENCE)
+    command = ["cc", "-shared", "-fPIC", "-o", library, source]
+    subprocess.run(command, check=True, timeout=PATIENCE)
     return library
 
 
 @pytest.fixture
 def refuse(refusing):
-    """A command that refuses memory to a program; it writes to refused.txt."""
+    """Returns a command that runs a program with failing allocations, noted in refused.txt."""
 
-    def words(which):
+    def command(which):
         shell = ["sh", "-c", 'exec "$@" 9>refused.txt', "sh"]
         return [*shell, "env", f"REFUSED={which}", f"LD_PRELOAD={refusing}"]
 
-    return words
+    return command
 
 
 @pytest.fixture
 def trace():
-    """A command that runs a program under strace with these options; its calls are in calls.txt."""
+    """Returns a command that runs a program under strace with these options; the calls are in calls.txt."""
     need("strace")
 
-    def words(*options):
+    def command(*options):
         return ["strace", "-qq", "-o", "calls.txt", *options]
 
-    return words
+    return command
 
 
 @pytest.fixture
@@ -210,14 +210,14 @@ def calls(work):
 def spawn(work):
     """Starts a command in the working folder, and ends it after the test.
 
-    What it says is in the file `said`.
+    Its output is in the file `log`.
     """
     processes = []
 
-    def started(*words, said="said.txt", cwd=work):
-        with open(work / said, "wb") as file:
+    def started(*arguments, log="output.txt", cwd=work):
+        with open(work / log, "wb") as file:
             process = subprocess.Popen(
-                [str(word) for word in words],
+                [str(argument) for argument in arguments],
                 cwd=cwd,
                 stdin=subprocess.DEVNULL,
                 stdout=file,
@@ -235,7 +235,7 @@ def spawn(work):
 
 @pytest.fixture
 def units():
-    """Runs the systemd units of a root, and ends them after the test."""
+    """Runs the systemd units of a root folder, and ends them after the test."""
     roots = []
 
     def of(root):

@@ -1,4 +1,4 @@
-"""DICOM files that DCMTK's tools make of a text, and what is in the files that are filed."""
+"""DICOM files that DCMTK's tools make from text, and the contents of received files."""
 import hashlib
 import pathlib
 import re
@@ -8,12 +8,12 @@ import subprocess
 
 import pytest
 
-# A tool has so many seconds.
+# The time limit of a tool in seconds.
 TOOL_PATIENCE = 180
 
 
 def need(*tools):
-    """Skips the test where a tool is missing."""
+    """Skips the test if a tool is missing."""
     for tool in tools:
         if not shutil.which(tool):
             pytest.skip(f"there is no {tool}: make packages installs it")
@@ -36,7 +36,7 @@ def call(work, tool, *arguments, check=True):
 
 
 def dumped(work, name, text, *options):
-    """Makes a DICOM file of dump2dcm's text, in Explicit VR Little Endian without other options."""
+    """Makes a DICOM file from dump2dcm's text, by default in Explicit VR Little Endian."""
     source = pathlib.Path(work, f"{name}.txt")
     source.write_text(text)
     call(work, "dump2dcm", "-q", *(options or ("+te",)), source.name, f"{name}.dcm")
@@ -44,7 +44,7 @@ def dumped(work, name, text, *options):
 
 
 def identity(sop_class="CTImageStorage", instance="2.25.1.1", modality="CT", series="2.25.3.1"):
-    """What names an image, in dump2dcm's text."""
+    """Returns the identifying elements of an image in dump2dcm's text."""
     return f"""(0008,0016) UI ={sop_class}
 (0008,0018) UI [{instance}]
 (0008,0060) CS [{modality}]
@@ -56,7 +56,7 @@ def identity(sop_class="CTImageStorage", instance="2.25.1.1", modality="CT", ser
 
 
 def study(number):
-    """When an image was made, and its number, in dump2dcm's text."""
+    """Returns the date, the time and the numbers of an image in dump2dcm's text."""
     return f"""(0008,0020) DA [20260101]
 (0008,0030) TM [120000]
 (0008,0050) SH [A1]
@@ -67,7 +67,7 @@ def study(number):
 
 
 def pixels(file, rows=16, columns=16, bits=8, vr="OW"):
-    """A grayscale image whose pixels are in a file, in dump2dcm's text."""
+    """Returns a grayscale image, whose pixels are in a file, in dump2dcm's text."""
     return f"""(0028,0002) US 1
 (0028,0004) CS [MONOCHROME2]
 (0028,0010) US {rows}
@@ -81,24 +81,24 @@ def pixels(file, rows=16, columns=16, bits=8, vr="OW"):
 
 
 def data_set(path):
-    """The data set of a file: what comes after its file meta information."""
+    """Returns the data set of a file: the bytes after its file meta information."""
     data = pathlib.Path(path).read_bytes()
     return data[144 + struct.unpack("<L", data[140:144])[0] :]
 
 
 def digests(paths):
-    """The digests of the data sets of files, in order."""
+    """Returns the digests of the data sets of files, in order."""
     return sorted(hashlib.sha256(data_set(path)).hexdigest() for path in paths)
 
 
 def filed(folder):
-    """The files that a box filed below a folder."""
+    """Returns the files that a box filed below a folder."""
     found = pathlib.Path(folder).rglob("I[0-9]*")
     return sorted(path for path in found if path.is_file())
 
 
-def holds(folder, sent):
-    """Whether a folder has each data set that was sent, once; DCMTK has to read each file."""
+def has_all(folder, sent):
+    """Returns whether a folder has each sent data set once; DCMTK has to read each file."""
     files = filed(folder)
     if files:
         tested = call(folder, "dcmftest", *files, check=False).stdout.splitlines()
@@ -108,15 +108,12 @@ def holds(folder, sent):
 
 
 def element_of(tag, path):
-    """The identifier that is the first value of an element of a file.
-
-    Nothing where there is none.
-    """
+    """Returns the UID that is the first value of an element of a file, or an empty text."""
     dump = call(path.parent, "dcmdump", "-q", "-Un", "+P", tag, path, check=False).stdout
     found = re.search(r"\[(.*)\]", dump)
     return found[1] if found else ""
 
 
 def syntax_of(path):
-    """The transfer syntax that a file names."""
+    """Returns the transfer syntax of a file."""
     return element_of("0002,0010", path)

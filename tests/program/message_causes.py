@@ -1,4 +1,4 @@
-"""Causes in what comes over an established association."""
+"""Causes in what a peer sends over an established association."""
 import dataclasses
 import struct
 
@@ -12,13 +12,13 @@ UNKNOWN = "its provider: unrecognized PDU"
 
 
 def command(*fields):
-    """A command set in one P-DATA-TF PDU of context 1."""
+    """Returns a command set in one P-DATA-TF PDU of context 1."""
     body = b"".join(fields)
     return values(1, 3, field(0, struct.pack("<L", len(body))) + body)
 
 
 def numbers(kind, data=0x0101):
-    """The command field, the message ID and the data set type."""
+    """Returns the command field, the message ID and the data set type."""
     return (
         field(0x0100, struct.pack("<H", kind))
         + field(0x0110, struct.pack("<H", 1))
@@ -135,10 +135,10 @@ CLASS = field(0x0002, CT.encode())
 ASKED_CLASS = field(0x0003, CT.encode())
 BAD_STORE = "its application (command: 41 BadCommand, C-STORE-RQ 0001H)"
 COMMANDS = [
-    aborted("zeros for a command", values(1, 3, bytes(80)), "its application (command: 41 BadCommand)"),
+    aborted("a command of zeros", values(1, 3, bytes(80)), "its application (command: 41 BadCommand)"),
     aborted("a command of no bytes", values(1, 3, b""), "its application (command: 41 BadCommand)"),
     aborted(
-        "a command whose length is wrong",
+        "a command with a wrong length",
         changed(COMMAND, 20, b"\x59"),
         "its application (command: 41 BadCommand)",
     ),

@@ -1,4 +1,4 @@
-"""Orthanc as an archive."""
+"""The archive Orthanc."""
 import json
 import urllib.request
 
@@ -7,10 +7,10 @@ from ports import free_port
 
 
 class Orthanc:
-    """An archive, asked by its interface over HTTP. It can send what it has to a box."""
+    """An archive, controlled over HTTP. It can send its files to a box."""
 
     def __init__(self, work, port, spawn, own_port=None):
-        """`port` is that of the box, and `own_port` the one on which it takes DICOM."""
+        """`port` is that of the box; on `own_port` the archive receives DICOM."""
         self.url = f"http://127.0.0.1:{free_port()}"
         settings = {
             "StorageDirectory": str(work / "archive"),
@@ -26,31 +26,31 @@ class Orthanc:
         }
         (work / "archive").mkdir()
         (work / "archive.json").write_text(json.dumps(settings))
-        spawn("Orthanc", "archive.json", said="archive.txt")
-        wait_for(self.is_there, "Orthanc answers")
+        spawn("Orthanc", "archive.json", log="archive.txt")
+        wait_for(self.is_up, "Orthanc replies")
 
     def get(self, path, data=None):
         with urllib.request.urlopen(f"{self.url}/{path}", data, timeout=120) as answer:
             return answer.read()
 
-    def ask(self, path, data=None):
+    def get_json(self, path, data=None):
         return json.loads(self.get(path, data))
 
-    def is_there(self):
+    def is_up(self):
         try:
-            return self.ask("system")
+            return self.get_json("system")
         except OSError:
             return None
 
-    def pass_on(self, path):
-        """Takes a file, and stores it to the box; returns how many instances failed."""
-        instance = self.ask("instances", path.read_bytes())["ID"]
-        return self.ask("modalities/box/store", instance.encode())["FailedInstancesCount"]
+    def forward(self, path):
+        """Imports a file, and sends it to the box; returns how many instances failed."""
+        instance = self.get_json("instances", path.read_bytes())["ID"]
+        return self.get_json("modalities/box/store", instance.encode())["FailedInstancesCount"]
 
-    def take(self, folder):
-        """Writes each file that it has into a folder; returns their paths."""
+    def download(self, folder):
+        """Writes each file of the archive into a folder; returns their paths."""
         paths = []
-        for name in self.ask("instances"):
+        for name in self.get_json("instances"):
             paths.append(folder / f"{name}.dcm")
             paths[-1].write_bytes(self.get(f"instances/{name}/file"))
         return paths

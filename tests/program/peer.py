@@ -16,12 +16,12 @@ RELEASED = bytes.fromhex("06000000000400000000")
 
 
 def from_hex(path):
-    """The bytes of a file of the tree in hexadecimal."""
+    """Returns the bytes of a file of the tree in hexadecimal."""
     return bytes.fromhex((ROOT / path).read_text())
 
 
 def answer_of(path):
-    """The bytes that a replay of a recording sends, by the file of the tree with what it prints."""
+    """Returns the bytes that a replay sends, from a file of the tree with its output."""
     return bytes.fromhex("".join((ROOT / path).read_text().splitlines()[:-1]))
 
 
@@ -31,12 +31,11 @@ ECHO = (ROOT / "crates/cli/data/recordings/echo.bin").read_bytes()
 ECHO_REQUEST, ECHO_COMMAND = ECHO[:170], ECHO[170:250]
 ECHO_ANSWER = answer_of("crates/cli/stdout")
 # An association with two stores of CT images: a request of 180 bytes, the command and the data set
-# of each, which end at
-# bytes 292 and 352 for the first, and an A-RELEASE-RQ.
+# of each store (those of the first end at bytes 292 and 352), and an A-RELEASE-RQ.
 STORES = from_hex("tests/data/two_stores.hex")
 STORES_REQUEST, RELEASE = STORES[:180], STORES[-10:]
 STORES_ANSWER = answer_of("tests/expected/two_stores.txt")
-# What comes before the reply to the first of them ends, and the answer to it alone.
+# The reply to the request and to the first store alone, and the status element of success.
 FIRST_REPLY = STORES_ANSWER[:283]
 SUCCESS = bytes.fromhex("00000009020000000000")
 
@@ -50,13 +49,13 @@ def pdu(kind, body):
 
 
 def field(number, value):
-    """An element of group 0000."""
+    """Returns an element of group 0000."""
     value += b"\0" * (len(value) % 2)
     return struct.pack("<HHL", 0, number, len(value)) + value
 
 
 def element(tag, vr, value):
-    """An element in Explicit VR Little Endian."""
+    """Returns an element in Explicit VR Little Endian."""
     group, number = tag
     if vr in ("OB", "OW", "SQ", "UN", "UR"):
         return struct.pack("<HH2sHL", group, number, vr.encode(), 0, len(value)) + value
@@ -64,12 +63,12 @@ def element(tag, vr, value):
 
 
 def values(context, control, content):
-    """A P-DATA-TF PDU with one presentation data value."""
+    """Returns a P-DATA-TF PDU with one presentation data value."""
     return pdu(DATA, struct.pack(">LBB", len(content) + 2, context, control) + content)
 
 
 def request(contexts):
-    """An A-ASSOCIATE-RQ of SCANNER1 to DCMBOX with these abstract and transfer syntaxes."""
+    """Returns an A-ASSOCIATE-RQ of SCANNER1 to DCMBOX with these abstract and transfer syntaxes."""
     titles = b"DCMBOX".ljust(16) + b"SCANNER1".ljust(16) + bytes(32)
     items = [
         item(
@@ -86,7 +85,7 @@ def request(contexts):
 
 
 def store_command(context, sop_class, instance, number=1):
-    """A C-STORE-RQ in one P-DATA-TF PDU."""
+    """Returns a C-STORE-RQ in one P-DATA-TF PDU."""
     fields = (
         field(0x0002, sop_class.encode())
         + field(0x0100, struct.pack("<H", 1))
@@ -99,9 +98,9 @@ def store_command(context, sop_class, instance, number=1):
 
 
 def data_set_pdus(context, data, is_whole=True):
-    """The data set in P-DATA-TF PDUs of at most 16,384 bytes.
+    """Yields the data set in P-DATA-TF PDUs of at most 16,384 bytes.
 
-    Where it is not whole, none of them is the last one.
+    Unless the data set is whole, none of the PDUs is marked as the last.
     """
     for at in range(0, len(data), 16372):
         last = is_whole and at + 16372 >= len(data)
@@ -109,7 +108,7 @@ def data_set_pdus(context, data, is_whole=True):
 
 
 def results(answer):
-    """The result and the transfer syntax of each context of the body of an A-ASSOCIATE-AC."""
+    """Returns the result and the transfer syntax of each context of the body of an A-ASSOCIATE-AC."""
     found, at = [], 68
     while at < len(answer):
         length = struct.unpack(">H", answer[at + 2 : at + 4])[0]
@@ -120,7 +119,7 @@ def results(answer):
 
 
 def status_of(reply):
-    """The status of a C-STORE-RSP."""
+    """Returns the status of a C-STORE-RSP."""
     at = reply.index(b"\0\0\0\x09\2\0\0\0")
     return struct.unpack("<H", reply[at + 8 : at + 10])[0]
 
@@ -129,7 +128,7 @@ class Peer:
     """A connection to a box."""
 
     def __init__(self, port, address="127.0.0.1", seconds=60, to="127.0.0.1"):
-        """From this address, or from any where it is `None`."""
+        """Connects from this address, or from any if it is `None`."""
         source = address and (address, 0)
         self.socket = socket.create_connection((to, port), seconds, source)
 
@@ -146,7 +145,7 @@ class Peer:
         self.socket.sendall(data)
 
     def receive(self, size):
-        """So many bytes, or fewer where the box closes the connection before."""
+        """Returns `size` bytes, or fewer if the box closes the connection before."""
         received = b""
         while len(received) < size:
             try:
@@ -159,27 +158,27 @@ class Peer:
         return received
 
     def rest(self):
-        """All bytes that come until the box closes the connection."""
+        """Returns all bytes until the box closes the connection."""
         return self.receive(1 << 30)
 
     def receive_pdu(self):
-        """The type and the body of the next PDU; type 0 where there is none."""
+        """Returns the type and the body of the next PDU; type 0 if there is none."""
         head = self.receive(6)
         if len(head) < 6:
             return 0, b""
         return head[0], self.receive(struct.unpack(">L", head[2:])[0])
 
     def is_silent(self, seconds):
-        """Whether nothing comes so long, and the connection is not closed."""
+        """Returns whether the box sends nothing and keeps the connection open for this time."""
         return not select.select([self.socket], [], [], seconds)[0]
 
     def exchange(self, sent, size):
-        """Sends this, and returns so many bytes of the answer."""
+        """Sends bytes, and returns `size` bytes of the reply."""
         self.send(sent)
         return self.receive(size)
 
     def until_released(self, sent):
-        """Sends this, and takes PDUs until an A-RELEASE-RP comes."""
+        """Sends bytes, and receives PDUs until an A-RELEASE-RP."""
         self.send(sent)
         kind = None
         while kind not in (0, RELEASE_RP):
@@ -193,21 +192,21 @@ class Peer:
         return results(body) if kind == ASSOCIATE_AC else []
 
     def store(self, syntax, sop_class, instance, data, contexts=1):
-        """Stores a data set in the last of so many contexts, and releases.
+        """Stores a data set in the last of `contexts` contexts, and releases.
 
-        Returns the status of the reply, or `result N` where the context is not accepted.
+        Returns the status of the reply, or `result N` if the context is not accepted.
         """
         result, _ = self.associate([(sop_class, syntax)] * contexts)[-1]
         if result != 0:
-            said = f"result {result}"
+            status = f"result {result}"
         else:
             self.send_store(2 * contexts - 1, sop_class, instance, data)
-            said = f"{status_of(self.receive_pdu()[1]):04X}"
+            status = f"{status_of(self.receive_pdu()[1]):04X}"
         self.release()
-        return said
+        return status
 
     def release(self):
-        """Requests the release of the association, and takes the answer."""
+        """Requests the release of the association, and waits for the reply."""
         self.until_released(pdu(RELEASE_RQ, bytes(4)))
 
     def send_store(self, context, sop_class, instance, data, is_whole=True):
@@ -217,10 +216,10 @@ class Peer:
 
 
 class Archive:
-    """A peer that takes every presentation context and answers each C-STORE with a status.
+    """A peer that accepts every presentation context and replies to each C-STORE with a status.
 
-    `others` has the statuses of instances that have one of their own; at None the association ends.
-    `callers` has the calling title of each association.
+    `others` has other statuses of some instances; `None` ends the association. `callers` has the
+    calling title of each association.
     """
 
     def __init__(self, port, status=0, others=()):
@@ -269,28 +268,28 @@ class Archive:
                 if control & 1:
                     command += part
                 elif control & 2:
-                    asked = fields_of(command)
-                    instance = asked[0x1000].decode().strip("\0")
+                    command_fields = fields_of(command)
+                    instance = command_fields[0x1000].decode().strip("\0")
                     status = self.others.get(instance, self.status)
                     if status is None:
                         return
-                    stream.write(store_reply(context, asked, status))
+                    stream.write(store_reply(context, command_fields, status))
                     command = b""
             stream.flush()
 
 
 def items(body):
-    """The items of an A-ASSOCIATE-RQ, or of one of its items: type and content."""
+    """Yields the items of an A-ASSOCIATE-RQ, or of one of its items: type and content."""
     while body:
         size = int.from_bytes(body[2:4], "big")
         yield body[0], body[4 : 4 + size]
         body = body[4 + size :]
 
 
-def acceptance(asked):
-    """The A-ASSOCIATE-AC that takes each context with the first transfer syntax proposed."""
-    answer = asked[:68] + item(0x10, APPLICATION_CONTEXT)
-    for kind, content in items(asked[68:]):
+def acceptance(command_fields):
+    """Returns the A-ASSOCIATE-AC that accepts each context with its first transfer syntax."""
+    answer = command_fields[:68] + item(0x10, APPLICATION_CONTEXT)
+    for kind, content in items(command_fields[68:]):
         if kind == CONTEXT_RQ:
             parts = items(content[4:])
             syntax = next(text for part, text in parts if part == TRANSFER_SYNTAX)
@@ -301,23 +300,23 @@ def acceptance(asked):
 
 
 def fields_of(command):
-    """The values of a command set by their element numbers."""
-    asked, at = {}, 0
+    """Returns the values of a command set by their element numbers."""
+    command_fields, at = {}, 0
     while at < len(command):
         _, number, size = struct.unpack("<HHL", command[at : at + 8])
-        asked[number] = command[at + 8 : at + 8 + size]
+        command_fields[number] = command[at + 8 : at + 8 + size]
         at += 8 + size
-    return asked
+    return command_fields
 
 
-def store_reply(context, asked, status):
-    """The P-DATA-TF PDU with the C-STORE-RSP to a command of these values."""
+def store_reply(context, command_fields, status):
+    """Returns the P-DATA-TF PDU with the C-STORE-RSP to a command of these values."""
     fields = (
-        field(0x0002, asked[0x0002])
+        field(0x0002, command_fields[0x0002])
         + field(0x0100, b"\x01\x80")
-        + field(0x0120, asked[0x0110])
+        + field(0x0120, command_fields[0x0110])
         + field(0x0800, b"\x01\x01")
         + field(0x0900, struct.pack("<H", status))
-        + field(0x1000, asked[0x1000])
+        + field(0x1000, command_fields[0x1000])
     )
     return values(context, 3, field(0, struct.pack("<L", len(fields))) + fields)

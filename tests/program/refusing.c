@@ -1,6 +1,6 @@
-// Refuses memory; the tests load it before the program. With REFUSED=N, the call of malloc or realloc of this number,
-// counted from 1, is refused; with REFUSED=signals, each call from SIGUSR1 on, until SIGUSR2 comes. It tells of each by a
-// byte on descriptor 9.
+// Makes allocations fail; the tests preload this library into the program. With REFUSED=N, the N-th call of malloc or
+// realloc fails, counted from 1; with REFUSED=signals, every call fails after SIGUSR1 until SIGUSR2. Each failure writes a
+// byte to descriptor 9.
 #define _GNU_SOURCE
 #include <dlfcn.h>
 #include <errno.h>

@@ -32,15 +32,15 @@ NOBODY = 'calling "" called ""'
 LONG_REQUEST = "(request of 70000 bytes, at most 65524)"
 
 
-def early(name, sent, why, titles=NOBODY, contexts="0 of 0"):
-    """The box aborts before an association is established."""
-    end = f"aborted by dcmbox, {why}"
+def early(name, sent, reason, titles=NOBODY, contexts="0 of 0"):
+    """Returns a cause by which the box aborts before an association is established."""
+    end = f"aborted by dcmbox, {reason}"
     calling = CALLING if titles == TITLES else ""
     return Cause(name, (sent, Receive(10)), titles, end, contexts, (f"WARN {end}{calling}",))
 
 
-def rejected(name, sent, why, titles=TITLES, contexts=ACCEPTED.replace("1", "0", 1), options=()):
-    end = f"rejected: {why}"
+def rejected(name, sent, reason, titles=TITLES, contexts=ACCEPTED.replace("1", "0", 1), options=()):
+    end = f"rejected: {reason}"
     warned = (f"WARN {end} {titles}",)
     return Cause(name, (sent, Receive(10)), titles, end, contexts, warned, options=options)
 
@@ -70,8 +70,8 @@ def fault(name, number, *items):
     return early(name, body(*items), f"its application (request: {number})", TITLES)
 
 
-def by_peer(source, reason, why):
-    end = f"aborted by the peer, {why} (source {source} reason {reason})"
+def by_peer(source, reason, meaning):
+    end = f"aborted by the peer, {meaning} (source {source} reason {reason})"
     abort = pdu(7, bytes([0, 0, source, reason]))
     return established(f"abort of source {source} and reason {reason}", (abort, until_closed), end)
 
@@ -113,7 +113,7 @@ REQUESTS = [
     early("a short abort first", pdu(7, bytes(3)), "its application (PDU type 07 of 3 bytes, not 4)"),
     early("a short request", pdu(1, bytes(67)), "its application (request: 31 BadLength)"),
     fault("an item past the end", "31 BadLength", APPLICATION, CT_CONTEXT, b"\x50\0\0\x50"),
-    fault("bytes left over", "31 BadLength", APPLICATION, CT_CONTEXT, maximum(0), b"\0\0"),
+    fault("remaining bytes", "31 BadLength", APPLICATION, CT_CONTEXT, maximum(0), b"\0\0"),
     fault("two applications", "32 BadItem", APPLICATION, APPLICATION, CT_CONTEXT, maximum(0)),
     fault("no transfer syntax", "32 BadItem", APPLICATION, context(1, ABSTRACT), maximum(0)),
     fault("an even context", "33 BadContextId", APPLICATION, EVEN_CONTEXT, maximum(0)),

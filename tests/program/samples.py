@@ -1,11 +1,11 @@
-"""Small files and recordings that the tests give to the program, and what it lists of them."""
+"""Small files and recordings for the program, and its listings of them."""
 from cases import cases as cases  # (tests import it from here)
 from peer import CT, ECHO, RELEASE, STORES, element, from_hex, values
 
 
-def changed(data, place, new):
-    """The bytes with others at a place."""
-    return data[:place] + new + data[place + len(new) :]
+def changed(data, offset, new):
+    """Returns the bytes with other bytes at an offset."""
+    return data[:offset] + new + data[offset + len(new) :]
 
 
 # A CT image of two elements, 336 bytes long, whose data set begins at byte 288.
@@ -29,7 +29,7 @@ SAMPLES = {
     "text.bin": b"GET / HTTP/1.0\r\n\r\n",
     "echo.bin": ECHO,
     "cut_echo.bin": ECHO[:200],
-    # The peer takes P-DATA-TF PDUs of eight bytes.
+    # The peer accepts P-DATA-TF PDUs of eight bytes.
     "eights.bin": changed(ECHO, 157, b"\0\0\0\10"),
     "stores.bin": STORES,
     "directory.bin": DIRECTORY,
@@ -42,17 +42,17 @@ CUT_FAULT = "fault 20 Truncated at 330 tag 0008,0018"
 
 
 def many_items():
-    """A CT image whose one element is a sequence of 32,768 empty items: a listing of 1.4 MB."""
+    """Returns a CT image with one element, a sequence of 32,768 empty items: a listing of 1.4 MB."""
     items = bytes.fromhex("feff00e000000000") * (1 << 15)
     end = bytes.fromhex("feffdde000000000")
     return HEADER + b"\10\0\100\21SQ\0\0\377\377\377\377" + items + end
 
 
 class LargeStore:
-    """The first of the two stores, with Pixel Data of so many zeros, on an association of its own.
+    """The first of the two stores, with Pixel Data of `size` zeros, on an association of its own.
 
-    The bytes up to the first pixel, P-DATA-TF PDUs of 16,384 bytes, the last one, and the file that
-    has to be there.
+    It has the bytes up to the first pixel, P-DATA-TF PDUs of 16,384 bytes, the last PDU, and the
+    expected file.
     """
 
     def __init__(self, size):
@@ -62,5 +62,5 @@ class LargeStore:
         self.middle = values(1, 0, bytes(16372)) * whole
         self.last = values(1, 2, bytes(rest)) + RELEASE
         self.file = CT_FILE + pixels + bytes(size)
-        # What of the file is written before its pixels, and before the last PDU.
+        # The sizes of the file before its pixels, and before the last PDU.
         self.opened, self.filled = 348, 348 + 16372 * whole

@@ -1,4 +1,4 @@
-"""Causes of stores that are not confirmed, and of classes that are refused."""
+"""Causes by which stores are not confirmed, and by which classes are refused."""
 import struct
 
 from cause import (
@@ -27,24 +27,24 @@ BIG_ENDIAN = "1.2.840.10008.1.2.2"
 JPEG = "1.2.840.10008.1.2.4.70"
 
 
-def refused(name, contexts, accepted, told, answer):
-    """Some contexts are not accepted, and the association is released."""
+def refused(name, contexts, accepted, warning, answer):
+    """Returns a cause in which some contexts are not accepted, and the association is released."""
     steps = (request(contexts), Receive(answer), RELEASE, Receive(10))
-    warned = (f"{told}{CALLING}",)
+    warned = (f"{warning}{CALLING}",)
     return Cause(name, steps, TITLES, "released", f"{accepted} of {len(contexts)}", warned)
 
 
 def answer_size(contexts):
-    """How many bytes the A-ASSOCIATE-AC to these contexts has, of which none is accepted."""
+    """Returns the size of the A-ASSOCIATE-AC that accepts none of these contexts."""
     return 74 + 25 + 41 + len(contexts) * (12 + len("1.2.840.10008.1.2"))
 
 
-def none_of(name, contexts, told, level="WARN"):
-    return refused(name, contexts, 0, f"{level} classes refused: {told}", answer_size(contexts))
+def none_of(name, contexts, warning, level="WARN"):
+    return refused(name, contexts, 0, f"{level} classes refused: {warning}", answer_size(contexts))
 
 
 def stored(name, command_pdu, data, status, counts, instance="1.2.3", sop="CTImageStorage", **more):
-    """A store is answered, and not with success; the association is released."""
+    """Returns a cause in which the reply to a store is not success, and the association is released."""
     store = f"class {sop} instance {instance} syntax ExplicitVRLittleEndian"
     warned = f"WARN not stored: status {status} {store}{CALLING}"
     steps = (command_pdu, *data, RELEASE, Receive(10))
@@ -52,7 +52,7 @@ def stored(name, command_pdu, data, status, counts, instance="1.2.3", sop="CTIma
 
 
 def nested(levels):
-    """A data set of so many levels, sequences and their items."""
+    """Returns a data set with this number of levels, of sequences and their items."""
     inner = b""
     for _ in range(levels // 2):
         inner = b"\xfe\xff\0\xe0\xff\xff\xff\xff" + inner + bytes.fromhex("feff0de000000000")
@@ -74,7 +74,7 @@ STORES_LOST = [
         FAILED,
     ),
     stored(
-        "a data set that is cut off",
+        "a truncated data set",
         COMMAND,
         (values(1, 2, DATA_SET[12:50]),),
         "C000 fault 20 Truncated tag 0008,0018",
@@ -178,7 +178,7 @@ CLASSES = [
     ),
     none_of("a private class", [(PRIVATE, EXPLICIT)], "1.2.3.4.5 (class: --storage-class)"),
     none_of(
-        "a class that nothing takes",
+        "a class that no option accepts",
         [(FIND, EXPLICIT)],
         "StudyRootQueryRetrieveInformationModelFind (class)",
         "INFO",
@@ -189,7 +189,7 @@ CLASSES = [
         "CTImageStorage (syntaxes JPEGLosslessSV1: --all-syntaxes)",
     ),
     none_of(
-        "a syntax that nothing takes",
+        "a syntax that no option accepts",
         [(CT, BIG_ENDIAN)],
         "CTImageStorage (syntaxes ExplicitVRBigEndian)",
     ),

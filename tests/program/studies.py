@@ -1,4 +1,4 @@
-"""Made files of studies, and what a command takes of time and memory."""
+"""Generated files of studies, and the time and memory that a command needs."""
 import pathlib
 import subprocess
 import tempfile
@@ -39,7 +39,7 @@ def padded(value, vr):
 
 
 def image(**values):
-    """The file of the first image, with other values; what is None is left out."""
+    """Returns the file of the first image with other values; `None` omits an element."""
     values = {**FIRST, **values}
     return HEADER + b"".join(
         element(tag, vr, padded(values[name], vr))
@@ -49,7 +49,7 @@ def image(**values):
 
 
 def folder_of_images(folder, count, per_series=100):
-    """Writes so many images of one study."""
+    """Writes `count` images of one study."""
     folder.mkdir(parents=True)
     comment = "x" * 2000
     for number in range(count):
@@ -66,15 +66,15 @@ def folder_of_images(folder, count, per_series=100):
 
 def measured(*command, cwd):
     """
-    Runs a command: its status, its processor seconds, and its peak memory in kilobytes.
+    Runs a command. Returns its status, its CPU seconds, and its peak memory in kilobytes.
 
-    GNU time starts it: the peak that the kernel counts for a process begins with that of the one it was
-    forked from, which would be this interpreter's.
+    GNU time starts it: for the kernel the peak of a process includes that of the process that forked it,
+    which would be this interpreter.
     """
     with tempfile.NamedTemporaryFile("r") as figures:
         timed = ["/usr/bin/time", "--quiet", "--format", "%U %S %M", "--output", figures.name, "--", *command]
         status = subprocess.run(
-            [str(word) for word in timed],
+            [str(argument) for argument in timed],
             cwd=cwd,
             stdin=subprocess.DEVNULL,
             stdout=subprocess.DEVNULL,
@@ -85,7 +85,7 @@ def measured(*command, cwd):
 
 
 def tree_of(folder):
-    """The files below a folder, by their paths from there."""
+    """Returns the files below a folder, by their relative paths."""
     folder = pathlib.Path(folder)
     return {
         str(path.relative_to(folder)): path for path in folder.rglob("*") if path.is_file()

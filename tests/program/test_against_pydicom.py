@@ -1,4 +1,4 @@
-"""Every file of pydicom's own: the elements that `show` prints, and what `list` groups, are what pydicom reads."""
+"""`show` and `list` read every test file of pydicom as pydicom does."""
 import json
 import pathlib
 import struct
@@ -14,7 +14,7 @@ FOLDER = pathlib.Path(get_testdata_file("CT_small.dcm")).parent
 NUMBERS = {"US": "H", "SS": "h", "UL": "L", "SL": "l", "UV": "Q", "SV": "q"}
 FLOATS = {"FL": "f", "OF": "f", "FD": "d", "OD": "d"}
 WORDS = {"OB": 1, "UN": 1, "OW": 2, "OL": 4, "OV": 8}
-# What is shown whole.
+# The size of values that are shown whole.
 LONGEST = 65536
 
 
@@ -25,7 +25,7 @@ def read(path):
 
 
 def raw_elements(dataset):
-    """Tag, VR and bytes of each element, those of items among them; None for a sequence."""
+    """Yields tag, VR and bytes (`None` for a sequence) of each element, also of items."""
     for tag in sorted(dataset.keys()):
         raw = dataset.get_item(tag)
         data = raw.value if isinstance(raw, RawDataElement) else None
@@ -33,7 +33,7 @@ def raw_elements(dataset):
             warnings.simplefilter("ignore")
             try:
                 one = dataset[tag]
-            except Exception:  # what pydicom can't convert
+            except Exception:  # pydicom can't convert it
                 yield f"{tag.group:04x},{tag.elem:04x}", None, None
                 continue
         yield f"{tag.group:04x},{tag.elem:04x}", one.VR, data
@@ -48,7 +48,7 @@ def numbers(code, data):
 
 
 def text_of(vr, data):
-    """The value as it is printed, or None for a text that is not in ASCII."""
+    """Returns the value as it is printed, or `None` for a text that is not in ASCII."""
     if vr in NUMBERS:
         return "\\".join(map(str, numbers(NUMBERS[vr], data)))
     if vr == "AT":
@@ -71,7 +71,7 @@ def is_same(vr, data, value):
 
 
 def test_values(run):
-    """Of each file that both read: no element is missing, and of those with the same VR each value is the same."""
+    """Of each file that both read, no element is missing, and elements with the same VR have the same value."""
     files = equal = texts = private = 0
     for path in sorted(FOLDER.rglob("*.dcm")):
         done = run("show", "--json", "--values", "--all-syntaxes", path)
@@ -79,16 +79,16 @@ def test_values(run):
         if found["result"] != "good" or found["class"] == "1.2.840.10008.1.3.10":
             continue
         try:
-            wanted = list(raw_elements(read(path)))
+            expected = list(raw_elements(read(path)))
         except Exception:  # a file that pydicom does not read
             continue
         ours = [one for one in found["elements"] if not one["tag"].startswith("fffe")]
-        if [one["tag"] for one in ours] != [tag for tag, _, _ in wanted]:
+        if [one["tag"] for one in ours] != [tag for tag, _, _ in expected]:
             # Private sequences of defined length in Implicit VR are opaque, by their tag, to one of the two.
             private += 1
             continue
         files += 1
-        for one, (tag, vr, data) in zip(ours, wanted):
+        for one, (tag, vr, data) in zip(ours, expected):
             if not data or (vr, len(data)) != (one["vr"], one["length"]) or len(data) > LONGEST:
                 continue
             if vr not in FLOATS and text_of(vr, data) is None:
@@ -101,7 +101,7 @@ def test_values(run):
 
 
 def test_groups(run):
-    """Each file that is listed is in the study and the series that pydicom reads, and each is counted once."""
+    """Each listed file is in the study and the series that pydicom reads, and each is counted once."""
     done = run("list", FOLDER, "--instances", "--json")
     listed, found = 0, json.loads(done.stdout)
     for study in found["studies"]:
@@ -117,9 +117,9 @@ def test_groups(run):
                 assert ours == uids, instance["file"]
                 listed += 1
             assert one["image_count"] == len(one["instances"])
-    left = done.stderr.count(": left out: ")
-    assert found["left_out"] == left
-    print(f"{listed} files listed, {left} left out")
+    left_out = done.stderr.count(": left out: ")
+    assert found["left_out"] == left_out
+    print(f"{listed} files listed, {left_out} left out")
     files = sum(1 for path in FOLDER.rglob("*") if path.is_file())
     directories = sum(1 for path in FOLDER.rglob("DICOMDIR*") if path.is_file())
-    assert listed > 60 and files - directories <= listed + left <= files
+    assert listed > 60 and files - directories <= listed + left_out <= files

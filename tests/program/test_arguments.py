@@ -1,7 +1,4 @@
-"""What the program says to arguments.
-
-Recordings that are replayed, options that are refused, files that are missing.
-"""
+"""The program's output for arguments: replays of recordings, rejected options, missing files."""
 import re
 import shlex
 
@@ -24,7 +21,7 @@ LISTING = SHOWN + ELEMENTS
         ("the recorded echo, byte by byte", ECHO_LINES, "echo.bin --cut 1"),
         ("the recorded echo, in pieces of seven", ECHO_LINES, "echo.bin --cut 7"),
         ("another called title", f"03000000000400010107\n{END}", "echo.bin --ae OTHER"),
-        ("a peer that takes eight bytes", EIGHTS_LINES, "eights.bin"),
+        ("a peer that accepts eight bytes", EIGHTS_LINES, "eights.bin"),
         ("an empty recording", END, "empty.bin"),
         ("bytes that are no PDU", f"{ABORT}\n{END}", "text.bin"),
         ("an echo that is cut", f"([0-9a-f]+\n)+{END}", "cut_echo.bin"),
@@ -84,7 +81,7 @@ REPLAY = "replay empty.bin --out ."
             "error: --uid and --new-uid exclude each other",
             "index folder --uid 2.25.1 --new-uid",
         ),
-        ("a UID that is none", ".*--uid takes a UID.*", "index folder --uid 2.25.x"),
+        ("an invalid UID", ".*--uid takes a UID.*", "index folder --uid 2.25.x"),
         ("no port", ".*--port.*", "serve --out ."),
         (
             "port 0",
@@ -92,7 +89,7 @@ REPLAY = "replay empty.bin --out ."
             "serve --out . --port 0",
         ),
         ("a port past the greatest", ".*--port.*", "serve --out . --port 65536"),
-        ("a form that no log has", ".*--log takes text or json.*", f"{SERVE} --log xml"),
+        ("an unknown form of the log", ".*--log takes text or json.*", f"{SERVE} --log xml"),
         ("a log both quiet and not", ".*--verbose and --quiet.*", f"{SERVE} -v -q"),
         ("a PDU that is too short", ".*--max-pdu.*", f"{SERVE} --max-pdu 1023"),
         ("too many titles", ".*--caller.*64 times.*", SERVE + " --caller SCANNER1" * 65),
@@ -121,7 +118,7 @@ REPLAY = "replay empty.bin --out ."
         ),
     ),
 )
-def test_refused(expect, errors, arguments):
+def test_rejected_arguments(expect, errors, arguments):
     expect(2, "", errors, *shlex.split(arguments))
 
 
@@ -131,7 +128,7 @@ def test_refused(expect, errors, arguments):
     + [("--per-peer", 1, 1, value) for value in ("0", "2", "x", "")]
     + [("--longest", 1, 86400, "0"), ("--grace", 0, 86400, "x")],
 )
-def test_a_number_that_is_refused(expect, option, least, most, value):
+def test_a_rejected_number(expect, option, least, most, value):
     errors = f".*{option} takes a number from {least} to {most}, not '{value}'.*"
     expect(2, "", errors, *SERVE.split(), option, value)
 
@@ -149,8 +146,8 @@ def test_a_file_whose_name_is_not_utf_8(expect):
 
 
 @pytest.mark.parametrize("command", ["check", "show"])
-def test_one_of_several_whose_name_is_not_utf_8(run, command):
-    """It is named, and the others are read."""
+def test_one_file_of_several_whose_name_is_not_utf_8(run, command):
+    """The program reports that file and reads the others."""
     done = run(command, "ct.dcm", b"b\377c", "ct.dcm")
     assert done.returncode == 3
     assert re.findall("^file (.*)$", done.stdout, re.M) == ["ct.dcm", "b?c", "ct.dcm"]
@@ -211,7 +208,7 @@ def test_file(expect, status, output, errors, arguments):
             "replay empty.bin --out missing",
         ),
         (
-            "a file in place of the folder",
+            "a file instead of the folder",
             r"empty\.bin: the folder can.t be opened: .*check that it is a folder.*",
             "replay empty.bin --out empty.bin",
         ),
@@ -221,7 +218,7 @@ def test_file(expect, status, output, errors, arguments):
             "replay missing.bin --out .",
         ),
         (
-            "a folder in place of a file",
+            "a folder instead of a file",
             r"\.: the file can.t be read: .*",
             "replay . --out .",
         ),
@@ -232,35 +229,35 @@ def test_file(expect, status, output, errors, arguments):
         ),
     ),
 )
-def test_system_refuses(expect, errors, arguments):
+def test_errors_of_the_system(expect, errors, arguments):
     expect(3, "", f"dcmbox: {errors}", *arguments.split())
 
 
 class TestIndex:
-    """Folders of which `index` writes a directory, and those of which it can't."""
+    """Folders for which `index` writes a directory, and folders for which it can't."""
 
     def test_a_folder_is_indexed(self, expect, put):
         put({"folder/I0000001": CT_FILE})
         skipped = "skipped I0000001 missing 0008,0020\nrecords 0"
-        told = "images 0 left out 1\nleft out: missing 0008,0020 StudyDate 1"
-        expect(0, skipped, told, "index", "folder", "--uid", "2.25.1")
+        errors = "images 0 left out 1\nleft out: missing 0008,0020 StudyDate 1"
+        expect(0, skipped, errors, "index", "folder", "--uid", "2.25.1")
         expect(0, "records 0", "", "checkdir", "folder/DICOMDIR")
 
     def test_a_missing_folder(self, expect):
         errors = "dcmbox: missing: the folder can.t be opened: .*"
         expect(3, "", errors, "index", "missing", "--uid", "2.25.1")
 
-    def test_no_directory_whose_files_are_kept(self, expect, work):
+    def test_a_missing_directory_with_keep(self, expect, work):
         (work / "empty").mkdir()
         errors = "dcmbox: empty: the folder.s DICOMDIR can.t be read: .*without --keep.*"
         expect(3, "", errors, "index", "empty", "--uid", "2.25.1", "--keep")
 
-    def test_a_folder_in_place_of_the_directory(self, expect, work):
+    def test_a_folder_instead_of_the_directory(self, expect, work):
         (work / "odd/DICOMDIR").mkdir(parents=True)
         errors = "dcmbox: odd: the folder.s DICOMDIR can.t be read: .*"
         expect(3, "", errors, "index", "odd", "--uid", "2.25.1", "--keep")
 
-    def test_the_directory_is_no_dicom_file(self, expect, put):
+    def test_a_directory_that_is_not_a_dicom_file(self, expect, put):
         put({"other/DICOMDIR": SAMPLES["text.bin"]})
         fault = "fault 50 NotPart10 at 128"
         expect(1, fault, "", "index", "other", "--uid", "2.25.1", "--keep")

@@ -1,4 +1,4 @@
-"""The tree that `arrange` makes of a folder: links, copies, names, and what is there already."""
+"""The tree that `arrange` makes from a folder: links, copies, names, and existing files."""
 import json
 import os
 import pathlib
@@ -14,16 +14,16 @@ SECOND = "P1/1.2.3/1.2.3.1/1.2.3.1.1-2.dcm"
 THIRD = "P1/1.2.3/1.2.3.1/1.2.3.1.1-3.dcm"
 
 
-def counts(linked=0, passed=0, renamed=0, left=0, word="linked"):
-    return f"{word} {linked} passed over {passed} renamed {renamed} left out {left}\n"
+def counts(linked=0, passed=0, renamed=0, left_out=0, action="linked"):
+    return f"{action} {linked} passed over {passed} renamed {renamed} left out {left_out}\n"
 
 
 @pytest.fixture
 def arrange(run):
-    """Runs `arrange`: its status, its output and its errors."""
+    """Runs `arrange`, and returns its status, its output and its errors."""
 
-    def arranged(*options, folder="in", **kinds):
-        done = run("arrange", folder, "--to", "tree", *options, **kinds)
+    def arranged(*options, folder="in", **keywords):
+        done = run("arrange", folder, "--to", "tree", *options, **keywords)
         return done.returncode, done.stdout, done.stderr
 
     return arranged
@@ -37,7 +37,7 @@ def test_links(arrange, put, work):
     assert arrange() == (0, counts(0, 2), "")
 
 
-def test_a_tree_below_folders_that_are_not_there(run, put, work):
+def test_a_tree_below_missing_folders(run, put, work):
     put({"in/I0000001": image()})
     assert run("arrange", "in", "--to", "a/b/c").returncode == 0
     assert (work / "a/b/c" / PATH).samefile(work / "in/I0000001")
@@ -45,35 +45,35 @@ def test_a_tree_below_folders_that_are_not_there(run, put, work):
 
 @pytest.mark.parametrize("option", ["", "--copy"])
 def test_the_same_name(arrange, put, work, option):
-    """Other bytes get a number, the same ones are passed over, and nothing is written over."""
+    """A file with other bytes gets a number, one with the same bytes is passed over, and no file is overwritten."""
     put({"in/a": image(), "in/b": image(number="2"), "in/c": image(number="3"), "in/d": image()})
-    word = "copied" if option else "linked"
-    assert arrange(*option.split()) == (0, counts(1, 1, 2, word=word), "")
+    action = "copied" if option else "linked"
+    assert arrange(*option.split()) == (0, counts(1, 1, 2, action=action), "")
     tree = tree_of(work / "tree")
     assert set(tree) == {PATH, SECOND, THIRD}
     assert {path.read_bytes() for path in tree.values()} == {
         image(number=number) for number in "123"
     }
     kept = {name: (path.stat().st_ino, path.read_bytes()) for name, path in tree.items()}
-    assert arrange(*option.split()) == (0, counts(0, 4, word=word), "")
+    assert arrange(*option.split()) == (0, counts(0, 4, action=action), "")
     put({"in/e": image(number="4")})
-    assert arrange(*option.split()) == (0, counts(0, 4, 1, word=word), "")
+    assert arrange(*option.split()) == (0, counts(0, 4, 1, action=action), "")
     tree = tree_of(work / "tree")
     assert len(tree) == 4
     assert kept.items() <= {n: (p.stat().st_ino, p.read_bytes()) for n, p in tree.items()}.items()
 
 
-@pytest.mark.parametrize("taken", ["file", "folder", "link", "dangling link"])
-def test_a_name_that_something_else_has(arrange, put, work, taken):
+@pytest.mark.parametrize("kind", ["file", "folder", "link", "dangling link"])
+def test_a_name_that_exists_already(arrange, put, work, kind):
     put({"in/a": image(), "other": b"x"})
     path = work / "tree" / PATH
     path.parent.mkdir(parents=True)
-    if taken == "file":
+    if kind == "file":
         path.write_bytes(b"x" * len(image()))
-    elif taken == "folder":
+    elif kind == "folder":
         path.mkdir()
     else:
-        path.symlink_to(work / ("other" if taken == "link" else "missing"))
+        path.symlink_to(work / ("other" if kind == "link" else "missing"))
     before = os.lstat(path)
     assert arrange() == (0, counts(0, 0, 1), "")
     assert (work / "tree" / SECOND).samefile(work / "in/a")
@@ -119,7 +119,7 @@ def test_the_longest_names(arrange, put, work):
     assert arrange() == (0, counts(2, 0, 1), "")
 
 
-def test_values_that_are_missing(arrange, put, work):
+def test_missing_values(arrange, put, work):
     put({"in/a": HEADER, "in/b": HEADER})
     assert arrange() == (0, counts(1, 1), "")
     assert set(tree_of(work / "tree")) == {"UNKNOWN/UNKNOWN/UNKNOWN/UNKNOWN.dcm"}
@@ -130,7 +130,7 @@ def test_a_dry_run(arrange, put, work):
     assert arrange("--dry-run")[0] == 0 and not (work / "tree").exists()
     os.rename(work / "in/b", work / "b")
     assert arrange("--dry-run") == (0, f"link\tin/a\ttree/{PATH}\n" + counts(1), "")
-    copied = f"copy\tin/a\ttree/{PATH}\n" + counts(1, word="copied")
+    copied = f"copy\tin/a\ttree/{PATH}\n" + counts(1, action="copied")
     assert arrange("--dry-run", "--copy") == (0, copied, "")
     arrange()
     os.rename(work / "b", work / "in/b")
@@ -143,8 +143,8 @@ def test_a_dry_run(arrange, put, work):
     assert set(tree_of(work / "tree")) == {PATH}
 
 
-def test_a_dry_run_of_instances_that_repeat(arrange, put, work):
-    """It prints what the real run does: numbers for other bytes, and what is passed over."""
+def test_a_dry_run_of_repeated_instances(arrange, put, work):
+    """A dry run prints what the real run does: numbers for other bytes, and files passed over."""
     put({"in/a": image(), "in/b": image(number="2"), "in/c": image(number="3"), "in/d": image()})
     put({"in/e/a": image(instance="1.2.3.1.2"), "in/e/b": image(instance="1.2.3.1.2")})
     status, output, errors = arrange("--dry-run")
@@ -159,7 +159,7 @@ def test_a_dry_run_of_instances_that_repeat(arrange, put, work):
 
 
 def test_one_object(arrange, put):
-    """The numbers by name, and the actions of a dry run, of which there may be none."""
+    """The JSON object has the counts, and the actions of a dry run, also if there are none."""
     quoted = 'in/a"\\\n\u00e9'
     put({quoted: image(), "in/notes.txt": b"no image"})
     action = {"action": "copy", "file": quoted, "path": f"tree/{PATH}"}
@@ -180,14 +180,14 @@ def test_one_object(arrange, put):
 
 
 def test_several_folders(run, put, work):
-    """Into one tree: the same bytes are passed over, other ones get a number; the tree is none of them."""
+    """In one tree the same bytes are passed over and other bytes get a number; the tree can't be one of the folders."""
     put({"a/a": image(), "b/b": image(), "c/c": image(number="2")})
     done = run("arrange", "a", "b", "c", "--to", "b/tree")
     assert (done.returncode, done.stdout, done.stderr) == (0, counts(1, 1, 1), "")
     tree = tree_of(work / "b/tree")
     assert tree[PATH].samefile(work / "a/a") and tree[SECOND].samefile(work / "c/c")
     done = run("arrange", "b", "missing", "a", "--to", "b/tree")
-    assert (done.returncode, done.stdout) == (3, counts(0, 2, left=1))
+    assert (done.returncode, done.stdout) == (3, counts(0, 2, left_out=1))
     assert done.stderr.startswith("dcmbox: missing: the folder can't be opened: ")
     done = run("arrange", "a", "b/.", "--to", "b")
     assert (done.returncode, done.stderr) == (2, "error: --to takes another folder than DIR\n")
@@ -195,42 +195,42 @@ def test_several_folders(run, put, work):
 
 def test_copies(arrange, put, work):
     put({"in/a": image(), "in/b": image(instance="1.2.3.1.2"), "tree/.DRAFT": b"what was left"})
-    assert arrange("--copy") == (0, counts(2, word="copied"), "")
+    assert arrange("--copy") == (0, counts(2, action="copied"), "")
     tree = tree_of(work / "tree")
     assert len(tree) == 2 and tree[PATH].read_bytes() == image()
     assert not tree[PATH].samefile(work / "in/a") and tree[PATH].stat().st_nlink == 1
-    assert arrange("--copy") == (0, counts(0, 2, word="copied"), "")
+    assert arrange("--copy") == (0, counts(0, 2, action="copied"), "")
 
 
 def test_a_draft_that_has_a_name(arrange, put, work):
-    """As a run leaves it that ends between the name and the removal: the named file stays as it is."""
+    """A run that ends between naming and removing a draft leaves both names; the named file stays unchanged."""
     put({"in/a": image(), "in/b": image(instance="1.2.3.1.2"), "tree/" + PATH: image()})
     os.link(work / "tree" / PATH, work / "tree/.DRAFT")
-    assert arrange("--copy") == (0, counts(1, 1, word="copied"), "")
+    assert arrange("--copy") == (0, counts(1, 1, action="copied"), "")
     tree = tree_of(work / "tree")
     assert len(tree) == 2 and tree[PATH].read_bytes() == image()
 
 
-def test_a_patient_whose_name_is_that_of_a_draft(arrange, put, work):
-    """Each name that a draft of the program has, and a file of the user's own at it."""
+def test_a_patient_with_the_name_of_a_draft(arrange, put, work):
+    """The names of the program's drafts are names of patients, and a file of the user exists there."""
     for number, name in enumerate(["DRAFT", "DRAFT2", "DIRDRAFT", ".DRAFT"]):
         put({f"in/{number}": image(patient=name)})
     put({"tree/notes/DRAFT": b"of the user"})
-    assert arrange("--copy") == (0, counts(4, word="copied"), "")
+    assert arrange("--copy") == (0, counts(4, action="copied"), "")
     folders = {name.split("/")[0] for name in tree_of(work / "tree")}
     assert folders == {"DRAFT", "DRAFT2", "DIRDRAFT", "_DRAFT", "notes"}
     assert (work / "tree/notes/DRAFT").read_bytes() == b"of the user"
-    assert arrange("--copy") == (0, counts(0, 4, word="copied"), "")
+    assert arrange("--copy") == (0, counts(0, 4, action="copied"), "")
 
 
 def test_a_file_of_the_user_with_the_name_of_a_draft(arrange, put, work):
     put({"in/a": image(), "tree/DRAFT": b"of the user"})
-    assert arrange("--copy") == (0, counts(1, word="copied"), "")
+    assert arrange("--copy") == (0, counts(1, action="copied"), "")
     assert (work / "tree/DRAFT").read_bytes() == b"of the user"
 
 
 def test_files_that_differ_at_their_end(arrange, put, work):
-    """Files of 20 KB, of which the first 8 KiB and the lengths are the same."""
+    """Files of 20 KB with the same first 8 KiB and the same length."""
     long = image(comment="x" * 20000)
     put({"in/a": long, "in/b": long[:-1] + b"y", "in/c": long})
     assert arrange() == (0, counts(1, 1, 1), "")
@@ -260,19 +260,19 @@ def test_another_file_system(run, put, work, small_disk):
         re.IGNORECASE,
     )
     done = run("arrange", "in", "--to", disk / "tree", "--copy")
-    assert (done.returncode, done.stdout) == (0, counts(1, word="copied"))
+    assert (done.returncode, done.stdout) == (0, counts(1, action="copied"))
     assert (disk / "tree" / PATH).read_bytes() == image()
 
 
 def test_a_disk_that_is_full(run, put, work, small_disk):
-    """No part of a copy has a name."""
+    """No partial copy gets a name."""
     put({f"in/{number}": image(instance=f"1.{number}") + bytes(200_000) for number in range(12)})
     disk = small_disk("disk", "-t", "tmpfs", "-o", "size=1m", "tmpfs")
     done = run("arrange", "in", "--to", disk / "tree", "--copy")
     assert done.returncode == 3 and "it can't be written into: " in done.stderr
     whole = {path.read_bytes() for path in (work / "in").iterdir()}
-    left = [path.read_bytes() for path in tree_of(disk / "tree").values()]
-    assert left and set(left) < whole
+    left_out = [path.read_bytes() for path in tree_of(disk / "tree").values()]
+    assert left_out and set(left_out) < whole
 
 
 def test_a_tree_in_the_folder(run, put, work):
@@ -291,10 +291,10 @@ def test_the_folder_itself(expect, put, work, tree):
     assert set(tree_of(work / "in")) == {"a"}
 
 
-def test_what_is_left_out(arrange, put, work):
+def test_files_left_out(arrange, put, work):
     put({"in/a": image(), "in/notes.txt": b"x", "in/DICOMDIR": DIRECTORY, "in/DRAFT": b"x"})
     fault = "dcmbox: in/notes.txt: left out: fault 50 NotPart10 at 128\n"
-    assert arrange() == (1, counts(1, left=1), fault)
+    assert arrange() == (1, counts(1, left_out=1), fault)
     assert set(tree_of(work / "tree")) == {PATH}
 
 
@@ -313,7 +313,7 @@ def test_a_tree_that_is_a_file(arrange, put):
 
 
 def test_a_folder_that_a_box_receives_into(run, serve, put):
-    """A tree with copies has one writer; what a box receives can be arranged meanwhile."""
+    """A folder of copies has one writer; `arrange` can link the files of a running box."""
     serve()
     put({"in/a": image(), "received/I0000001": image()})
     done = run("arrange", "in", "--to", "received", "--copy")
@@ -322,7 +322,7 @@ def test_a_folder_that_a_box_receives_into(run, serve, put):
 
 
 def test_pydicoms_files(run, work):
-    """Each file has the path of what pydicom reads, and the same bytes."""
+    """Each file has the path that follows from the values that pydicom reads, and the same bytes."""
     pydicom = pytest.importorskip("pydicom", reason="make packages installs it")
     from pydicom.data import get_testdata_file
 
@@ -330,8 +330,8 @@ def test_pydicoms_files(run, work):
     done = run("arrange", folder, "--to", "tree", "--copy")
     found = re.fullmatch(counts(r"(\d+)", r"(\d+)", r"(\d+)", r"(\d+)", "copied"), done.stdout)
     tree = tree_of(work / "tree")
-    put, passed, renamed, left = map(int, found.groups())
-    assert len(tree) == put + renamed > 80 and left == done.stderr.count(": left out: ")
+    put, passed, renamed, left_out = map(int, found.groups())
+    assert len(tree) == put + renamed > 80 and left_out == done.stderr.count(": left out: ")
     for name, path in tree.items():
         data = pydicom.dcmread(path, stop_before_pixels=True, force=True)
         keys = ("PatientID", "StudyInstanceUID", "SeriesInstanceUID", "SOPInstanceUID")
@@ -343,7 +343,7 @@ def test_pydicoms_files(run, work):
 
 
 def test_20000_files(program, shared):
-    """Memory does not grow with the number of files, and is less than DCMTK and pydicom take."""
+    """Memory does not grow with the number of files, and is less than DCMTK and pydicom need."""
     need("dcmdump")
     work = shared("many")
     folder_of_images(work / "few", 1_000)
@@ -357,3 +357,93 @@ def test_20000_files(program, shared):
     assert len(tree_of(work / "tree")) == 20_000
     assert max(ours[2], again[2]) <= few[2] + 1024
     assert ours[2] < dcmtk[2]
+
+
+@pytest.mark.parametrize("suffix", ["", ".dcm"])
+def test_a_pattern(arrange, put, work, suffix):
+    """Each element in braces is replaced by its value, and a run repeated changes nothing."""
+    pattern = "{PatientName}/{StudyDate}_{0008,0060}/{SeriesNumber}/Image {InstanceNumber}" + suffix
+    put({"in/a": image(), "in/b": image(number="2"), "in/c": image(modality="MR")})
+    paths = {
+        "DOE^JANE/20260101_CT/1/Image 1.dcm": "in/a",
+        "DOE^JANE/20260101_CT/1/Image 2.dcm": "in/b",
+        "DOE^JANE/20260101_MR/1/Image 1.dcm": "in/c",
+    }
+    status, out, err = arrange("--pattern", pattern, "--dry-run")
+    assert (status, err) == (0, "") and not (work / "tree").exists()
+    planned = {f"link\t{file}\ttree/{path}" for path, file in paths.items()}
+    assert set(out.splitlines()[:-1]) == planned
+    assert arrange("--pattern", pattern) == (0, counts(3), "")
+    tree = tree_of(work / "tree")
+    assert set(tree) == set(paths)
+    assert all(tree[path].samefile(work / file) for path, file in paths.items())
+    assert arrange("--pattern", pattern, "--copy") == (0, counts(0, 3, action="copied"), "")
+    found = json.loads(arrange("--pattern", pattern, "--json")[1])
+    assert found == {"linked": 0, "passed_over": 3, "renamed": 0, "left_out": 0}
+
+
+@pytest.mark.parametrize(
+    ("values", "pattern", "path"),
+    [
+        ({}, "{SOPInstanceUID}", "1.2.3.1.1"),
+        ({"patient": None}, "{PatientID}_{Modality}", "UNKNOWN_CT"),
+        ({"patient": "  "}, "{PatientID}_{Modality}", "__CT"),
+        ({"patient": "../../x"}, "{PatientID}", "_._.._x"),
+        ({"patient": ".."}, "a{PatientID}/{Modality}", "a_./CT"),
+        ({"patient": "x" * 230}, "{PatientID}/{PatientID}{Modality}", "x" * 230 + "/_"),
+        ({}, "a {Modality} /b- ", "a CT/b-"),
+    ],
+)
+def test_names_of_a_pattern(arrange, put, work, values, pattern, path):
+    put({"in/a": image(**values)})
+    assert arrange("--pattern", pattern) == (0, counts(1), "")
+    assert set(tree_of(work / "tree")) == {path + ".dcm"}
+
+
+@pytest.mark.parametrize("option", ["", "--copy"])
+def test_the_same_path_by_a_pattern(arrange, put, work, option):
+    put({"in/a": image(), "in/b": image(number="2"), "in/c": image()})
+    options = ["--pattern", "{PatientID}/x", *option.split()]
+    action = "copied" if option else "linked"
+    assert arrange(*options) == (0, counts(1, 1, 1, action=action), "")
+    tree = tree_of(work / "tree")
+    assert set(tree) == {"P1/x.dcm", "P1/x-2.dcm"}
+    assert {path.read_bytes() for path in tree.values()} == {image(), image(number="2")}
+    assert arrange(*options) == (0, counts(0, 3, action=action), "")
+
+
+NAMES = "names that are not empty and begin with no dot, with '/' between them"
+ELEMENT = "as 0010,0020 or PatientID, not"
+TEXT = "an element of the data set whose value is text,"
+LITERALS = "letters, digits, '_', '-', '.', ' ', '/' and elements in braces, not"
+
+
+@pytest.mark.parametrize(
+    ("pattern", "error"),
+    [
+        ("", NAMES),
+        (".dcm", NAMES),
+        ("/{PatientID}", NAMES),
+        ("{PatientID}/", NAMES),
+        ("{PatientID}//{Modality}", NAMES),
+        ("../{PatientID}", NAMES),
+        ("{PatientID}/..", NAMES),
+        ("a/b", "at least one element in braces, as {PatientID}"),
+        ("/".join(["{PatientID}"] * 9), "8 names and 16 elements at most"),
+        ("{PatientID}" * 17, "8 names and 16 elements at most"),
+        ("{PatientID", "a } after each {"),
+        ("{}", f"an element {ELEMENT} ''"),
+        ("{patientid}", f"an element {ELEMENT} 'patientid'"),
+        ("{PatientID/Modality}", f"an element {ELEMENT} 'PatientID/Modality'"),
+        ("{Rows}", f"{TEXT} {ELEMENT} 'Rows'"),
+        ("{0002,0010}", f"{TEXT} {ELEMENT} '0002,0010'"),
+        ("PatientID}", f"{LITERALS} '}}'"),
+        ("{PatientID}:", f"{LITERALS} ':'"),
+        ("M\u00fcller/{PatientID}", f"{LITERALS} '\u00fc'"),
+    ],
+)
+def test_a_rejected_pattern(expect, put, work, pattern, error):
+    put({"in/a": image()})
+    words = ["arrange", "in", "--to", "tree", "--pattern", pattern]
+    expect(2, "", re.escape(f"error: --pattern takes {error}"), *words)
+    assert not (work / "tree").exists()

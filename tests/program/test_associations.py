@@ -1,4 +1,4 @@
-"""Associations over TCP: what a peer does costs the box that association alone.
+"""Associations over TCP: a misbehaving peer ends its own association only.
 
 Each box has 16 MB of memory.
 """
@@ -17,12 +17,12 @@ INFO = r"\[INFO  dcmbox::serve\] 20[0-9-]{8}T[0-9:]{8}\.[0-9]{3}Z "
 
 @pytest.fixture
 def box(serve):
-    """A box with timers that are short."""
+    """A box with short timers."""
     return serve("--timeout", "4", "--idle", "4", memory=LITTLE)
 
 
 def test_the_recorded_echo(serve, port):
-    """Its log has its line, and nothing is printed."""
+    """The log has a line of the association, and nothing is printed."""
     box = serve("--once", "--timeout", "30", memory=LITTLE)
     assert box.echoes()
     assert box.ended() == 0
@@ -38,7 +38,7 @@ def test_the_recorded_echo(serve, port):
 
 
 def test_a_peer_that_sends_slowly(box):
-    """A request byte by byte, and never whole: the ARTIM timer runs from its start."""
+    """The peer sends a request byte by byte and never completes it: the ARTIM timer runs from the start."""
     with box.connect() as peer, suppress(OSError):
         for byte in ECHO[:60]:
             peer.send(bytes([byte]))
@@ -47,8 +47,8 @@ def test_a_peer_that_sends_slowly(box):
     box.until_logged(r"Ended held 0 files 0 dropped 0 received [1-9]\d? in ([4-9]|1[0-5]) s")
 
 
-def test_the_timer_starts_anew_with_the_answer(serve):
-    """An A-ABORT answers what is no PDU, and the peer does not close the connection."""
+def test_the_timer_restarts_with_the_reply(serve):
+    """The box replies to an unknown PDU with an A-ABORT, and the peer does not close the connection."""
     box = serve("--timeout", "6", memory=LITTLE)
     with box.connect() as peer:
         assert peer.is_silent(3)
@@ -58,7 +58,7 @@ def test_the_timer_starts_anew_with_the_answer(serve):
 
 
 def test_a_peer_that_stops_reading(box):
-    """Echoes without end, and no reply is read: a send fails after the idle time."""
+    """The peer sends echoes without end and reads no reply: a send fails after the idle time."""
     with box.connect() as peer:
         with suppress(OSError):
             peer.send(ECHO_REQUEST + ECHO_COMMAND * (1 << 18))
@@ -66,7 +66,7 @@ def test_a_peer_that_stops_reading(box):
 
 
 def test_a_peer_that_falls_silent(box):
-    """The local user aborts it after the idle time, and waits for the peer to close."""
+    """The box aborts the association after the idle time, and waits for the peer to close."""
     with box.connect() as peer:
         peer.send(ECHO_REQUEST)
         assert peer.rest().endswith(ABORT)
@@ -74,7 +74,7 @@ def test_a_peer_that_falls_silent(box):
 
 
 def test_the_next_peer_is_served_and_logged(box):
-    """One line an association."""
+    """Each association has one line."""
     with box.connect() as peer:
         peer.send(ECHO[:12])
     with box.connect() as peer:
@@ -86,7 +86,7 @@ def test_the_next_peer_is_served_and_logged(box):
 
 
 class TestStart:
-    """Boxes that can't be started."""
+    """Boxes that can't start."""
 
     def test_a_folder_that_another_box_receives_into(self, box, run, port):
         done = run("serve", "--port", str(port), "--out", "received")
@@ -110,7 +110,7 @@ class TestStart:
 
 
 def test_each_association_counts_its_own_files(serve, form):
-    """Two stores, the second cut in its data set, and then both whole."""
+    """An association with two stores, the second truncated in its data set, then one with both complete."""
     box = serve("--timeout", "30", *form, memory=LITTLE)
     assert box.answers(STORES[:500], FIRST_REPLY)
     box.until_logged("Ended held 0 files 1 dropped 1 received 500 in")
@@ -119,7 +119,7 @@ def test_each_association_counts_its_own_files(serve, form):
 
 
 def test_without_a_free_descriptor_no_connection_is_accepted(serve, form):
-    """Until there is one again; the box waits before it tries again."""
+    """The box accepts no connection until a descriptor is free, and waits before it tries again."""
     box = serve("--timeout", "30", *form, memory=LITTLE)
     assert box.echoes()
     box.until_logged("received 260 in")

@@ -1,4 +1,4 @@
-"""The texts of data sets in JSON: those of pydicom's files of character sets, and of made ones."""
+"""The texts of data sets in JSON: those of pydicom's files of character sets, and of generated files."""
 import json
 import pathlib
 
@@ -7,7 +7,7 @@ from samples import HEADER
 from peer import element
 from studies import image
 
-# pydicom's files, and whether their set is one of those that are read.
+# pydicom's files, and whether `show` decodes their character set.
 READ = [
     *("chrArab.dcm", "chrFren.dcm", "chrFrenMulti.dcm", "chrGerm.dcm", "chrGreek.dcm"),
     *("chrHbrw.dcm", "chrRuss.dcm", "chrX1.dcm"),
@@ -19,7 +19,7 @@ UNREAD = [
     "chrSQEncoding.dcm",
 ]
 TEXTS = ("SH", "LO", "ST", "LT", "PN", "UC", "UT")
-# Terms of Specific Character Set, and Python's names of the sets.
+# Values of Specific Character Set, and Python's names of the sets.
 PARTS = {
     **{"ISO_IR 100": "latin-1", "ISO_IR 101": "iso8859-2", "ISO_IR 109": "iso8859-3"},
     **{"ISO_IR 110": "iso8859-4", "ISO_IR 144": "iso8859-5", "ISO_IR 127": "iso8859-6"},
@@ -30,7 +30,7 @@ PARTS = {
 
 @pytest.fixture
 def shown(run):
-    """The elements that `show` finds in a file."""
+    """Returns a function that returns the elements that `show` finds in a file."""
 
     def elements(path):
         done = run("show", "--json", "--values", str(path))
@@ -41,15 +41,15 @@ def shown(run):
 
 
 def texts_of(path):
-    """The texts of a file that are not empty and have 64 bytes at most, as pydicom decodes them."""
+    """Yields the texts of 1 to 64 bytes of a file, as pydicom decodes them."""
     pydicom = pytest.importorskip("pydicom")
     raw = pydicom.dcmread(path)
-    for place in raw.iterall():
-        if place.VR in TEXTS and place.value:
-            several = isinstance(place.value, pydicom.multival.MultiValue)
-            values = place.value if several else [place.value]
+    for element in raw.iterall():
+        if element.VR in TEXTS and element.value:
+            several = isinstance(element.value, pydicom.multival.MultiValue)
+            values = element.value if several else [element.value]
             text = "\\".join(str(value) for value in values)
-            yield f"{place.tag.group:04x},{place.tag.element:04x}", text
+            yield f"{element.tag.group:04x},{element.tag.element:04x}", text
 
 
 def path_of(name):
@@ -63,13 +63,13 @@ def path_of(name):
 def test_sets_that_are_read(shown, name):
     path = path_of(name)
     found = [
-        # pydicom leaves empty component groups out.
+        # (pydicom omits empty component groups)
         (one["tag"], one["value"].rstrip(" ="))
         for one in shown(path)
         if one["vr"] in TEXTS and "value" in one
     ]
-    wanted = [(tag, text.rstrip(" =")) for tag, text in texts_of(path) if len(text) <= 20]
-    assert wanted and set(wanted) <= set(found)
+    expected = [(tag, text.rstrip(" =")) for tag, text in texts_of(path) if len(text) <= 20]
+    assert expected and set(expected) <= set(found)
     assert not any("%" in value for _, value in found)
 
 
@@ -81,7 +81,7 @@ def test_sets_that_are_not_read(shown, name):
 
 
 def of_set(term, text):
-    """A file of a patient's name in this set."""
+    """Returns a file with a patient's name in this character set."""
     padded = term.encode() + b" " * (len(term) % 2)
     name = text + b" " * (len(text) % 2)
     return HEADER + element((0x08, 0x05), "CS", padded) + element((0x10, 0x10), "PN", name)
@@ -89,23 +89,23 @@ def of_set(term, text):
 
 @pytest.mark.parametrize("term, codec", PARTS.items())
 def test_each_byte_of_a_part(shown, put, term, codec):
-    """Each byte from 80H on is as Python decodes it, or in hexadecimal where it is no letter."""
+    """Each byte from 80H is decoded as by Python, or is in hexadecimal if it is a control character."""
     for first in range(0x80, 0x100, 0x20):
         data = bytes(range(first, first + 0x20)) + b"."
         path = put({"part.dcm": of_set(term, data)})
-        wanted = ""
+        expected = ""
         for byte in data:
             letter = bytes([byte]).decode(codec, "ignore")
             is_control = not letter or ord(letter) < 0xA0 and ord(letter) > 0x7E
-            wanted += f"%{byte:02x}" if is_control else letter
-        assert shown(path)[-1]["value"] == wanted
+            expected += f"%{byte:02x}" if is_control else letter
+        assert shown(path)[-1]["value"] == expected
 
 
 @pytest.mark.parametrize(
     "text", [b"\xff", b"a\xc3", b"\xc3\xa9\xa9b", b"\xed\xa0\x80", b"\xf4\x90\x80\x80", b"\xc0\x80"]
 )
-def test_what_is_no_utf_8(shown, put, text):
-    """What Python does not decode is in hexadecimal, and each byte of the text comes back."""
+def test_invalid_utf_8(shown, put, text):
+    """Bytes that Python can't decode are in hexadecimal, and each byte of the text can be restored."""
     path = put({"utf8.dcm": of_set("ISO_IR 192", text)})
     value = shown(path)[-1]["value"]
     back = b""

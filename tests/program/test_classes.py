@@ -22,7 +22,7 @@ ABORTED = "[0-9a-f]*07000000000400000206Ended held 0 files 0"
 
 
 def classes_marked(mark):
-    """The storage classes of the standard's table with this mark, in its order."""
+    """Returns the storage classes of the standard's table with this mark, in its order."""
     statement = (ROOT / "docs/CONFORMANCE.md").read_text()
     table = statement.split("made by tools/storage-classes")[1]
     return re.findall(rf"^    ([0-9.]+) +\w+{mark}$", table, re.M)
@@ -38,7 +38,7 @@ def data_set(sop_class):
 
 
 def recording(classes):
-    """An instance is stored in the last of these contexts."""
+    """Returns a recording that stores an instance in the last of these contexts."""
     last = 2 * len(classes) - 1
     return b"".join(
         [
@@ -51,26 +51,26 @@ def recording(classes):
 
 
 def accepted(context):
-    """The item of an answer that accepts the context in Explicit VR Little Endian."""
+    """Returns the item of a reply that accepts the context in Explicit VR Little Endian."""
     return f"2100001b{context:02x}00000040000013" + EXPLICIT.encode().hex()
 
 
 def rejected(context):
-    """The item that rejects its abstract syntax."""
+    """Returns the item of a reply that rejects the abstract syntax of the context."""
     return f"21000019{context:02x}00030040000011" + b"1.2.840.10008.1.2".hex()
 
 
 def two_and_two(second, last):
-    """The first two and the last two items of an answer to 128 contexts.
+    """Returns the first two and the last two items of a reply to 128 contexts.
 
-    The first of two is of a class that is always taken.
+    Contexts alternate; the first of two has a class that is always accepted.
     """
     return f"{accepted(3)}{second(5)}[0-9a-f]*{last(253)}{last(255)}"
 
 
 @pytest.fixture
 def replay(run, put):
-    """What a replay prints in one line."""
+    """Runs a replay, and returns its output as one line."""
     others = classes_marked(r"(?: \*)?")
     retired = classes_marked(r" \(retired\)")
     retired.remove(ULTRASOUND)
@@ -92,25 +92,25 @@ def replay(run, put):
     "answer, arguments, files",
     cases(
         (
-            "where every class is taken",
+            "if every class is accepted",
             f"[0-9a-f]*{accepted(1)}{STORED}",
             "one.bin --all-storage",
             ["I0000001"],
         ),
         (
-            "where its class is named",
+            "if its class is named",
             f"[0-9a-f]*{accepted(1)}{STORED}",
             f"one.bin --storage-class 2.25.1 --storage-class {REPORT}",
             ["I0000001"],
         ),
         (
-            "where another class is named",
+            "if another class is named",
             f"[0-9a-f]*{rejected(1)}{ABORTED}",
             "one.bin --storage-class 2.25.1",
             [],
         ),
         (
-            "where eleven classes are taken",
+            "if eleven classes are accepted",
             f"[0-9a-f]*{rejected(1)}{ABORTED}",
             "one.bin",
             [],
@@ -122,13 +122,13 @@ def replay(run, put):
             ["I0000001"],
         ),
         (
-            "in the last of 128 contexts, where eleven classes are taken",
+            "in the last of 128 contexts, if eleven classes are accepted",
             f"[0-9a-f]*{two_and_two(rejected, rejected)}{ABORTED}",
             "all.bin",
             [],
         ),
         (
-            "of a retired class, where every class is taken",
+            "of a retired class, if every class is accepted",
             f"[0-9a-f]*{''.join(accepted(2 * n + 1) for n in range(20))}{STORED}",
             "retired.bin --all-storage",
             ["I0000001"],
@@ -140,7 +140,7 @@ def replay(run, put):
             ["I0000001"],
         ),
         (
-            "of a retired class, where eleven classes are taken",
+            "of a retired class, if eleven classes are accepted",
             f"[0-9a-f]*{''.join(rejected(2 * n + 1) for n in range(20))}{ABORTED}",
             "retired.bin",
             [],
@@ -154,7 +154,7 @@ def test_a_store(replay, work, answer, arguments, files):
 
 
 def test_a_filed_report(replay, expect, work):
-    """It is good, it is shown, and it is filed bit for bit, as the next one is."""
+    """A filed report passes `check`, `show` lists it, and it and the next one are filed bit for bit."""
     replay("one.bin", "--all-storage", "--out", ".")
     replay("one.bin", "--all-storage", "--out", ".")
     assert (work / "I0000001").read_bytes() == (work / "I0000002").read_bytes()
@@ -163,7 +163,7 @@ def test_a_filed_report(replay, expect, work):
     assert (work / "I0000001").read_bytes().endswith(data_set(REPORT))
 
 
-MOST = [word for n in range(1, 65) for word in ("--storage-class", f"2.25.{n}")]
+MOST = [argument for n in range(1, 65) for argument in ("--storage-class", f"2.25.{n}")]
 SERVE, REPLAY = "serve --out . --port 11112", "replay one.bin --out ."
 
 
@@ -172,7 +172,7 @@ def test_sixty_four_classes(expect):
     expect(3, "", errors, "serve", "--out", "missing", "--port", "11112", *MOST)
 
 
-def test_the_sixty_fourth_class_is_taken(replay, work):
+def test_the_sixty_fourth_class_is_accepted(replay, work):
     classes = [*MOST[:-1], REPORT]
     answer = replay("one.bin", *classes, "--out", ".")
     assert re.fullmatch(f"02[0-9a-f]*{accepted(1)}{STORED}", answer)
@@ -186,7 +186,7 @@ def test_the_last_class_of_the_standard_after_sixty_four_others(replay):
 
 
 @pytest.mark.parametrize("command", [SERVE, REPLAY], ids=["serve", "replay"])
-def test_a_class_more(expect, replay, command):
+def test_sixty_five_classes(expect, replay, command):
     errors = "error: --storage-class may be given 64 times at most"
     expect(2, "", errors, *command.split(), *MOST, "--storage-class", "2.25.65")
 
@@ -206,5 +206,5 @@ def test_a_class_more(expect, replay, command):
         ),
     ),
 )
-def test_refused(expect, replay, errors, arguments):
+def test_rejected_options(expect, replay, errors, arguments):
     expect(2, "", errors, *arguments.split())

@@ -1,7 +1,4 @@
-"""`dcmbox serve` with DCMTK's unchanged tools, and what is filed.
-
-The directories that DCMTK and `index` write of it.
-"""
+"""`dcmbox serve` with DCMTK's tools, the filed files, and the directories of them by DCMTK and `index`."""
 import random
 import re
 import subprocess
@@ -9,7 +6,7 @@ import time
 
 import pytest
 from box import PATIENCE
-from images import call, digests, dumped, filed, holds, identity, need, pixels, study
+from images import call, digests, dumped, filed, has_all, identity, need, pixels, study
 
 CLASSES = [
     ("CTImageStorage", "CT"),
@@ -22,7 +19,7 @@ KILLS = 50
 
 
 def image_text(number, pixel_data=True):
-    """One of twenty images of five classes, in dump2dcm's text."""
+    """Returns one of twenty images of five classes, in dump2dcm's text."""
     kind = (number - 1) % 5
     sop_class, modality = CLASSES[kind]
     text = identity(sop_class, f"2.25.1.{number}", modality, series=f"2.25.3.{kind + 1}")
@@ -84,24 +81,24 @@ class TestEchoes:
 
 
 class TestImages:
-    """Twenty images of five classes by each tool, filed as they were sent."""
+    """Twenty images of five classes, sent by each tool, are filed as they were sent."""
 
     def test_by_storescu(self, serve, send, explicit, implicit):
         box = serve()
         send(explicit)
         send(implicit, "--propose-implicit")
-        assert holds(box.folder, explicit + implicit)
+        assert has_all(box.folder, explicit + implicit)
 
     def test_by_dcmsend(self, serve, tool, to_box, explicit):
         box = serve()
         tool("dcmsend", *to_box, *explicit)
-        assert holds(box.folder, explicit)
+        assert has_all(box.folder, explicit)
 
     def test_an_association_each_into_folders_of_three(self, serve, send, explicit):
         box = serve("--per", "3")
         for image in explicit:
             send([image])
-        assert holds(box.folder, explicit)
+        assert has_all(box.folder, explicit)
         assert box.files() == [f"S000000{n}" for n in range(1, 6)]
         assert (box.folder / "S0000005/I0000003").is_file()
 
@@ -109,38 +106,38 @@ class TestImages:
     def test_in_pdus_of_at_most(self, serve, send, explicit, length):
         box = serve("--max-pdu", str(length))
         send(explicit, "--max-pdu", length)
-        assert holds(box.folder, explicit)
+        assert has_all(box.folder, explicit)
 
     def test_wait_for_no_delayed_acknowledgement(self, serve, send, made):
-        """Sixty small images are sent in less than 1.2 s, in one of five tries.
+        """Sixty small images are sent in less than 1.2 s, in one of five attempts.
 
-        storescu writes command and data set apart, and sends the second once the first is
-        acknowledged: delayed acknowledgements would cost it 40 ms for each image.
+        storescu writes the command and the data set separately, and sends the second once the first
+        is acknowledged: delayed acknowledgements would cost 40 ms for each image.
         """
         serve("--no-sync")
-        took = []
-        while not took or min(took) >= 1.2 and len(took) < 5:
-            begun = time.monotonic()
+        times = []
+        while not times or min(times) >= 1.2 and len(times) < 5:
+            started = time.monotonic()
             send([made / "small.dcm"] * 60)
-            took.append(time.monotonic() - begun)
-        assert min(took) < 1.2
+            times.append(time.monotonic() - started)
+        assert min(times) < 1.2
 
     def test_that_are_compressed_are_refused(self, serve, tool, to_box, send, made):
-        """Nothing is filed of it, and the next image is taken."""
+        """Nothing of a compressed image is filed, and the next image is accepted."""
         box = serve()
         image = made / "image1.dcm"
         tool("dcmcjpeg", "-q", image, "compressed.dcm")
-        words = ("--propose-lossless", *to_box, "compressed.dcm")
-        assert tool("storescu", *words, check=False).returncode != 0
+        arguments = ("--propose-lossless", *to_box, "compressed.dcm")
+        assert tool("storescu", *arguments, check=False).returncode != 0
         assert box.files() == []
         send([image])
-        assert holds(box.folder, [image])
+        assert has_all(box.folder, [image])
 
 
 REPORT, PLAN, STRUCTURES, STATE, DOCUMENT = (
     f"1.2.840.10008.5.1.4.1.1.{end}" for end in ("88.33", "481.5", "481.3", "11.1", "104.1")
 )
-# Objects of a study: the name of the class, the modality, and what the class has beside the study.
+# Objects of a study: the name of the class, the modality, and further elements of the class.
 OBJECTS = {
     "report": (
         "ComprehensiveSRStorage",
@@ -217,7 +214,7 @@ OBJECTS = {
 
 @pytest.fixture(scope="session")
 def objects(shared):
-    """A study of six classes by name; the image's alone is taken without an option."""
+    """A study of six classes by name; without an option only the image's class is accepted."""
     work = shared("study")
     (work / "pixels.raw").write_bytes(random.Random(2).randbytes(131072))
     document = b"%PDF-1.4\n" + random.Random(3).randbytes(20000) + b"\n%%EOF\n"
@@ -245,11 +242,11 @@ def successes(tool, to_box, objects):
 class TestStudy:
     """A study of six classes."""
 
-    def test_where_every_class_is_taken(self, serve, run, successes, objects):
-        """`check` and `show` take its files, and `index` leaves five of them out."""
+    def test_if_every_class_is_accepted(self, serve, run, successes, objects):
+        """`check` and `show` accept the files, and `index` leaves five of them out."""
         box = serve("--all-storage")
         assert successes(*objects) == 6
-        assert holds(box.folder, objects.values())
+        assert has_all(box.folder, objects.values())
         for path in filed(box.folder):
             assert run("check", path).stdout.startswith("good ")
             shown = run("show", path).stdout
@@ -265,27 +262,27 @@ class TestStudy:
     def test_without_an_option(self, serve, successes, objects):
         box = serve()
         assert successes(*objects) == 1
-        assert holds(box.folder, [objects["ct"]])
+        assert has_all(box.folder, [objects["ct"]])
 
     def test_of_the_classes_that_are_named(self, serve, successes, objects):
         box = serve("--storage-class", REPORT, "--storage-class", PLAN)
         assert successes("ct", "report", "plan") == 3
         assert successes("ct", "report", "plan", "state") == 3
-        assert holds(box.folder, [objects[name] for name in ("ct", "report", "plan")] * 2)
+        assert has_all(box.folder, [objects[name] for name in ("ct", "report", "plan")] * 2)
 
 
 def test_kills_at_any_moment(serve, spawn, to_box, explicit, work):
-    """They leave a whole file for each success that was told, and at most one draft.
+    """A killed box leaves a complete file for each reported success, and at most one draft.
 
     The next start removes the draft.
     """
     need("storescu")
     moments = random.Random()
-    told = 0
+    reported = 0
     for _ in range(KILLS):
         box = serve("--no-sync")
         assert [name for name in box.files() if name.startswith("DRAFT")] == []
-        sender = spawn("storescu", "-v", *to_box, *explicit, said="sent.txt")
+        sender = spawn("storescu", "-v", *to_box, *explicit, log="sent.txt")
         try:
             sender.wait(moments.uniform(0.02, 0.42))
         except subprocess.TimeoutExpired:
@@ -293,50 +290,50 @@ def test_kills_at_any_moment(serve, spawn, to_box, explicit, work):
         box.process.kill()
         box.ended()
         sender.wait(PATIENCE)
-        told += (work / "sent.txt").read_text().count("Received Store Response (Success)")
+        reported += (work / "sent.txt").read_text().count("Received Store Response (Success)")
         assert len(list(box.folder.glob("DRAFT*"))) <= 1
     files = filed(box.folder)
     assert set(digests(files)) <= set(digests(explicit))
-    assert len(files) >= told
+    assert len(files) >= reported
     assert not list(serve().folder.glob("DRAFT*"))
 
 
 @pytest.mark.parametrize("number", range(1, 21))
 def test_directories(serve, run, send, explicit, number):
-    """DCMTK's is good and lists its files.
+    """`checkdir` accepts DCMTK's directory, which lists the files.
 
-    DCMTK reads the one of `index`, which lists the same instances.
+    DCMTK reads the directory of `index`, which lists the same instances.
     """
     box = serve("--no-sync", *(("--per", "3") if number % 2 == 0 else ()))
     send(explicit[: (number - 1) % 12 + 1])
-    wanted = [str(path.relative_to(box.folder)) for path in filed(box.folder)]
-    call(box.folder, "dcmmkdir", "-q", "-Pgp", "+D", "DICOMDIR", *wanted)
-    assert listed(run) == wanted
+    expected = [str(path.relative_to(box.folder)) for path in filed(box.folder)]
+    call(box.folder, "dcmmkdir", "-q", "-Pgp", "+D", "DICOMDIR", *expected)
+    assert listed(run) == expected
     of_dcmtk = instances(box.folder)
     (box.folder / "DICOMDIR").unlink()
 
     assert run("index", "received", "--uid", f"2.25.7.{number}").returncode == 0
     call(box.folder, "dcmftest", "DICOMDIR")
     call(box.folder, "dcmdump", "-q", "DICOMDIR")
-    assert listed(run) == wanted
+    assert listed(run) == expected
     assert instances(box.folder) == of_dcmtk
 
 
 def listed(run):
-    """The file IDs that the directory lists, as checkdir prints them."""
+    """Returns the file IDs that the directory lists, as `checkdir` prints them."""
     lines = run("checkdir", "received/DICOMDIR").stdout.splitlines()
     return sorted(line.split()[2] for line in lines if line.split()[1] == "IMAGE")
 
 
 def instances(folder):
-    """The instances that the directory lists, as DCMTK reads it."""
+    """Returns the instances that the directory lists, as DCMTK reads it."""
     dump = call(folder, "dcmdump", "-q", "+P", "0004,1511", "DICOMDIR").stdout
     return sorted(re.findall(r"\[(.*)\]", dump))
 
 
 @pytest.mark.parametrize("command", ["check", "checkdir"])
-def test_every_front_of_a_file(serve, run, send, made, work, command):
-    """Each ends with good or a fault, and the whole file is good."""
+def test_every_prefix_of_a_file(serve, run, send, made, work, command):
+    """Each prefix is good or has a fault, and the whole file is good."""
     path = made / "small.dcm"
     if command == "checkdir":
         box = serve()

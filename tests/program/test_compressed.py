@@ -1,20 +1,19 @@
 """Compressed images of DCMTK's and GDCM's tools.
 
-They are filed as they came, under the transfer syntax of their context, also where an archive
-passes them on, and decoded to their pixels.
+They are filed as received, with the transfer syntax of their context, also if an archive forwards
+them, and can be decoded to their pixels.
 """
 import random
 import re
 
 import pytest
 from box import LITTLE
-from images import call, data_set, dumped, filed, holds, identity, need, pixels, study, syntax_of
+from images import call, data_set, dumped, filed, has_all, identity, need, pixels, study, syntax_of
 from orthanc import Orthanc
 from peer import EXPLICIT
 
 # An encoded image: the tool and its options, the image, the option with which storescu proposes the
-# transfer syntax, the
-# tool that decodes it, and whether it is without loss.
+# transfer syntax, the tool that decodes it, and whether it is lossless.
 ENCODED = {
     "sv1": ("dcmcjpeg -q +e1", "words", "-xs", "dcmdjpeg", True),
     "lossless": ("dcmcjpeg -q +el", "words", None, "dcmdjpeg", True),
@@ -35,7 +34,7 @@ RLE = "1.2.840.10008.1.2.5"
 
 
 def ramps():
-    """Ramps with noise: an image of 12 bits, one of 8, and 200 frames of 12 bits."""
+    """Returns ramps with noise: an image of 12 bits, one of 8, and 200 frames of 12 bits."""
     noise = random.Random(1)
     words = [n // 32 + noise.randrange(64) for n in range(256 * 256)]
     frames = [n % 3840 + noise.randrange(64) for n in range(200 * 32 * 32)]
@@ -48,11 +47,11 @@ def ramps():
 
 @pytest.fixture(scope="session")
 def encoded(shared):
-    """A folder with the images and their pixels, and with each of ENCODED."""
+    """A folder with the images, their pixels, and each of ENCODED."""
     work = shared("compressed")
     for name, raw in ramps().items():
         (work / f"{name}.raw").write_bytes(raw)
-    kinds = {
+    images = {
         "words": ("CTImageStorage", 1, "", pixels("words.raw", 256, 256, bits=12)),
         "bytes": (
             "SecondaryCaptureImageStorage",
@@ -67,7 +66,7 @@ def encoded(shared):
             pixels("frames.raw", 32, 32, bits=12),
         ),
     }
-    for name, (sop_class, number, more, image) in kinds.items():
+    for name, (sop_class, number, more, image) in images.items():
         dumped(work, name, identity(sop_class, f"2.25.1.{number}") + study(number) + more + image)
     for name, (command, image, *_) in ENCODED.items():
         tool, *options = command.split()
@@ -79,10 +78,7 @@ def encoded(shared):
 
 @pytest.fixture
 def send(tool, to_box, encoded):
-    """Sends an encoded image in its transfer syntax.
-
-    storescu does, or dcmsend where storescu has no option for that.
-    """
+    """Sends an encoded image in its transfer syntax, by storescu or, if it has no option for it, dcmsend."""
 
     def sent(name, check=True):
         option, path = ENCODED[name][2], encoded / f"{name}.dcm"
@@ -94,9 +90,9 @@ def send(tool, to_box, encoded):
 
 
 @pytest.fixture
-def path(taking, send, name):
-    """The path of the file of an encoded image that was sent."""
-    box = taking()
+def path(serve_all_syntaxes, send, name):
+    """The path of the received file of an encoded image."""
+    box = serve_all_syntaxes()
     send(name)
     return box.folder / "I0000001"
 
@@ -107,11 +103,11 @@ class TestFiled:
 
     def test_bit_for_bit(self, path, encoded, name):
         """Its header names the transfer syntax."""
-        assert holds(path.parent, [encoded / f"{name}.dcm"])
+        assert has_all(path.parent, [encoded / f"{name}.dcm"])
         assert syntax_of(path) == syntax_of(encoded / f"{name}.dcm")
 
     def test_decoded_to_its_pixels(self, path, encoded, work, name):
-        """Without loss to those that were encoded, and else to those of what was sent."""
+        """A lossless image is decoded to the original pixels, a lossy one to those of the sent file."""
         _, image, _, tool, is_exact = ENCODED[name]
         options = ["--raw"] if tool == "gdcmconv" else ["-q"]
         call(work, tool, *options, path, "decoded.dcm")
@@ -122,14 +118,14 @@ class TestFiled:
             assert data_set(work / "decoded.dcm").endswith(raw)
 
     def test_checked(self, path, run):
-        """With the option it is good, without notes 15 to 18 on its tables, and else refused."""
+        """With the option `check` accepts the file, without notes 15 to 18 on its tables; without it the file is refused."""
         strict = run("check", "--strict", "--all-syntaxes", path)
         assert re.search("^good ", strict.stdout, re.M)
         assert not re.search(" 1[5-8] [A-Za-z]+$", strict.stdout, re.M)
         assert run("check", path).returncode != 0
 
 
-# Of JPEG-LS of several frames GDCM gives pydicom other pixels.
+# For JPEG-LS of several frames pydicom gets other pixels from GDCM.
 @pytest.mark.parametrize("name", [name for name in ENCODED if name != "frames_jpegls"])
 def test_decoded_by_pydicom(path, encoded, name):
     for module in ("numpy", "gdcm", "PIL"):
@@ -144,24 +140,24 @@ def test_decoded_by_pydicom(path, encoded, name):
         assert found.std() > 1 and (found == sent).all()
 
 
-def test_all_on_one_association(taking, tool, to_box, encoded):
+def test_all_on_one_association(serve_all_syntaxes, tool, to_box, encoded):
     paths = [encoded / f"{name}.dcm" for name in ENCODED]
-    box = taking("--at-once", "4")
+    box = serve_all_syntaxes("--at-once", "4")
     tool("dcmsend", "-dn", *to_box, *paths)
-    assert holds(box.folder, paths)
+    assert has_all(box.folder, paths)
 
 
-def test_an_archive_passes_them_on(taking, spawn, work, port, encoded):
-    """Each in its own transfer syntax."""
+def test_an_archive_forwards_them(serve_all_syntaxes, spawn, work, port, encoded):
+    """Each image is forwarded in its own transfer syntax."""
     need("Orthanc")
-    box = taking("--at-once", "4")
+    box = serve_all_syntaxes("--at-once", "4")
     archive, paths = Orthanc(work, port, spawn), [encoded / f"{name}.dcm" for name in ENCODED]
-    assert {path.stem: archive.pass_on(path) for path in paths} == dict.fromkeys(ENCODED, 0)
-    assert holds(box.folder, paths)
+    assert {path.stem: archive.forward(path) for path in paths} == dict.fromkeys(ENCODED, 0)
+    assert has_all(box.folder, paths)
 
 
 class TestShow:
-    """What `show` lists of the fragments."""
+    """The listing of fragments by `show`."""
 
     @pytest.fixture
     def shown(self, run, encoded):
@@ -182,12 +178,12 @@ class TestIndex:
     """The directory of compressed images of four instances."""
 
     @pytest.fixture
-    def index(self, taking, send, run):
+    def index(self, serve_all_syntaxes, send, run):
         """Indexes the folder of the images with these options.
 
-        The images and those left out, and the lines.
+        Returns the counts of images and of those left out, and the lines.
         """
-        box = taking()
+        box = serve_all_syntaxes()
         for name in ("sv1", "baseline", "frames_rle", "near"):
             send(name)
         box.stop()
@@ -206,7 +202,7 @@ class TestIndex:
         assert set(skipped) <= set(lines)
 
     def test_lists_each_with_its_transfer_syntax(self, index, run, work):
-        """checkdir takes the directory, and its images are kept."""
+        """`checkdir` accepts the directory, and its images are kept."""
         assert index("--all-syntaxes")[0] == "images 4 left out 0"
         folder = work / "received"
         dump = call(folder, "dcmdump", "-q", "-Un", "+P", "0004,1512", "DICOMDIR").stdout
@@ -217,7 +213,7 @@ class TestIndex:
 
 
 class TestWithoutTheOption:
-    """Compressed images are refused, but those of a transfer syntax that is named."""
+    """Compressed images are refused, except those of a named transfer syntax."""
 
     @pytest.mark.parametrize("name", PROPOSED)
     def test_storescu_sends_none(self, serve, send, name):
@@ -225,20 +221,20 @@ class TestWithoutTheOption:
         assert send(name, check=False).returncode != 0
         assert box.files() == []
 
-    def test_an_image_without_compression_is_taken(self, serve, tool, to_box, encoded):
+    def test_an_image_without_compression_is_accepted(self, serve, tool, to_box, encoded):
         box = serve(memory=LITTLE)
         tool("storescu", *to_box, encoded / "words.dcm")
-        assert holds(box.folder, [encoded / "words.dcm"])
+        assert has_all(box.folder, [encoded / "words.dcm"])
 
     def test_the_one_that_is_named_and_no_other(self, serve, send, encoded):
         box = serve("--transfer-syntax", RLE, memory=LITTLE)
         send("rle")
         assert send("sv1", check=False).returncode != 0
-        assert holds(box.folder, [encoded / "rle.dcm"])
+        assert has_all(box.folder, [encoded / "rle.dcm"])
 
 
-def test_the_native_one_is_preferred(taking, tool, to_box, encoded):
-    """storescu combines the native ones and a compressed one in one context."""
-    box = taking()
+def test_the_native_one_is_preferred(serve_all_syntaxes, tool, to_box, encoded):
+    """storescu proposes native transfer syntaxes and a compressed one in one context."""
+    box = serve_all_syntaxes()
     tool("storescu", "-xr", "+C", *to_box, encoded / "words.dcm")
     assert syntax_of(box.folder / "I0000001") == EXPLICIT

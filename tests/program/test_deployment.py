@@ -1,7 +1,7 @@
-"""What docs/DEPLOY.md says, as it is written there.
+"""The texts of docs/DEPLOY.md work as printed.
 
 The systemd units' commands, HAProxy in front of several boxes, the importer of an archive, and TLS
-by stunnel. Of each text ports, names of hosts and folders alone are replaced.
+by stunnel. Only ports, names of hosts and folders are replaced in the texts.
 """
 import contextlib
 import fcntl
@@ -20,7 +20,7 @@ from images import (
     dumped,
     element_of,
     filed,
-    holds,
+    has_all,
     identity,
     need,
     pixels,
@@ -44,13 +44,13 @@ from peer import (
 from ports import free_port
 from units import as_user, settings
 
-# Classes that a sender's defaults leave out.
+# Classes that senders omit by default.
 RARE = [
     "SegmentationStorage",
     "VLWholeSlideMicroscopyImageStorage",
     "BreastTomosynthesisImageStorage",
 ]
-# What a box may not do, by the names of systemd's review.
+# The restrictions of a box, by the names of systemd's review.
 PROTECTED = {
     "NoNewPrivileges",
     "PrivateDevices",
@@ -67,7 +67,7 @@ PROTECTED = {
     "ProcSubset",
     "RestrictRealtime",
 }
-# The drop-ins of the unit that the document has, by a line of each.
+# The drop-ins of the document for the unit, by a line of each.
 DROP_INS = {
     "user": "^DynamicUser=no$",
     "disk": "^RequiresMountsFor=/srv/dicom$",
@@ -78,7 +78,7 @@ TARGETS = ["multi-user", "network-online", "sysinit", "basic", "shutdown"]
 
 
 def block(pattern):
-    """The indented block of docs/DEPLOY.md in which a line matches."""
+    """Returns the indented block of docs/DEPLOY.md with a matching line."""
     blocks, text, gap = [], "", ""
     for line in (ROOT / "docs/DEPLOY.md").read_text().splitlines() + ["."]:
         if line.startswith("    "):
@@ -93,7 +93,7 @@ def block(pattern):
 
 
 def row(message):
-    """What docs/DEPLOY.md says to do at a line of the log."""
+    """Returns the advice of docs/DEPLOY.md for a line of the log."""
     rows = (ROOT / "docs/DEPLOY.md").read_text().splitlines()
     found = [line for line in rows if line.startswith("| ") and message in line.split(" | ")[0]]
     assert len(found) == 1, f"docs/DEPLOY.md has {len(found)} rows with {message}"
@@ -101,10 +101,7 @@ def row(message):
 
 
 def replaced(text, names):
-    """A text of docs/DEPLOY.md with other ports, names of hosts and folders.
-
-    Each has to be there.
-    """
+    """Replaces ports, names of hosts and folders in a text of docs/DEPLOY.md, which has to have each."""
     for old, new in names.items():
         assert old in text, f"{old} is not in\n{text}"
         text = text.replace(old, str(new))
@@ -113,7 +110,7 @@ def replaced(text, names):
 
 @pytest.fixture(scope="session")
 def images(shared):
-    """Eight images, and one of each class that senders leave out."""
+    """Eight images, and an object of each class that senders omit."""
     work = shared("images")
     made = [dumped(work, f"image{n}", identity(instance=f"2.25.1.{n}")) for n in range(1, 9)]
     rare = [dumped(work, name, identity(name, f"2.25.1.9{n}")) for n, name in enumerate(RARE)]
@@ -122,7 +119,7 @@ def images(shared):
 
 @pytest.fixture
 def root(program, work, units):
-    """A root with the program and its units."""
+    """A root folder with the program and its units."""
     path = work / "root"
     for folder in ("usr/bin", "bin", "etc/default"):
         (path / folder).mkdir(parents=True)
@@ -136,16 +133,16 @@ def root(program, work, units):
 
 @pytest.fixture
 def single(root, port):
-    """The folder of a box of the unit without a template."""
+    """The folder of a box of dcmbox.service."""
     root.use_port(port)
     root.run("dcmbox.service", port)
     return root.root / "var/lib/dcmbox"
 
 
 def is_answered(work, port):
-    """Whether a box answers an echo on a port."""
-    words = ("echoscu", "-to", "10", "-ta", "10", "-td", "10", "-aec", "DCMBOX", "127.0.0.1", port)
-    return call(work, *words, check=False).returncode == 0
+    """Returns whether a box replies to an echo on a port."""
+    arguments = ("echoscu", "-to", "10", "-ta", "10", "-td", "10", "-aec", "DCMBOX", "127.0.0.1", port)
+    return call(work, *arguments, check=False).returncode == 0
 
 
 def until_answered(work, port):
@@ -157,25 +154,25 @@ def until_listened(port):
 
 
 def verified(root, unit):
-    """What systemd says of a unit of a root, and of its drop-ins."""
+    """Returns systemd's output about a unit of a root folder and its drop-ins."""
     folder = root.root / "lib/systemd/system"
     for target in TARGETS:
         (folder / f"{target}.target").write_text(f"[Unit]\nDescription={target}\n")
-    words = ("systemd-analyze", f"--root={root.root}", "--man=no", "verify", unit)
-    done = call(folder, *words, check=False)
+    arguments = ("systemd-analyze", f"--root={root.root}", "--man=no", "verify", unit)
+    done = call(folder, *arguments, check=False)
     return "".join(line for line in (done.stdout + done.stderr).splitlines() if "dcmbox" in line)
 
 
 class TestUnits:
-    """The units: systemd takes them, and each starts a box."""
+    """The units: systemd accepts them, and each starts a box."""
 
     @pytest.mark.parametrize("unit", ["dcmbox.service", "dcmbox@11201.service"])
-    def test_systemd_takes(self, root, unit):
-        """It finds nothing to say of the unit."""
+    def test_systemd_accepts(self, root, unit):
+        """systemd-analyze reports nothing about the unit."""
         assert verified(root, unit) == ""
 
-    def test_systemd_takes_each_drop_in(self, root):
-        """It finds nothing to say of all of them in one."""
+    def test_systemd_accepts_each_drop_in(self, root):
+        """systemd-analyze reports nothing about a unit with all drop-ins."""
         folder = root.root / "lib/systemd/system/dcmbox.service.d"
         folder.mkdir()
         for name, pattern in DROP_INS.items():
@@ -183,12 +180,12 @@ class TestUnits:
         assert verified(root, "dcmbox.service") == ""
 
     @pytest.mark.parametrize("unit", ["dcmbox.service", "dcmbox@11201.service"])
-    def test_what_systemd_says_a_box_may_not_do(self, root, unit):
-        """Beside its review there is the limit of core dumps, which have patients' data."""
+    def test_restrictions_of_a_box(self, root, unit):
+        """systemd's review does not include the limit of core dumps, which have patients' data."""
         folder = root.root / "lib/systemd/system"
         verified(root, unit)
-        words = ("systemd-analyze", "security", "--offline=yes", "--json=short", f"./{unit}")
-        review = json.loads(call(folder, *words).stdout)
+        arguments = ("systemd-analyze", "security", "--offline=yes", "--json=short", f"./{unit}")
+        review = json.loads(call(folder, *arguments).stdout)
         assert {one["name"].rstrip("=") for one in review if one["set"]} >= PROTECTED
         assert settings(root.unit(re.sub("@.*", "@.service", unit)), "LimitCORE") == ["0"]
 
@@ -201,8 +198,8 @@ class TestUnits:
         assert single.is_dir()
         assert all(single.with_name(f"dcmbox-{other}").is_dir() for other in ports)
 
-    def test_which_ends_another_start_may_help(self, root, port):
-        """That of a folder which another box has, for as long as that lasts, and not that of a wrong option."""
+    def test_a_box_is_restarted_only_if_that_may_help(self, root, port):
+        """A restart may help while another box has the folder, and does not help with a wrong option."""
         root.use_port(port)
         options = root.root / "etc/default/dcmbox"
         root.run("dcmbox.service", port)
@@ -217,7 +214,7 @@ class TestUnits:
 
     @pytest.mark.parametrize("unit", ["dcmbox.service", "dcmbox@.service"])
     def test_the_quarantine_is_made(self, root, users, port, work, unit):
-        """It belongs to the box's user and group, who alone may enter it."""
+        """The quarantine belongs to the box's user and group, and nobody else may enter it."""
         work.chmod(0o755)
         root.use_port(port)
         instance = f"-{port}" if "@" in unit else ""
@@ -232,7 +229,7 @@ class TestUnits:
     def test_the_exporter_reads_the_metrics_and_no_received_file(
         self, root, users, images, tool, to_box, port, work
     ):
-        """With the drop-in; the importer may still take what came."""
+        """With the drop-in the importer can still move received files."""
         work.chmod(0o755)
         metrics = root.root / "run/dcmbox-metrics/dcmbox.prom"
         assert "`--metrics /run/dcmbox-metrics/dcmbox.prom`" in (ROOT / "docs/DEPLOY.md").read_text()
@@ -251,7 +248,7 @@ class TestUnits:
         user, group, *further = users["importer"]
         call("/", *as_user((user, group), *further), "rm", image)
 
-    def test_one_of_the_template_has_options_of_its_own(self, root, work):
+    def test_an_instance_of_the_template_has_options_of_its_own(self, root, work):
         mine, other = free_port(), free_port()
         own = root.root / f"etc/default/dcmbox-{mine}"
         own.write_text('DCMBOX_OPTIONS="--ae MINE --all-storage"\n')
@@ -267,7 +264,7 @@ class TestAnotherDisk:
     """The folder of received files is on a disk of its own."""
 
     def test_a_box_of_a_user_files_there(self, small_disk, root, users, images, tool, to_box, port):
-        """With the lines of the text; nothing comes into the folder of the unit."""
+        """The lines of the document suffice; no file is stored in the folder of the unit."""
         disk = small_disk("disk", "-t", "tmpfs", "none")
         disk.parent.chmod(0o755)
         user, group = users["dcmbox"][:2]
@@ -280,12 +277,12 @@ class TestAnotherDisk:
         root.use_port(port)
         root.run("dcmbox.service", port, owner=(user, group))
         tool("storescu", *to_box, *images[0])
-        assert holds(disk / "received", images[0])
+        assert has_all(disk / "received", images[0])
         assert filed(root.root / "var/lib") == []
 
 
 def test_haproxy_in_front_of_four_boxes(root, spawn, images, work):
-    """Eight senders at once are served while two are down, and while three are.
+    """Eight senders at once are served while two of four boxes are down, and while three are.
 
     Each image is filed once.
     """
@@ -296,7 +293,7 @@ def test_haproxy_in_front_of_four_boxes(root, spawn, images, work):
     names.update({f":1120{n}": f":{port}" for n, port in enumerate(ports, 1)})
     (work / "haproxy.cfg").write_text(replaced(block("^frontend dicom$"), names))
     call(work, "haproxy", "-c", "-f", "haproxy.cfg")
-    spawn("haproxy", "-db", "-f", "haproxy.cfg", said="haproxy.txt")
+    spawn("haproxy", "-db", "-f", "haproxy.cfg", log="haproxy.txt")
     until_answered(work, balancer)
 
     for count in (8, 16):
@@ -310,9 +307,9 @@ def test_haproxy_in_front_of_four_boxes(root, spawn, images, work):
 
 @pytest.fixture
 def users(work):
-    """The users that the document's lines make beside `importer`, in files of their own.
+    """The users that the document's lines create and `importer`, in files of their own.
 
-    Of each its number, that of its group, and those of its further groups.
+    Each has its number, that of its group, and those of its further groups.
     """
     need("groupadd", "useradd", "usermod", "setpriv")
     if os.getuid() != 0:
@@ -322,8 +319,8 @@ def users(work):
     for name in ("passwd", "group", "shadow", "gshadow"):
         (work / "users/etc" / name).touch()
     for name in ("groupadd", "useradd", "usermod"):
-        told = f'#!/bin/sh\nexec {shutil.which(name)} --prefix {work}/users "$@"\n'
-        (work / "tools" / name).write_text(told)
+        script = f'#!/bin/sh\nexec {shutil.which(name)} --prefix {work}/users "$@"\n'
+        (work / "tools" / name).write_text(script)
     (work / "tools/sudo").write_text('#!/bin/sh\nexec "$@"\n')
     for path in (work / "tools").iterdir():
         path.chmod(0o755)
@@ -344,7 +341,7 @@ def users(work):
 
 
 class TestImporter:
-    """It runs as another user than the box, and removes what the archive took."""
+    """The importer runs as another user than the box, and removes what the archive accepted."""
 
     @pytest.fixture
     def archive_port(self):
@@ -352,7 +349,7 @@ class TestImporter:
 
     @pytest.fixture
     def box(self, root, users, port, work):
-        """The folder of a box that has the user and the group of the drop-in."""
+        """The folder of a box with the user and the group of the drop-in."""
         work.chmod(0o755)
         dropped_in = block(DROP_INS["user"])
         named = {users[name][0] for name in settings(dropped_in, "User")}
@@ -363,7 +360,7 @@ class TestImporter:
 
     @pytest.fixture
     def imports(self, users, box, archive_port, work):
-        """Runs the importer, and returns what it says and how many images are in the folder."""
+        """Runs the importer, and returns its output and the number of images in the folder."""
         need("dcmsend", "flock")
         script = work / "import.sh"
         names = {"/var/lib/dcmbox": box, "archive.example 104": f"127.0.0.1 {archive_port}"}
@@ -372,23 +369,23 @@ class TestImporter:
 
         def imported(option=""):
             script.write_text(replaced(text, {"dcmsend ": f"dcmsend {option} "}))
-            words = [*as_user((user, group), *further), "sh", script]
-            done = call("/", *words, check=False)
+            arguments = [*as_user((user, group), *further), "sh", script]
+            done = call("/", *arguments, check=False)
             return done.stdout + done.stderr, len(filed(box))
 
         return imported
 
     @pytest.fixture
     def received(self, tool, to_box, box, images):
-        """Has the box receive eight images, in a folder that others of its group can write."""
+        """Has the box receive eight images, in a folder that its group can write."""
         tool("storescu", *to_box, *images[0])
         assert (box / "S0000001").stat().st_mode & 0o777 == 0o770
         assert {path.stat().st_mode & 0o777 for path in filed(box)} == {0o660}
 
-    def test_what_the_archive_takes(
+    def test_images_that_the_archive_accepts(
         self, tool, to_box, box, received, imports, images, spawn, work, archive_port
     ):
-        """Also classes that senders leave out, and a file beside the folders."""
+        """The archive accepts also classes that senders omit, and a file outside the folders."""
         tool("storescu", "-R", *to_box, *images[1])
         (box / "S0000001/I0000001").rename(box / "I0000001")
         archive = work / "archive"
@@ -406,28 +403,28 @@ class TestImporter:
         assert archive.callers == ["DCMBOX"]
 
     @pytest.mark.parametrize("is_there", [False, True], ids=["down", "rejecting"])
-    def test_what_stays_while_no_association_can_be_had(
+    def test_images_remain_without_an_association(
         self, box, received, imports, spawn, archive_port, is_there
     ):
-        """Nothing counts as refused."""
+        """Without an association no image counts as refused."""
         if is_there:
             spawn("storescp", "--refuse", archive_port)
             until_listened(archive_port)
         for _ in range(4):
-            said, count = imports()
-            assert count == 8 and ("Rejected" if is_there else "Connection refused") in said
+            output, count = imports()
+            assert count == 8 and ("Rejected" if is_there else "Connection refused") in output
         assert list((box / "failed").iterdir()) == []
 
     @pytest.mark.parametrize("status", [0xA700, 0xC000, 0x0122, None])
-    def test_what_is_refused_three_times(self, box, received, imports, archive_port, status):
-        """It is moved away, with the reasons beside it; what is taken is removed."""
+    def test_an_image_refused_three_times(self, box, received, imports, archive_port, status):
+        """The image is moved away, with the reasons in a text; accepted images are removed."""
         names = {element_of("0008,0018", path): path.relative_to(box) for path in filed(box)}
         name = names["2.25.1.3"]
         reason = f"0x{status:04x}" if status else "<not sent>"
         with Archive(archive_port, others={"2.25.1.3": status}):
             for _ in range(3):
-                said, _ = imports()
-                assert f" {name}: {reason}" in said
+                output, _ = imports()
+                assert f" {name}: {reason}" in output
             assert imports() == ("", 0)
         failed = box / "failed"
         assert sorted(path.name for path in failed.iterdir()) == [
@@ -436,8 +433,8 @@ class TestImporter:
         assert element_of("0008,0018", next(failed.glob("*.dcm"))) == "2.25.1.3"
         assert next(failed.glob("*.txt")).read_text().count(reason) == 3
 
-    def test_what_is_refused_once(self, box, received, imports, archive_port):
-        """It stays, and nothing of it is left once it is taken."""
+    def test_an_image_refused_once(self, box, received, imports, archive_port):
+        """The image remains, and nothing of it remains once it is accepted."""
         with Archive(archive_port, 0xA700):
             assert imports()[1] == 8
         with Archive(archive_port, 0xB007):
@@ -449,7 +446,7 @@ class TestImporter:
     def test_compressed_images_in_orthanc(
         self, tool, to_box, box, imports, spawn, port, archive_port, work, option
     ):
-        """It chooses native transfer syntaxes; with the option they get there bit for bit."""
+        """By default Orthanc gets native transfer syntaxes; with the option it gets the images bit for bit."""
         need("Orthanc", "dcmcjpeg", "dcmcjpls", "dcmcrle")
         (work / "pixels").write_bytes(bytes(range(256)))
         for number, (by, proposal) in enumerate(
@@ -462,16 +459,16 @@ class TestImporter:
         sent = [shutil.copy(path, work / path.name) for path in filed(box)]
         archive = Orthanc(work, port, spawn, archive_port)
         assert imports(option) == ("", 0)
-        taken = archive.take(work)
-        assert len(taken) == 3
+        downloaded = archive.download(work)
+        assert len(downloaded) == 3
         if option:
-            assert digests(taken) == digests(sent)
+            assert digests(downloaded) == digests(sent)
         else:
-            assert {syntax_of(path) for path in taken} == {EXPLICIT}
+            assert {syntax_of(path) for path in downloaded} == {EXPLICIT}
 
 
 class TestTree:
-    """A tree for people: those of their group read it and don't write, and nobody else reads."""
+    """A tree that members of a group can read and not write, and nobody else can read."""
 
     BOX, READER, STRANGER = (64001, 64001), (64002, 64010), (64003, 64003)
 
@@ -480,7 +477,7 @@ class TestTree:
 
     @pytest.mark.parametrize("links", [True, False], ids=["links", "copies"])
     def test_who_reads_it(self, root, program, images, tool, to_box, port, work, links):
-        """Also what came before, and with copies and no ACL."""
+        """Members of the group can also read files received before, and copies without ACLs."""
         need("setfacl", "flock", "setpriv")
         if os.getuid() != 0:
             pytest.skip("root alone can run as other users")
@@ -502,8 +499,8 @@ class TestTree:
         tool("storescu", *to_box, *images[0][1:])
         del names["sudo "]
         names.update({"*/5 * * * * ": "", "/run/": f"{work}/", "dcmbox arr": f"{program} arr"})
-        told = replaced(block("dcmbox arrange "), names)
-        tool("sh", "-e", "-c", told if links else replaced(told, {" >": " --copy >"}))
+        command = replaced(block("dcmbox arrange "), names)
+        tool("sh", "-e", "-c", command if links else replaced(command, {" >": " --copy >"}))
         made = [path for path in tree.rglob("*") if path.is_file()]
         assert digests(made) == digests(images[0])
         assert {path.stat().st_nlink for path in made} == {2 if links else 1}
@@ -514,11 +511,11 @@ class TestTree:
 
 
 class TestStandardError:
-    """What becomes of a box by where its log goes."""
+    """The behaviour of a box by the state of its standard error."""
 
     @pytest.fixture
     def pipe(self, work):
-        """The reading end of a pipe of one page, the file `pipe`."""
+        """The reading end of a pipe of one page, named `pipe`."""
         os.mkfifo(work / "pipe")
         reader = os.open(work / "pipe", os.O_RDONLY | os.O_NONBLOCK)
         fcntl.fcntl(reader, fcntl.F_SETPIPE_SZ, 4096)
@@ -529,7 +526,7 @@ class TestStandardError:
         box = serve("--timeout", "30", before=["sh", "-c", 'exec "$@" 2>pipe', "sh"])
 
         def stops():
-            """An association that stored something always has its line."""
+            """Returns whether the box does not reply; an association that stored something always has its line."""
             with box.connect() as peer:
                 peer.send(STORES)
                 return peer.is_silent(3)
@@ -541,7 +538,7 @@ class TestStandardError:
 
     @pytest.mark.parametrize("to", ["&-", "/dev/full", "pipe"])
     def test_it_serves_on(self, serve, work, to):
-        """Where standard error is closed, full, or a pipe whose reader ends."""
+        """The box keeps serving if standard error is closed, full, or a pipe whose reader has ended."""
         os.mkfifo(work / "pipe")
         reader = os.open(work / "pipe", os.O_RDONLY | os.O_NONBLOCK)
         box = serve("--timeout", "30", before=["sh", "-c", f'exec "$@" 2>{to}', "sh"])
@@ -561,11 +558,11 @@ class TestStandardError:
 
 
 class TestNumbersAtTheirEnd:
-    """What docs/DEPLOY.md says to do where a file of numbers has the last one."""
+    """The advice of docs/DEPLOY.md for a file of numbers at the last number."""
 
     @pytest.fixture
     def stores(self, serve, put):
-        """Whether a box stores, over a folder without files and with the last number given."""
+        """Returns whether a box with an empty folder and the last number used up can store."""
         put({"numbers.txt": b"I9999999 S0000000\n"})
 
         def stored(*options):
@@ -578,8 +575,8 @@ class TestNumbersAtTheirEnd:
         return stored
 
     def test_to_move_the_files_away_is_not_enough(self, stores, work):
-        said = row("no number up to 9999999 is left") + row("few numbers are left")
-        assert "remove the file of `--numbers`" in said and "`--per`" in said
+        output = row("no number up to 9999999 is left") + row("few numbers are left")
+        assert "remove the file of `--numbers`" in output and "`--per`" in output
         assert not stores()
         (work / "numbers.txt").unlink()
         assert stores()
@@ -589,10 +586,10 @@ class TestNumbersAtTheirEnd:
 
 
 class TestOldFiles:
-    """What came long ago is removed beside a running box."""
+    """Old files are removed while a box runs."""
 
     def test_they_are_removed_and_nothing_else(self, root, images, tool, to_box, port):
-        """The store that goes on meanwhile is filed, and its number is the next one."""
+        """A store that is in progress meanwhile is filed with the next number."""
         root.use_port(port)
         root.run("dcmbox.service", port)
         tool("storescu", *to_box, *images[0])
@@ -603,7 +600,7 @@ class TestOldFiles:
         line = replaced(block("-mtime"), {"/var/lib": root.root / "var/lib", "0 3 * * * ": ""})
         with Peer(port) as peer:
             peer.send(STORES[:320])
-            wait_for(lambda: [*root.root.rglob("DRAFT*")], "a store has begun")
+            wait_for(lambda: [*root.root.rglob("DRAFT*")], "a store has started")
             tool("sh", "-e", "-c", line)
             assert filed(root.root) == before[5:]
             peer.send(STORES[320:])
@@ -612,7 +609,7 @@ class TestOldFiles:
         assert names == [f"I00000{number:02}" for number in range(6, 11)]
 
     def test_an_empty_folder_is_removed_and_made_again(self, root, images, tool, to_box, port):
-        """Another one stays."""
+        """A folder with files remains."""
         root.use_port(port)
         root.run("dcmbox.service", port)
         tool("storescu", *to_box, images[0][0])
@@ -628,7 +625,7 @@ class TestOldFiles:
 
 
 def test_port_104(root, work):
-    """A user has it by the drop-in alone."""
+    """A user can use the port only with the drop-in."""
     need("unshare", "setpriv")
     if os.getuid() != 0:
         pytest.skip("root alone can run as other users")
@@ -636,15 +633,15 @@ def test_port_104(root, work):
     options = root.root / "etc/default/dcmbox"
     text = options.read_text()
     options.write_text(replaced(text, {"--port 11112 ": "--port 104 "}))
-    kinds = {"owner": (64001, 64001), "before": ("unshare", "--net")}
-    assert root.start("dcmbox.service", **kinds).wait(PATIENCE) == 3
-    box = root.start("dcmbox.service", dropped_in=block(DROP_INS["port"]), **kinds)
+    keywords = {"owner": (64001, 64001), "before": ("unshare", "--net")}
+    assert root.start("dcmbox.service", **keywords).wait(PATIENCE) == 3
+    box = root.start("dcmbox.service", dropped_in=block(DROP_INS["port"]), **keywords)
     sockets = pathlib.Path(f"/proc/{box.pid}/net/tcp")
     wait_for(lambda: re.search(":0068 0+:0000 0A ", sockets.read_text()), "it listens on port 104")
 
 
 def test_sigterm_loses_a_line_and_no_file(serve):
-    """What was answered is on the disk; the association has no line."""
+    """Files whose success was reported are on the disk; the association has no line."""
     box = serve("--timeout", "30")
     with box.connect() as peer:
         peer.send(STORES[: -len(RELEASE)])
@@ -655,28 +652,28 @@ def test_sigterm_loses_a_line_and_no_file(serve):
     assert " stored " not in box.log
 
 
-def test_an_importer_is_told_of_names(serve, spawn, work):
-    """Each is created once the file is whole; only the draft is written and closed."""
+def test_an_importer_is_notified_of_names(serve, spawn, work):
+    """Each name is created when the file is complete; only the draft is written and closed."""
     need("inotifywait")
     box = serve()
     spawn("inotifywait", "-m", "-e", "create,close_write", "--format", "%e %f", box.folder)
-    said = work / "said.txt"
-    wait_for(lambda: "Watches established" in said.read_text(), "it watches")
+    output = work / "output.txt"
+    wait_for(lambda: "Watches established" in output.read_text(), "it watches")
     assert box.answers(STORES, STORES_ANSWER)
-    wait_for(lambda: "I0000002" in said.read_text(), "it sees the second file")
-    told = [line for line in said.read_text().splitlines() if " I0" in line]
-    assert told == ["CREATE I0000001", "CREATE I0000002"]
+    wait_for(lambda: "I0000002" in output.read_text(), "it sees the second file")
+    events = [line for line in output.read_text().splitlines() if " I0" in line]
+    assert events == ["CREATE I0000001", "CREATE I0000002"]
 
 
 def test_storage_commitment_is_refused(serve):
-    """The association goes on, with its storage classes."""
+    """The association continues with its storage classes."""
     with serve().connect() as peer:
         asked = [("1.2.840.10008.1.20.1", EXPLICIT), (CT, EXPLICIT)]
         assert [result for result, _ in peer.associate(asked)] == [3, 0]
 
 
 def test_the_command_of_a_container(program, spawn, images, tool, to_box, port, work):
-    """It files compressed images, too, and keeps its numbers beside the folder.
+    """The container files compressed images, too, and keeps its numbers outside the folder.
 
     Both folders outlive the container.
     """
@@ -686,10 +683,10 @@ def test_the_command_of_a_container(program, spawn, images, tool, to_box, port, 
     folders = {folder: work / folder.strip("/") for folder in kept}
     for folder in folders.values():
         folder.mkdir(parents=True)
-    words = [str(port) if word == "11112" else word for word in command]
+    arguments = [str(port) if argument == "11112" else argument for argument in command]
     for folder in reversed(kept):
-        words = [re.sub(f"^{folder}(?=/|$)", str(folders[folder]), word) for word in words]
-    spawn(program, *words)
+        arguments = [re.sub(f"^{folder}(?=/|$)", str(folders[folder]), argument) for argument in arguments]
+    spawn(program, *arguments)
     until_listened(port)
     (work / "pixels").write_bytes(bytes(512))
     text = identity(instance="2.25.1.99") + study(1) + pixels("pixels", bits=12)
@@ -702,7 +699,7 @@ def test_the_command_of_a_container(program, spawn, images, tool, to_box, port, 
 
 
 def test_the_signal_that_ends_a_container(serve):
-    """The one of the image ends a box with the process number 1, and SIGTERM does not.
+    """The signal of the image ends a box that is process 1, and SIGTERM does not.
 
     Each success is on the disk.
     """
@@ -729,8 +726,8 @@ def certificates(work):
 
     def made(*names):
         for name in names:
-            words = f"req -x509 -newkey rsa:2048 -nodes -days 2 -subj /CN={name}".split()
-            call(work, "openssl", *words, "-keyout", f"{name}.key", "-out", f"{name}.crt")
+            arguments = f"req -x509 -newkey rsa:2048 -nodes -days 2 -subj /CN={name}".split()
+            call(work, "openssl", *arguments, "-keyout", f"{name}.key", "-out", f"{name}.crt")
             parts = [(work / f"{name}.{part}").read_text() for part in ("key", "crt")]
             (work / f"{name}.pem").write_text("".join(parts))
 
@@ -742,9 +739,9 @@ FOREGROUND = "foreground = yes\npid =\n"
 
 @pytest.mark.parametrize("ends_it", ["stunnel", "haproxy"])
 def test_tls(root, spawn, certificates, port, work, ends_it):
-    """A scanner with a certificate that is known is let through, and a stranger is not.
+    """A scanner with a known certificate is accepted, and a stranger is not.
 
-    Ten scanners at once have a place, as the document's options have it.
+    With the document's options ten scanners at once have a slot.
     """
     need("stunnel4", "haproxy")
     options = root.root / "etc/default/dcmbox"
@@ -761,19 +758,19 @@ def test_tls(root, spawn, certificates, port, work, ends_it):
     if ends_it == "stunnel":
         names["accept = 2762"] = f"accept = 127.0.0.1:{tls}"
         (work / "server.conf").write_text(FOREGROUND + replaced(block(r"^\[dicom-tls\]$"), names))
-        spawn("stunnel4", "server.conf", said="server.txt")
+        spawn("stunnel4", "server.conf", log="server.txt")
     else:
         names["bind :2762"] = f"bind 127.0.0.1:{tls}"
         (work / "server.conf").write_text(replaced(block("^frontend dicom-tls$"), names))
         call(work, "haproxy", "-c", "-f", "server.conf")
-        spawn("haproxy", "-db", "-f", "server.conf", said="server.txt")
+        spawn("haproxy", "-db", "-f", "server.conf", log="server.txt")
     until_listened(tls)
     tunnels = {name: free_port() for name in ("scanner", "stranger")}
     for name, accepts in tunnels.items():
         client = f"[{name}]\nclient = yes\naccept = 127.0.0.1:{accepts}\n"
         client += f"connect = 127.0.0.1:{tls}\ncert = {work}/{name}.pem\n"
         (work / f"{name}.conf").write_text(FOREGROUND + client)
-        spawn("stunnel4", f"{name}.conf", said=f"{name}.txt")
+        spawn("stunnel4", f"{name}.conf", log=f"{name}.txt")
         until_listened(accepts)
     until_answered(work, tunnels["scanner"])
     assert not is_answered(work, tunnels["stranger"])

@@ -41,26 +41,26 @@ def test_checkdir(expect, put, status, output, directory):
 
 
 @pytest.mark.parametrize("kind", ["PALETTE", "IMPLANT", "PRIVATE"])
-def test_a_record_of_the_root_that_is_not_taken(expect, put, kind):
-    """PS3.3 section F.4 has it beside PATIENT; the fault stays the same, and is explained."""
+def test_a_record_of_the_root_that_is_not_supported(expect, put, kind):
+    """PS3.3 section F.4 allows these types in addition to PATIENT; the fault is the same, and is explained."""
     put({"listed.bin": DIRECTORY.replace(b"PATIENT ", kind.ljust(8).encode())})
     errors = f"dcmbox: listed.bin: the record at 320 is of type {kind}, which PS3.3 section F.4 has .*"
     expect(1, "fault 64 WrongLevel at 320", errors, "checkdir", "listed.bin")
 
 
-def test_a_record_of_the_root_that_the_standard_does_not_have(expect, put):
+def test_a_record_of_the_root_that_is_not_in_the_standard(expect, put):
     put({"listed.bin": DIRECTORY.replace(b"PATIENT ", b"STUDY   ")})
     expect(1, "fault 64 WrongLevel at 320", "", "checkdir", "listed.bin")
 
 
-def test_a_file_that_is_no_directory(expect, put):
+def test_a_file_that_is_not_a_directory(expect, put):
     put({"listed.bin": IMAGE})
     errors = r"dcmbox: listed.bin: it is no DICOMDIR: its class is CTImageStorage \(1.2.840.*\)"
     expect(1, "fault .*", errors, "checkdir", "listed.bin")
 
 
 def test_one_object_of_checkdir(run, put, work):
-    """Of a directory that is good, cut, of a quoted type, at fault outside its data set, and unread."""
+    """Directories that are good, truncated, with a quoted type, with a fault outside the data set, and unreadable."""
     quoted = changed(DIRECTORY, 676, b'"\\\33\t')
     cycle = changed(DIRECTORY, 336, b"\100\1\0\0")
     put({"good": DIRECTORY, 'cut"': DIRECTORY[:710], "quoted": quoted, "cycle": cycle})
@@ -100,7 +100,7 @@ class TestIndex:
         expect(0, listing("S0000001/I0000001"), "", "checkdir", "two/DICOMDIR")
 
     def test_of_five_files(self, expect, put, run):
-        """Two images of a series, one of another series, a double, and one without Study ID."""
+        """Two images of a series, one of another series, a duplicate, and one without Study ID."""
         put(
             {
                 "five/I0000001": IMAGE,
@@ -110,12 +110,12 @@ class TestIndex:
                 "five/I0000005": IMAGE[:406] + b"\0\0" + IMAGE[410:],
             }
         )
-        told = "skipped I0000005 missing 0020,0010\ndouble I0000004\nrecords 7"
+        output = "skipped I0000005 missing 0020,0010\ndouble I0000004\nrecords 7"
         errors = (
             "dcmbox: five/I0000004: a double of I0000001, with the same bytes\nimages 3 left out 2\n"
             "left out: missing 0020,0010 StudyID 1, doubles 1"
         )
-        expect(0, told, errors, "index", "five", "--uid", "2.25.1")
+        expect(0, output, errors, "index", "five", "--uid", "2.25.1")
         listed = run("checkdir", "five/DICOMDIR").stdout
         assert re.sub(r"^\d* *", "", listed, flags=re.M).splitlines() == [
             *("PATIENT", "STUDY", "SERIES", "IMAGE I0000001", "IMAGE I0000002"),
@@ -124,7 +124,7 @@ class TestIndex:
 
 
     def test_one_object(self, run, put, work):
-        """Of files without a record, of a directory that stays, and of one with a fault."""
+        """Files without a record, a directory that is kept, and one with a fault."""
         report = IMAGE.replace(b"1.2.840.10008.5.1.4.1.1.2\0", b"1.2.840.10008.5.1.4.1.1.66")
         put({"in/I0000001": IMAGE, "in/I0000002": IMAGE[:406] + b"\0\0" + IMAGE[410:]})
         put({"in/I0000003": b"text", "in/I0000004": IMAGE, "in/I0000005": report})
@@ -133,11 +133,11 @@ class TestIndex:
         done = run(*index, "--strict")
         assert done.returncode == 1 and done.stdout.count("\n") == 1
         found = json.loads(done.stdout)
-        rows = [["skipped", *(str(word) for pair in row.items() for word in pair)] for row in found["skipped"]]
-        doubles = [["double", name] for name in found["doubles"]]
-        assert found.pop("result") == "good" and len(rows) == 3 and len(doubles) == 1
+        rows = [["skipped", *(str(argument) for pair in row.items() for argument in pair)] for row in found["skipped"]]
+        duplicates = [["double", name] for name in found["doubles"]]
+        assert found.pop("result") == "good" and len(rows) == 3 and len(duplicates) == 1
         rows = [[row[0], *row[2:]] for row in rows]
-        assert [*rows, *doubles, ["records", str(found["record_count"])]] == lines
+        assert [*rows, *duplicates, ["records", str(found["record_count"])]] == lines
         (work / "in/I0000001").unlink()
         kept = json.loads(run(*index, "--keep").stdout)
         missing = {"file": "I0000001", "fault": 54}
@@ -149,8 +149,8 @@ class TestIndex:
         assert (done.returncode, json.loads(done.stdout)) == (1, {**none, **fault})
 
 
-    def test_of_doubles(self, expect, put):
-        """One with other bytes, one that is longer, and one with the same."""
+    def test_of_duplicates(self, expect, put):
+        """A duplicate with other bytes, a longer one, and one with the same bytes."""
         put(
             {
                 "doubles/I0000001": IMAGE,
@@ -159,29 +159,29 @@ class TestIndex:
                 "doubles/S0000001/I0000002": IMAGE,
             }
         )
-        told = "double I0000002\ndouble S0000001/I0000001\ndouble S0000001/I0000002\nrecords 4"
+        output = "double I0000002\ndouble S0000001/I0000001\ndouble S0000001/I0000002\nrecords 4"
         errors = (
             "dcmbox: doubles/I0000002: a double of I0000001, with other bytes\n"
             "dcmbox: doubles/S0000001/I0000001: a double of I0000001, with other bytes\n"
             "dcmbox: doubles/S0000001/I0000002: a double of I0000001, with the same bytes\n"
             "images 1 left out 3\nleft out: doubles 3"
         )
-        expect(0, told, errors, "index", "doubles", "--uid", "2.25.1")
+        expect(0, output, errors, "index", "doubles", "--uid", "2.25.1")
 
 
-    def test_what_is_left_out_is_a_fault(self, expect, put, work):
-        """With --strict; the directory is written all the same."""
+    def test_files_left_out_are_a_fault(self, expect, put, work):
+        """With --strict files left out are a fault; the directory is written nevertheless."""
         put({"strict/I0000001": IMAGE, "strict/I0000002": b"text"})
-        told, errors = "skipped I0000002 fault 50\nrecords 4", "images 1 left out 1\nleft out: fault 50 NotPart10 1"
+        output, errors = "skipped I0000002 fault 50\nrecords 4", "images 1 left out 1\nleft out: fault 50 NotPart10 1"
         for status, options in ((0, []), (1, ["--strict"])):
-            expect(status, told, errors, "index", "strict", "--uid", "2.25.1", *options)
+            expect(status, output, errors, "index", "strict", "--uid", "2.25.1", *options)
             assert (work / "strict/DICOMDIR").read_bytes() == DIRECTORY
         (work / "strict/I0000002").unlink()
         expect(0, ONE, COUNTED, "index", "strict", "--uid", "2.25.1", "--strict")
 
 
 class TestOtherNames:
-    """Images of other names than received files."""
+    """Images with other names than received files."""
 
     FILES = {
         "in/CT.1.2.3.dcm": IMAGE,
@@ -190,21 +190,21 @@ class TestOtherNames:
         "in/README": b"text",
         "in/DRAFT": IMAGE,
     }
-    TOLD = "dcmbox: in: 3 DICOM files are left out: they have other names than I0000001, .* --any-name\n"
+    REPORT = "dcmbox: in: 3 DICOM files are left out: they have other names than I0000001, .* --any-name\n"
 
-    def test_they_are_told_of(self, expect, put):
+    def test_they_are_reported(self, expect, put):
         put(self.FILES)
-        errors = self.TOLD + "images 0 left out 3\nleft out: other names 3"
+        errors = self.REPORT + "images 0 left out 3\nleft out: other names 3"
         expect(0, "records 0", errors, "index", "in", "--uid", "2.25.1")
         expect(1, "records 0", errors, "index", "in", "--uid", "2.25.1", "--strict")
 
-    def test_beside_a_received_one(self, expect, put, work):
+    def test_with_a_received_file(self, expect, put, work):
         put({**self.FILES, "in/I0000001": IMAGE, "in/S0000001/I0000001": changed(IMAGE, 208, b"4")})
-        errors = self.TOLD + "images 2 left out 3\nleft out: other names 3"
+        errors = self.REPORT + "images 2 left out 3\nleft out: other names 3"
         expect(0, "records 5", errors, "index", "in", "--uid", "2.25.1")
 
     def test_any_name(self, expect, put, run):
-        """Those whose paths are file IDs, by path."""
+        """Images whose paths are file IDs are indexed, in the order of paths."""
         put({**self.FILES, "in/I0000001": IMAGE})
         errors = (
             "dcmbox: in: 2 DICOM files are left out: they have paths that are no file IDs: .*\n"
@@ -222,7 +222,7 @@ class TestOtherNames:
 
 
 class TestKeptRecords:
-    """A directory of DCMTK's dcmmkdir, of an image and of files that are none."""
+    """A directory by DCMTK's dcmmkdir, of an image and of other objects."""
 
     @pytest.fixture
     def made(self, work, tool):
@@ -244,7 +244,7 @@ class TestKeptRecords:
         return folder
 
     def test_are_not_lost(self, made, run):
-        """Without --drop the directory stays as it is."""
+        """Without --drop the directory stays unchanged."""
         before = (made / "DICOMDIR").read_bytes()
         done = run(*"index made --uid 2.25.1 --keep".split())
         assert (done.returncode, done.stdout) == (1, "")
@@ -257,34 +257,34 @@ class TestKeptRecords:
         assert (made / "DICOMDIR").read_bytes() == before
 
     def test_of_files_that_can_not_be_read(self, made, run):
-        """As on a disk that is not mounted."""
+        """The files are missing, as on a disk that is not mounted."""
         before = (made / "DICOMDIR").read_bytes()
         for name in NAMES:
             (made / name).unlink()
         done = run(*"index made --uid 2.25.1 --keep".split())
         assert (done.returncode, done.stdout) == (1, "skipped CT1 fault 54\n")
         assert ": 4 of its records would be lost; " in done.stderr
-        told = "left out: fault 54 ReadFailed 1, records of other types 3"
-        assert done.stderr.splitlines()[-1] == told
+        output = "left out: fault 54 ReadFailed 1, records of other types 3"
+        assert done.stderr.splitlines()[-1] == output
         assert (made / "DICOMDIR").read_bytes() == before
 
-    def test_are_told(self, expect, made, run):
-        told = "".join(
+    def test_are_reported(self, expect, made, run):
+        output = "".join(
             f"dcmbox: made/{name}: left out: its record is of type {kind}, not IMAGE\n"
             for name, kind in KINDS
         )
-        told += "images 1 left out 3\nleft out: records of other types 3"
-        expect(0, "records 4", told, *"index made --uid 2.25.1 --keep --drop".split())
+        output += "images 1 left out 3\nleft out: records of other types 3"
+        expect(0, "records 4", output, *"index made --uid 2.25.1 --keep --drop".split())
         assert run("checkdir", "made/DICOMDIR").stdout.count("IMAGE CT1") == 1
 
     def test_with_a_series_of_an_image(self, expect, made):
-        """The directory that was written has images alone, so none is left out of it again."""
+        """The written directory has only images, so the next run leaves out no record."""
         expect(0, "records 4", ".*left out 3\n.*", *"index made --uid 2.25.1 --keep --drop".split())
         expect(0, "records 4", COUNTED, *"index made --uid 2.25.1 --keep".split())
 
 
 class TestDescriptions:
-    """Series Description stands in the record of the series where it is asked for."""
+    """With --descriptions the record of a series has its Series Description."""
 
     @pytest.fixture
     def index(self, expect, put, work):
@@ -299,10 +299,10 @@ class TestDescriptions:
 
         return made
 
-    def test_not_asked_for(self, index):
+    def test_without_the_option(self, index):
         assert index(b"AXIAL ") == DIRECTORY
 
-    def test_asked_for(self, index, run):
+    def test_with_the_option(self, index, run):
         assert len(index(b"AXIAL ", "--descriptions")) == 802
         shown = run("show", "--tag", "0008,103e", "described/DICOMDIR").stdout
         assert len(shown.splitlines()) == 1
@@ -313,13 +313,13 @@ class TestDescriptions:
 
 
 class TestOfAnotherProgram:
-    """A directory that another program wrote stays, unless it is to be kept or replaced."""
+    """A directory by another program stays, except with --keep or --replace."""
 
     @pytest.fixture
     def others(self, put, work):
-        """The path of the directory, whose implementation class UID is another one."""
-        place = DIRECTORY.index(b"2.25.20260101")
-        directory = changed(DIRECTORY, place, b"2.25.20260102")
+        """The path of a directory with another implementation class UID."""
+        offset = DIRECTORY.index(b"2.25.20260101")
+        directory = changed(DIRECTORY, offset, b"2.25.20260102")
         put({"others/I0000001": IMAGE, "others/DICOMDIR": directory})
         return work / "others/DICOMDIR"
 
@@ -331,11 +331,11 @@ class TestOfAnotherProgram:
         assert sorted(path.name for path in others.parent.iterdir()) == ["DICOMDIR", "I0000001"]
 
     @pytest.mark.parametrize("option", ["--keep", "--replace"])
-    def test_it_gives_way(self, expect, others, option):
+    def test_it_is_replaced(self, expect, others, option):
         expect(0, ONE, COUNTED, "index", "others", "--uid", "2.25.1", option)
         assert others.read_bytes() == DIRECTORY
 
-    def test_a_directory_that_can_not_be_looked_at(self, expect, others):
+    def test_an_unreadable_directory(self, expect, others):
         others.unlink()
         others.mkdir()
         errors = "dcmbox: others: the folder's DICOMDIR can't be looked at: Is a directory"
@@ -355,10 +355,10 @@ class TestUid:
         expect(0, ONE, f"{warning}\n{COUNTED}", "index", "indexed", "--uid", uid)
 
     @pytest.mark.parametrize("uid", ["2.0.25", "0", "2.25.10"])
-    def test_taken(self, expect, uid):
+    def test_accepted(self, expect, uid):
         expect(0, ONE, COUNTED, "index", "indexed", "--uid", uid)
 
-    def test_each_new_one_is_another(self, expect, run):
+    def test_new_uids_differ(self, expect, run):
         instances = []
         for _ in range(2):
             expect(0, ONE, COUNTED, "index", "indexed", "--new-uid")
@@ -369,9 +369,9 @@ class TestUid:
         assert all(re.fullmatch(r"2\.25\.[1-9][0-9]{30,38}", instance) for instance in instances)
 
     @pytest.mark.parametrize("errors", ["/dev/full", "&-"])
-    def test_what_is_said_is_lost(self, program, work, errors):
-        """Nobody takes standard error, and the directory is there."""
-        words = ["sh", "-c", f'exec "$0" index indexed --uid 2.25.1 2>{errors}', program]
-        done = subprocess.run(words, cwd=work, stdout=subprocess.PIPE, text=True, timeout=60)
+    def test_lost_messages(self, program, work, errors):
+        """Standard error can't be written, and the directory is written nevertheless."""
+        arguments = ["sh", "-c", f'exec "$0" index indexed --uid 2.25.1 2>{errors}', program]
+        done = subprocess.run(arguments, cwd=work, stdout=subprocess.PIPE, text=True, timeout=60)
         assert (done.returncode, done.stdout) == (0, f"{ONE}\n")
         assert (work / "indexed/DICOMDIR").read_bytes() == DIRECTORY

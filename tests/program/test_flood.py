@@ -1,5 +1,5 @@
-"""How many lines of the log peers can cause: what associations do that store nothing has a limit, and so has a folder
-that takes no file."""
+"""The number of lines that peers can cause in the log is limited for associations that store nothing, and for a folder
+that can't be written."""
 import re
 import time
 
@@ -16,15 +16,15 @@ NOTHING = "associations that stored nothing"
 
 @pytest.fixture
 def flooded(serve, work):
-    """Starts a box, has a peer do this so many times, and ends the box. Returns the box, and for how many seconds there
-    may be lines: one that had begun before, and one that the end cuts off, count."""
+    """Starts a box, has a peer do this `count` times, and ends the box. Returns the box, and the number of seconds that may
+    have lines: also the first and the last second, if they are only partial."""
 
     def done(does, count, *options):
         box = serve("--stop-file", "stop.txt", "--metrics", "box.prom", *options)
-        began = time.monotonic()
+        started = time.monotonic()
         for _ in range(count):
             does(box)
-        seconds = time.monotonic() - began + 2
+        seconds = time.monotonic() - started + 2
         (work / "stop.txt").touch()
         assert box.ended() == 0
         return box, seconds
@@ -33,7 +33,7 @@ def flooded(serve, work):
 
 
 def released(box, sent):
-    """Sends this, until the association is released."""
+    """Sends bytes, and waits until the association is released."""
     with box.connect() as peer:
         peer.until_released(sent)
 
@@ -43,27 +43,27 @@ def count(box, pattern):
 
 
 def left_out(box, of):
-    """How many lines of these were left out, by the log."""
+    """Returns the number of omitted lines of a kind, by the log."""
     return sum(map(int, re.findall(rf"^.WARN .*Z lines left out: (\d+) of {of}$", box.log, re.M)))
 
 
 def test_of_a_peer_that_is_rejected(flooded, work):
-    """Ten associations a second have their lines, both of them; the others are counted, and the metrics have all."""
+    """Ten associations a second have both of their lines; the others are counted, and the metrics include all."""
 
     def is_rejected(box):
         assert box.exchange(OTHER, 10)[:1] == b"\3"
 
     box, seconds = flooded(is_rejected, MANY)
-    told = count(box, " Ended held ")
-    assert 10 <= told <= 10 * seconds and told == count(box, "^.WARN .*Z 127.* rejected: called AE")
-    assert told + left_out(box, NOTHING) == MANY
+    logged = count(box, " Ended held ")
+    assert 10 <= logged <= 10 * seconds and logged == count(box, "^.WARN .*Z 127.* rejected: called AE")
+    assert logged + left_out(box, NOTHING) == MANY
     assert count(box, " lines left out: ") <= seconds
     assert f'dcmbox_associations_total{{end="rejected"}} {MANY}\n' in (work / "box.prom").read_text()
 
 
 @pytest.mark.parametrize("kind", (b"\x16\3\1\0\xf8\1", STORES_REQUEST + STORES[180:292]), ids=("tls", "a_cut_store"))
 def test_of_a_peer_that_breaks_off(flooded, kind):
-    """Each of the lines that an aborted association has, or one whose store has no reply."""
+    """The lines of an aborted association, or of one whose store has no reply, are limited."""
 
     def breaks_off(box):
         with box.connect() as peer:
@@ -71,14 +71,14 @@ def test_of_a_peer_that_breaks_off(flooded, kind):
             assert peer.receive(10)
 
     box, seconds = flooded(breaks_off, 300)
-    told = count(box, " Ended held ")
+    logged = count(box, " Ended held ")
     warned = count(box, "^.WARN .*Z 127.* (aborted by dcmbox|not stored: no reply), ")
-    assert 10 <= told == warned <= 10 * seconds
-    assert told + left_out(box, NOTHING) == 300
+    assert 10 <= logged == warned <= 10 * seconds
+    assert logged + left_out(box, NOTHING) == 300
 
 
 def test_of_a_peer_whose_stores_are_refused(flooded, work):
-    """One store an association: ten a second have a line of their own."""
+    """With one store in each association, ten stores a second have a line of their own."""
 
     def is_refused(box):
         released(box, FAULTY)
@@ -90,7 +90,7 @@ def test_of_a_peer_whose_stores_are_refused(flooded, work):
 
 
 def test_an_association_that_stored_something_has_its_line(flooded):
-    """However many others there are."""
+    """An association that stored something has its line, whatever the number of others."""
 
     def does(box):
         assert box.exchange(OTHER, 10)[:1] == b"\3"
@@ -102,12 +102,12 @@ def test_an_association_that_stored_something_has_its_line(flooded):
 
 
 def test_of_a_full_disk(flooded, small_disk, form):
-    """One line a minute, with the first store that it failed; then how many others there were."""
+    """A full disk has one line a minute, with the first failed store, and then the number of other failed stores."""
     folder = small_disk("received", "-t", "tmpfs", "-o", "size=16k", "tmpfs")
     (folder / "full").write_bytes(bytes(16 << 10))
     box, _ = flooded(lambda box: box.exchange(STORES, len(STORES_ANSWER)), 20, *form)
-    told = re.findall(r"^.ERROR .*Z 127\S+ a file could not be written: (.*)$", box.log, re.M)
+    logged = re.findall(r"^.ERROR .*Z 127\S+ a file could not be written: (.*)$", box.log, re.M)
     store = r"class CTImageStorage instance 1\.2\.3 calling \"SCANNER1\""
-    assert len(told) == 1 and re.fullmatch(rf"No space left on device \(os error 28\) {store}", told[0])
+    assert len(logged) == 1 and re.fullmatch(rf"No space left on device \(os error 28\) {store}", logged[0])
     assert left_out(box, "files that could not be written") == 39
     assert count(box, " not stored: ") == 0

@@ -1,7 +1,4 @@
-"""Compressed images that no tool sends.
-
-Fragments with faults, many and long ones, and pydicom's samples as they are.
-"""
+"""Compressed images that no tool sends: fragments with faults, many and long ones, and pydicom's samples."""
 import pathlib
 import re
 import struct
@@ -26,7 +23,7 @@ UNCOMPRESSED = "1.2.840.10008.1.2.1.98"
 
 
 def fragment(content, length=None):
-    """A fragment, or the head of one with another length."""
+    """Returns a fragment, or one whose header has another length."""
     length = len(content) if length is None else length
     return bytes.fromhex("feff00e0") + struct.pack("<L", length) + content
 
@@ -45,7 +42,7 @@ WHOLE = BEGIN + TABLE_OF_NONE + fragment(DELIMITATION) + END
 # Two frames of four bytes.
 FRAMES = BEGIN + TABLE_OF_NONE + fragment(b"abcd") + fragment(DELIMITATION) + END
 FOUR_GIGABYTES = BEGIN + TABLE_OF_NONE + fragment(bytes(100000), length=(1 << 32) - 2)
-# An item of 28 bytes in an Icon Image Sequence, whose Pixel Data has a fragment that claims more.
+# An item of 28 bytes in an Icon Image Sequence, whose Pixel Data has a longer fragment.
 PAST_ITS_ITEM = (
     WHOLE[:48]
     + b"\210\0\0\2SQ\0\0\377\377\377\377"
@@ -57,8 +54,8 @@ class TestFragments:
     """Fragments of an image on an association of its own."""
 
     @pytest.fixture
-    def box(self, taking):
-        return taking("--at-once", "2")
+    def box(self, serve_all_syntaxes):
+        return serve_all_syntaxes("--at-once", "2")
 
     def test_128_contexts_each_with_one_syntax_that_is_not_native(self, box):
         contexts = [(CT, KNOWN[n % len(KNOWN)]) for n in range(128)]
@@ -70,14 +67,14 @@ class TestFragments:
 
     @pytest.mark.parametrize("contexts", [1, 128])
     def test_one_that_looks_like_a_delimitation(self, box, contexts):
-        """In the only context, and in the last of 128."""
+        """The context is the only one, or the last of 128."""
         with box.connect() as peer:
             assert peer.store(JPEG, CT, "2.25.1", WHOLE, contexts) == "0000"
         assert box.files() == ["I0000001"]
         assert data_set(box.folder / "I0000001") == WHOLE
 
     def test_uncompressed_ones(self, box, run):
-        """DCMTK of Debian does not send them. show and check take the file."""
+        """Debian's DCMTK does not send them. `show` and `check` accept the file."""
         with box.connect() as peer:
             assert peer.store(UNCOMPRESSED, CT, "2.25.1", FRAMES) == "0000"
         path = box.folder / "I0000001"
@@ -89,7 +86,7 @@ class TestFragments:
         assert [line for line in strict.splitlines() if " 21 MissingUid" not in line][0].startswith("good ")
 
     @pytest.mark.parametrize("size", [60, 66, 78, 84, 90])
-    def test_uncompressed_ones_that_are_cut(self, box, size):
+    def test_truncated_uncompressed_ones(self, box, size):
         with box.connect() as peer:
             assert peer.store(UNCOMPRESSED, CT, "2.25.1", FRAMES[:size]) == "C000"
         assert box.files() == []
@@ -106,7 +103,7 @@ class TestFragments:
             ),
             ("one of odd length", 11, BEGIN + TABLE_OF_NONE + fragment(b"abc") + END),
             (
-                "an element in its place",
+                "an element instead of it",
                 15,
                 BEGIN + TABLE_OF_NONE + b"\340\177\21\0\0\0\0\0" + END,
             ),
@@ -119,22 +116,22 @@ class TestFragments:
         ),
     )
     def test_with_a_fault(self, box, fault, data):
-        """Nothing is left of it, the log names the fault, and an echo is answered."""
+        """No file remains, the log names the fault, and the box replies to an echo."""
         with box.connect() as peer:
             assert peer.store(JPEG, CT, "2.25.1", data) == "C000"
         assert box.echoes()
         assert box.files() == []
         box.until_logged(f" status C000 fault {fault} ")
 
-    def test_a_peer_that_goes_in_one(self, box):
+    def test_a_peer_that_closes_within_one(self, box):
         with box.connect() as peer:
             assert peer.associate([(CT, JPEG)]) == [(0, JPEG)]
             peer.send_store(1, CT, "2.25.1", FOUR_GIGABYTES, is_whole=False)
         box.until_logged("dropped 1 .* closed by the peer")
         assert box.files() == []
 
-    def test_one_that_claims_more_than_the_limit(self, taking):
-        box = taking("--max-data", "1024")
+    def test_one_that_claims_more_than_the_limit(self, serve_all_syntaxes):
+        box = serve_all_syntaxes("--max-data", "1024")
         with box.connect() as peer:
             assert peer.store(JPEG, CT, "2.25.1", FOUR_GIGABYTES) == "A700"
         assert box.files() == []
@@ -146,16 +143,16 @@ class TestFragments:
             ("one of 64 MiB", TABLE_OF_NONE + fragment(bytes(64 << 20))),
         ),
     )
-    def test_many_or_long(self, taking, fragments):
-        """They are filed bit for bit, in 16 MB of memory."""
-        box, data = taking(), BEGIN + fragments + END
+    def test_many_or_long(self, serve_all_syntaxes, fragments):
+        """Many or long fragments are filed bit for bit, in 16 MB of memory."""
+        box, data = serve_all_syntaxes(), BEGIN + fragments + END
         with box.connect() as peer:
             assert peer.store(JPEG, CT, "2.25.1", data) == "0000"
         assert data_set(box.folder / "I0000001") == data
 
 
 def samples_of_pydicom():
-    """The compressed images of pydicom that name their class, and whose elements have VRs."""
+    """Returns the compressed images of pydicom that have a SOP Class UID and explicit VRs."""
     folder = pathlib.Path(pydicom.__file__).parent / "data/test_files"
     for path in sorted(folder.glob("*.dcm")):
         try:
@@ -179,17 +176,17 @@ def test_there_are_samples():
 
 
 @pytest.mark.parametrize("path, image", SAMPLES)
-def test_a_sample_of_pydicom(taking, path, image):
-    """It is filed bit for bit."""
-    box, syntax = taking("--all-storage"), image.file_meta.TransferSyntaxUID
+def test_a_sample_of_pydicom(serve_all_syntaxes, path, image):
+    """A sample is filed bit for bit."""
+    box, syntax = serve_all_syntaxes("--all-storage"), image.file_meta.TransferSyntaxUID
     data = data_set(path)
     with box.connect() as peer:
-        said = peer.store(syntax, image.SOPClassUID, image.get("SOPInstanceUID", ""), data)
-    assert said == "0000"
+        status = peer.store(syntax, image.SOPClassUID, image.get("SOPInstanceUID", ""), data)
+    assert status == "0000"
     assert data_set(box.folder / "I0000001") == data
 
 
 def test_without_the_option_the_context_is_refused(serve):
-    """For its transfer syntax."""
+    """The reason is the transfer syntax."""
     with serve(memory=LITTLE).connect() as peer:
         assert peer.store(JPEG, CT, "2.25.1", WHOLE) == "result 4"

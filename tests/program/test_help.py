@@ -1,4 +1,4 @@
-"""The help of each command, and whether the manual page and the completion name its options."""
+"""The help of each command; the manual page and the completion have the same options."""
 import json
 import os
 import re
@@ -34,7 +34,7 @@ def without_example(text):
 
 
 def synopsis(command):
-    """The synopsis of a command in the manual page, without what lays it out."""
+    """Returns the synopsis of a command in the manual page, without formatting."""
     lines = MANUAL.read_text().replace("\\-", "-").replace("\\~", " ").replace("\\c", "")
     body = re.search(rf'^\.SY "dcmbox {command}"(.*?)^\.YS', lines, re.M | re.S)[1]
     return " ".join(re.sub(r"^\.[A-Z]*", "", body, flags=re.M).split())
@@ -52,12 +52,12 @@ def test_the_options_in_the_manual(text, command):
 
 def test_the_options_in_the_completion(text, command):
     completion = ["bash", "-c", COMPLETION, ROOT / "packaging/dcmbox.bash", command]
-    told = subprocess.run(completion, capture_output=True, text=True, timeout=PATIENCE)
-    assert set(told.stdout.split()) == set(re.findall(OPTION, without_example(text)))
+    completed = subprocess.run(completion, capture_output=True, text=True, timeout=PATIENCE)
+    assert set(completed.stdout.split()) == set(re.findall(OPTION, without_example(text)))
 
 
 def test_the_names_of_the_values_in_the_manual(text, command):
-    """Each with its option, where it has one."""
+    """Each value has its option, if any."""
     in_help = re.findall(rf"(?:{OPTION} )?<[^>]*>", without_example(text))
     in_manual = re.findall(rf"(?:{OPTION} )?\b[A-Z]+\b(?:[:=][A-Z]+\b)?", synopsis(command))
     assert set(in_manual) == {re.sub("[<>]", "", name) for name in in_help}
@@ -65,10 +65,10 @@ def test_the_names_of_the_values_in_the_manual(text, command):
 
 @pytest.mark.parametrize("row", TABLES["commands"], ids=lambda row: row["name"])
 def test_help_is_what_the_documents_have(run, row):
-    told = " ".join(run("help", row["name"]).stdout.split())
+    text = " ".join(run("help", row["name"]).stdout.split())
     for name in row["options"]:
         option = row.get("own", {}).get(name) or TABLES["options"][name]
-        assert f"--{name}" in told and option["help"] in told
+        assert f"--{name}" in text and option["help"] in text
 
 
 def test_the_manual_page_has_no_warnings():

@@ -1,4 +1,4 @@
-"""The instance and the study of a file, by its header and by its data set: `check --strict` and `index`."""
+"""The instance and the study of a file in its header and in its data set, for `check --strict` and `index`."""
 import json
 import re
 import struct
@@ -11,18 +11,18 @@ from samples import DIRECTORY, HEADER, IMAGE, cases
 INSTANCE = element((0x08, 0x18), "UI", b"1.2.3\0")
 STUDY = element((0x20, 0x0D), "UI", b"1.2\0")
 MODALITY = element((0x08, 0x60), "CS", b"CT")
-# Request Attributes Sequence of an item with another instance.
+# Request Attributes Sequence with an item that has another instance.
 ITEM = b"\xfe\xff\0\xe0\x0e\0\0\0" + element((0x08, 0x18), "UI", b"1.2.4\0")
 SEQUENCE = b"\x40\0\x75\x02SQ\0\0" + struct.pack("<L", len(ITEM)) + ITEM
 NO_INSTANCE = "0008,0018 UI 21 MissingUid"
 NO_STUDY = "0020,000d UI 21 MissingUid"
 PALETTE = "1.2.840.10008.5.1.4.39.1"
-# Where the data set of the image begins, whose header names the instance 1.2.3.1.1.
+# The offset of the image's data set; its header names the instance 1.2.3.1.1.
 START = IMAGE.index(b"\x08\0\x20\0DA")
 
 
 def of_class(uid, data):
-    """A file of a class."""
+    """Returns a file of a class."""
     classed = element((2, 2), "UI", uid.encode() + b"\0" * (len(uid) % 2))
     meta = HEADER[144:158] + classed + HEADER[192:288]
     length = struct.pack("<L", len(meta))
@@ -70,8 +70,8 @@ def test_as_json(run, put):
 
 
 @pytest.mark.parametrize("options", [[], ["--descriptions"]])
-def test_index_tells_of_another_instance(run, put, options):
-    """Two files whose headers have the same instance, and whose data sets have two: the second is a double."""
+def test_index_reports_another_instance(run, put, options):
+    """Two files have the same instance in their headers and two in their data sets: the second is a duplicate."""
     other = element((0x08, 0x18), "UI", b"1.2.3.1.2\0")
     put({"in/I0000001": IMAGE[:START] + other + IMAGE[START:], "in/I0000002": IMAGE})
     done = run("index", "in", "--uid", "2.25.1", *options)

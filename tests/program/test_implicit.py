@@ -1,4 +1,4 @@
-"""Elements that have no VR: what `show` with options and `check --strict` know of them from PS3.6."""
+"""Elements without a VR, whose VR `show` with options and `check --strict` know from PS3.6."""
 import json
 import struct
 import warnings
@@ -10,12 +10,12 @@ from samples import cases
 UNDEFINED = 0xFFFFFFFF
 IMPLICIT, EXPLICIT = "1.2.840.10008.1.2", "1.2.840.10008.1.2.1"
 ITEM, ITEM_END, END = (0xFFFE, 0xE000), (0xFFFE, 0xE00D), (0xFFFE, 0xE0DD)
-# Sequences that the dictionary does not have: Anatomic Region, View Code and its modifier.
+# Sequences that the crate `dictionary` lacks: Anatomic Region, View Code and its modifier.
 REGION, VIEW, MODIFIER = (0x0008, 0x2218), (0x0054, 0x0220), (0x0054, 0x0222)
 
 
 def implicit(tag, value=b"", length=None):
-    """An element, an item or a delimitation in Implicit VR."""
+    """Returns an element, an item or a delimitation in Implicit VR."""
     return struct.pack("<HHL", *tag, len(value) if length is None else length) + value
 
 
@@ -24,7 +24,7 @@ def uid(text):
 
 
 def file(data, syntax=IMPLICIT):
-    """A file of a CT image with this data set."""
+    """Returns a file of a CT image with this data set."""
     meta = (
         element((2, 1), "OB", b"\0\1")
         + element((2, 2), "UI", uid("1.2.840.10008.5.1.4.1.1.2"))
@@ -36,7 +36,7 @@ def file(data, syntax=IMPLICIT):
 
 
 def sequence(tag, *items, is_open=False):
-    """A sequence and its items, of defined length or not."""
+    """Returns a sequence and its items, of defined or undefined length."""
     if not is_open:
         return implicit(tag, b"".join(implicit(ITEM, item) for item in items))
     inside = b"".join(implicit(ITEM, item, UNDEFINED) + implicit(ITEM_END) for item in items)
@@ -44,7 +44,7 @@ def sequence(tag, *items, is_open=False):
 
 
 def with_uids(data, syntax):
-    """A data set with SOP and Study Instance UID about these elements, all before the study's or all after it."""
+    """Returns a data set of these elements with SOP and Study Instance UID, all before the study's or all after it."""
     one = implicit if syntax == IMPLICIT else lambda tag, value: element(tag, "UI", value)
     instance, study = one((0x0008, 0x0018), uid("1.2.3")), one((0x0020, 0x000D), uid("1.2"))
     if data and struct.unpack("<HH", data[:4]) > (0x0020, 0x000D):
@@ -54,7 +54,7 @@ def with_uids(data, syntax):
 
 @pytest.fixture
 def shown(run, put):
-    """The elements of a file with this data set: level, tag, VR and value."""
+    """Returns the elements of a file with this data set: level, tag, VR and value."""
 
     def elements(data, *options):
         put({"made.dcm": file(data)})
@@ -102,7 +102,7 @@ def test_vrs(shown, data, vr, value):
 
 
 def test_vrs_of_items(shown):
-    """What a number depends on holds in the items below, until one has its own."""
+    """The element on which the VR of a number depends applies to items below, unless an item has its own."""
     unsigned = implicit((0x0028, 0x0103), b"\0\0")
     data = SIGNED + sequence(VIEW, PADDING, unsigned + PADDING, PADDING)
     found = [vr for _, tag, vr, _ in shown(data) if tag == "0028,0120"]
@@ -133,14 +133,14 @@ def test_an_element_of_items(shown):
 
 
 def test_long_values_of_items(shown):
-    """Values and headers that go over the pieces of a file."""
+    """Values and headers that span several reads of a file."""
     long = implicit((0x0018, 0x1000), b"A" * 65528)
     data = sequence(VIEW, long, long, implicit((0x0018, 0x0081), b"12"))
     assert shown(data)[-1] == (2, "0018,0081", "DS", "12")
 
 
 def test_without_options(expect, put):
-    """Without options the dictionary alone counts, by which the file is walked."""
+    """Without options only the crate `dictionary` counts, by which the file is parsed."""
     data = sequence(VIEW, b"") + implicit((0x0054, 0x0400), b"A ")
     put({"made.dcm": file(data)})
     start = len(file(b""))
@@ -152,7 +152,7 @@ def test_without_options(expect, put):
 
 
 class TestStrict:
-    """`check --strict` holds what it knows to its rules, and counts the rest."""
+    """`check --strict` checks values with a known VR against its rules, and counts the rest."""
 
     @pytest.fixture
     def checked(self, run, put):
@@ -204,7 +204,7 @@ class TestStrict:
         assert checked(data) == (notes, "")
 
     def test_depth(self, checked):
-        """As many levels as a data set may have: 32 sequences, each with an item."""
+        """The maximum number of levels of a data set: 32 sequences, each with an item."""
         data = b""
         for _ in range(32):
             data = sequence(MODIFIER, data)
@@ -255,8 +255,8 @@ def test_pydicom(run):
         path = get_testdata_file(name)
         with warnings.catch_warnings():
             warnings.simplefilter("ignore")
-            wanted = list(vrs(pydicom.dcmread(path)))
+            expected = list(vrs(pydicom.dcmread(path)))
         found = json.loads(run("show", "--json", path).stdout)
-        assert found["result"] == "good" and len(wanted) > 20
+        assert found["result"] == "good" and len(expected) > 20
         ours = [(e["tag"], e["vr"] or "UN") for e in found["elements"] if e["tag"][:4] != "fffe"]
-        assert ours == wanted
+        assert ours == expected

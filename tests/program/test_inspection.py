@@ -13,7 +13,7 @@ pytestmark = pytest.mark.usefixtures("samples")
 LISTING = SHOWN + ELEMENTS
 NOTE = "note 0000000288 0008,0060 CS 1 BadCharacter\n"
 CHECKED = f"file ct\\.dcm\ngood 336\nfile control\\.dcm\n{NOTE}good 312\n"
-# A strict check notes, too, that neither SOP nor Study Instance UID is there.
+# A strict check also notes that SOP and Study Instance UID are missing.
 STRICT = (
     f"note 0000000288 0008,0018 UI 21 MissingUid\n{NOTE}"
     "note 0000000312 0020,000d UI 21 MissingUid\ngood 312"
@@ -26,13 +26,13 @@ BELOW = (
 
 
 def counts(files, good=0, faulty=0, unread=0, notes=0):
-    """The last line of a check of several files."""
+    """Returns the last line of a check of several files."""
     return f"files {files} good {good} faulty {faulty} unread {unread} notes {notes}"
 
 
 @pytest.fixture
 def many(put, work):
-    """A folder with a good file, one with a note, a cut one in a folder, and what is no file."""
+    """A folder with a good file, one with a note, a truncated one in a folder, and something that is not a file."""
     put(
         {
             "many/I0000001": CT_FILE,
@@ -139,7 +139,7 @@ def test_a_name_with_control_characters(expect, put):
 
 @pytest.mark.parametrize("command", ["check", "show"])
 def test_a_name_that_is_not_utf_8(run, put, command):
-    """That file is named, and the others are read, before it and after it."""
+    """The program reports that file and reads the others, before it and after it."""
     put({"in/a": CT_FILE, "in/b\udcffc": CT_FILE, "in/d": CT_FILE, "in/e/f": CT_FILE})
     done = run(command, "-r", "in")
     assert done.returncode == 3
@@ -152,7 +152,7 @@ def test_a_name_that_is_not_utf_8(run, put, command):
 
 
 class TestOtherFiles:
-    """Files that are no DICOM files are passed by where that is asked for."""
+    """Files that are not DICOM files are skipped with --ignore-others."""
 
     FILES = {"in/a": CT_FILE, "in/README": b"text", "in/deeper/Thumbs.db": bytes(200)}
 
@@ -162,19 +162,19 @@ class TestOtherFiles:
         assert (done.returncode, done.stderr) == (1, "")
         assert done.stdout.endswith(counts(3, good=1, faulty=2) + "\n")
 
-    def test_they_are_passed_by(self, expect, put):
+    def test_they_are_skipped(self, expect, put):
         put(self.FILES)
         output = "file in/a\ngood 336\n" + counts(1, good=1)
         expect(0, output, "dcmbox: ignored 2", "check", "-r", "--ignore-others", "in")
 
-    def test_a_file_that_can_not_be_read_is_none_of_them(self, expect, put):
+    def test_an_unreadable_file_is_not_skipped(self, expect, put):
         put(self.FILES)
         output = "file missing\nfile in/a\ngood 336\n" + counts(2, good=1, unread=1)
         errors = "dcmbox: missing: .*\ndcmbox: ignored 1\ndcmbox: a file .*"
-        words = "check --ignore-others missing in/a in/README"
-        expect(3, output, errors, *words.split())
+        arguments = "check --ignore-others missing in/a in/README"
+        expect(3, output, errors, *arguments.split())
 
-    def test_one_that_is_cut_is_faulty(self, run, put):
+    def test_a_truncated_one_is_faulty(self, run, put):
         put({**self.FILES, "in/b": SAMPLES["cut.dcm"]})
         done = run("check", "-r", "--ignore-others", "in")
         assert done.returncode == 1 and done.stdout.endswith(counts(2, good=1, faulty=1) + "\n")
@@ -254,10 +254,10 @@ class TestGroup2:
 
 
 class TestStandardInput:
-    """Files that come on standard input."""
+    """Files on standard input."""
 
     @pytest.fixture
-    def given(self, run, work):
+    def check_input(self, run, work):
         """Runs the program with a file as its standard input."""
 
         def done(name, *arguments):
@@ -266,11 +266,11 @@ class TestStandardInput:
 
         return done
 
-    def test_is_checked(self, given):
-        assert given("ct.dcm", "check", "-").stdout == "good 336\n"
+    def test_is_checked(self, check_input):
+        assert check_input("ct.dcm", "check", "-").stdout == "good 336\n"
 
-    def test_a_cut_file(self, given):
-        done = given("cut.dcm", "check", "-")
+    def test_a_cut_file(self, check_input):
+        done = check_input("cut.dcm", "check", "-")
         assert (done.returncode, done.stdout) == (1, CUT_FAULT + "\n")
 
     def test_among_others(self, run):
@@ -278,8 +278,8 @@ class TestStandardInput:
         heads = r"^(file (?:-|cut.dcm)|end 336|fault 20 .*)$"
         assert len(re.findall(heads, shown, re.M)) == 4
 
-    def test_another_transfer_syntax(self, given):
-        done = given("big.dcm", "check", "-")
+    def test_another_transfer_syntax(self, check_input):
+        done = check_input("big.dcm", "check", "-")
         assert done.returncode == 1
         assert done.stderr.startswith("dcmbox: -: its transfer syntax is ExplicitVRBigEndian")
 
@@ -327,13 +327,13 @@ def test_values(expect, status, output, arguments):
     "text", ["10", "0010;0020", "(0010,0020", "patientname", "Patient", "OverlayData", "0010,002"]
 )
 def test_no_tag(expect, text):
-    wanted = "a tag as 0010,0020 or its keyword as PatientID"
-    errors = f"error: --tag takes {wanted}, not '{re.escape(text)}'.*"
+    expected = "a tag as 0010,0020 or its keyword as PatientID"
+    errors = f"error: --tag takes {expected}, not '{re.escape(text)}'.*"
     expect(2, "", errors, "show", "--tag", text, "ct.dcm")
 
 
 def test_keywords_of_the_standard(run, put):
-    """Every tenth keyword of PS3.6, as pydicom has it, shows its element alone."""
+    """`show` with every tenth keyword of PS3.6, as pydicom has it, shows only its element."""
     pydicom = pytest.importorskip("pydicom")
     rows = [(row[4], tag) for tag, row in sorted(pydicom._dicom_dict.DicomDictionary.items())]
     rows = [(keyword, tag) for keyword, tag in rows if keyword and 2 < tag >> 16 < 0xFFFE]
@@ -344,13 +344,13 @@ def test_keywords_of_the_standard(run, put):
         data = b"".join(element((tag >> 16, tag & 0xFFFF), "UN", b"") for _, tag in part)
         put({"part.dcm": HEADER + data})
         half = part[::2]
-        done = run("show", *(word for row in half for word in ("--tag", row[0])), "part.dcm")
+        done = run("show", *(argument for row in half for argument in ("--tag", row[0])), "part.dcm")
         found = [line.split()[1].replace(",", "") for line in done.stdout.splitlines()]
         assert found == [f"{tag:08x}" for _, tag in half], done.stderr
 
 
 class TestNotedValues:
-    """Keywords and values beside notes and faults."""
+    """Keywords and values with notes and faults."""
 
     def test_of_a_note(self, expect):
         value = r"           Modality = c%1b\[m\n"
@@ -376,11 +376,11 @@ META = ["check", "show"]
 
 
 class TestFileMetaInformation:
-    """Which rule of the file meta information a file breaks is told on standard error."""
+    """Standard error names the rule of the file meta information that a file breaks."""
 
     @pytest.mark.parametrize("command", META)
     @pytest.mark.parametrize(
-        "place, data, rule",
+        "offset, data, rule",
         cases(
             ("no length", 134, b"\1", "group 0002 does not begin with its length"),
             ("a length too short", 140, b"\x8f", "the length of group 0002 ends inside an element"),
@@ -391,8 +391,8 @@ class TestFileMetaInformation:
             ("tags that don't rise", 160, b"\1", "0002,0001 .* does not rise above the tag before it"),
         ),
     )
-    def test_broken(self, expect, put, command, place, data, rule):
-        put({"broken.dcm": CT_FILE[:place] + data + CT_FILE[place + len(data) :]})
+    def test_broken(self, expect, put, command, offset, data, rule):
+        put({"broken.dcm": CT_FILE[:offset] + data + CT_FILE[offset + len(data) :]})
         errors = f"dcmbox: broken.dcm: its file meta information is wrong: {rule}"
         expect(1, "fault 51 BadMeta at 132", errors, command, "broken.dcm")
 
@@ -428,8 +428,8 @@ def test_a_check_as_json(run):
         '{"place":288,"tag":"0008,0060","vr":"CS","number":1,"name":"BadCharacter",'
         '"keyword":"Modality"}'
     )
-    said = f'{{"file":"control.dcm","notes":[{note}],"result":"good","length":312}}\n'
-    assert (done.returncode, done.stdout, done.stderr) == (0, said, "")
+    message = f'{{"file":"control.dcm","notes":[{note}],"result":"good","length":312}}\n'
+    assert (done.returncode, done.stdout, done.stderr) == (0, message, "")
 
 
 def test_json_of_several_files(run, put):
@@ -466,12 +466,12 @@ def test_another_transfer_syntax(expect, command):
 
 @pytest.mark.parametrize("command", ["check", "show"])
 def test_a_compressed_transfer_syntax(run, put, command):
-    """The message names the option that takes it."""
+    """The message names the option that accepts the transfer syntax."""
     put({"rle.dcm": changed(CT_FILE, 232, b"5")})
     done = run(command, "rle.dcm")
     syntax = "RLELossless (1.2.840.10008.1.2.5)"
-    said = f"dcmbox: rle.dcm: its transfer syntax is {syntax}, which is not taken; --all-syntaxes takes it\n"
-    assert (done.returncode, done.stdout, done.stderr) == (1, "fault 53 OtherSyntax at 132\n", said)
+    message = f"dcmbox: rle.dcm: its transfer syntax is {syntax}, which is not taken; --all-syntaxes takes it\n"
+    assert (done.returncode, done.stdout, done.stderr) == (1, "fault 53 OtherSyntax at 132\n", message)
     assert run(command, "--all-syntaxes", "rle.dcm").returncode == 0
 
 
@@ -495,7 +495,7 @@ def test_files_are_not_counted_elsewhere(run):
 
 
 def test_a_large_file_in_little_memory(run, work):
-    """A value of 1 GiB, which takes no room on the disk, in 16 MB of memory."""
+    """A value of 1 GiB, which uses no space on the disk, with 16 MB of memory."""
     with open(work / "large.dcm", "wb") as file:
         file.write(SAMPLES["header.dcm"] + b"\340\177\20\0OW\0\0\0\0\0\100")
         file.truncate(288 + 12 + (1 << 30))
@@ -504,7 +504,7 @@ def test_a_large_file_in_little_memory(run, work):
 
 @pytest.mark.parametrize("command", ["replay large.bin --out .", "checkdir large.bin"])
 def test_too_little_memory(expect, work, command):
-    """A recording of 1 GiB, which takes no room on the disk, and 400 MB of memory."""
+    """A recording of 1 GiB, which uses no space on the disk, with 400 MB of memory."""
     with open(work / "large.bin", "wb") as file:
         file.truncate(1 << 30)
     errors = "dcmbox: large.bin: out of memory; give the program more"

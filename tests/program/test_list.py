@@ -1,4 +1,4 @@
-"""The studies that `list` finds in a folder: of made images, of pydicom's test files, and of 20,000 files."""
+"""The studies that `list` finds in a folder: of generated images, of pydicom's test files, and of 20,000 files."""
 import contextlib
 import json
 import os
@@ -89,10 +89,10 @@ def test_one_object(run, put):
 
 
 def test_several_folders(run, put):
-    """One listing of all, also where a study is in two of them; one that is missing is told of."""
+    """Several folders have one listing, also if a study is in two of them; a missing one is reported."""
     whole = run("list", put(FOUR).parent, "--json").stdout
-    for place, (name, data) in enumerate(FOUR.items()):
-        put({f"{place % 2}{name.removeprefix('in')}": data})
+    for index, (name, data) in enumerate(FOUR.items()):
+        put({f"{index % 2}{name.removeprefix('in')}": data})
     done = run("list", "0", "1/", "--json")
     assert (done.returncode, done.stdout, done.stderr) == (0, whole, "")
     put({"2/notes": b"text"})
@@ -104,11 +104,11 @@ def test_several_folders(run, put):
 
 
 def test_files_with_a_value(run, put):
-    """One of the values of a text, without padding; the others are not told of, and all conditions have to hold."""
+    """A condition matches one value of a text, without padding; other files are not reported; all conditions have to match."""
     put({**FOUR, "in/two": image(study="1.5", patient="A\\P1 \\B", comment="y" * 256, name="M\u00fcller")})
 
     def studies(*conditions):
-        done = run("list", "in", *(word for text in conditions for word in ("--where", text)))
+        done = run("list", "in", *(argument for text in conditions for argument in ("--where", text)))
         assert (done.returncode, done.stderr) == (0, "")
         return [(line.split("\t")[-1], line.split("\t")[5]) for line in done.stdout.splitlines()]
 
@@ -136,22 +136,127 @@ def test_files_with_a_value(run, put):
         ("TransferSyntaxUID=1.2", "an element of the data set .*, not 'TransferSyntaxUID'"),
     ],
 )
-def test_a_condition_that_is_refused(expect, condition, error):
+def test_a_rejected_condition(expect, condition, error):
     expect(2, "", f"error: --where takes {error}", "list", ".", "--where", condition)
 
 
 def test_too_many_conditions(expect):
-    words = ["--where", "PatientID=1"] * 9
-    expect(2, "", "error: --where may be given 8 times at most", "list", ".", *words)
+    arguments = ["--where", "PatientID=1"] * 9
+    expect(2, "", "error: --where may be given 8 times at most", "list", ".", *arguments)
 
 
-def test_the_order_is_that_of_numbers(run, put):
-    """10 comes after 2, equal numbers by UID, and what has no number last; studies by date."""
+def test_further_columns(run, put):
+    """The values of each line's first file, in the order given; a value that the file does not have is empty."""
+    put({**FOUR, "in/S0000001/I0000001": image(instance="1.2.3.10.1", series="1.2.3.10", comment="a\tb%\xe9 ")})
+    plain = run("list", "in", "--instances").stdout.splitlines()
+    done = run("list", "in", "--instances", "--columns", "ImageComments,00100020,InstanceNumber")
+    assert (done.returncode, done.stderr) == (0, "")
+    added = [line.removeprefix(old) for line, old in zip(done.stdout.splitlines(), plain, strict=True)]
+    assert added[:3] == ["\t\tP 2\t1"] * 3
+    assert added[5:] == ["\t\tP1\t1", "\t\tP1\t2", *["\ta%09b%25%e9\tP1\t1"] * 2]
+    # The first file of the study, in the order in which the system lists them, is that of its first series.
+    assert added[3] == added[4] and added[3] in added[5:7]
+    assert run("list", "in", "--columns", "StudyID").stdout == "".join(
+        f"{line}\t\n" for line in run("list", "in").stdout.splitlines()
+    )
+    longest = {"in/long": image(study="1.9", comment="y" * 300)}
+    put(longest)
+    lines = run("list", "in", "--where", "StudyInstanceUID=1.9", "--columns", "ImageComments").stdout
+    assert lines.endswith("\t1.9\t" + "y" * 256 + "\n")
+
+
+def test_further_columns_in_json(run, put):
+    """They are an object with the keywords as names, in the order given."""
+    put({"in/a": image(name="M\xfcller", comment="\xe9", number=None)})
+    names = "PatientName,InstanceNumber,PatientID"
+    done = run("list", "in", "--json", "--instances", "--columns", names)
+    study = json.loads(done.stdout)["studies"][0]
+    series = study["series"][0]
+    instance = series["instances"][0]
+    values = {"PatientName": "M%fcller", "InstanceNumber": None, "PatientID": "P1"}
+    assert study["columns"] == series["columns"] == instance["columns"] == values
+    assert list(study["columns"]) == names.split(",")
+    with_one = json.loads(run("list", "in", "--json", "--columns", "Modality").stdout)["studies"][0]
+    assert with_one.pop("columns") == {"Modality": "CT"}
+    assert with_one == json.loads(run("list", "in", "--json").stdout)["studies"][0]
+
+
+def test_eight_columns_and_conditions(run, put):
+    """All values that can be asked for are read of a file that has them: the listed, of eight conditions, of eight columns."""
+    listed = {
+        (0x08, 0x05): ("CS", b"ISO_IR 100"),
+        (0x08, 0x18): ("UI", b"1.2.3.45"),
+        (0x08, 0x20): ("DA", b"20260101"),
+        (0x08, 0x60): ("CS", b"CT"),
+        (0x08, 0x103E): ("LO", b"HEAD"),
+        (0x10, 0x10): ("PN", b"D\xd6"),
+        (0x10, 0x20): ("LO", b"P1"),
+        (0x20, 0x0D): ("UI", b"1.2.3\0"),
+        (0x20, 0x0E): ("UI", b"1.2.3.1\0"),
+        (0x20, 0x11): ("IS", b"1 "),
+        (0x20, 0x13): ("IS", b"2 "),
+    }
+    conditions = {
+        "AccessionNumber": ((0x08, 0x50), "SH"),
+        "Manufacturer": ((0x08, 0x70), "LO"),
+        "InstitutionName": ((0x08, 0x80), "LO"),
+        "StationName": ((0x08, 0x1010), "SH"),
+        "StudyDescription": ((0x08, 0x1030), "LO"),
+        "PatientSex": ((0x10, 0x40), "CS"),
+        "PatientAge": ((0x10, 0x1010), "AS"),
+        "PatientComments": ((0x10, 0x4000), "LT"),
+    }
+    columns = {
+        "ImageComments": ((0x20, 0x4000), "LT"),
+        "BodyPartExamined": ((0x18, 0x15), "CS"),
+        "SoftwareVersions": ((0x18, 0x1020), "LO"),
+        "ProtocolName": ((0x18, 0x1030), "LO"),
+        "PatientPosition": ((0x18, 0x5100), "CS"),
+        "StudyID": ((0x20, 0x10), "SH"),
+        "FrameOfReferenceUID": ((0x20, 0x52), "UI"),
+        "Laterality": ((0x20, 0x60), "CS"),
+    }
+    named = {tag: (vr, keyword.encode().ljust(254, b"x")) for keyword, (tag, vr) in {**conditions, **columns}.items()}
+    elements = sorted({**listed, **named}.items())
+    put({"in/a": HEADER + b"".join(element(tag, vr, value) for tag, (vr, value) in elements)})
+    asked = [argument for name in conditions for argument in ("--where", f"{name}={name.ljust(254, 'x')}")]
+    done = run("list", "in", "--instances", *asked, "--columns", ",".join(columns))
+    values = "".join("\t" + name.ljust(254, "x") for name in columns)
+    assert (done.returncode, done.stderr) == (0, "")
+    study, series, instance = done.stdout.splitlines()
+    assert study == f"20260101\tP1\tD%d6\tCT\t1\t1\t1.2.3{values}"
+    assert series == f"  1\tCT\tHEAD\t1\t1.2.3.1{values}" and instance == f"    2\t1.2.3.45\tin/a{values}"
+    done = run("list", "in", "--json", "--columns", "PatientName,StudyDate")
+    assert json.loads(done.stdout)["studies"][0]["columns"] == {"PatientName": "D\u00d6", "StudyDate": "20260101"}
+
+
+@pytest.mark.parametrize(
+    "columns, error",
+    [
+        ("Nonsense", "takes keywords as PatientID, or tags as 00100020, not 'Nonsense'"),
+        ("", "takes keywords as PatientID, or tags as 00100020, not ''"),
+        ("Modality,", "takes keywords as PatientID, or tags as 00100020, not ''"),
+        ("Modality,Rows", "takes elements of the data set whose value is text, not 'Rows'"),
+        ("TransferSyntaxUID", "takes elements of the data set whose value is text, not 'TransferSyntaxUID'"),
+        ("Modality,StudyID,Modality", "has 'Modality' twice"),
+        ("PatientID,00100020", "has '00100020' twice"),
+        (
+            "Modality,StudyID,StudyDate,StudyTime,PatientID,PatientName,PatientSex,PatientAge,PatientSize",
+            "takes 8 keywords at most",
+        ),
+    ],
+)
+def test_rejected_columns(expect, columns, error):
+    expect(2, "", f"error: --columns {error}", "list", ".", "--columns", columns)
+
+
+def test_the_order_is_numeric(run, put):
+    """10 follows 2, equal numbers are ordered by UID, and missing numbers are last; studies are ordered by date."""
     numbers = ["10", "2", "1", None, "-1", "2 ", "x"]
-    for place, number in enumerate(numbers):
-        put({f"in/i{place}": image(instance=f"1.5.{9 - place}", number=number)})
-        series = f"1.2.3.{30 - place}"
-        put({f"in/s{place}": image(instance=f"1.6.{place}", series=series, series_number=number)})
+    for index, number in enumerate(numbers):
+        put({f"in/i{index}": image(instance=f"1.5.{9 - index}", number=number)})
+        series = f"1.2.3.{30 - index}"
+        put({f"in/s{index}": image(instance=f"1.6.{index}", series=series, series_number=number)})
     put({"in/z": image(study="1.1", instance="1.7", date="20260102")})
     lines = run("list", "in", "--instances").stdout.splitlines()
     order = ["-1", "1", "2", "2", "10", "x", "-"]
@@ -178,8 +283,8 @@ def test_a_study_of_several_patients(run, put):
 def test_an_empty_folder(run, work, form):
     (work / "in").mkdir()
     done = run("list", "in", *form.split())
-    wanted = '{"studies":[],"left_out":0}\n' if form else ""
-    assert (done.returncode, done.stdout, done.stderr) == (0, wanted, "")
+    expected = '{"studies":[],"left_out":0}\n' if form else ""
+    assert (done.returncode, done.stdout, done.stderr) == (0, expected, "")
 
 
 @pytest.mark.parametrize(
@@ -208,23 +313,23 @@ def test_a_file_that_is_left_out(run, put, name, data, fault):
     assert done.stderr == f"dcmbox: in/{name}: left out: {fault}\n"
 
 
-def test_what_is_behind_the_values_is_not_seen(run, put):
+def test_bytes_after_the_values_are_not_read(run, put):
     bad = image(comment="x") + b"\x28\0\x10\0??\2\0\1\1"
     put({"in/I0000001": bad, "in/I0000002": image()[:-1]})
     done = run("list", "in")
     assert done.returncode == 1 and "I0000001" not in done.stderr
 
 
-def test_what_is_passed_by(run, put, work):
-    """Drafts, directories of files and links without a word; a pipe, which is not waited for, with one."""
+def test_what_is_skipped(run, put, work):
+    """Drafts, DICOMDIR files and links are skipped silently; a pipe is reported, and not waited for."""
     put({"in/I0000001": image(), "in/DICOMDIR": DIRECTORY, "in/DRAFT": b"x", "in/DRAFT2": b"x"})
     put({"in/DIRDRAFT": b"x", "elsewhere/I0000001": image(study="1.9")})
     (work / "in/link").symlink_to(work / "elsewhere/I0000001")
     (work / "in/folder").symlink_to(work / "elsewhere")
     os.mkfifo(work / "in/pipe")
     done = run("list", "in")
-    said = "dcmbox: in/pipe: it is a pipe, a socket or a device, and no file\n"
-    assert (done.returncode, done.stderr) == (0, said)
+    message = "dcmbox: in/pipe: it is a pipe, a socket or a device, and no file\n"
+    assert (done.returncode, done.stderr) == (0, message)
     assert done.stdout.endswith("\t1\t1\t1.2.3\n")
 
 
@@ -255,7 +360,7 @@ def test_a_name_that_is_not_utf8(run, put, work):
 
 
 @pytest.mark.parametrize("command", ["list in", "arrange in --to tree"])
-def test_files_that_are_no_dicom_files(run, put, command):
+def test_files_that_are_not_dicom_files(run, put, command):
     put({"in/I0000001": image(), "in/README": b"text", "in/deeper/Thumbs.db": bytes(200)})
     done = run(*command.split())
     assert done.returncode == 1 and done.stderr.count(": left out: fault 50 NotPart10 ") == 2
@@ -273,19 +378,19 @@ def test_no_folder(expect, put, folder):
 
 @pytest.mark.parametrize("command", ["list in", "arrange in --to tree", "check -r in"])
 def test_files_are_counted_on_a_terminal(program, put, work, command):
-    """On standard error, where standard output is no terminal; the count is cleared."""
+    """The count is on standard error, if standard output is not a terminal, and is cleared at the end."""
     put({f"in/{n}": image(instance=f"1.{n}") for n in range(3)})
     ours, theirs = pty.openpty()
-    words = [program, *command.split()]
-    done = subprocess.run(words, cwd=work, stdout=subprocess.PIPE, stderr=theirs, timeout=PATIENCE)
+    arguments = [program, *command.split()]
+    done = subprocess.run(arguments, cwd=work, stdout=subprocess.PIPE, stderr=theirs, timeout=PATIENCE)
     os.close(theirs)
-    told = b""
+    reported = b""
     with contextlib.suppress(OSError):  # a terminal whose other end is closed ends with EIO
         while piece := os.read(ours, 10_000):
-            told += piece
+            reported += piece
     os.close(ours)
     assert done.returncode == 0
-    assert re.fullmatch(rb"\rfiles 1\rfiles 2\r +\r", told)
+    assert re.fullmatch(rb"\rfiles 1\rfiles 2\r +\r", reported)
 
 
 def test_one_read_for_a_file(run, put, work, trace):
@@ -297,7 +402,7 @@ def test_one_read_for_a_file(run, put, work, trace):
 
 
 def test_pydicoms_files(run):
-    """What is listed is what pydicom reads; no good file is left out."""
+    """`list` shows what pydicom reads, and leaves out no good file."""
     pydicom = pytest.importorskip("pydicom", reason="make packages installs it")
     from pydicom.data import get_testdata_file
 
@@ -323,17 +428,17 @@ def test_pydicoms_files(run):
 
 @pytest.fixture(scope="module")
 def many(shared):
-    """A folder of a study of 20,000 files."""
+    """A folder with a study of 20,000 files."""
     folder = shared("many") / "in"
     folder_of_images(folder, 20_000)
     return folder
 
 
 def test_20000_files(program, many):
-    """Within two processor seconds from a warm cache, less time and memory than DCMTK and pydicom take."""
+    """`list` needs at most two CPU seconds with a warm cache, and less time and memory than DCMTK and pydicom."""
     need("dcmdump")
     ours = min(measured(program, "list", many, cwd=many.parent) for _ in range(3))
-    keys = [word for key in ("0010,0020", "0020,000d", "0020,000e") for word in ("+P", key)]
+    keys = [argument for key in ("0010,0020", "0020,000d", "0020,000e") for argument in ("+P", key)]
     dcmtk = measured("dcmdump", "-q", "+sd", "+r", *keys, many, cwd=many.parent)
     script = "import sys, pydicom, pathlib\nfor p in pathlib.Path(sys.argv[1]).iterdir():\n"
     script += " pydicom.dcmread(p, stop_before_pixels=True).StudyInstanceUID"

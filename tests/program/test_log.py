@@ -1,4 +1,4 @@
-"""What the log tells of clients, folders and files, and the forms of its lines."""
+"""The lines of the log about clients, folders and files, and their forms."""
 import json
 import re
 
@@ -14,7 +14,7 @@ NOBODY = 'calling "" called ""'
 NONE = "stored 0 refused 0 failed 0"
 CT = "class CTImageStorage instance 2.25.1.1"
 RECORDED = "class CTImageStorage instance 1.2.3"
-# Has storescu propose CT images in one transfer syntax alone.
+# Makes storescu propose CT images with one transfer syntax only.
 PROFILE = """[[TransferSyntaxes]]
 [One]
 TransferSyntax1 = {}
@@ -34,7 +34,7 @@ def to_box(port):
 
 @pytest.fixture
 def image(work):
-    """Makes an image of a class, of rows and columns of zeros."""
+    """Makes an image of a class, with rows and columns of zeros."""
 
     def made(sop_class="CTImageStorage", rows=16, columns=16):
         (work / "pixels.raw").write_bytes(bytes(rows * columns))
@@ -45,20 +45,20 @@ def image(work):
 
 
 def lines_of(box):
-    """The log after its first two lines, without times, ports, numbers of bytes and of seconds."""
+    """Returns the log after its first two lines, without times, ports, numbers of bytes and of seconds."""
     stamp = r"^\[([A-Z]+) +dcmbox::serve\] 20\d\d-\d\d-\d\dT\d\d:\d\d:\d\d\.\d{3}Z 127\.0\.0\.1:\d+ "
     lines = [re.sub(stamp, r"\1 ", line) for line in box.lines[2:]]
     return [re.sub(r" received \d+ in \d+ s ", " .. ", line) for line in lines]
 
 
-def tells(box, *wanted):
-    """Waits until an association has ended, and holds the log against these lines."""
+def check_log(box, *expected):
+    """Waits until an association has ended, and asserts that the log has these lines."""
     box.until_logged("^.INFO .* Ended held 0 files ")
-    assert lines_of(box) == list(wanted)
+    assert lines_of(box) == list(expected)
 
 
 def ended(titles, end, contexts, counts=NONE, files=0, dropped=0):
-    """The line of an association."""
+    """Returns the line of an association."""
     head = f"INFO Ended held 0 files {files} dropped {dropped} .. {titles}"
     return f"{head} {end} contexts {contexts} {counts}"
 
@@ -69,13 +69,13 @@ class TestClients:
     def test_an_echo(self, serve, tool, to_box):
         box = serve()
         tool("echoscu", *to_box)
-        tells(box, ended(TITLES, "released", "1 of 1"))
+        check_log(box, ended(TITLES, "released", "1 of 1"))
 
     def test_a_store(self, serve, tool, to_box, image):
         box = serve("--verbose")
         tool("storescu", "-R", *to_box, image())
         size = len(data_set(box.folder / "I0000001"))
-        tells(
+        check_log(
             box,
             f"DEBUG store {CT} syntax ExplicitVRLittleEndian bytes {size} status 0000 file I0000001",
             ended(TITLES, "released", "2 of 2", "stored 1 refused 0 failed 0", files=1),
@@ -83,17 +83,17 @@ class TestClients:
 
     def test_another_called_title(self, serve, tool, port):
         box = serve()
-        words = ("-aet", "SCANNER1", "-aec", "OTHER", "127.0.0.1", port)
-        assert tool("echoscu", *words, check=False).returncode != 0
+        arguments = ("-aet", "SCANNER1", "-aec", "OTHER", "127.0.0.1", port)
+        assert tool("echoscu", *arguments, check=False).returncode != 0
         why = "rejected: called AE title not recognized"
         titles = 'calling "SCANNER1" called "OTHER"'
-        tells(box, f"WARN {why} {titles}", ended(titles, why, "0 of 1"))
+        check_log(box, f"WARN {why} {titles}", ended(titles, why, "0 of 1"))
 
     def test_another_calling_title(self, serve, tool, to_box):
         box = serve("--caller", "SCANNER2")
         assert tool("echoscu", *to_box, check=False).returncode != 0
         why = "rejected: calling AE title not recognized"
-        tells(box, f"WARN {why} {TITLES}", ended(TITLES, why, "0 of 1"))
+        check_log(box, f"WARN {why} {TITLES}", ended(TITLES, why, "0 of 1"))
 
 
 class TestContexts:
@@ -121,7 +121,7 @@ class TestContexts:
         box = serve("-vv")
         tool("storescu", "-xf", "profile.txt", "One", *to_box, sent, check=False)
         refused = "context 1 refused: transfer syntaxes not supported"
-        tells(
+        check_log(
             box,
             f"TRACE {refused} class CTImageStorage syntaxes {name}",
             f"WARN classes refused: CTImageStorage (syntaxes {name}{option}){CALLING}",
@@ -133,7 +133,7 @@ class TestContexts:
         box = serve("--verbose", "--verbose")
         tool("storescu", "-R", *to_box, report, check=False)
         refused = "refused: abstract syntax not supported class BasicTextSRStorage syntaxes"
-        tells(
+        check_log(
             box,
             f"TRACE context 1 {refused} ExplicitVRLittleEndian",
             f"TRACE context 3 {refused} ExplicitVRBigEndian ImplicitVRLittleEndian",
@@ -143,12 +143,12 @@ class TestContexts:
 
 
 class TestNoAssociation:
-    """Connections of which none becomes an association, and one that falls silent."""
+    """Connections that do not become associations, and one that falls silent."""
 
     def test_a_port_scan(self, serve):
         box = serve()
         box.connect().close()
-        tells(box, ended(NOBODY, "closed by the peer", "0 of 0"))
+        check_log(box, ended(NOBODY, "closed by the peer", "0 of 0"))
 
     @pytest.mark.parametrize(
         "kind, command",
@@ -161,43 +161,43 @@ class TestNoAssociation:
         box = serve()
         tool(*command.format(port).split(), check=False)
         why = f"aborted by dcmbox, its application (PDU type {kind})"
-        tells(box, f"WARN {why}", ended(NOBODY, why, "0 of 0"))
+        check_log(box, f"WARN {why}", ended(NOBODY, why, "0 of 0"))
 
     def test_a_request_that_is_never_finished(self, serve):
         box = serve("--timeout", "1")
         with box.connect() as peer:
             peer.send(STORES_REQUEST[:100])
-            tells(box, ended(NOBODY, "ARTIM timer expired", "0 of 0"))
+            check_log(box, ended(NOBODY, "ARTIM timer expired", "0 of 0"))
 
     def test_a_peer_that_falls_silent(self, serve):
         box = serve("--idle", "1", "--timeout", "1")
         with box.connect() as peer:
             peer.send(STORES_REQUEST)
             why = "aborted: the peer was idle"
-            tells(box, f"WARN {why}{CALLING}", ended(TITLES, why, "1 of 1"))
+            check_log(box, f"WARN {why}{CALLING}", ended(TITLES, why, "1 of 1"))
 
 
 class TestUnfinished:
-    """A store whose reply does not come.
+    """A store without a reply.
 
     The command of the store ends at byte 292, and its data set at 352.
     """
 
     @pytest.mark.parametrize(
-        "end, place, sent, size",
+        "end, offset, sent, size",
         cases(
             ("an abort", "aborted by the peer, its application (source 0 reason 0)", 292, ABORT, 0),
             ("a close", "closed by the peer", 320, b"", 0),
             ("a release", "released", 292, RELEASE, 10),
         ),
     )
-    def test_in_a_store(self, serve, end, place, sent, size):
-        """After a request's answer come a store up to a place, these bytes, and the end."""
+    def test_in_a_store(self, serve, end, offset, sent, size):
+        """After the reply to the request the peer sends a store up to an offset and these bytes, and closes."""
         box = serve()
         with box.connect() as peer:
             assert len(peer.exchange(STORES_REQUEST, 171)) == 171
-            assert len(peer.exchange(STORES[180:place] + sent, size)) == size
-        tells(
+            assert len(peer.exchange(STORES[180:offset] + sent, size)) == size
+        check_log(
             box,
             f"WARN not stored: no reply, {end} {RECORDED} stores 1{CALLING}",
             ended(TITLES, end, "1 of 1", dropped=1),
@@ -205,7 +205,7 @@ class TestUnfinished:
 
 
 @pytest.mark.parametrize(
-    "why, place, new",
+    "why, offset, new",
     cases(
         ("a bad data set", "status C000 fault 10 BadVr tag 0008,0016", 308, b"ui"),
         (
@@ -216,12 +216,12 @@ class TestUnfinished:
         ),
     ),
 )
-def test_a_data_set_with_a_fault(serve, why, place, new):
-    """The first of the two stores, with other bytes at a place."""
+def test_a_data_set_with_a_fault(serve, why, offset, new):
+    """The peer sends the first of the two stores with other bytes at an offset."""
     box = serve()
     with box.connect() as peer:
-        peer.until_released(changed(STORES[:352] + RELEASE, place, new))
-    tells(
+        peer.until_released(changed(STORES[:352] + RELEASE, offset, new))
+    check_log(
         box,
         f"WARN not stored: {why} {RECORDED} syntax ExplicitVRLittleEndian{CALLING}",
         ended(TITLES, "released", "1 of 1", "stored 0 refused 0 failed 1", dropped=1),
@@ -229,7 +229,7 @@ def test_a_data_set_with_a_fault(serve, why, place, new):
 
 
 class TestFolder:
-    """A folder that takes no file; the system's error is told once."""
+    """A folder that can't be written; the system's error is logged once."""
 
     @pytest.fixture
     def fails(self, tool, to_box, image):
@@ -238,7 +238,7 @@ class TestFolder:
         def done(box, error, **size):
             tool("storescu", "-R", *to_box, image(**size), check=False)
             counts = "stored 0 refused 1 failed 0"
-            tells(
+            check_log(
                 box,
                 f"ERROR a file could not be written: {error} {CT}{CALLING}",
                 ended(TITLES, "released", "2 of 2", counts, dropped=1),
@@ -263,7 +263,7 @@ class TestFolder:
 
 
 class TestLines:
-    """The other form of the log, its levels, and what a line may be."""
+    """The JSON form of the log, its levels, and the limits of lines."""
 
     def test_each_is_a_json_object(self, serve, tool, to_box, image):
         box = serve("--log", "json", "--verbose")
@@ -272,13 +272,13 @@ class TestLines:
         started, listening, store, association = lines = [json.loads(line) for line in box.lines]
         events = ["started", "listening", "store", "association"]
         assert [line["event"] for line in lines] == events
-        said = {"title": "DCMBOX", "folder": "received", "max-pdu": 16384, "drafts": 0}
-        said |= {"callers": "any", "classes": 11, "syntaxes": 2}
-        assert said.items() <= started.items()
+        settings = {"title": "DCMBOX", "folder": "received", "max-pdu": 16384, "drafts": 0}
+        settings |= {"callers": "any", "classes": 11, "syntaxes": 2}
+        assert settings.items() <= started.items()
         assert listening["address"].startswith("127.0.0.1:")
-        told = {"class": "CTImageStorage", "instance": "2.25.1.1", "status": "0000"}
-        told["syntax"] = "ExplicitVRLittleEndian"
-        assert {**told, "file": "I0000001"}.items() <= store.items()
+        reported = {"class": "CTImageStorage", "instance": "2.25.1.1", "status": "0000"}
+        reported["syntax"] = "ExplicitVRLittleEndian"
+        assert {**reported, "file": "I0000001"}.items() <= store.items()
         titles = {"called": "DCMBOX", "calling": "SCANNER1", "end": "released"}
         assert {**titles, "stored": 1, "accepted": 2, "proposed": 2}.items() <= association.items()
         for line in lines:
@@ -291,9 +291,9 @@ class TestLines:
             contexts = [("1.2.840.10008.5.1.4.1.1.88.11", EXPLICIT), (CT_CLASS, "1.2.840.10008.1.2.4.70")]
             assert {answer for answer, _ in peer.associate(contexts)} == {3, 4}
         box.until_logged('"event":"association"')
-        [told] = [line for line in map(json.loads, box.lines) if line["event"] == "classes refused"]
+        [reported] = [line for line in map(json.loads, box.lines) if line["event"] == "classes refused"]
         refused = ["BasicTextSRStorage (class: --all-storage)"]
-        assert told["classes"] == [*refused, "CTImageStorage (syntaxes JPEGLosslessSV1: --all-syntaxes)"]
+        assert reported["classes"] == [*refused, "CTImageStorage (syntaxes JPEGLosslessSV1: --all-syntaxes)"]
 
     def test_a_quiet_log_has_warnings_alone(self, serve, tool, to_box, port):
         box = serve("--quiet")
@@ -315,11 +315,11 @@ class TestLines:
         assert max(map(len, box.lines)) <= 1000
 
     @pytest.mark.parametrize(
-        "options, taken",
+        "options, accepted",
         cases(
             ("by default", "", "callers any classes 11 syntaxes 2"),
             (
-                "with all that can be taken",
+                "with all that can be accepted",
                 "--caller A --caller B --all-storage --storage-class 2.25.1 --all-syntaxes",
                 r"callers 2 classes all and 1 named syntaxes \d\d",
             ),
@@ -332,8 +332,8 @@ class TestLines:
             ),
         ),
     )
-    def test_the_first_one(self, serve, work, options, taken):
-        """It says what the box is and takes, and how many drafts of a box that was killed it has removed."""
+    def test_the_first_one(self, serve, work, options, accepted):
+        """The first line has the settings of the box, and the number of drafts of a killed box that it removed."""
         (work / "received").mkdir()
         for name in ("DRAFT", "DRAFT2", "DRAFTS", "I0000007"):
             (work / "received" / name).write_bytes(b"")
@@ -342,8 +342,8 @@ class TestLines:
         box = serve("--ae", "BOX 1", "--max-pdu", "2000", "--at-once", "3", *options)
         box.until_logged("listening")
         limits = "limits max-pdu 2000 max-data 1099511627776 at-once 3"
-        told = rf'dcmbox \d+\.\d+\.\d+ title "BOX 1" folder received {limits} removed drafts 2 {taken}'
-        assert re.search(rf"^\[INFO  dcmbox::serve\] \S+Z {told}$", box.lines[0])
+        reported = rf'dcmbox \d+\.\d+\.\d+ title "BOX 1" folder received {limits} removed drafts 2 {accepted}'
+        assert re.search(rf"^\[INFO  dcmbox::serve\] \S+Z {reported}$", box.lines[0])
         assert box.files() == ["DRAFTS", "I0000007"]
 
     @pytest.mark.parametrize(
@@ -364,7 +364,7 @@ class TestLines:
 
     @pytest.mark.parametrize("stream", ("8:1", "{device}:1", "1:{inode}", "{inode}", ""))
     def test_elsewhere_none_has(self, serve, work, stream):
-        """Standard error was redirected, as by a script that systemd runs."""
+        """Lines have no priority if standard error is redirected, as by a script that systemd runs."""
         log = work / "log.txt"
         log.touch()
         names = {"device": log.stat().st_dev, "inode": log.stat().st_ino}

@@ -1,4 +1,4 @@
-"""The program while its allocations are refused: arguments, replays, and stores over TCP."""
+"""The program while its allocations fail: arguments, replays, and stores over TCP."""
 import re
 import signal
 
@@ -32,14 +32,14 @@ REFUSED_REPLY = STATUS + bytes.fromhex("00a7")
 
 
 def has_no_memory(done):
-    """Whether the program told that memory ran out, and printed nothing."""
-    told = re.fullmatch(NO_MEMORY, done.stderr.rstrip("\n"), re.DOTALL)
-    return done.returncode == 3 and not done.stdout and bool(told)
+    """Returns whether the program reported that memory ran out, and printed nothing."""
+    message = re.fullmatch(NO_MEMORY, done.stderr.rstrip("\n"), re.DOTALL)
+    return done.returncode == 3 and not done.stdout and bool(message)
 
 
 @pytest.fixture
 def is_refused(work):
-    """Whether an allocation was refused."""
+    """Returns whether an allocation failed."""
     return lambda: (work / "refused.txt").stat().st_size > 0
 
 
@@ -55,7 +55,7 @@ def is_refused(work):
     ),
 )
 def test_arguments(run, samples, refuse, is_refused, arguments):
-    """Each allocation in turn is refused, until a run meets no refusal."""
+    """Each allocation in turn fails, until a run has no failure."""
     number = 1
     while has_no_memory(run(*arguments.split(), before=refuse(number))) and is_refused():
         number += 1
@@ -64,7 +64,7 @@ def test_arguments(run, samples, refuse, is_refused, arguments):
 
 @pytest.mark.parametrize("options", [(), ("--per", "1")], ids=["flat", "into_folders"])
 def test_a_replay_of_two_stores(run, samples, work, refuse, is_refused, options):
-    """A store is filed where its reply says so, and no draft and no part of a file is left."""
+    """A store is filed if and only if its reply is success, and no draft and no partial file remains."""
     (work / "whole").mkdir()
     assert run("replay", "stores.bin", "--out", "whole").returncode == 0
     whole = {(work / "whole" / name).read_bytes() for name in ("I0000001", "I0000002")}
@@ -72,8 +72,8 @@ def test_a_replay_of_two_stores(run, samples, work, refuse, is_refused, options)
     while True:
         folder = work / f"replayed{number}"
         folder.mkdir()
-        words = ("replay", "stores.bin", "--out", folder.name, *options)
-        done = run(*words, before=refuse(number))
+        arguments = ("replay", "stores.bin", "--out", folder.name, *options)
+        done = run(*arguments, before=refuse(number))
         files = [path.read_bytes() for path in folder.rglob("*") if path.is_file()]
         assert len(set(files)) == len(files) and set(files) <= whole
         assert not list(folder.rglob("DRAFT*"))
@@ -94,11 +94,11 @@ def test_a_replay_of_two_stores(run, samples, work, refuse, is_refused, options)
 
 @pytest.fixture
 def boxed(serve, refuse):
-    """A box that serves one association, and gets no memory from SIGUSR1 to SIGUSR2."""
+    """Starts a box that serves one association, and whose allocations fail from SIGUSR1 to SIGUSR2."""
 
     def started(*options):
-        words = ("--once", "--timeout", "30", *options)
-        box = serve(*words, folder="refused", before=refuse("signals"))
+        arguments = ("--once", "--timeout", "30", *options)
+        box = serve(*arguments, folder="refused", before=refuse("signals"))
         box.until_logged("listening on")
         box.until_waiting()
         return box
@@ -123,7 +123,7 @@ def grown(box, size):
 
 
 def test_a_store_while_each_allocation_is_refused(boxed, is_refused, store, form):
-    """16 MiB are taken in, and no memory is asked for; they are filed once there is some."""
+    """The box receives 16 MiB without allocating, and files them once it can allocate."""
     box = boxed(*form)
     with box.connect() as peer:
         peer.send(store.opening)
@@ -141,7 +141,7 @@ def test_a_store_while_each_allocation_is_refused(boxed, is_refused, store, form
 
 
 def test_a_file_that_gets_no_memory_for_its_name(boxed, is_refused, store, form):
-    """Its store fails with A700, out of resources; with several at once its association ends without a reply."""
+    """The store fails with A700, out of resources; with several at once the association ends without a reply."""
     box = boxed(*form)
     with box.connect() as peer:
         peer.send(store.opening)
@@ -160,7 +160,7 @@ def test_a_file_that_gets_no_memory_for_its_name(boxed, is_refused, store, form)
 
 
 def test_an_echo_while_each_allocation_is_refused(boxed, is_refused):
-    """None is asked for, by the log neither, also where the request comes in pieces."""
+    """Neither the echo nor the log allocates, also if the request arrives in pieces."""
     box = boxed()
     box.process.send_signal(signal.SIGUSR1)
     with box.connect() as peer:
@@ -175,7 +175,7 @@ def test_an_echo_while_each_allocation_is_refused(boxed, is_refused):
 
 
 def test_sixteen_peers_whose_requests_stop(serve):
-    """The longest requests, but for their last byte; once that comes, the log has read them all."""
+    """Sixteen peers send the longest requests without the last byte; after that byte the log has all of them."""
     body = request([(CT, EXPLICIT)] * 128)[6:]
     sent = pdu(ASSOCIATE_RQ, body + item(0x99, bytes(65_524 - 4 - len(body))))
     box = serve("--at-once", "16", "--per-peer", "16")
@@ -194,7 +194,7 @@ def test_sixteen_peers_whose_requests_stop(serve):
 
 
 def test_a_store_of_160_mb_in_4_mb(serve):
-    """However large an object is: the program, the C library, and what one association takes."""
+    """4 MB suffice for any object: for the program, the C library, and the memory of one association."""
     store = LargeStore(160_000_000)
     box = serve("--no-sync")
     with box.connect() as peer:
@@ -207,7 +207,7 @@ def test_a_store_of_160_mb_in_4_mb(serve):
 
 
 def test_a_store_of_64_mib(serve):
-    """It is answered, and filed in 16 MB of memory."""
+    """The store succeeds, and is filed with 16 MB of memory."""
     store = LargeStore(67059712)
     box = serve("--once", memory=LITTLE)
     answer = box.exchange(store.opening + store.middle + store.last, 293)

@@ -12,11 +12,11 @@ from ports import free_port
 from samples import changed
 
 FILE = "box.prom"
-# Causes that need no option of their own and lose no folder, so that one box may have them all.
+# Causes without options that lose no folder, so that one box can have them all.
 PLAIN = [cause for cause in CAUSES if not cause.options and lose_folder not in cause.steps]
-# No line is left out of ten associations.
+# The number of associations without an omitted line.
 TENS = [PLAIN[at : at + 10] for at in range(0, len(PLAIN), 10)]
-# The words of the log for each end that is counted.
+# The text of the log for each counted end.
 ENDS = {
     "released": "released",
     "rejected": "rejected: ",
@@ -36,7 +36,7 @@ NOT_WRITTEN = "the metrics could not be written: "
 
 @pytest.fixture
 def read(work):
-    """The samples of the file, each by its name and the value of its label."""
+    """Returns the samples of the file, by name and value of the label."""
     reason = "make packages installs it"
     parser = pytest.importorskip("prometheus_client.parser", reason=reason)
 
@@ -55,7 +55,7 @@ def read(work):
 
 @pytest.fixture
 def becomes(read, work):
-    """Waits until a sample has a value, and returns all of them."""
+    """Waits until a sample has a value, and returns all samples."""
 
     def waited(value, *name):
         def has_it():
@@ -74,7 +74,7 @@ def box(serve):
 
 @pytest.fixture
 def at_the_end(read, work):
-    """Has a box end, and returns the samples that it leaves."""
+    """Ends a box, and returns its last samples."""
 
     def samples(box):
         (work / "stop.txt").touch()
@@ -85,7 +85,7 @@ def at_the_end(read, work):
 
 
 def happens(box, cause):
-    """The steps of a cause, on a connection of its own."""
+    """Runs the steps of a cause on a connection of its own."""
     with box.connect() as peer:
         for step in cause.steps:
             if isinstance(step, bytes):
@@ -96,15 +96,15 @@ def happens(box, cause):
                 step(peer, box)
 
 
-def told(box):
-    """What the log tells in the lines of associations, by the names of the samples."""
+def logged(box):
+    """Returns the counts in the log's lines of associations, by the names of the samples."""
     line = r'^.INFO .* held .* dropped (\d+) received (\d+) .* called "[^"]*" (.*)'
     counts = r" stored (\d+) refused (\d+) failed (\d+)$"
     counted = {("dcmbox_associations_total", end): 0 for end in ENDS}
     sums = dict.fromkeys(("dropped", "received", "stored", "refused", "failed"), 0)
     for found in re.findall(line + counts, box.log, re.M):
         dropped, received, end, stored, refused, failed = found
-        [name] = [name for name, words in ENDS.items() if end.startswith(words)]
+        [name] = [name for name, text in ENDS.items() if end.startswith(text)]
         counted["dcmbox_associations_total", name] += 1
         for key, value in zip(sums, (dropped, received, stored, refused, failed)):
             sums[key] += int(value)
@@ -112,8 +112,8 @@ def told(box):
 
 
 def agree(box, samples):
-    """Holds the samples against the lines of the log."""
-    counted, sums = told(box)
+    """Asserts that the samples equal the counts in the log."""
+    counted, sums = logged(box)
     ends = {key: value for key, value in samples.items() if key[0] == "dcmbox_associations_total"}
     assert ends == counted
     stores = {key[1]: value for key, value in samples.items() if key[0] == "dcmbox_stores_total"}
@@ -125,7 +125,7 @@ def agree(box, samples):
     return stores
 
 
-def test_of_a_box_that_begins(serve, run, becomes, work):
+def test_of_a_box_that_starts(serve, run, becomes, work):
     before = int(time.time())
     serve("--metrics", FILE)
     samples = becomes(0, "dcmbox_open_connections")
@@ -136,7 +136,7 @@ def test_of_a_box_that_begins(serve, run, becomes, work):
 
 
 def test_after_an_echo(serve, becomes):
-    """Without an end of the box: the file follows within seconds."""
+    """The file is updated within seconds while the box runs."""
     box = serve("--metrics", FILE)
     assert box.echoes()
     samples = becomes(1, "dcmbox_associations_total", "released")
@@ -209,13 +209,13 @@ def test_of_an_association_that_the_end_of_the_box_aborts(box, at_the_end):
 
 
 def test_the_causes_of_lines_are_of_many_ends():
-    ends = {next(end for end, words in ENDS.items() if cause.end.startswith(words)) for cause in PLAIN}
+    ends = {next(end for end, text in ENDS.items() if cause.end.startswith(text)) for cause in PLAIN}
     assert len(PLAIN) > 80 and len(ends) >= 5
 
 
 @pytest.mark.parametrize("causes", TENS, ids=[causes[0].name.replace(" ", "_") for causes in TENS])
-def test_they_are_what_the_log_tells(box, at_the_end, causes):
-    """Of each cause of a line, ten in one box."""
+def test_they_equal_the_log(box, at_the_end, causes):
+    """The metrics equal the log for each cause of a line, ten causes in one box."""
     for count, cause in enumerate(causes, 1):
         happens(box, cause)
         box.until_logged("^.INFO .* Ended held ", count=count)
@@ -226,7 +226,7 @@ def test_they_are_what_the_log_tells(box, at_the_end, causes):
 
 
 def test_the_file_is_replaced_as_a_whole(serve, becomes, read, work):
-    """Who has it open reads what it was; five seconds are between the two at least."""
+    """An open file keeps its old contents; replacements are at least five seconds apart."""
     box = serve("--metrics", FILE)
     becomes(0, "dcmbox_open_connections")
     with open(work / FILE) as first:
@@ -241,7 +241,7 @@ def test_the_file_is_replaced_as_a_whole(serve, becomes, read, work):
 
 
 def test_no_reader_sees_a_part_of_it(trace, serve, becomes, calls):
-    """It is written under another name, whole, and renamed."""
+    """The file is written under another name, and then renamed."""
     options = trace("-f", "-e", "trace=openat,write,rename,renameat,renameat2")
     box = serve("--metrics", FILE, before=options)
     becomes(0, "dcmbox_open_connections")
@@ -256,20 +256,20 @@ def test_no_reader_sees_a_part_of_it(trace, serve, becomes, calls):
 
 
 def test_a_file_that_another_box_writes(serve, expect, work):
-    """Nor does it get the folder; once the other has ended it may."""
+    """The second box does not get the folder either, until the first has ended."""
     (work / "other").mkdir()
     box = serve("--metrics", FILE)
-    words = ("--port", str(free_port()), "--out", "other", "--metrics", FILE)
+    text = ("--port", str(free_port()), "--out", "other", "--metrics", FILE)
     errors = f"dcmbox: {FILE}: the file of metrics can't be used: it is in use by another program; .*"
-    expect(3, "", errors, "serve", *words)
+    expect(3, "", errors, "serve", *text)
     box.stop()
     assert serve("--metrics", FILE).echoes()
 
 
 def test_a_folder_that_takes_no_file(serve, becomes, work):
-    """It is told once, and again for another reason.
+    """The failure is logged once, and again for another reason.
 
-    Serving goes on, and the file comes once it can.
+    The box keeps serving, and writes the file as soon as it can.
     """
     box = serve("--metrics", f"none/{FILE}")
     box.until_logged(f"^.WARN .* {NOT_WRITTEN}No such file or directory")

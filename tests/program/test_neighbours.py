@@ -1,4 +1,4 @@
-"""What peers and other programs do to the log, the queue, the folders and the files of a box."""
+"""Effects of peers and other programs on the log, the queue, the folders and the files of a box."""
 import os
 import re
 import struct
@@ -15,7 +15,7 @@ NOT_STORED = r"WARN .* not stored: status C000 .*"
 
 
 def refused_stores(box, count):
-    """Has so many stores refused in one association, and releases it."""
+    """Sends `count` stores that are refused in one association, and releases it."""
     with box.connect() as peer:
         assert peer.associate([(CT, EXPLICIT)]) == [(0, EXPLICIT)]
         for number in range(1, count + 1):
@@ -26,7 +26,7 @@ def refused_stores(box, count):
         peer.until_released(RELEASE)
 
 
-def test_ten_lines_tell_of_stores_that_were_not_filed(serve, form):
+def test_ten_lines_report_stores_that_were_not_filed(serve, form):
     box = serve("--metrics", "box.prom", *form)
     refused_stores(box, 35)
     box.until_logged("released")
@@ -42,8 +42,8 @@ def test_few_stores_that_were_not_filed_have_a_line_each(serve):
     assert len(re.findall(NOT_STORED, box.log)) == 10 and "more, the last" not in box.log
 
 
-def test_who_has_closed_leaves_the_queue(serve):
-    """Peers that give up while they wait, with a request or without, leave their places."""
+def test_closed_connections_leave_the_queue(serve):
+    """Peers that close while they wait, with or without a request, free their places in the queue."""
     box = serve("--at-once", "2", "--per-peer", "1")
     with box.connect() as first:
         first.send(ECHO_REQUEST)
@@ -61,7 +61,7 @@ def test_who_has_closed_leaves_the_queue(serve):
     assert "too many wait" not in box.log
 
 
-def test_that_too_many_wait_is_told_once(serve):
+def test_too_many_waiting_connections_are_logged_once(serve):
     box = serve("--at-once", "2", "--per-peer", "1")
     peers = [box.connect() for _ in range(9)]
     box.until_logged("too many wait for a place")
@@ -81,13 +81,13 @@ def test_that_too_many_wait_is_told_once(serve):
         "serve --out in --port \33[2J",
     ],
 )
-def test_what_a_user_gave_does_not_change_the_terminal(run, arguments):
+def test_arguments_do_not_change_the_terminal(run, arguments):
     done = run(*arguments.split(" "))
     assert done.returncode in (2, 3) and "?[" in done.stderr and "\33" not in done.stderr
 
 
-def test_a_draft_of_a_directory_is_no_link(run, put, work):
-    """What a link of that name leads to is not written over."""
+def test_a_draft_of_a_directory_replaces_a_link(run, put, work):
+    """The target of a link with that name is not overwritten."""
     put({"in/I0000001": IMAGE, "kept": b"kept"})
     (work / "in/DIRDRAFT").symlink_to(work / "kept")
     assert run("index", "in", "--uid", "1.2.3").returncode == 0
@@ -96,7 +96,7 @@ def test_a_draft_of_a_directory_is_no_link(run, put, work):
 
 
 @pytest.mark.parametrize("option", ["--numbers", "--metrics"])
-def test_a_file_that_is_replaced_is_no_link(serve, put, work, option):
+def test_a_replaced_file_is_not_followed_as_a_link(serve, put, work, option):
     put({"kept": b"kept"})
     (work / "there.new").symlink_to(work / "kept")
     box = serve(option, "there")
@@ -118,7 +118,7 @@ def test_a_pipe_is_not_waited_for(run, work, command):
     [("list in", 0), ("check -r in", 0), ("arrange in --to tree", 0), ("index in --uid 1.2.3", 0)],
 )
 def test_a_pipe_among_files(run, put, work, command, status):
-    """It is told of, and the others are taken."""
+    """A pipe is reported, and the other files are read."""
     put({"in/I0000001": IMAGE})
     os.mkfifo(work / "in/I0000009")
     done = run(*command.split())
@@ -129,7 +129,7 @@ def test_a_pipe_among_files(run, put, work, command, status):
 
 
 def test_a_full_quarantine_is_not_counted_for_each_store(serve, trace, calls, work):
-    """Its files are listed once it was changed, and at the start."""
+    """The files of the quarantine are listed at the start, and after a change of it."""
     (work / "aside").mkdir()
     bad = data_set(more=BAD)
     strace = trace("-f", "-y", "-e", "trace=getdents64")

@@ -1,4 +1,4 @@
-"""Extended offset tables of encapsulated Pixel Data, as pydicom writes them, and with a fault."""
+"""Extended offset tables of encapsulated Pixel Data, by pydicom and with faults."""
 import re
 import struct
 
@@ -48,7 +48,7 @@ def written(path, pixels, offsets, lengths):
             struct.pack("<Q", 66) + LENGTHS[8:],
         ),
         (
-            "beside a basic table",
+            "with a basic table",
             ["fffe,e000 -- 18 SecondTable"],
             encapsulate(FRAMES, has_bot=True),
             OFFSETS,
@@ -57,7 +57,7 @@ def written(path, pixels, offsets, lengths):
     ),
 )
 def test_a_table(work, run, notes, pixels, offsets, lengths):
-    """The file is good with or without a note on its tables."""
+    """The file is good, with the expected notes on its tables."""
     written(work / "extended.dcm", pixels, offsets, lengths)
     lines = run("check", "--strict", "--all-syntaxes", "extended.dcm").stdout
     assert re.findall(r"^note \d+ (.* 1[5-8] .*)$", lines, re.M) == notes

@@ -1,4 +1,4 @@
-"""Outputs that are closed, and disks that are full, while the program prints."""
+"""Closed outputs and full disks while the program prints."""
 import os
 import re
 import subprocess
@@ -33,7 +33,7 @@ def files(samples, put):
 
 
 def first_line(program, work, *arguments):
-    """The status, the first line and the errors where the output is closed after a line."""
+    """Returns the status, the first line and the errors if the output is closed after a line."""
     with subprocess.Popen(
         [program, *arguments], cwd=work, stdout=subprocess.PIPE, stderr=subprocess.PIPE, text=True
     ) as process:
@@ -44,7 +44,7 @@ def first_line(program, work, *arguments):
 
 
 def test_an_output_that_is_closed_after_a_line(program, work):
-    """Of a listing of 1.4 MB one line is read."""
+    """One line of a listing of 1.4 MB is read."""
     assert first_line(program, work, "show", "items.dcm") == (3, SHOWN.splitlines()[0] + "\n", "")
 
 
@@ -54,7 +54,7 @@ def test_a_fault_whose_line_was_written_before(program, work):
 
 @pytest.mark.parametrize("command", [*COMMANDS, "check --json cut.dcm", "--version"])
 def test_a_closed_output(run, command):
-    """The reader of a pipe is gone: also a fault that was found is not told."""
+    """The reader of a pipe has ended: the fault found is not reported either."""
     reading, writing = os.pipe()
     os.close(reading)
     done = run(*command.split(), stdout=writing)

@@ -1,11 +1,9 @@
-"""The Debian package of the program.
-
-Built, looked at by lintian, installed into a fresh root, run there, and removed.
-"""
+"""The Debian package of the program: built, checked by lintian, installed into a fresh root, run, and removed."""
 import datetime
 import gzip
 import os
 import re
+import shutil
 import subprocess
 
 import pytest
@@ -46,13 +44,13 @@ def version(program):
 
 @pytest.fixture
 def tree(package, work):
-    """What is in the package; a machine's own dpkg may leave some of it out of its root."""
+    """The files of the package; the dpkg of a machine may omit some of them from its root."""
     call(work, "dpkg-deb", "--extract", package, "tree")
     return work / "tree"
 
 
 class Root:
-    """A root with nothing in it but what dpkg and the helpers of systemd's units keep.
+    """A root folder with only the state of dpkg and of the helpers of systemd's units.
 
     The C library is the machine's.
     """
@@ -68,8 +66,8 @@ class Root:
         options = ("--force-depends", "--force-script-chrootless", "--log=/dev/null")
         call(self.path, "dpkg", f"--root={self.path}", *options, *arguments)
 
-    def standing(self):
-        """The paths in the root, but for dpkg's own files."""
+    def remaining(self):
+        """Returns the paths in the root, except dpkg's own files."""
         own = self.path / "var/lib/dpkg"
         return {path for path in self.path.rglob("*") if not path.is_relative_to(own)}
 
@@ -89,15 +87,15 @@ def test_it_has(tree, file):
 
 
 def test_it_is_installed_into_a_fresh_root_and_removed_without_a_trace(root, package, version):
-    before = root.standing()
+    before = root.remaining()
     root.dpkg("--install", package)
-    said = call(root.path, root.path / "usr/bin/dcmbox", "--version").stdout
-    assert said == f"dcmbox {version}\n"
+    message = call(root.path, root.path / "usr/bin/dcmbox", "--version").stdout
+    assert message == f"dcmbox {version}\n"
     unit = (root.path / "lib/systemd/system/dcmbox.service").read_text()
     assert re.search("^ExecStart=/usr/bin/dcmbox serve ", unit, re.M)
     root.dpkg("--install", package)
     root.dpkg("--purge", "dcmbox")
-    assert root.standing() == before
+    assert root.remaining() == before
 
 
 def test_its_changelog_names_the_version_and_its_day(tree, version):
@@ -110,7 +108,7 @@ def test_its_changelog_names_the_version_and_its_day(tree, version):
     assert f" {day} " in changelog
 
 
-def test_a_version_that_was_not_released_has_no_package(work):
+def test_an_unreleased_version_has_no_package(work):
     unreleased = work / "unreleased"
     unreleased.write_text("#!/bin/sh\necho dcmbox 9.9.9\n")
     unreleased.chmod(0o755)
@@ -119,8 +117,38 @@ def test_a_version_that_was_not_released_has_no_package(work):
     assert "no heading '## 9.9.9, DATE'" in done.stderr
 
 
+RELEASED = "DEFINITIONS.md DEFINITIONS_INDEX.md PROVED.md dcmbox dcmbox.1 dcmbox.bash dcmbox.proved".split()
+
+
+def test_a_release_has_its_files_and_their_digests(program, version, work):
+    shutil.copy(program, work / "dcmbox")
+    (work / "dcmbox.proved").write_text("# toolchain\n")
+    listed = call(ROOT, ROOT / "packaging/make-release", work / "dcmbox", work / "release").stdout.split()
+    [package] = [it for it in listed if it.startswith(f"dcmbox_{version}_")]
+    assert sorted(listed) == sorted(["SHA256SUMS", package, *RELEASED])
+    checked = call(work / "release", "sha256sum", "-c", "SHA256SUMS").stdout.splitlines()
+    assert {line.removesuffix(": OK") for line in checked} == {*listed} - {"SHA256SUMS"}
+
+
+@pytest.mark.parametrize(
+    "missing, expected",
+    cases(
+        ("the digests of its proof", "digests", "dcmbox.proved: 'make dcmbox' proves"),
+        ("a new folder", "folder", "exists: a release gets"),
+    ),
+)
+def test_a_release_is_not_made_without(program, work, missing, expected):
+    shutil.copy(program, work / "dcmbox")
+    folder = work / "release"
+    if missing == "folder":
+        folder.mkdir()
+        (work / "dcmbox.proved").write_text("# toolchain\n")
+    done = call(ROOT, ROOT / "packaging/make-release", work / "dcmbox", folder, check=False)
+    assert done.returncode == 1 and expected in done.stderr and not list(folder.glob("*"))
+
+
 def test_the_units_start_boxes(units, tree):
-    """By their own command lines, with the package's options but for a port."""
+    """The units' command lines start boxes with the package's options, except for the port."""
     installed, port, other = units(tree), free_port(), free_port()
     installed.use_port(port)
     boxes = [
@@ -132,9 +160,9 @@ def test_the_units_start_boxes(units, tree):
 
 @pytest.fixture
 def asks(package, work):
-    """What a maintainer script asks, but for the state of deb-systemd-helper.
+    """Returns the commands that a maintainer script calls, except for the state of deb-systemd-helper.
 
-    It asks commands that only note how they are called, where /run is as under systemd.
+    Fake commands note their arguments; /run is as under systemd.
     """
     need("unshare", "mount")
     call(work, "dpkg-deb", "--control", package, "control")
@@ -165,7 +193,7 @@ BOXES = "dcmbox.service dcmbox@*.service"
 
 
 @pytest.mark.parametrize(
-    "script, wanted",
+    "script, expected",
     cases(
         ("once installed it has its units read", "postinst configure", [RELOAD]),
         ("an upgrade lets boxes run", "prerm upgrade 9.9.9", []),
@@ -178,11 +206,11 @@ BOXES = "dcmbox.service dcmbox@*.service"
         ),
     ),
 )
-def test_maintainer_script(asks, script, wanted):
-    words = script.split()
-    assert asks(*words, *([""] if words[0] == "postinst" else [])) == wanted
+def test_maintainer_script(asks, script, expected):
+    arguments = script.split()
+    assert asks(*arguments, *([""] if arguments[0] == "postinst" else [])) == expected
 
 
-def test_an_upgrade_starts_those_anew_that_run(asks, version):
-    wanted = [RELOAD, f"deb-systemd-invoke try-restart {BOXES}"]
-    assert asks("postinst", "configure", version) == wanted
+def test_an_upgrade_restarts_running_units(asks, version):
+    expected = [RELOAD, f"deb-systemd-invoke try-restart {BOXES}"]
+    assert asks("postinst", "configure", version) == expected

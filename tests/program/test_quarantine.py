@@ -1,4 +1,4 @@
-"""The quarantine of `serve`: data sets that are refused for what is in them, as they came."""
+"""The quarantine of `serve`: data sets that are refused for their contents, as received."""
 import re
 import shutil
 import signal
@@ -13,14 +13,14 @@ from peer import CT, EXPLICIT, data_set_pdus, element, pdu, status_of, store_com
 from store_causes import nested
 
 INSTANCE = "1.2.840.99.1"
-# An element with a VR that the standard does not have.
+# An element with a VR that is not in the standard.
 BAD = b"\x10\0\x10\0??\4\0Name"
 # A peer's PDU of an unknown type.
 UNKNOWN = pdu(0x42, b"")
 
 
 def data_set(sop_class=CT, instance=INSTANCE, more=b""):
-    """A data set in Explicit VR Little Endian of this class and instance."""
+    """Returns a data set in Explicit VR Little Endian of this class and instance."""
     return (
         element((0x0008, 0x0016), "UI", even(sop_class.encode()))
         + element((0x0008, 0x0018), "UI", even(instance.encode()))
@@ -38,7 +38,7 @@ def pixels(size):
 
 PIXELS = pixels(100_000)
 LONG = data_set(more=pixels(200_000))
-# What is sent, its status, and the lines of the text about its fault.
+# What is sent, the status, and the lines of the text about the fault.
 REFUSED = {
     "a fault": (
         data_set(more=BAD + PIXELS),
@@ -68,7 +68,7 @@ LIMIT = ("--max-data", "150000")
 
 @pytest.fixture
 def aside(work):
-    """The folder that is the quarantine."""
+    """The folder of the quarantine."""
     folder = work / "aside"
     folder.mkdir()
     return folder
@@ -77,7 +77,7 @@ def aside(work):
 @pytest.fixture
 def keeping(serve, aside):
     """Starts a box with a quarantine."""
-    return lambda *options, **kinds: serve("--quarantine", "aside", *options, **kinds)
+    return lambda *options, **keywords: serve("--quarantine", "aside", *options, **keywords)
 
 
 def names(folder):
@@ -85,14 +85,14 @@ def names(folder):
 
 
 def data_in(path):
-    """What follows the header of a DICOM file (PS3.10 section 7.1)."""
+    """Returns the data set of a DICOM file (PS3.10 section 7.1)."""
     data = path.read_bytes()
     assert data[:132] == bytes(128) + b"DICM" and data[132:140] == b"\2\0\0\0UL\4\0"
     return data[144 + struct.unpack("<L", data[140:144])[0] :]
 
 
-def told(path):
-    """The fields of a text."""
+def fields_of(path):
+    """Returns the fields of a text."""
     return dict(line.split(": ", 1) for line in path.read_text().splitlines())
 
 
@@ -103,13 +103,13 @@ def send(box, data, instance=INSTANCE):
 
 
 @pytest.mark.parametrize("name", REFUSED)
-def test_what_is_refused_is_kept_as_it_came(keeping, aside, form, name):
+def test_a_refused_data_set_is_kept_as_received(keeping, aside, form, name):
     data, status, fault = REFUSED[name]
     box = keeping(*(LIMIT if name == "too long" else ()), *form)
     assert send(box, data) == status
     assert box.files() == [] and names(aside) == ["000001.dcm", "000001.txt"]
     assert data_in(aside / "000001.dcm") == data
-    text = told(aside / "000001.txt")
+    text = fields_of(aside / "000001.txt")
     assert re.fullmatch(r"20\d\d-\d\d-\d\dT\d\d:\d\d:\d\d\.\d{3}Z", text.pop("time"))
     assert re.fullmatch(r"127\.0\.0\.1:\d+", text.pop("peer"))
     assert text == fault | {
@@ -125,7 +125,7 @@ def test_what_is_refused_is_kept_as_it_came(keeping, aside, form, name):
     box.until_logged(f"kept in the quarantine: 000001.dcm bytes {len(data)}$")
 
 
-def test_what_is_answered_is_the_same_without(serve, aside, form):
+def test_replies_are_the_same_without_a_quarantine(serve, aside, form):
     box = serve(*LIMIT, *form)
     assert [send(box, data) for data, _, _ in REFUSED.values()] == [
         status for _, status, _ in REFUSED.values()
@@ -152,7 +152,7 @@ def test_another_class_than_the_contexts_leaves_nothing(keeping, aside):
 
 
 def test_stores_of_one_association(keeping, aside):
-    """A store between two that are refused is filed, and the numbers go on."""
+    """A store between two refused ones is filed, and the numbers continue."""
     box = keeping()
     bad = data_set(more=BAD)
     with box.connect() as peer:
@@ -168,25 +168,25 @@ def test_stores_of_one_association(keeping, aside):
     assert box.files() == ["I0000001"]
 
 
-def begin_bad(box):
-    """A peer that has begun a store with a fault, and not ended it."""
+def start_bad_store(box):
+    """Returns a peer with an unfinished store that has a fault."""
     peer = box.connect()
     peer.associate([(CT, EXPLICIT)])
     peer.send_store(1, CT, INSTANCE, data_set(more=BAD + PIXELS), is_whole=False)
-    wait_for(lambda: box.files() == ["DRAFT"], "the store has begun")
+    wait_for(lambda: box.files() == ["DRAFT"], "the store has started")
     return peer
 
 
 def test_a_cut_connection_leaves_nothing(keeping, aside, form):
     box = keeping(*form)
-    begin_bad(box).close()
+    start_bad_store(box).close()
     box.until_logged("Ended held 0 files 0 dropped 1 ")
     assert box.files() == [] and names(aside) == []
 
 
 def test_an_abort_leaves_nothing(keeping, aside, form):
     box = keeping(*form)
-    with begin_bad(box) as peer:
+    with start_bad_store(box) as peer:
         peer.send(pdu(7, bytes(4)))
         peer.rest()
     box.until_logged("Ended held 0 files 0 dropped 1 ")
@@ -203,7 +203,7 @@ def test_a_full_disk_leaves_nothing(serve, small_disk):
 
 
 def test_a_full_quarantine(keeping, aside):
-    """Nothing more is moved there, which is told once, until some are moved away."""
+    """No data set is moved to a full quarantine, which is logged once, until some are moved away."""
     box = keeping("--quarantine-most", "2")
     bad = data_set(more=BAD)
     assert [send(box, bad) for _ in range(4)] == ["C000"] * 4
@@ -216,7 +216,7 @@ def test_a_full_quarantine(keeping, aside):
     assert len(re.findall(full, box.log)) == 2
 
 
-def test_numbers_go_on_after_a_start(keeping, aside):
+def test_numbers_continue_after_a_start(keeping, aside):
     (aside / "000041.txt").write_text("kept\n")
     box = keeping("--quarantine-most", "1")
     assert send(box, data_set(more=BAD)) == "C000"
@@ -226,10 +226,10 @@ def test_numbers_go_on_after_a_start(keeping, aside):
     box.until_logged("WARN .* the quarantine is full")
 
 
-def test_what_a_killed_box_left_is_removed(keeping, aside):
-    """A store that the box aborted waits there until its peer closes the connection."""
+def test_drafts_of_a_killed_box_are_removed(keeping, aside):
+    """A store that the box aborted stays there until its peer closes the connection."""
     box = keeping("--timeout", "600")
-    peer = begin_bad(box)
+    peer = start_bad_store(box)
     peer.send(UNKNOWN)
     wait_for(lambda: names(aside) == ["000001.part"], "the draft is moved")
     box.stop(signal.SIGKILL)
@@ -241,7 +241,7 @@ def test_what_a_killed_box_left_is_removed(keeping, aside):
 
 
 def test_several_at_once(keeping, aside):
-    """Each of many senders finds its data set, under a number of its own."""
+    """The data set of each of many senders is kept, with a number of its own."""
     box = keeping("--at-once", "4", "--per-peer", "4")
     uids = [f"1.2.840.99.{n}" for n in range(1, 25)]
     sent = {uid: data_set(instance=uid, more=BAD * n) for n, uid in enumerate(uids, 1)}
@@ -260,13 +260,13 @@ def test_several_at_once(keeping, aside):
     kept = [name for name in names(aside) if name.endswith(".dcm")]
     assert kept == [f"{n:06}.dcm" for n in range(1, len(sent) + 1)]
     paths = [aside / name for name in kept]
-    found = {told(path.with_suffix(".txt"))["instance"]: data_in(path) for path in paths}
+    found = {fields_of(path.with_suffix(".txt"))["instance"]: data_in(path) for path in paths}
     assert found == sent and box.files() == []
 
 
 @pytest.mark.parametrize("is_replaced", [False, True], ids=["removed", "replaced"])
 def test_a_quarantine_that_fails(keeping, aside, is_replaced):
-    """The store is answered as without, which is told; the draft is removed."""
+    """The reply is the same as without a quarantine; the failure is logged, and the draft is removed."""
     box = keeping()
     aside.rmdir()
     if is_replaced:
@@ -299,7 +299,7 @@ def test_another_file_system(run, work, port):
         ("received/link", "No such file or directory"),
     ],
 )
-def test_what_is_no_quarantine(run, work, port, folder, why):
+def test_an_invalid_quarantine(run, work, port, folder, why):
     (work / "received").mkdir()
     (work / "file").write_bytes(b"")
     (work / "received/link").symlink_to("nowhere")
@@ -311,7 +311,7 @@ def test_what_is_no_quarantine(run, work, port, folder, why):
 
 @pytest.mark.parametrize(("mask", "mode"), [(0o007, 0o770), (0o027, 0o750), (0, 0o770)])
 def test_a_missing_quarantine_is_made(serve, work, mask, mode):
-    """For the box's user and group, as the umask says. It is there before anything is refused."""
+    """It is made at the start, for the box's user and group, with the umask."""
     box = serve("--quarantine", "aside", before=["sh", "-c", f'umask {mask:03o}; exec "$@"', "sh"])
     assert (work / "aside").stat().st_mode & 0o7777 == mode and names(work / "aside") == []
     assert send(box, data_set(more=BAD)) == "C000"
@@ -319,7 +319,7 @@ def test_a_missing_quarantine_is_made(serve, work, mask, mode):
 
 
 def test_a_quarantine_within_the_folder(serve, run, work):
-    """It is no file that `index` reads."""
+    """`index` does not read its files."""
     (work / "received/aside").mkdir(parents=True)
     box = serve("--quarantine", "received/aside")
     assert send(box, data_set(more=BAD)) == "C000" and box.files() == ["aside"]
@@ -329,7 +329,7 @@ def test_a_quarantine_within_the_folder(serve, run, work):
     assert "aside" not in done.stdout + done.stderr
 
 
-def test_one_box_alone_has_it(keeping, run, work, port):
+def test_only_one_box_has_it(keeping, run, work, port):
     keeping()
     (work / "other").mkdir()
     done = run("serve", "--port", str(port), "--out", "other", "--quarantine", "aside")
@@ -342,7 +342,7 @@ def test_one_box_alone_has_it(keeping, run, work, port):
     [("--quarantine-most", "5"), ("--quarantine", "aside", "--quarantine-most", "0")],
     ids=["no folder", "none"],
 )
-def test_arguments_that_are_refused(run, work, port, aside, options):
+def test_rejected_arguments(run, work, port, aside, options):
     (work / "received").mkdir()
     done = run("serve", "--port", str(port), "--out", "received", *options)
     assert done.returncode == 2 and done.stderr.startswith("error: --quarantine-most ")

@@ -1,4 +1,4 @@
-"""Whether `serve` does what its options say, also for several associations at once."""
+"""The options of `serve` have their documented effects, also for several associations at once."""
 import os
 import re
 import shutil
@@ -27,11 +27,11 @@ REFUSED_ANSWER = STORES_ANSWER.replace(SUCCESS, bytes.fromhex("00000009020000000
 
 @pytest.fixture
 def start(serve, form):
-    """A box of either form in 16 MB of memory that serves one association."""
+    """Starts a box of either form with 16 MB of memory that serves one association."""
 
-    def started(*options, **kinds):
-        kinds.setdefault("memory", LITTLE)
-        return serve("--once", "--timeout", "4", *form, *options, **kinds)
+    def started(*options, **keywords):
+        keywords.setdefault("memory", LITTLE)
+        return serve("--once", "--timeout", "4", *form, *options, **keywords)
 
     return started
 
@@ -39,9 +39,9 @@ def start(serve, form):
 @pytest.mark.parametrize(
     "address, options",
     cases(
-        ("the loopback address alone where none is given", "0100007F", []),
-        ("every address where that is asked for", "00000000", ["--bind", "0.0.0.0"]),
-        ("the address that is given", "0200007F", ["--bind", "127.0.0.2"]),
+        ("only the loopback address by default", "0100007F", []),
+        ("every address with 0.0.0.0", "00000000", ["--bind", "0.0.0.0"]),
+        ("a given address", "0200007F", ["--bind", "127.0.0.2"]),
     ),
 )
 def test_listens_on(start, port, address, options):
@@ -50,28 +50,28 @@ def test_listens_on(start, port, address, options):
 
 
 def test_listens_on_further_addresses(serve, port):
-    """A connection of each is served, and the log tells of each."""
+    """A connection to each address is served, and the log has each address."""
     others = [("127.0.0.2", free_port()), ("127.0.0.1", free_port()), ("::1", free_port())]
-    words = [f"[{host}]:{number}" if ":" in host else f"{host}:{number}" for host, number in others]
-    box = serve("--at-once", "4", *(word for each in words for word in ("--listen", each)))
+    arguments = [f"[{host}]:{number}" if ":" in host else f"{host}:{number}" for host, number in others]
+    box = serve("--at-once", "4", *(argument for each in arguments for argument in ("--listen", each)))
     for _ in range(2):
         assert box.echoes()
         for host, number in others:
             with Peer(number, None, to=host) as peer:
                 assert peer.exchange(ECHO, len(ECHO_ANSWER)) == ECHO_ANSWER
-    for word in [f"127.0.0.1:{port}", *words]:
-        assert len(re.findall(f"listening on {re.escape(word)}$", box.log, re.M)) == 1
+    for argument in [f"127.0.0.1:{port}", *arguments]:
+        assert len(re.findall(f"listening on {re.escape(argument)}$", box.log, re.M)) == 1
 
 
 def test_a_further_address_that_is_used(expect, put, serve, port):
     serve("--at-once", "2")
     put({"other/.keep": b""})
-    words = ("--port", str(free_port()), "--out", "other", "--listen", f"127.0.0.1:{port}")
+    arguments = ("--port", str(free_port()), "--out", "other", "--listen", f"127.0.0.1:{port}")
     errors = f".*dcmbox: 127.0.0.1:{port}: an address of --listen can't be listened on: .*"
-    expect(3, "", errors, "serve", *words)
+    expect(3, "", errors, "serve", *arguments)
 
 
-def test_of_five_further_addresses_it_listens_on_none(expect):
+def test_five_further_addresses_are_rejected(expect):
     errors = "error: --listen may be given 4 times at most"
     expect(2, "", errors, "serve", "--port", "11112", "--out", ".", *["--listen", "127.0.0.1:1"] * 5)
 
@@ -82,12 +82,12 @@ def test_of_five_further_addresses_it_listens_on_none(expect):
         # Rejected for good, by the service user: calling or called AE title not recognized.
         ("a caller that is not named", "03000000000400010103", "--caller SCANNER2"),
         (
-            "a caller whose title goes on",
+            "a caller with a longer title",
             "03000000000400010103",
             "--caller SCANNER2 --caller SCANNER",
         ),
         ("another called title", "03000000000400010107", "--ae ARCHIVE"),
-        ("a called title beside two", "03000000000400010107", "--ae ARCHIVE --ae DCMBOX2"),
+        ("a called title other than two", "03000000000400010107", "--ae ARCHIVE --ae DCMBOX2"),
     ),
 )
 def test_rejects(start, answer, options):
@@ -105,7 +105,7 @@ def test_called_by_a_further_title_it_serves(start, options):
     assert start(*options.split()).echoes()
 
 
-def test_of_seventeen_called_titles_it_serves_none(expect):
+def test_seventeen_called_titles_are_rejected(expect):
     errors = "error: --ae may be given 16 times at most"
     expect(2, "", errors, "serve", "--port", "11112", "--out", ".", *["--ae", "DCMBOX"] * 17)
 
@@ -115,16 +115,16 @@ def test_a_caller_that_is_named_is_served(start):
 
 
 class TestCallers:
-    """A file of titles that may call, one a line."""
+    """A file of calling titles that are accepted, one in each line."""
 
     @pytest.fixture
     def refused(self, expect, put):
-        """Expects that a box with this file of titles is refused."""
+        """Expects that a box with this file of titles does not start."""
 
         def expected(errors, listed, *options):
             put({"callers.txt": listed})
-            words = ("--port", "11112", "--out", ".", "--callers", "callers.txt")
-            expect(2, "", errors, "serve", *words, *options)
+            arguments = ("--port", "11112", "--out", ".", "--callers", "callers.txt")
+            expect(2, "", errors, "serve", *arguments, *options)
 
         return expected
 
@@ -148,7 +148,7 @@ class TestCallers:
     @pytest.mark.parametrize(
         "listed",
         cases(
-            ("beside others", b"SCANNER2\nSCANNER\n"),
+            ("among others", b"SCANNER2\nSCANNER\n"),
             ("but in a comment", b"# or\n#SCANNER1\nSCANNER2\n"),
         ),
     )
@@ -201,20 +201,20 @@ class TestCallers:
 @pytest.mark.parametrize(
     "length, options",
     cases(
-        ("16384 where none is given", 16384, ""),
+        ("16384 by default", 16384, ""),
         ("the least", 1024, "--max-pdu 1024"),
         ("the greatest", 131072, "--max-pdu 131072"),
         ("not the longest data set", 16384, "--max-data 1024"),
     ),
 )
-def test_the_maximum_length_that_is_told(start, length, options):
+def test_the_maximum_length_of_the_acceptance(start, length, options):
     answer = start(*options.split()).exchange(ECHO, 269)
     at = answer.index(b"\x51\0\0\4") + 4
     assert struct.unpack(">L", answer[at : at + 4])[0] == length
 
 
 class TestLongestPdu:
-    """A P-DATA-TF PDU may be as long as was told, and no longer."""
+    """A P-DATA-TF PDU may have the maximum length of the acceptance, and no more."""
 
     @pytest.fixture
     def peer(self, start):
@@ -227,50 +227,47 @@ class TestLongestPdu:
         assert peer.is_silent(2)
 
     def test_longer(self, peer):
-        """It is aborted at the length, by the service provider, for an invalid parameter.
-
-        Then the timer expires.
-        """
+        """The service provider aborts at its length, for an invalid parameter. Then the timer expires."""
         peer.send(struct.pack(">BxLx", 4, 1025))
         assert peer.rest() == bytes.fromhex("07000000000400000206")
 
 
-def data_set(size, came):
-    """A data set whose pixels say that they have so many bytes, and of which so many come.
+def data_set(size, sent):
+    """Returns a data set whose Pixel Data announces `size` bytes and has `sent` bytes.
 
-    60 bytes are before them.
+    60 bytes precede it.
     """
     head = element((0x7FE0, 0x0010), "OW", b"")[:8] + struct.pack("<L", size)
-    return STORES[304:352] + head + bytes(came)
+    return STORES[304:352] + head + bytes(sent)
 
 
 @pytest.mark.parametrize(
-    "status, size, came",
+    "status, size, sent",
     cases(
-        ("of as many bytes as are taken", 0x0000, 964, 964),
-        ("of more bytes than are taken", 0xA700, 966, 966),
-        ("that says that it has more", 0xA700, 966, 0),
+        ("of as many bytes as are accepted", 0x0000, 964, 964),
+        ("of more bytes than are accepted", 0xA700, 966, 966),
+        ("that announces more bytes", 0xA700, 966, 0),
     ),
 )
-def test_a_data_set(start, status, size, came):
-    """At most 1,024 bytes are taken."""
+def test_a_data_set(start, status, size, sent):
+    """At most 1,024 bytes are accepted."""
     box = start("--max-data", "1024", memory=None)
-    store = STORES[:292] + values(1, 2, data_set(size, came)) + RELEASE
+    store = STORES[:292] + values(1, 2, data_set(size, sent)) + RELEASE
     answer = box.exchange(store, 293)
     at = answer.index(bytes.fromhex("0000000902000000"))
     assert struct.unpack("<H", answer[at + 8 : at + 10])[0] == status
     if status == 0:
         assert box.files() == ["I0000001"]
-        assert (box.folder / "I0000001").read_bytes() == HEADER + data_set(size, came)
+        assert (box.folder / "I0000001").read_bytes() == HEADER + data_set(size, sent)
     else:
         box.until_logged("not stored: status A700")
         assert box.files() == []
 
 
-def test_a_folder_that_took_the_name_of_the_locked_one(serve, run, put, work):
-    """It gets nothing, and another program stores into it.
+def test_a_folder_with_the_name_of_the_locked_one(serve, run, put, work):
+    """The box stores nothing into it, and another program can.
 
-    Under its own name the locked one is stored into again.
+    When the locked folder has its name again, the box stores into it.
     """
     put({"stores.bin": STORES})
     box = serve("--timeout", "30")
@@ -292,8 +289,8 @@ def test_a_folder_that_took_the_name_of_the_locked_one(serve, run, put, work):
     assert box.files() == ["I0000001", "I0000002"]
 
 
-def test_standard_descriptors_that_are_closed_get_no_line(serve):
-    """What is logged goes nowhere: an association and a file get other numbers."""
+def test_closed_standard_descriptors_are_not_reused(serve):
+    """The log is lost: connections and files get other numbers."""
     closed = ["sh", "-c", 'exec "$@" <&- >&- 2>&-', "sh"]
     box = serve("-v", "--once", "--timeout", "30", before=closed)
     assert box.answers(STORES, STORES_ANSWER)
@@ -303,20 +300,20 @@ def test_standard_descriptors_that_are_closed_get_no_line(serve):
 
 
 def test_a_folder_of_files_that_is_moved_away(serve, work):
-    """It is made again, and one that is put back keeps its files: no store is lost."""
+    """The folder is made again, and one that is moved back keeps its files: no store is lost."""
     box = serve("--timeout", "30", "--per", "3")
     assert box.answers(STORES, STORES_ANSWER)
-    taken = (box.folder / "S0000001").rename(work / "taken")
+    moved = (box.folder / "S0000001").rename(work / "taken")
     (box.folder / "S0000002").mkdir()
     (box.folder / "S0000002/I0000001").write_bytes(CT_FILE)
     assert box.answers(STORES, STORES_ANSWER)
-    assert sorted(os.listdir(taken)) == ["I0000001", "I0000002"]
+    assert sorted(os.listdir(moved)) == ["I0000001", "I0000002"]
     assert os.listdir(box.folder / "S0000001") == ["I0000003"]
     assert sorted(os.listdir(box.folder / "S0000002")) == ["I0000001", "I0000002"]
 
 
 class TestNumbers:
-    """A file of numbers keeps those that were given, so that none comes again."""
+    """A file of numbers prevents that a number is used again."""
 
     @pytest.fixture
     def store(self, serve):
@@ -331,7 +328,7 @@ class TestNumbers:
         return stored
 
     def test_that_run_low_are_warned_of_once(self, serve, put, work):
-        """The first file from the number 9000000 on has a warning, and no other one."""
+        """The first file with a number from 9000000 has a warning, and no other file."""
         put({"received/I8999998": b""})
         box = serve("--timeout", "30", "--numbers", "numbers.txt")
         for _ in range(2):
@@ -341,35 +338,35 @@ class TestNumbers:
         assert len(re.findall(warning, box.log, re.M)) == 1
         assert (work / "numbers.txt").read_text() == "I9000098 S0000000\n"
 
-    def test_do_not_come_again(self, store, put):
+    def test_are_not_used_again(self, store, put):
         put({"numbers.txt": b"I9000098 S0000000\n"})
         assert store().files() == ["I9000099", "I9000100"]
 
-    def test_of_folders_do_not_come_again(self, store):
+    def test_of_folders_are_not_used_again(self, store):
         box = store("--per", "1")
         for name in box.files():
             shutil.rmtree(box.folder / name)
         assert store("--per", "1").files() == ["S0000003", "S0000004"]
 
     def test_that_are_damaged(self, expect, put, work, port):
-        """They stay as they are."""
+        """A damaged file of numbers stays unchanged."""
         put({"numbers.txt": b"I9000100\n"})
         refused = "the file of numbers can't be read or made: it has no line of two numbers; .*"
-        words = ("serve", "--port", str(port), "--out", ".", "--numbers", "numbers.txt")
-        expect(3, "", f"dcmbox: numbers.txt: {refused}", *words)
+        arguments = ("serve", "--port", str(port), "--out", ".", "--numbers", "numbers.txt")
+        expect(3, "", f"dcmbox: numbers.txt: {refused}", *arguments)
         assert (work / "numbers.txt").read_text() == "I9000100\n"
 
 
 def test_a_peer_of_ipv4_is_logged_as_such(serve):
-    """Also where every address of both versions of IP is listened on."""
+    """The address of the peer is an IPv4 address, also if the box listens on all addresses of both versions of IP."""
     box = serve("--once", "--timeout", "30", "--bind", "::", memory=LITTLE)
     assert box.echoes()
     box.ended()
     assert re.search(r" 127\.0\.0\.1:[0-9]+ Ended", box.log)
 
 
-def test_a_port_that_the_system_keeps(program, work):
-    """For programs with more rights than those of nobody."""
+def test_a_privileged_port(program, work):
+    """The user nobody can't listen on it."""
     least = int(open("/proc/sys/net/ipv4/ip_unprivileged_port_start").read())
     if os.getuid() != 0 or least <= 104:
         pytest.skip("no user without rights can be had here, or no port is kept")

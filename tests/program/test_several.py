@@ -1,7 +1,7 @@
 """A box that serves several associations at once.
 
-Peers that stall keep nobody out, each data set arrives as it was sent, one address can't take every
-place, and a stop lets stores end.
+Stalled peers do not block others, each data set arrives as it was sent, one address can't occupy
+every slot, and a stop lets stores end.
 """
 import itertools
 import re
@@ -35,13 +35,13 @@ from peer import (
 from test_quarantine import data_set
 
 SENDERS, EACH = 8, 10
-# What a peer that stalls sends: a byte or a half of a request.
+# What a stalled peer sends: a byte or a half of a request.
 BYTE, HALF = ECHO[:1], ECHO[:90]
 
 
 @pytest.fixture
 def stall():
-    """Connects peers that send this, and then nothing more; they are closed after the test."""
+    """Connects peers that send these bytes and nothing more; they are closed after the test."""
     with ExitStack() as peers:
 
         def stalled(box, sent, address="127.0.0.1"):
@@ -54,14 +54,14 @@ def stall():
 
 @pytest.fixture
 def stall_in_a_store(stall):
-    """A peer that stalls in the middle of the data set of the first of the two stores."""
+    """Connects a peer that stalls in the middle of the data set of the first of the two stores."""
 
     def stalled(box):
         drafts = len(drafts_of(box))
         peer = stall(box, STORES_REQUEST)
         assert len(peer.receive(171)) == 171
         peer.send(STORES[180:320])
-        wait_for(lambda: len(drafts_of(box)) == drafts + 1, "a store has begun")
+        wait_for(lambda: len(drafts_of(box)) == drafts + 1, "a store has started")
         return peer
 
     return stalled
@@ -69,7 +69,7 @@ def stall_in_a_store(stall):
 
 @pytest.fixture
 def stall_without_reading(stall):
-    """A peer that sends echoes, and reads no reply, until the box takes no more."""
+    """Connects a peer that sends echoes and reads no reply, until the box reads no more."""
 
     def stalled(box):
         peer = stall(box, ECHO_REQUEST)
@@ -87,13 +87,13 @@ def drafts_of(box):
 
 
 def echo_answered(peer):
-    """Whether the answer to the recorded echo, which was sent, comes."""
+    """Returns whether the peer receives the reply to the recorded echo, which it has sent."""
     return peer.receive(len(ECHO_ANSWER)) == ECHO_ANSWER
 
 
 @pytest.fixture(scope="module")
 def sent(shared):
-    """The images of each sender, 8 KiB of pixels of their own each."""
+    """The images of each sender, each with 8 KiB of different pixels."""
     work = shared("sent")
     for n in range(SENDERS * EACH):
         (work / "pixels.raw").write_bytes(n.to_bytes(8, "big") * 1024)
@@ -105,7 +105,7 @@ def sent(shared):
 
 @pytest.fixture
 def senders(spawn, sent, to_box):
-    """Starts a storescu for each sender, so many times."""
+    """Starts a storescu for each sender, `times` times."""
     need("storescu")
 
     def started(times=1):
@@ -115,18 +115,18 @@ def senders(spawn, sent, to_box):
 
 
 def has_each(box, sent):
-    """Whether the folder has each data set as it was sent."""
+    """Returns whether the folder has each data set as it was sent."""
     found = [box.folder / name for name in box.files() if name.startswith("I")]
     return digests(found) == digests(image for images in sent for image in images)
 
 
-def test_eight_senders_beside_peers_that_stall(
+def test_eight_senders_and_stalled_peers(
     serve, tool, to_box, sent, senders, stall, stall_in_a_store, stall_without_reading
 ):
-    """An echo is answered within a second, in one of three tries, and each data set arrives.
+    """The box replies to an echo within a second, in one of three attempts, and each data set arrives.
 
-    The numbers are given once. A box that is killed then leaves whole files, and the draft of the
-    store that stalled, which the next one removes.
+    Each number is used once. A box that is then killed leaves complete files, and the draft of the
+    stalled store, which the next box removes.
     """
     box = serve("--at-once", "16", "--per-peer", "16")
     stall(box, BYTE)
@@ -134,12 +134,12 @@ def test_eight_senders_beside_peers_that_stall(
     stall_in_a_store(box)
     stall_without_reading(box)
     processes = senders()
-    took = []
-    while not took or min(took) >= 1 and len(took) < 3:
-        begun = time.monotonic()
+    times = []
+    while not times or min(times) >= 1 and len(times) < 3:
+        started = time.monotonic()
         tool("echoscu", *to_box)
-        took.append(time.monotonic() - begun)
-    assert min(took) < 1
+        times.append(time.monotonic() - started)
+    assert min(times) < 1
     assert [process.wait(PATIENCE) for process in processes] == [0] * SENDERS
     assert has_each(box, sent)
     numbers = [int(name[1:]) for name in box.files() if name.startswith("I")]
@@ -150,10 +150,10 @@ def test_eight_senders_beside_peers_that_stall(
     assert drafts_of(serve("--at-once", "4")) == []
 
 
-class TestPlaces:
-    """The places of a box, and the connections that wait for one."""
+class TestSlots:
+    """The slots of a box, and the connections that wait for one."""
 
-    def test_one_address_has_as_many_as_it_may_have(self, serve, stall):
+    def test_one_address_has_at_most_its_limit(self, serve, stall):
         box = serve("--at-once", "3", "--per-peer", "2", "--timeout", "600")
         first, _ = stall(box, HALF), stall(box, HALF)
         third = stall(box, ECHO)
@@ -165,8 +165,8 @@ class TestPlaces:
         first.close()
         assert echo_answered(third)
 
-    def test_with_all_taken_the_next_connection_waits(self, serve, stall):
-        """It is served after the ARTIM timer, and it is told once."""
+    def test_with_all_occupied_the_next_connection_waits(self, serve, stall):
+        """The connection is served after the ARTIM timer, and the wait is logged once."""
         box = serve("--at-once", "2", "--per-peer", "2", "--timeout", "5")
         for _ in range(2):
             stall(box, HALF)
@@ -176,7 +176,7 @@ class TestPlaces:
         assert len(re.findall("all places are taken", box.log)) == 1
 
     def test_a_connection_too_many_is_closed(self, serve, stall):
-        """Of the other connections of an address as many wait as there are places."""
+        """As many further connections of an address wait as there are slots."""
         box = serve("--at-once", "2", "--per-peer", "1", "--timeout", "600")
         for _ in range(3):
             stall(box, HALF)
@@ -185,10 +185,7 @@ class TestPlaces:
         assert echo_answered(stall(box, ECHO, "127.0.0.2"))
 
     def test_those_that_wait_get_one_in_their_order(self, serve, stall):
-        """The first gets the place at once when it is free, and keeps it.
-
-        The second is served after it.
-        """
+        """The first connection gets the slot as soon as it is free. The second is served after it."""
         box = serve("--at-once", "2", "--per-peer", "1", "--timeout", "600")
         holder, first, second = stall(box, HALF), stall(box, HALF), stall(box, ECHO)
         box.until_logged("the peer has as many places as it may have, .* connections wait places 1")
@@ -201,7 +198,7 @@ class TestPlaces:
 
 
 def test_an_association_that_lasts_too_long(serve):
-    """It is aborted, though the peer sends an echo each 0.2 s."""
+    """The box aborts it, although the peer sends an echo every 0.2 s."""
     box = serve("--at-once", "2", "--longest", "2")
     with box.connect() as peer:
         answer, end = peer.exchange(ECHO_REQUEST, 169), time.monotonic() + PATIENCE
@@ -215,14 +212,14 @@ def test_an_association_that_lasts_too_long(serve):
 
 
 def test_the_end(serve, stall, stall_in_a_store, put):
-    """A box ends once a file appears.
+    """A box ends when the stop file appears.
 
-    Associations without a store are aborted, stores that have begun go on.
+    Associations without a store are aborted, unfinished stores continue.
     """
     stop = put({"stop.txt": b""})
     options = ("--at-once", "4", "--per-peer", "4", "--stop-file", "stop.txt", "--grace", "8")
     box = serve(*options)
-    wait_for(lambda: not stop.exists(), "a file that an earlier end left is removed")
+    wait_for(lambda: not stop.exists(), "the file of an earlier end is removed")
     idle = stall(box, ECHO_REQUEST)
     assert len(idle.receive(169)) == 169
     slow, endless = stall_in_a_store(box), stall_in_a_store(box)
@@ -250,7 +247,7 @@ def test_one_association_and_the_end(serve):
 
 
 def test_at_most_6_mib_for_sixteen_associations(serve, senders, stall_in_a_store):
-    """Sixteen senders beside three peers that stall in a store."""
+    """Sixteen senders, and three peers that stall in a store."""
     box = serve("--at-once", "16", "--per-peer", "16", "--no-sync")
     for _ in range(3):
         stall_in_a_store(box)
@@ -259,12 +256,12 @@ def test_at_most_6_mib_for_sixteen_associations(serve, senders, stall_in_a_store
 
 
 class TestFoldersThatAreMoved:
-    """Folders are moved away and removed at any moment, also the one that is filed into."""
+    """Folders are moved away and removed at any moment, also the current one."""
 
     SECONDS, PAUSE = 10, 0.005
 
     def send(self, box, number, until, stored):
-        """Stores one image an association, by a success each; notes the instances."""
+        """Stores one image in each association with success, and notes the instances."""
         count = 0
         while time.monotonic() < until:
             count += 1
@@ -285,22 +282,22 @@ class TestFoldersThatAreMoved:
                 return
 
     def remove(self, box, ended):
-        """Removes empty folders, as an operator's script does that looks for old files."""
+        """Removes empty folders, as a script for old files does."""
         while not ended.is_set():
-            words = "find", box.folder, "-mindepth", "1", "-type", "d", "-empty", "-delete"
-            subprocess.run(words, stderr=subprocess.DEVNULL, check=False)
+            arguments = "find", box.folder, "-mindepth", "1", "-type", "d", "-empty", "-delete"
+            subprocess.run(arguments, stderr=subprocess.DEVNULL, check=False)
 
-    def take(self, aside, ended, found):
-        """Takes what is in the folders that were moved, and removes them."""
+    def collect(self, aside, ended, found):
+        """Collects the files of the moved folders, and removes these."""
         while not ended.wait(self.PAUSE):
             for folder in aside.iterdir():
-                # (what was named meanwhile is in it by then)
+                # (files named meanwhile are in it by then)
                 time.sleep(self.PAUSE)
                 found.extend(path.read_bytes() for path in folder.iterdir())
                 shutil.rmtree(folder)
 
     def test_no_file_is_lost(self, serve, work):
-        """Each store succeeds, and its file is in a folder that stayed or was moved."""
+        """Each store succeeds, and its file is in a remaining or a moved folder."""
         box = serve("--at-once", "8", "--per-peer", "8", "--per", "20")
         stored, found, ended = [], [], threading.Event()
         aside, until = work / "aside", time.monotonic() + self.SECONDS
@@ -309,7 +306,7 @@ class TestFoldersThatAreMoved:
             senders = [pool.submit(self.send, box, number, until, stored) for number in range(8)]
             others = [
                 pool.submit(self.move, box, aside, ended),
-                pool.submit(self.take, aside, ended, found),
+                pool.submit(self.collect, aside, ended, found),
                 pool.submit(self.remove, box, ended),
             ]
             try:

@@ -1,4 +1,4 @@
-"""Recorded stores, the folders that they fill, and folders that take none."""
+"""Recorded stores, the folders that they fill, and folders that can't be written."""
 import os
 import subprocess
 
@@ -12,7 +12,7 @@ STORES_LINES = (ROOT / "tests/expected/two_stores.txt").read_text().rstrip("\n")
 
 
 def tree(folder):
-    """The files below a folder, each by its path there."""
+    """Returns the files below a folder, by their relative paths."""
     paths = [path for path in folder.rglob("*") if path.is_file()]
     return {str(path.relative_to(folder)): path.read_bytes() for path in paths}
 
@@ -55,7 +55,7 @@ def test_folders_of_one_file_each(replay):
     ids=lambda value: value[0] if isinstance(value, tuple) else None,
 )
 def test_files_with_the_names_of_drafts(run, put, work, command, removes):
-    """They are removed as a folder is opened to file there, whoever made them."""
+    """Such files are removed when a folder is opened for writing, whoever made them."""
     put({"in/DRAFT": b"x", "in/DRAFT07": b"x", "in/DRAFTS": b"x"})
     run(*command, "in")
     names = {name for name in os.listdir(work / "in") if name.startswith("DRAFT")}
@@ -65,9 +65,9 @@ def test_files_with_the_names_of_drafts(run, put, work, command, removes):
 def mount_without_links(folder, image):
     """Mounts exFAT by the kernel or by FUSE, or vfat by the kernel.
 
-    Returns its device, or what refused it.
+    Returns the device, or the error.
     """
-    said = "there is no mkfs.exfat and no mkfs.vfat"
+    status = "there is no mkfs.exfat and no mkfs.vfat"
     for tool, mount in (
         ("mkfs.exfat", "mount"),
         ("mkfs.exfat", "mount.exfat-fuse"),
@@ -82,15 +82,15 @@ def mount_without_links(folder, image):
             call(mount, device, folder)
             return device, None
         except (OSError, subprocess.CalledProcessError) as refused:
-            said = getattr(refused, "stderr", None) or str(refused)
+            status = getattr(refused, "stderr", None) or str(refused)
             if device:
                 call("losetup", "-d", device)
-    return None, said
+    return None, status
 
 
-def call(*words):
-    """What a command prints."""
-    done = subprocess.run(words, capture_output=True, text=True, check=True, timeout=PATIENCE)
+def call(*arguments):
+    """Returns the output of a command."""
+    done = subprocess.run(arguments, capture_output=True, text=True, check=True, timeout=PATIENCE)
     return done.stdout
 
 
@@ -120,15 +120,15 @@ def test_two_stores_without_hard_links(replay, without_links, options):
 
 
 def test_a_folder_of_a_read_only_disk(expect, small_disk, port):
-    """Nothing is served into a folder that can't be written into."""
+    """A box does not start with a folder that can't be written."""
     fixed = small_disk("fixed", "-t", "tmpfs", "tmpfs")
     call("mount", "-o", "remount,ro", fixed)
     refused = "the folder can't be (opened|written into): Read-only file system .*; check that .*"
     expect(3, "", f"dcmbox: fixed: {refused}", "serve", "--port", str(port), "--out", "fixed")
 
 
-def test_a_folder_that_is_served_into_is_empty_at_first(serve):
-    """What tries whether it can be written into leaves nothing."""
+def test_the_folder_of_a_box_is_empty_at_first(serve):
+    """The test of whether the folder can be written leaves no file."""
     box = serve()
     box.until_logged("listening on")
     assert box.files() == []

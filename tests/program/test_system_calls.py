@@ -1,4 +1,4 @@
-"""What the program asks of the system, and calls that strace cuts short or lets fail."""
+"""The system calls of the program, and calls that strace shortens or makes fail."""
 import os
 import re
 import shutil
@@ -20,17 +20,17 @@ from peer import (
 from samples import ELEMENTS, SHOWN, LargeStore
 
 LISTING = SHOWN + ELEMENTS
-# How much of a draft comes before its writeback is started.
+# The bytes of a draft after which its writeback is started.
 STEP = 4 << 20
 
 
 def read(*options):
-    """strace's options for the reads of ct.dcm."""
+    """Returns strace's options for the reads of ct.dcm."""
     return "-P", "ct.dcm", "-e", "trace=read", *options
 
 
 def test_a_file_whose_reads_are_interrupted(run, samples, trace, calls):
-    """Each read is interrupted before it gives its bytes."""
+    """Each read is interrupted before it returns bytes."""
     interrupted = trace(*read("-e", "inject=read:error=EINTR:when=1+2"))
     done = run("show", "ct.dcm", before=interrupted)
     assert any("EINTR" in call for call in calls())
@@ -38,7 +38,7 @@ def test_a_file_whose_reads_are_interrupted(run, samples, trace, calls):
 
 
 def test_a_file_whose_last_read_fails(run, samples, trace, calls):
-    """What was listed before the read that finds the end is printed."""
+    """The listing before the read that would find the end is printed."""
     run("show", "ct.dcm", before=trace(*read()))
     failing = trace(*read("-e", f"inject=read:error=EIO:when={len(calls())}"))
     done = run("show", "ct.dcm", before=failing)
@@ -47,7 +47,7 @@ def test_a_file_whose_last_read_fails(run, samples, trace, calls):
 
 
 def test_a_replay_syncs_its_files(run, samples, trace, calls, work):
-    """Each file is synced, and the folder after the file has its name."""
+    """Each file is synced, and the folder once the file has its name."""
     (work / "synced").mkdir()
     done = run("replay", "stores.bin", "--out", "synced", before=trace("-e", "trace=fsync,link"))
     assert done.returncode == 0
@@ -56,16 +56,16 @@ def test_a_replay_syncs_its_files(run, samples, trace, calls, work):
 
 @pytest.fixture
 def traced(serve, trace, form):
-    """A box that serves one association under strace."""
+    """Starts a box that serves one association under strace."""
 
-    def started(*options, words=()):
-        words = ("--once", "--timeout", "30", "--idle", "60", *form, *words)
-        return serve(*words, before=trace(*options))
+    def started(*options, arguments=()):
+        arguments = ("--once", "--timeout", "30", "--idle", "60", *form, *arguments)
+        return serve(*arguments, before=trace(*options))
 
     return started
 
 
-def test_what_is_sent_is_sent_at_once(traced, calls):
+def test_replies_are_sent_without_delay(traced, calls):
     box = traced("-e", "trace=setsockopt")
     assert box.echoes()
     assert box.ended() == 0
@@ -80,25 +80,25 @@ def test_calls_that_are_interrupted(traced, calls, call):
     assert any("EINTR" in line for line in calls())
 
 
-def test_a_send_that_is_cut_short_goes_on(traced):
-    """Of the first send the system takes seven bytes, which strace keeps for itself."""
+def test_a_short_send_is_continued(traced):
+    """The first send sends seven bytes, by strace's report, which do not reach the peer."""
     box = traced("-e", "trace=sendto", "-e", "inject=sendto:retval=7:when=1")
     assert box.answers(ECHO, ECHO_ANSWER[7:])
     box.ended()
 
 
 def test_a_connection_that_fails_is_logged(serve, trace):
-    """The second option is the first of the connection's."""
+    """The second option that is set is the first one of a connection."""
     failing = trace("-e", "trace=setsockopt", "-e", "inject=setsockopt:error=ENOBUFS:when=2")
     box = serve("--once", "--timeout", "30", before=failing)
     box.connect().close()
-    said = r"the connection failed: No buffer space available"
-    box.until_logged(rf"^\[ERROR dcmbox::serve\] 20[^ ]*Z 127\.0\.0\.1:[0-9]* {said}")
+    message = r"the connection failed: No buffer space available"
+    box.until_logged(rf"^\[ERROR dcmbox::serve\] 20[^ ]*Z 127\.0\.0\.1:[0-9]* {message}")
     box.ended()
 
 
 def shown(call):
-    """A call by its name; a sync, with what is synced, a draft without its number."""
+    """Returns the name of a call; for a sync with what is synced, a draft without its number."""
     name, synced = re.match(r"(\w+)\((?:\d+<(.*?)>)?", call).groups()
     if "sync" not in name:
         return name
@@ -114,10 +114,7 @@ def shown(call):
     ids=["synced", "where_no_sync_is_asked_for"],
 )
 def test_each_success_is_sent_after_its_file_is_filed(serve, trace, calls, form, options, filed):
-    """The draft is on the disk, has its name, and the folder is on the disk with it.
-
-    Or nothing is synced.
-    """
+    """The draft is synced, gets its name, and the folder is synced; or nothing is synced."""
     names = "trace=fsync,fdatasync,link,linkat,rename,sendto"
     box = serve("--once", "--timeout", "30", *form, *options, before=trace("-y", "-e", names))
     assert box.answers(STORES, STORES_ANSWER)
@@ -135,10 +132,10 @@ def store():
 
 @pytest.fixture
 def stores(traced):
-    """Stores an object in a box of which the advices and the syncs are traced."""
+    """Stores an object in a box whose calls of fadvise64 and fsync are traced."""
 
     def stored(store, *options, before=()):
-        box = traced("-y", "-e", "trace=fadvise64,fsync", *before, words=options)
+        box = traced("-y", "-e", "trace=fadvise64,fsync", *before, arguments=options)
         answer = box.exchange(store.opening + store.middle + store.last, 293)
         assert (answer, box.ended()) == (FIRST_REPLY + RELEASED, 0)
         assert (box.folder / "I0000001").read_bytes() == store.file
@@ -147,7 +144,7 @@ def stores(traced):
 
 
 def advised(call):
-    """The place and the number of the bytes of a draft whose writeback is to start, and the result."""
+    """Returns the offset and the number of bytes of a draft whose writeback is requested, and the result."""
     advice = r"fadvise64\(\d+<.*/DRAFT\d*>, (\d+), (\d+), POSIX_FADV_DONTNEED\) = (-?\d+)( .*)?"
     return [int(number) for number in re.fullmatch(advice, call).groups()[:3]]
 
@@ -155,12 +152,12 @@ def advised(call):
 @pytest.mark.parametrize(
     "before, result",
     [((), 0), (("-e", "inject=fadvise64:error=EIO"), -1)],
-    ids=["taken", "refused"],
+    ids=["accepted", "refused"],
 )
 def test_the_writeback_of_a_large_store_starts_early(stores, store, calls, before, result):
-    """The system is advised to write each 4 MiB once they have come.
+    """The box requests the writeback of each 4 MiB once they are received.
 
-    The sync writes the rest, and all of it where the advice is refused.
+    The sync writes the rest, or everything if the request is refused.
     """
     stores(store, before=before)
     *advices, draft, folder = calls()
@@ -178,16 +175,16 @@ def test_the_writeback_of_a_small_store_is_left_to_its_sync(stores, calls):
     assert [shown(call) for call in calls()] == ["fsync DRAFT", "fsync received"]
 
 
-def test_no_writeback_is_started_where_nothing_is_synced(stores, store, calls):
+def test_no_writeback_is_started_without_syncs(stores, store, calls):
     stores(store, "--no-sync")
     assert calls() == []
 
 
-# The first store of the recording, and what is answered to the request before it.
+# The first store of the recording, and the reply to the request before it.
 FIRST_STORE, ACCEPTED = STORES[180:352], STORES_ANSWER[:171]
 
 
-# The answer to the second store and to the release, and to the first where its file could not be written.
+# The replies to the second store and to the release, and the reply to the first if its file could not be written.
 STORED = STORES_ANSWER[len(FIRST_REPLY) :]
 REFUSED_REPLY = FIRST_REPLY[len(ACCEPTED) :].replace(SUCCESS, bytes.fromhex("000000090200000000a7"))
 
@@ -198,7 +195,7 @@ REFUSED_REPLY = FIRST_REPLY[len(ACCEPTED) :].replace(SUCCESS, bytes.fromhex("000
     ids=["alone", "with_an_end", "with_a_bound", "in_subfolders"],
 )
 def test_one_slot_settles_each_file_by_itself(serve, trace, calls, work, options):
-    """A folder that can't be synced costs its store, with A700, and not the association."""
+    """A folder that can't be synced fails its store with A700, and not the association."""
     failing = "fsync:error=EIO:when=1"
     folder = work / "received" / ("S0000001" if "--per" in options else "")
     box = serve(*options, before=trace("-P", folder, "-e", "trace=fsync", "-e", f"inject={failing}"))
@@ -211,8 +208,8 @@ def test_one_slot_settles_each_file_by_itself(serve, trace, calls, work, options
 
 
 @pytest.mark.parametrize("options", [(), ("--at-once", "2")], ids=["alone", "in_a_group"])
-def test_a_subfolder_that_stood_is_synced_into_its_folder(serve, trace, calls, work, options):
-    """Once, before its first file is answered."""
+def test_an_existing_subfolder_is_synced_into_its_folder(serve, trace, calls, work, options):
+    """The folder is synced once, before the reply to the first file in the subfolder."""
     (work / "received/S0000001").mkdir(parents=True)
     names = "trace=fsync,link,sendto"
     box = serve("--per", "5", *options, before=trace("-y", "-e", names))
@@ -222,12 +219,12 @@ def test_a_subfolder_that_stood_is_synced_into_its_folder(serve, trace, calls, w
     assert [shown(call) for call in calls()][: len(sent)] == sent
 
 
-class TestSubfoldersThatGo:
+class TestMovedSubfolders:
     """A subfolder is moved, replaced or removed while a file gets its name there."""
 
     @pytest.fixture
     def named(self, serve, trace, work):
-        """Stores two objects, and does this once the first has its name, before the system says so.
+        """Stores two objects, and makes a change once the first has its name, before the call returns.
 
         Returns the names in the folder.
         """
@@ -252,10 +249,10 @@ class TestSubfoldersThatGo:
     @pytest.mark.parametrize("options", [(), ("--at-once", "2")], ids=["alone", "in_a_group"])
     @pytest.mark.parametrize("replaced", [False, True], ids=["moved", "replaced"])
     def test_the_file_is_named_once_more(self, named, calls, work, options, replaced):
-        """With the next number, in the folder that is there then or is made again.
+        """The file gets the next number, in the folder that exists then or is made again.
 
-        The sync of its bytes comes before each name, and that of its folder after the last. What another
-        program has put there stays.
+        Its bytes are synced before each name, and its folder after the last. Files of another program
+        remain.
         """
 
         def change(folder):
@@ -270,7 +267,7 @@ class TestSubfoldersThatGo:
         assert files[0].read_bytes() == files[1].read_bytes()
         if replaced:
             assert files[1].with_name("I0000001").read_bytes() == b"of another"
-        # (where there is no folder the second link fails, and is made again in one that is made)
+        # (without a folder the second link fails, and is repeated in a new folder)
         due = ["fsync DRAFT", *["link"] * (3 - replaced), "fsync received", "fsync S", "sendto"]
         assert [shown(call) for call in calls()][1 : len(due) + 1] == due
 
@@ -278,13 +275,13 @@ class TestSubfoldersThatGo:
         assert named(shutil.rmtree) == ["S0000001/I0000002", "S0000001/I0000003"]
 
     def test_without_hard_links_that_file_is_lost(self, named, work):
-        """It has no other name than the one that was moved. The association goes on."""
+        """The file has no other name than the moved one. The association continues."""
         refused = "-e", "inject=link:error=EPERM"
         names = named(lambda folder: folder.rename(work / "moved"), links=refused, first=REFUSED_REPLY)
         assert names == ["S0000001/I0000002"]
 
-    def test_a_folder_that_is_always_gone_costs_its_file(self, serve, trace):
-        """It is made a hundred times, and then the store is refused."""
+    def test_a_folder_that_is_always_removed_fails_its_file(self, serve, trace):
+        """The folder is made a hundred times, and then the store is refused."""
         names = "--per", "9999"
         box = serve(*names, before=trace("-e", "inject=link:error=ENOENT:when=1..202"))
         with box.connect() as peer:
@@ -294,7 +291,7 @@ class TestSubfoldersThatGo:
         assert [path.name for path in box.folder.rglob("I*")] == ["I0000101"]
 
     def test_a_draft_that_was_removed_is_refused_at_once(self, serve):
-        """Its folder is not made again and again."""
+        """The folder is not made again."""
         box = serve("--per", "1")
         with box.connect() as peer:
             assert peer.exchange(STORES_REQUEST, len(ACCEPTED)) == ACCEPTED
@@ -307,24 +304,24 @@ class TestSubfoldersThatGo:
 
 
 class TestGroups:
-    """Stores that end together are settled together."""
+    """Stores that end at the same time are synced as a group."""
 
     @pytest.fixture
     def group(self, serve, trace, work):
-        """Stores two objects together while a call fails or waits; the peers wait for their replies.
+        """Stores two objects at the same time while a call fails or is delayed; the peers wait for replies.
 
-        The first is filed first.
+        The first object is filed first.
         """
 
         @contextmanager
-        def stored(name, kind, *options, places="2"):
+        def stored(name, kind, *options, slots="2"):
             path = work / "received" / name
-            words = trace("-P", path, "-e", "trace=fsync", "-e", f"inject=fsync:{kind}")
-            box = serve("--at-once", places, "--per-peer", places, *options, before=words)
+            arguments = trace("-P", path, "-e", "trace=fsync", "-e", f"inject=fsync:{kind}")
+            box = serve("--at-once", slots, "--per-peer", slots, *options, before=arguments)
             with box.connect() as first, box.connect() as second:
                 for peer in (first, second):
                     assert peer.exchange(STORES_REQUEST, len(ACCEPTED)) == ACCEPTED
-                # It is held at its next call, so that both stores have come when it goes on.
+                # (the box is stopped at its next call, so that both stores have arrived when it continues)
                 os.kill(box.pid, signal.SIGSTOP)
                 try:
                     for peer in (first, second):
@@ -339,7 +336,7 @@ class TestGroups:
         return sorted(str(path.relative_to(box.folder)) for path in box.folder.rglob("I*"))
 
     def stores_both(self, box):
-        """Whether both places store what the next connections send."""
+        """Returns whether both slots store what the next connections send."""
         with box.connect() as first, box.connect() as second:
             for peer in (first, second):
                 assert peer.exchange(STORES_REQUEST, len(ACCEPTED)) == ACCEPTED
@@ -349,8 +346,8 @@ class TestGroups:
                 for peer in (first, second)
             )
 
-    def test_a_folder_that_cannot_be_synced_costs_its_group(self, group, calls):
-        """No reply comes, no name stays, and the places serve the next connections."""
+    def test_a_folder_that_cannot_be_synced_fails_its_group(self, group, calls):
+        """No reply is sent, no name remains, and the slots serve the next connections."""
         with group("", "error=EIO:when=1") as (box, first, second):
             assert (first.rest(), second.rest()) == (b"", b"")
         box.until_logged("the folder could not be synced: Input/output error")
@@ -360,15 +357,15 @@ class TestGroups:
 
     def test_nobody_is_served_before_a_slow_sync_has_ended(self, group):
         """An echo waits for the sync of the second draft."""
-        with group("DRAFT2", "delay_enter=3000000:when=1", places="3") as (box, *_):
+        with group("DRAFT2", "delay_enter=3000000:when=1", slots="3") as (box, *_):
             wait_for((box.folder / "I0000001").exists, "the first file has its name")
             with box.connect() as other:
                 other.send(ECHO)
                 assert other.is_silent(1)
                 assert other.receive(len(ECHO_ANSWER)) == ECHO_ANSWER
 
-    def test_a_subfolder_that_cannot_be_synced_costs_its_own_files(self, group, calls):
-        """The file in the other one is filed, and the place of the lost one serves again."""
+    def test_a_subfolder_that_cannot_be_synced_fails_its_own_files(self, group, calls):
+        """The file in the other subfolder is filed, and the slot of the failed one serves again."""
         inject = "S0000001", "error=EIO:when=1", "--per", "1"
         with group(*inject) as (box, first, second):
             reply = STORES_ANSWER[len(ACCEPTED) : len(FIRST_REPLY)]
@@ -378,7 +375,7 @@ class TestGroups:
         assert self.stores_both(box)
 
     def test_a_subfolder_that_is_moved_away_before_the_sync(self, group, work):
-        """Each file is filed: the subfolder is synced where it is.
+        """Each file is filed: the subfolder is synced at its new location.
 
         The sync of the second draft waits until the subfolder is moved.
         """

@@ -1,7 +1,4 @@
-"""The commands of docs/TOUR.md, and what it says that they print.
-
-Of the log's lines, times and ports are left out.
-"""
+"""The commands of docs/TOUR.md print what it shows, except for times and ports in the log."""
 import re
 
 import pytest
@@ -19,14 +16,14 @@ STUDY = """(0008,0020) DA [20260101]
 """
 
 def steps():
-    """Each command of the tour with the lines that it prints."""
+    """Yields each command of the tour with its output."""
     found = []
     for line in re.findall(r"^    (.*)$", TOUR, re.M):
         if line.startswith("$ "):
             found.append((line[2:].split("#")[0].strip(), []))
         elif found:
             found[-1][1].append(line)
-    # What `make run` prints begins with the command that it runs.
+    # (the output of `make run` starts with the command that it runs)
     return [
         (lines[0], lines[1:]) if command == "make run" else (command, lines)
         for command, lines in found
@@ -41,12 +38,12 @@ def without_times(lines):
 
 @pytest.fixture
 def received(serve, tool, to_box):
-    """What the box logs that receives the image."""
+    """Returns the log of the box that receives the image."""
 
     def logged(command):
-        words = command.split()
-        assert words[:2] == ["./dcmbox", "serve"]
-        options = " ".join(words[2:]).replace("--port 11112", "").replace("--out received", "")
+        arguments = command.split()
+        assert arguments[:2] == ["./dcmbox", "serve"]
+        options = " ".join(arguments[2:]).replace("--port 11112", "").replace("--out received", "")
         box = serve(*options.split())
         tool("storescu", *to_box, "image.dcm")
         box.ended(PATIENCE)
@@ -55,22 +52,22 @@ def received(serve, tool, to_box):
     return logged
 
 
-def test_the_commands_print_what_the_tour_says(received, program, work):
+def test_the_commands_print_what_the_tour_shows(received, program, work):
     (work / "dcmbox").symlink_to(program)
     (work / "crates").symlink_to(ROOT / "crates")
     (work / "received").mkdir()
     dumped(work, "image", identity() + STUDY)
     assert len(steps()) > 5
-    for command, wanted in steps():
+    for command, expected in steps():
         if " serve " in command:
-            got, wanted = without_times(received(command)), without_times(wanted)
+            got, expected = without_times(received(command)), without_times(expected)
         else:
             done = call(work, work / command.split()[0], *command.split()[1:], check=False)
             got = (done.stdout + done.stderr).splitlines()
-        assert (command, got) == (command, wanted)
+        assert (command, got) == (command, expected)
 
 
-def test_the_example_of_a_library_is_what_a_test_has():
-    """It is in the test of the repository that the tour names."""
+def test_the_example_of_a_library_is_in_a_test():
+    """The test that the tour names contains the example."""
     test = (ROOT / re.search(r"`(crates/[^`]+)`", LIBRARY)[1]).read_text()
     assert "\n".join(re.findall(r"^    .*$", LIBRARY, re.M)) in test

@@ -1,6 +1,6 @@
-"""Values of tests/data/values.txt, as `dcmbox check --strict`, pydicom and dciodvfy take them.
+"""Values of tests/data/values.txt, as `dcmbox check --strict`, pydicom and dciodvfy judge them.
 
-docs/CONFORMANCE.md says who is right where they differ.
+docs/CONFORMANCE.md says which is right if they differ.
 """
 import re
 import struct
@@ -25,7 +25,7 @@ TAGS = {
     "UR": (0x0008, 0x1190),
 }
 SECONDARY_CAPTURE = b"1.2.840.10008.5.1.4.1.1.7\0"
-# VRs of one value, in which a backslash separates none.
+# VRs of one value, in which a backslash does not separate values.
 SINGLE = ("ST", "UR")
 ROWS = [
     line.split()
@@ -35,7 +35,7 @@ ROWS = [
 
 
 def file_of(vr, value):
-    """A secondary capture in Explicit VR Little Endian with this value."""
+    """Returns a secondary capture in Explicit VR Little Endian with this value."""
     meta = b"".join(
         [
             element((2, 1), "OB", b"\0\1"),
@@ -55,7 +55,7 @@ def file_of(vr, value):
     return bytes(128) + b"DICM" + length + meta + data
 
 
-def pydicom_says(vr, value):
+def pydicom_verdict(vr, value):
     valuerep = pytest.importorskip("pydicom.valuerep", reason="make packages installs pydicom")
     text = value.decode("ascii").rstrip(" \0")
     try:
@@ -66,7 +66,7 @@ def pydicom_says(vr, value):
     return "takes"
 
 
-def dciodvfy_says(tool, vr):
+def dciodvfy_verdict(tool, vr):
     done = tool("dciodvfy", "-new", "value.dcm", check=False)
     tag = "(%04x,%04x)" % TAGS[vr]
     lines = (done.stderr + done.stdout).splitlines()
@@ -85,9 +85,9 @@ def test_value(run, tool, put, vr, text, note, pydicom, dciodvfy):
         value += b"\0" if vr == "UI" else b" "
     put({"value.dcm": file_of(vr, value)})
     done = run("check", "--strict", "value.dcm")
-    # Each file lacks SOP or Study Instance UID, which is a note of its own.
+    # (each file lacks SOP or Study Instance UID, which has a note of its own)
     lines = [line.split() for line in done.stdout.splitlines() if line.startswith("note ")]
-    notes = [words[5] for words in lines if words[5] != "MissingUid"]
+    notes = [columns[5] for columns in lines if columns[5] != "MissingUid"]
     assert done.returncode == int(bool(lines))
-    told = " ".join(notes or ["-"]), pydicom_says(vr, value), dciodvfy_says(tool, vr)
-    assert told == (note, pydicom, dciodvfy)
+    results = " ".join(notes or ["-"]), pydicom_verdict(vr, value), dciodvfy_verdict(tool, vr)
+    assert results == (note, pydicom, dciodvfy)

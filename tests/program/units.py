@@ -1,4 +1,4 @@
-"""Runs the systemd units of a root as systemd would, in 16 MB of memory."""
+"""Runs the systemd units of a root folder as systemd would, with 16 MB of memory."""
 import os
 import re
 import subprocess
@@ -7,34 +7,34 @@ from box import LITTLE, PATIENCE, listeners, prepare, wait_for
 
 
 def in_root(root, command):
-    """The command with the folders of /var/lib, of /run and the program in the root."""
+    """Returns the command with the folders of /var/lib and /run and the program in the root."""
     for folder in ("/var/lib", "/run/"):
         command = command.replace(folder, f"{root}{folder}")
     return f"{root}{command}"
 
 
 def settings(unit, name, *default):
-    """The values of a setting in a unit, in order."""
+    """Returns the values of a setting in a unit, in order."""
     return re.findall(rf"^{name}=(.*)$", unit, re.M) or list(default)
 
 
 def environment_files(unit):
-    """The paths of the files of a unit's variables, also of those that need not be there."""
+    """Returns the paths of a unit's files of variables, also of optional ones."""
     return [path.lstrip("-") for path in settings(unit, "EnvironmentFile")]
 
 
 def capabilities(unit, name):
-    """The capabilities that a setting gives, as setpriv has them; an empty value takes all."""
-    given = []
+    """Returns the capabilities that a setting grants, as setpriv writes them; an empty value removes all."""
+    granted = []
     for value in settings(unit, name):
-        given = [*given, *value.split()] if value else []
-    return ",".join(["-all", *(one.lower().replace("cap_", "+") for one in given)])
+        granted = [*granted, *value.split()] if value else []
+    return ",".join(["-all", *(one.lower().replace("cap_", "+") for one in granted)])
 
 
 def as_user(owner, *groups, unit=""):
-    """The words that run a command as a user of a group, by their numbers, and of further groups.
+    """Returns the command that runs another as a user, a group and further groups, by their numbers.
 
-    It has the capabilities of a unit.
+    That command has the capabilities of a unit.
     """
     if not owner:
         return []
@@ -49,7 +49,7 @@ def as_user(owner, *groups, unit=""):
 
 
 def linked(path):
-    """The folder that a path leads to by a symbolic link, as with DynamicUser."""
+    """Returns the folder to which a symbolic link leads, as with DynamicUser."""
     private = path.parent / "private" / path.name
     if not path.is_symlink():
         private.parent.mkdir(parents=True, exist_ok=True)
@@ -58,7 +58,7 @@ def linked(path):
 
 
 class Units:
-    """The units of a root, and those of them that run."""
+    """The units of a root folder, and the processes of those that run."""
 
     def __init__(self, root):
         self.root, self.running = root, []
@@ -67,15 +67,15 @@ class Units:
         return (self.root / "lib/systemd/system" / name).read_text()
 
     def use_port(self, port):
-        """Names a port in place of that of the package's options, which have to have one."""
+        """Replaces the port in the package's options."""
         path = self.root / "etc/default/dcmbox"
         options = path.read_text()
         assert "--port 11112 " in options
         path.write_text(options.replace("--port 11112 ", f"--port {port} "))
 
-    def run(self, name, port, instance="", **kinds):
-        """Runs a unit's command line with the root's options until it listens on the port."""
-        process = self.start(name, instance, **kinds)
+    def run(self, name, port, instance="", **keywords):
+        """Runs a unit's command line with the root's options, and waits until it listens on the port."""
+        process = self.start(name, instance, **keywords)
 
         def is_listening():
             assert process.poll() is None, self.log(name, instance).read_text()

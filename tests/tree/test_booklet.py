@@ -1,21 +1,21 @@
-"""docs/DEFINITIONS.md is what the definitions and docs/booklet give (tools/booklet)."""
+"""tools/booklet keeps docs/DEFINITIONS.md equal to the definitions and docs/booklet, and detects faults."""
 import pytest
 from cases import cases
 from trees import ROOT, change, run
 
-PAGE, SENTENCES = "docs/DEFINITIONS.md", "docs/booklet/sentences.json"
-PARTS = "docs/booklet/parts.json"
+PAGE, PARTS, WORDS = "docs/DEFINITIONS.md", "docs/booklet/parts.json", "docs/booklet/words.json"
+WHOLE = "docs/out/DEFINITIONS.md"
 STALE = f"{PAGE} isn't what the specs give: run tools/booklet\n"
 
 
-def test_booklet_is_fresh():
+def test_booklet_is_up_to_date():
     assert run(ROOT, "booklet", "--check") == (0, "")
 
 
 @pytest.mark.parametrize(
     "file, old, new, expected",
     cases(
-        ("a booklet made by hand", PAGE, "# Definitions", "# All definitions", STALE),
+        ("a booklet changed by hand", PAGE, "# Definitions", "# All definitions", STALE),
         (
             "a definition that has changed",
             "crates/engine/specs/Ran.antt",
@@ -31,25 +31,25 @@ def test_booklet_is_fresh():
             "acceptor.Table.table: this definition has no sentence",
         ),
         (
-            "a sentence for no definition",
-            SENTENCES,
-            '"acceptor.sending"',
-            '"acceptor.receiving"',
-            f"{SENTENCES}: acceptor.receiving is reached by no part\n",
+            "a word of the standard library without a meaning",
+            WORDS,
+            '"List":',
+            '"Lists":',
+            f"std List: this word has no meaning in {WORDS}\n",
         ),
         (
             "a definition of no chapter",
             PARTS,
             '"acceptor", ',
             "",
-            f"acceptor.Table.table: no chapter of {PARTS} takes this definition\n",
+            f"acceptor.Table.table: no chapter of {PARTS} includes this definition\n",
         ),
         (
-            "a definition before all that mentions it",
+            "a definition before everything that mentions it",
             PARTS,
             '"engine.Devices.IsFront",',
             "",
-            "engine.Devices.IsFront: it stands in A run, before all that mentions it\n",
+            "engine.Devices.IsFront: it belongs to A run, before everything that mentions it\n",
         ),
         (
             "a definition that is not printed",
@@ -63,48 +63,46 @@ def test_booklet_is_fresh():
             PARTS,
             '["dicomdir", "check"], ',
             "",
-            f"{PARTS}: dicomdir::check stands at the head of 0 chapters\n",
+            f"{PARTS}: dicomdir::check opens 0 chapters\n",
         ),
         (
-            "a contract that is no headline",
+            "a contract that is not a headline",
             PARTS,
             '["engine", "run"]',
             '["engine", "run"], ["dimse", "write_response"]',
-            f"{PARTS}: dimse::write_response is no headline contract of tools/booklet\n",
+            f"{PARTS}: dimse::write_response is not a headline contract of tools/booklet\n",
         ),
         (
-            "a chapter that takes what is not there",
+            "a chapter that includes an unknown file",
             PARTS,
             '"pdu.Sizes"',
             '"pdu.Spans"',
-            f"{PARTS}: Numbers: pdu.Spans has no definition that stands there\n",
+            f"{PARTS}: Numbers: pdu.Spans has no definition that belongs there\n",
         ),
         (
-            "a chapter that begins with what is not there",
+            "a chapter that starts with an unknown definition",
             PARTS,
             '"first": ["sequence.Tree.DataSet"',
             '"first": ["sequence.Tree.Bytes"',
-            f"{PARTS}: Data sets: sequence.Tree.Bytes does not stand there\n",
+            f"{PARTS}: Data sets: sequence.Tree.Bytes does not belong there\n",
         ),
         (
             "a law that is gone",
-            SENTENCES,
+            "crates/dicomdir_writing/specs/TreeOf.antt",
             "dicomdir_writing::rows_are_grouped",
             "dicomdir_writing::rows_are_sorted",
             "there is no law rows_are_sorted in dicomdir_writing\n",
         ),
     ),
 )
-def test_a_fault_is_seen(copied_tree, file, old, new, expected):
+def test_a_fault_is_reported(copied_tree, file, old, new, expected):
     change(copied_tree, [(file, old, new)])
     status, output = run(copied_tree, "booklet", "--check")
     assert status == 1 and expected in output, output
 
 
 def test_booklet_is_written_anew(copied_tree):
-    gone = '"definitions": {\n  "acceptor.none": {"says": "nothing"},'
-    edits = [(PAGE, "# Definitions", "# All definitions"), (SENTENCES, '"definitions": {', gone)]
-    change(copied_tree, edits)
+    change(copied_tree, [(PAGE, "# Definitions", "# All definitions")])
     assert run(copied_tree, "booklet") == (0, "")
-    for file in (PAGE, SENTENCES):
-        assert (copied_tree / file).read_text() == (ROOT / file).read_text()
+    assert (copied_tree / PAGE).read_text() == (ROOT / PAGE).read_text()
+    assert "\nabbrev pub table : " in (copied_tree / WHOLE).read_text()

@@ -1,6 +1,6 @@
-"""tools/build proves and compiles a program, keeps what checks begin with, and builds nothing that is not proved.
+"""tools/build proves and compiles a program, keeps what later checks start from, and builds nothing that is not proved.
 
-It is tried on two libraries and a program over them, which it proves, beside a library that is false.
+The tests prove two libraries and a program over them; a further library of the tree has a false contract.
 """
 import importlib.machinery
 import importlib.util
@@ -56,7 +56,7 @@ fn main(rt: HostRuntime) -> io::Result<()> {
 }
 """,
     "crates/shown/stdout": "6\n",
-    "crates/beside/src/lib.rt": """//! Four, it says.
+    "crates/beside/src/lib.rt": """//! A false contract.
 #![tactic(auto)]
 
 ghost use Rattle.std.specs.Prelude.{◌≡◌};
@@ -74,18 +74,18 @@ pub fn four() -> u8
 
 
 def proves(test):
-    """Marks a test that looks at the one tree of which crates are proved, so that these go to one worker."""
+    """Marks a test that proves crates of the shared tree; these tests run in one process."""
     return pytest.mark.proves(pytest.mark.xdist_group("build")(test))
 
 
-def build(tree, *words, **kinds):
-    # (pytest ends a test that takes too long)
-    return run(ROOT, "build", *words, cwd=tree, timeout=None, **kinds)
+def build(tree, *arguments, **options):
+    # (pytest limits the time of a test)
+    return run(ROOT, "build", *arguments, cwd=tree, timeout=None, **options)
 
 
 @pytest.fixture(scope="module")
 def built():
-    """The tree whose program was built, the tool's status and what it printed."""
+    """The tree whose program was built, the tool's status and its output."""
     with tempfile.TemporaryDirectory(prefix="dcmbox-") as folder:
         tree = pathlib.Path(folder)
         write(tree, SIX)
@@ -95,7 +95,7 @@ def built():
 @proves
 def test_a_program_is_proved_and_compiled(built):
     tree, status, output = built
-    # (a toolchain whose gate can prove some crates alone says which they were)
+    # (a toolchain whose gate can prove some crates alone adds their names)
     last = output.splitlines()[-1].removesuffix(" (shown and the crates below alone: not the gate)")
     assert status == 0 and last == "3 passed, 0 failed", output
     assert subprocess.check_output([tree / "crates/shown/out/shown"]) == b"6\n"
@@ -103,13 +103,13 @@ def test_a_program_is_proved_and_compiled(built):
 
 @proves
 @pytest.mark.parametrize("name", ["three", "six", "shown"])
-def test_each_crate_is_told_of(built, name):
+def test_each_crate_is_reported(built, name):
     proved = (f"rt: {name} proved", f"rt: {name} is kept: ")
     assert any(line.startswith(proved) for line in built[2].splitlines()), built[2]
 
 
 @proves
-def test_what_the_program_does_not_stand_on_is_left_out(built):
+def test_a_crate_that_the_program_does_not_depend_on_is_omitted(built):
     assert built[1] == 0 and "== beside" not in built[2], built[2]
 
 
@@ -117,11 +117,11 @@ def test_what_the_program_does_not_stand_on_is_left_out(built):
 def test_what_was_proved_is_not_proved_again(built, tool):
     status, output = build(built[0], "shown")
     assert status == 0, output
-    # (the toolchain says so where it can keep nothing; one without that function never does)
+    # (a toolchain that can keep nothing reports it; one without `ci_over` keeps nothing and reports nothing)
     is_kept = hasattr(tool.toolchain(), "ci_over") and ", so nothing is kept: " not in output
-    ends = " is kept: " if is_kept else " proved"
-    told = [line.split()[1] for line in output.splitlines() if line.startswith("rt: ") and ends in line]
-    assert told == ["three", "six", "shown"], output
+    ending = " is kept: " if is_kept else " proved"
+    reported = [line.split()[1] for line in output.splitlines() if line.startswith("rt: ") and ending in line]
+    assert reported == ["three", "six", "shown"], output
 
 
 @proves
@@ -139,7 +139,7 @@ def test_a_program_over_a_crate_that_is_not_proved_is_not_built(built):
 
 
 @proves
-def test_a_library_is_built_with_what_checks_begin_with(built):
+def test_a_library_is_built_with_what_later_checks_start_from(built):
     tree = built[0]
     status, output = build(tree, "--keep", "six")
     last = [line.split()[:2] for line in output.splitlines() if line.startswith("logic=")]
@@ -160,24 +160,24 @@ def test_a_library_over_one_that_is_not_proved_is_not_built(built):
     assert not (tree / "crates/three/out/rlib/stamp").exists()
 
 
-# Their words, and what is printed.
-STRANGE = (
+# Arguments, and the output.
+UNKNOWN = (
     ("no name", (), "there is no program\n"),
     ("two programs", ("shown", "shown"), "there is no program\n"),
-    ("a program's name", ("seven",), "there is no program seven\n"),
-    ("a library in a program's place", ("six",), "there is no program six\n"),
-    ("a library's name", ("--keep", "six", "seven"), "there is no library seven\n"),
-    ("a program in a library's place", ("--keep", "shown"), "there is no library shown\n"),
+    ("an unknown program", ("seven",), "there is no program seven\n"),
+    ("a library instead of a program", ("six",), "there is no program six\n"),
+    ("an unknown library", ("--keep", "six", "seven"), "there is no library seven\n"),
+    ("a program instead of a library", ("--keep", "shown"), "there is no library shown\n"),
 )
 
 
-@pytest.mark.parametrize("words, printed", cases(*STRANGE))
-def test_a_strange_name_is_told_of(work, words, printed):
+@pytest.mark.parametrize("arguments, printed", cases(*UNKNOWN))
+def test_an_unknown_name_is_reported(work, arguments, printed):
     write(work, SIX)
-    assert build(work, *words) == (2, printed)
+    assert build(work, *arguments) == (2, printed)
 
 
-# Words, and what the toolchain is called with, and where.
+# Arguments, and the folders and arguments of the toolchain's calls.
 BY_COMMANDS = (
     ("a program", ("shown",), "shown: run -- --version\n"),
     ("libraries", ("--keep", "three", "six"), "three: lib\nsix: lib\n"),
@@ -185,12 +185,12 @@ BY_COMMANDS = (
 )
 
 
-@pytest.mark.parametrize("words, printed", cases(*BY_COMMANDS))
-def test_another_toolchain_is_called_by_its_commands(work, words, printed):
+@pytest.mark.parametrize("arguments, printed", cases(*BY_COMMANDS))
+def test_another_toolchain_is_called_by_its_commands(work, arguments, printed):
     write(work, {**SIX, "bin/rt": '#!/bin/sh\necho "$(basename "$PWD"): $*"\n'})
     (work / "bin/rt").chmod(0o755)
     path = f"{work / 'bin'}{os.pathsep}{os.environ['PATH']}"
-    assert build(work, *words, env={**os.environ, "PATH": path}) == (0, printed)
+    assert build(work, *arguments, env={**os.environ, "PATH": path}) == (0, printed)
 
 
 @pytest.fixture(scope="module")
@@ -202,9 +202,9 @@ def tool():
     return tool
 
 
-def test_a_copy_has_what_a_program_stands_on_and_no_more(tool, work, monkeypatch):
+def test_a_copy_has_only_what_a_program_depends_on(tool, work, monkeypatch):
     handles = {"HANDLES": "Handles allowed: Net.\n"}
-    beside = ("crates/beside/src/lib.rt", "crates/six/wrong-bodies/seven.edit", "crates/six/out/six")
+    beside = ("crates/beside/src/lib.rt", "crates/six/mutants/seven.mutant", "crates/six/out/six")
     write(work, {**SIX, **handles, **dict.fromkeys(beside, "")})
     monkeypatch.chdir(work)
     tool.copy_below(tool.toolchain(), "shown", "copy")
@@ -213,26 +213,26 @@ def test_a_copy_has_what_a_program_stands_on_and_no_more(tool, work, monkeypatch
     assert found == {**expected, **handles, "crates.txt": "three:\nsix: three\nshown may_abort=0: six\n"}
 
 
-SAID = "== three\nfn three::three: proved\nlogic {}\nlogic={}proved functions=1\nrt: note\n"
+OUTPUT = "== three\nfn three::three: proved\nlogic {}\nlogic={}proved functions=1\nrt: note\n"
 
 
-def test_of_a_crate_that_is_proved_the_verdict_is_shown(tool):
+def test_the_output_of_a_proved_crate_is_shortened(tool):
     shown = "== three\nlogic=proved functions=1\nrt: note\n"
-    assert tool.brief(SAID.format("sum", "")) == shown
+    assert tool.brief(OUTPUT.format("sum", "")) == shown
 
 
-@pytest.mark.parametrize("said", [SAID.format("sum", "not-"), "rt: three proved\n"])
-def test_all_else_is_shown_whole(tool, said):
-    assert tool.brief(said) == said
+@pytest.mark.parametrize("output", [OUTPUT.format("sum", "not-"), "rt: three proved\n"])
+def test_other_output_is_kept_whole(tool, output):
+    assert tool.brief(output) == output
 
 
 @pytest.fixture(scope="module")
-def side_by_side(tool):
+def run_parallel(tool):
     """The tool's function that runs tasks."""
-    return tool.side_by_side
+    return tool.run_parallel
 
 
-# Tasks by name: what each waits for, and its lines. The longest chain is that of `low` and `top`.
+# Tasks by name: the tasks that each waits for, and its seconds. The longest chain is that of `low` and `top`.
 TASKS = {
     "low": ([], 1),
     "beside": ([], 5),
@@ -244,71 +244,71 @@ TASKS = {
 
 def tasks_of(call):
     return {
-        key: (waits, lines, 0, lambda given, jobs, key=key: call(key, given, jobs))
-        for key, (waits, lines) in TASKS.items()
+        key: (waits, seconds, 0, lambda results, jobs, key=key: call(key, results, jobs))
+        for key, (waits, seconds) in TASKS.items()
     }
 
 
 @pytest.mark.parametrize("most", [1, 2, 3, 4])
-def test_a_task_is_given_what_it_waits_for(side_by_side, most):
-    lacking = []
+def test_a_task_receives_the_results_that_it_waits_for(run_parallel, most):
+    missing = []
 
-    def call(key, given, _jobs):
-        lacking.extend(it for it in TASKS[key][0] if given.get(it) != it.upper())
+    def call(key, results, _jobs):
+        missing.extend(it for it in TASKS[key][0] if results.get(it) != it.upper())
         return key.upper()
 
-    assert side_by_side(tasks_of(call), most) == {key: key.upper() for key in TASKS}
-    assert not lacking
+    assert run_parallel(tasks_of(call), most) == {key: key.upper() for key in TASKS}
+    assert not missing
 
 
-def test_the_longest_chain_comes_first(side_by_side):
-    begun = []
+def test_the_longest_chain_starts_first(run_parallel):
+    started = []
 
-    def call(key, _given, _jobs):
-        begun.append(key)
+    def call(key, _results, _jobs):
+        started.append(key)
 
-    side_by_side(tasks_of(call), 1)
-    assert begun == ["low", "top", "beside", "other", "above"]
+    run_parallel(tasks_of(call), 1)
+    assert started == ["low", "top", "beside", "other", "above"]
 
 
 @pytest.mark.parametrize("most", [1, 2, 3, 4])
-def test_a_task_of_one_job_waits_for_a_lane(side_by_side, most):
-    lock, taken, seen = threading.Lock(), [], []
+def test_a_task_of_one_job_waits_for_a_lane(run_parallel, most):
+    lock, used, seen = threading.Lock(), [], []
 
-    def call(_key, _given, jobs):
+    def call(_key, _results, jobs):
         with lock:
-            taken.append(jobs)
+            used.append(jobs)
             if jobs == 1:
-                seen.append(sum(taken))
+                seen.append(sum(used))
         time.sleep(0.02)
         with lock:
-            taken.remove(jobs)
+            used.remove(jobs)
 
-    side_by_side(tasks_of(call), most)
-    # (with two lanes each task has both, as it is the first of the longest chain that is left)
+    run_parallel(tasks_of(call), most)
+    # (with two lanes each task has both, as it is the first of the longest remaining chain)
     assert max(seen, default=0) <= most
 
 
 @pytest.mark.parametrize("most, first", [(3, ["low", "beside"]), (4, ["low", "beside", "other"])])
-def test_tasks_run_side_by_side(side_by_side, most, first):
-    # (it is broken, and fails the call, where not all of them have come in time)
-    met = threading.Barrier(len(first), timeout=60)
+def test_tasks_run_in_parallel(run_parallel, most, first):
+    # (the barrier breaks, and its waiters fail, if not all tasks reach it in time)
+    barrier = threading.Barrier(len(first), timeout=60)
 
-    def call(key, _given, _jobs):
+    def call(key, _results, _jobs):
         if key in first:
-            met.wait()
+            barrier.wait()
 
-    assert side_by_side(tasks_of(call), most).keys() == TASKS.keys()
+    assert run_parallel(tasks_of(call), most).keys() == TASKS.keys()
 
 
 @pytest.mark.parametrize("most, jobs", [(1, 1), (2, 2), (3, 2), (4, 2)])
-def test_what_most_others_wait_for_has_two_jobs(side_by_side, most, jobs):
-    begun = {}
+def test_the_longest_chain_has_two_jobs(run_parallel, most, jobs):
+    started = {}
 
-    def call(key, _given, jobs):
-        begun[key] = jobs
+    def call(key, _results, jobs):
+        started[key] = jobs
 
-    side_by_side(tasks_of(call), most)
-    assert begun["low"] == jobs and begun["top"] == jobs
-    # (with two lanes it comes last, and nothing waits for it)
-    assert begun["beside"] == 1 or most == 2
+    run_parallel(tasks_of(call), most)
+    assert started["low"] == jobs and started["top"] == jobs
+    # (with two lanes `beside` comes last, and nothing waits for it)
+    assert started["beside"] == 1 or most == 2

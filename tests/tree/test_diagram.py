@@ -1,13 +1,13 @@
-"""The diagram of crates in docs/ARCHITECTURE.md is what crates.txt gives (tools/diagram)."""
+"""tools/diagram keeps the diagram of docs/ARCHITECTURE.md equal to crates.txt, and detects differences."""
 import pytest
 from cases import cases
 from trees import ROOT, change, copy, run
 
 PAGE, CRATES = "docs/ARCHITECTURE.md", "crates.txt"
-STALE = "docs/ARCHITECTURE.md isn't what tools/diagram makes\n"
+STALE = "docs/ARCHITECTURE.md is out of date: run tools/diagram\n"
 
 
-def test_diagram_is_fresh():
+def test_diagram_is_up_to_date():
     assert run(ROOT, "diagram", "--check") == (0, "")
 
 
@@ -21,24 +21,24 @@ def tree(work):
 @pytest.mark.parametrize(
     "file, old, new, expected",
     cases(
-        ("an arrow that was changed by hand", PAGE, "cli --> commands", "cli --> server", STALE),
-        ("a crate that stands on one more", CRATES, "\nacceptor:", "\nacceptor: element", STALE),
-        ("a crate that is gone", CRATES, "\nfailures:", "\nfaults:", STALE),
+        ("an arrow changed by hand", PAGE, "cli --> commands", "cli --> server", STALE),
+        ("a further dependency of a crate", CRATES, "\nacceptor:", "\nacceptor: element", STALE),
+        ("a renamed crate", CRATES, "\nfailures:", "\nfaults:", STALE),
         (
             "a page without its marker",
             PAGE,
             "<!-- crates: made by tools/diagram -->",
             "",
-            "ARCHITECTURE.md has no place for the diagram\n",
+            "ARCHITECTURE.md lacks the markers of the diagram\n",
         ),
     ),
 )
-def test_a_fault_is_seen(tree, file, old, new, expected):
+def test_a_difference_is_reported(tree, file, old, new, expected):
     change(tree, [(file, old, new)])
     assert run(tree, "diagram", "--check") == (1, expected)
 
 
-def test_diagram_is_written_anew(tree):
+def test_diagram_is_regenerated(tree):
     change(tree, [(PAGE, "cli --> commands", "cli --> server")])
     assert run(tree, "diagram") == (0, "")
     assert (tree / PAGE).read_text() == (ROOT / PAGE).read_text()

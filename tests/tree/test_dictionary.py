@@ -1,11 +1,11 @@
-"""The tables of the standard are what tools write of Debian's python3-pydicom and libdcmtk-dev."""
+"""Tools keep the tables of the standard equal to Debian's python3-pydicom and libdcmtk-dev."""
 import re
 
 import pytest
 from cases import cases
 from trees import ROOT, change, copy, run
 
-# Each tool with files that it writes, and a text of each.
+# Each tool with the files that it writes, and a text in each.
 TOOLS = cases(
     (
         "storage classes",
@@ -41,19 +41,19 @@ TOOLS = cases(
 
 @pytest.fixture
 def tree(work):
-    """A copy of what the tools read and write."""
+    """A copy of the files that the tools read and write."""
     copy(work, "tools", "docs", "crates/dictionary", "crates/dictionary/proofs", "crates/keywords")
     return work
 
 
 @pytest.mark.parametrize("tool", ["storage-classes", "transfer-syntaxes", "keywords"])
-def test_tables_are_fresh(tool):
+def test_tables_are_up_to_date(tool):
     status, output = run(ROOT, tool, "--check")
     assert status == 0, output
 
 
 @pytest.mark.parametrize("tool, texts", TOOLS)
-def test_each_file_that_was_changed_by_hand_is_seen(tree, tool, texts):
+def test_a_change_by_hand_of_each_file_is_reported(tree, tool, texts):
     for file, old in texts.items():
         text = (tree / file).read_text()
         change(tree, [(file, old, f"X{old}")])
@@ -66,35 +66,35 @@ def test_each_file_that_was_changed_by_hand_is_seen(tree, tool, texts):
     "tool, old, new, expected",
     cases(
         (
-            "a class that DCMTK calls otherwise",
+            "a class with another name in DCMTK",
             "storage-classes",
             '    "ImplantationPlanSRDocumentStorage": "ImplantationPlanSRStorage",\n',
             "",
             "implantationplansrdocumentstorage is not in both lists\n",
         ),
         (
-            "a class that DCMTK has as retired and pydicom has not",
+            "a class that is retired in DCMTK alone",
             "storage-classes",
             'retired != "")\n        for uid',
             'keyword.endswith("Retired"))\n        for uid',
             "1.2.840.10008.5.1.4.1.1.9.1 waveformstorage is not in both lists\n",
         ),
         (
-            "a class that is taken for one of another table",
+            "a class listed as one of another table",
             "storage-classes",
             '    "InventoryStorage",\n',
             '    "CTImageStorage",\n    "InventoryStorage",\n',
             "crates/dictionary/src/storage_table.rt differs\n",
         ),
         (
-            "a syntax that pydicom alone has",
+            "a syntax in pydicom alone",
             "transfer-syntaxes",
             'ONLY_IN_PYDICOM = {"1.2.840.10008.1.2.1.98"}',
             "ONLY_IN_PYDICOM = set()",
             "1.2.840.10008.1.2.1.98 is not in both lists\n",
         ),
         (
-            "another pydicom",
+            "another version of pydicom",
             "keywords",
             'VERSION = "',
             'VERSION = "9.',
@@ -102,14 +102,14 @@ def test_each_file_that_was_changed_by_hand_is_seen(tree, tool, texts):
         ),
     ),
 )
-def test_lists_that_differ_are_seen(tree, tool, old, new, expected):
+def test_a_difference_of_the_lists_is_reported(tree, tool, old, new, expected):
     change(tree, [(f"tools/{tool}", old, new)])
     status, output = run(tree, tool, "--check")
     assert status == 1 and expected in output, output
 
 
 @pytest.mark.parametrize("tool, texts", TOOLS)
-def test_tables_are_written_anew(tree, tool, texts):
+def test_tables_are_regenerated(tree, tool, texts):
     change(tree, [(file, old, f"X{old}") for file, old in texts.items()])
     status, output = run(tree, tool)
     assert status == 0, output

@@ -1,4 +1,4 @@
-"""tools/examples, over a copy of this tree where the prover says what a test asks for."""
+"""tools/examples, on a copy of this tree with a fake prover that prints what each test needs."""
 import os
 
 import pytest
@@ -10,11 +10,11 @@ WRONG = "./proofs/ElementNumbers.antt:10:12: error: `example0`: expected another
 
 @pytest.fixture
 def examples(copied_tree):
-    """Runs the tool where the kit's prover does this."""
-    copy(copied_tree, "tools/wrong-bodies")
+    """Returns a function that runs the tool with this script as the prover."""
+    copy(copied_tree, "tools/mutants")
     rt, prover = copied_tree / "bin/rt", copied_tree / "kit/bin/rattle"
 
-    def ran(does):
+    def run_tool(does):
         doc = f'[ "$1" != doc ] || echo {copied_tree}/kit/START-HERE.md'
         write(copied_tree, {rt: f"#!/bin/sh\n{doc}\n", prover: f"#!/bin/sh\n{does}\n"})
         for path in (rt, prover):
@@ -22,26 +22,26 @@ def examples(copied_tree):
         path = f"{rt.parent}:{os.environ['PATH']}"
         return run(copied_tree, "examples", env={**os.environ, "PATH": path})
 
-    return ran
+    return run_tool
 
 
 @pytest.mark.parametrize(
     "does, expected, line",
     cases(
-        ("all are computed", "echo logic=proved functions=0", 0, " examples of docs/DEFINITIONS.md"),
-        ("one comes out otherwise", f"echo '{WRONG}'; exit 1", 1, WRONG),
-        ("some are left", "echo logic=not-proved", 1, "logic=not-proved"),
+        ("all are computed", "echo logic=proved functions=0", 0, " examples of the definitions"),
+        ("one has another result", f"echo '{WRONG}'; exit 1", 1, WRONG),
+        ("some are not proved", "echo logic=not-proved", 1, "logic=not-proved"),
         ("the prover does not run", "exit 127", 1, "FAILED"),
     ),
 )
-def test_examples_are_those_that_the_prover_computes(examples, does, expected, line):
+def test_the_prover_decides_about_examples(examples, does, expected, line):
     status, output = examples(does)
     assert status == expected and line in output, output
 
 
-def test_each_example_is_asked(examples):
+def test_each_example_is_checked(examples):
     asked = "grep -h -c '^pub example' proofs/*.antt | tr '\\n' ' '; echo error"
     status, output = examples(asked)
-    counts = [int(word) for word in output.splitlines()[0].split() if word.isdigit()]
+    counts = [int(part) for part in output.splitlines()[0].split() if part.isdigit()]
     _, computed = examples("echo logic=proved")
     assert status == 1 and computed.startswith(f"{sum(counts)} examples"), (output, computed)

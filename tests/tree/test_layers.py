@@ -1,12 +1,11 @@
-"""What the crates cite of each other.
+"""What crates may cite of each other.
 
-A crate cites of the crates below it their definitions, their contracts and the lemmas of their
+A crate may cite the definitions and contracts of the crates below it and the lemmas of their
 module `Public`, and no other lemma. Each lemma of `Public` is the contract of a law.
-`specs/machine` is a crate's own: no other crate names it, and no definition outside it stands on
-it, so that a public clause does not either. So that this is seen, no file names a crate's
-definitions, proofs or machine as a whole. What an association runs has no memory but its own: the
-crates that it is made of name no allocator and nothing that needs one, but for the devices over
-memory and over a folder.
+`specs/machine` is private to its crate: no other crate names it, and no definition outside it
+depends on it, so no public clause does. To make this checkable, no file names a crate's
+definitions, proofs or machine as a whole. An association allocates no memory: its crates name no
+allocator and nothing that needs one, except the devices over memory and over a folder.
 """
 import re
 
@@ -23,7 +22,7 @@ MACHINE = re.compile(r"Rattle\.([a-z0-9_]+)\.specs\.machine|\b([a-z0-9_]+)::spec
 ALLOCATING = re.compile(
     r"\b(Alloc|AllocGlobal|Allocator|Global|alloc|Vec|String|Box|Rc|Arc|format!)"
 )
-# What an association is made of, and which of its files are devices.
+# The crates of an association, and their files that are devices.
 ASSOCIATION = (
     "element dictionary sequence pdu acceptor negotiate dimse part10 folder_filing decisions engine"
 ).split()
@@ -32,7 +31,7 @@ DEVICES = (
     "listing locked_folder naming subfolders open_folder places names names_synced numbers aside "
     "notes quarantine quarantine_names"
 ).split()
-# An association has its settings by reference, and with them this list of whoever made it.
+# An association refers to its settings, and with them to this list of its owner.
 SETTING = re.compile(r"\bcallers: (Option<)?Vec<AeTitle>")
 
 
@@ -41,9 +40,9 @@ def crates(tree):
 
 
 def lines(tree, crate, part="*", ends=(".antt", ".rt")):
-    """The lines of a crate's files, or of a part's: each with its file, its place and its text."""
+    """Yields the lines of a crate's files, or of one part: file, location and text of each."""
     for folder in sorted((tree / "crates" / crate).glob(part)):
-        # What a check leaves is in `out`.
+        # (`out` has kept results of checks)
         for path in [] if folder.name == "out" else sorted(folder.rglob("*")):
             if path.suffix in ends:
                 name = path.relative_to(tree)
@@ -52,22 +51,22 @@ def lines(tree, crate, part="*", ends=(".antt", ".rt")):
 
 
 def wholes(tree):
-    """Where a file names the definitions or the proofs of a crate as a whole."""
+    """Returns the lines that name the definitions or the proofs of a crate as a whole."""
     return [
-        f"{place}: {line}"
+        f"{location}: {line}"
         for crate in crates(tree)
-        for _, place, line in lines(tree, crate)
+        for _, location, line in lines(tree, crate)
         if WHOLE.search(line) and re.search(r"Rattle\.|::(specs|proofs)", line)
     ]
 
 
 def private_lemmas(tree):
-    """Where a crate cites a lemma of another one that is not in its module Public."""
+    """Returns the lines that cite a lemma of another crate outside its module Public."""
     every = crates(tree)
     return [
-        f"{place}: {found[0]}"
+        f"{location}: {found[0]}"
         for crate in every
-        for _, place, line in lines(tree, crate)
+        for _, location, line in lines(tree, crate)
         for found in LEMMA.finditer(line)
         if (found[1] or found[2]) in every and (found[1] or found[2]) != crate
         if found[3] != "Public"
@@ -75,28 +74,28 @@ def private_lemmas(tree):
 
 
 def foreign_machines(tree):
-    """Where a crate names the machine of another one."""
+    """Returns the lines that name the machine of another crate."""
     return [
-        f"{place}: {line}"
+        f"{location}: {line}"
         for crate in crates(tree)
-        for _, place, line in lines(tree, crate)
+        for _, location, line in lines(tree, crate)
         for found in MACHINE.finditer(line)
         if found[1] != crate and found[2] != "crate"
     ]
 
 
 def definitions_on_machines(tree):
-    """Where a definition outside a machine stands on it."""
+    """Returns the lines of definitions outside a machine that depend on it."""
     return [
-        f"{place}: {line}"
+        f"{location}: {line}"
         for crate in crates(tree)
-        for name, place, line in lines(tree, crate, "specs", [".antt"])
+        for name, location, line in lines(tree, crate, "specs", [".antt"])
         if "specs/machine/" not in str(name) and "specs.machine." in line
     ]
 
 
 def lemmas_of_no_law(tree):
-    """The lemmas of modules Public that are the contract of no law."""
+    """Returns the lemmas of modules Public that are not the contract of a law."""
     found = []
     for public in sorted((tree / "crates").glob("*/proofs/Public.antt")):
         answers = "\n".join(path.read_text() for path in public.parent.rglob("Answers.antt"))
@@ -111,11 +110,11 @@ def lemmas_of_no_law(tree):
 
 
 def allocations(tree):
-    """Where a crate that an association is made of names an allocator, or what needs one."""
+    """Returns the lines of an association's crates that name an allocator, or something that needs one."""
     return [
-        f"{place}: {line}"
+        f"{location}: {line}"
         for crate in ASSOCIATION
-        for name, place, line in lines(tree, crate, "src", [".rt"])
+        for name, location, line in lines(tree, crate, "src", [".rt"])
         if ALLOCATING.search(line)
         if name.stem not in DEVICES and not line.lstrip(" ").startswith("//")
         if not SETTING.search(line)
@@ -134,7 +133,7 @@ def test_a_crate_names_no_machine_of_another():
     assert foreign_machines(ROOT) == []
 
 
-def test_no_definition_stands_on_the_machine():
+def test_no_definition_depends_on_the_machine():
     assert definitions_on_machines(ROOT) == []
 
 
@@ -157,7 +156,7 @@ CHECKS = [
 
 
 @pytest.mark.parametrize("check", CHECKS)
-def test_small_tree_is_right(small_tree, check):
+def test_small_tree_has_no_fault(small_tree, check):
     assert check(small_tree) == []
 
 
@@ -168,10 +167,10 @@ TURNING = "use Rattle.engine.specs.machine.Turning.{Turning}\n"
 
 
 @pytest.mark.parametrize(
-    "check, file, old, new, seen",
+    "check, file, old, new, expected",
     cases(
         (
-            "a definition that stands on the machine",
+            "a definition that depends on the machine",
             definitions_on_machines,
             SMALL,
             "use Rattle.std",
@@ -179,7 +178,7 @@ TURNING = "use Rattle.engine.specs.machine.Turning.{Turning}\n"
             f"{SMALL}:2: {LOOP}",
         ),
         (
-            "a definition of engine that stands on the machine",
+            "a definition of engine that depends on the machine",
             definitions_on_machines,
             TURNS,
             "use Rattle.std",
@@ -235,7 +234,7 @@ TURNING = "use Rattle.engine.specs.machine.Turning.{Turning}\n"
             f"{GREAT}:2: {LOOP}",
         ),
         (
-            "the machine of another crate beside its own",
+            "the machine of another crate in addition to its own",
             foreign_machines,
             GREAT,
             "use Rattle.low",
@@ -268,9 +267,9 @@ TURNING = "use Rattle.engine.specs.machine.Turning.{Turning}\n"
         ),
     ),
 )
-def test_a_fault_is_seen(small_tree, check, file, old, new, seen):
+def test_a_fault_is_reported(small_tree, check, file, old, new, expected):
     change(small_tree, [(file, old, new)])
-    assert check(small_tree) == [seen.rstrip("\n")]
+    assert check(small_tree) == [expected.rstrip("\n")]
 
 
 TAKING = "crates/engine/src/association/taking.rt"
@@ -278,7 +277,7 @@ WALKER = "crates/sequence/src/walker.rt"
 
 
 @pytest.mark.parametrize(
-    "file, old, new, seen",
+    "file, old, new, expected",
     cases(
         (
             "a body that allocates once",
@@ -288,7 +287,7 @@ WALKER = "crates/sequence/src/walker.rt"
             "        let _ = Box::new(devices.alloc(), 0);",
         ),
         (
-            "a walk that keeps what it has read",
+            "a walk that stores its input",
             WALKER,
             "\n}\n",
             "\n    kept: Vec<u8>,\n}\n",
@@ -296,7 +295,7 @@ WALKER = "crates/sequence/src/walker.rt"
         ),
     ),
 )
-def test_an_allocation_is_seen(copied_tree, file, old, new, seen):
+def test_an_allocation_is_reported(copied_tree, file, old, new, expected):
     change(copied_tree, [(file, old, new)])
     (found,) = allocations(copied_tree)
-    assert found.startswith(f"{file}:") and found.endswith(f": {seen}")
+    assert found.startswith(f"{file}:") and found.endswith(f": {expected}")

@@ -1,8 +1,8 @@
-"""A file of lemmas heads with what it proves, and is true about what it stands on.
+"""The heading of a file of lemmas says what the file proves, and names its dependencies correctly.
 
-Each has a heading. The names in it are of the file itself, of its crate's sources or definitions, or of crates. A sentence
-'Stands on ..' at its end has what the file cites: files of its folder; of another folder the file, or the folder alone where
-it cites several; and the crates whose laws it cites. The heading of a folder names the files in it.
+Each file has a heading. The names in it are names of the file itself, of its crate's sources or definitions, or of crates.
+A sentence 'Stands on ..' at its end lists what the file cites: files of its folder; a file of another folder, or that folder
+alone if the file cites several of its files; and the crates whose laws it cites. The heading of a folder names its files.
 """
 import re
 
@@ -11,8 +11,8 @@ from cases import cases
 from trees import ROOT, change
 
 WORD = re.compile(r"[A-Za-z_]\w*")
-STANDS = re.compile(r"Stands on ([^()]*)\.$")
-# What has answers to goals, and what passes lemmas on.
+DEPENDENCIES = re.compile(r"Stands on ([^()]*)\.$")
+# Files of answers to goals, and files that re-export lemmas.
 OTHERS = {"Answers", "Proof", "Invariants", "Public", "Lib"}
 
 
@@ -21,20 +21,20 @@ def crates(tree):
 
 
 def parted(path):
-    """The heading of a file as one line, and what comes after it."""
+    """Returns the heading of a file as one line, and the rest of the file."""
     lines = path.read_text().splitlines()
     end = next((at for at, line in enumerate(lines) if not line.startswith("--")), len(lines))
     return " ".join(line[2:].strip() for line in lines[:end]), "\n".join(lines[end:])
 
 
 def folders(tree, crate):
-    """The files of a crate's proofs that stand for a folder of lemmas."""
+    """Returns the files of a crate's proofs that declare a folder of lemmas."""
     proofs = tree / "crates" / crate / "proofs"
     return [path for path in sorted(proofs.glob("*.antt")) if path.with_suffix("").is_dir()]
 
 
 def files(tree, crate):
-    """The files of lemmas of a crate, by their names."""
+    """Returns the files of lemmas of a crate, by their names."""
     proofs = tree / "crates" / crate / "proofs"
     paths = [*proofs.glob("*.antt"), *proofs.glob("[A-Z]*/*.antt")]
     for path in sorted({*paths} - {*folders(tree, crate)}):
@@ -43,7 +43,7 @@ def files(tree, crate):
 
 
 def without_heading(tree):
-    """The files that say nothing of what they prove."""
+    """Returns the files without a heading."""
     return [
         f"{path.relative_to(tree)} has no heading"
         for crate in crates(tree)
@@ -53,7 +53,7 @@ def without_heading(tree):
 
 
 def unknown_names(tree):
-    """The names in a heading that nothing has."""
+    """Returns the unknown names in headings."""
     found = []
     for crate in crates(tree):
         top = tree / "crates" / crate
@@ -72,7 +72,7 @@ def unknown_names(tree):
 
 
 def cited(crate, name, body):
-    """What the file of this name cites, in the words of a heading."""
+    """Returns the names that a file cites, as headings write them."""
     folder = name.rpartition("/")[0]
     use = rf"^(?:pub )?use Rattle\.{crate}\.proofs\.((?:[A-Z]\w*\.)?[A-Z]\w*)(?:\.\{{| as )"
     lemmas = {lemmas.replace(".", "/") for lemmas in re.findall(use, body, re.M)}
@@ -88,23 +88,23 @@ def cited(crate, name, body):
             yield law
 
 
-def wrong_stands(tree):
-    """The headings that say of a file what it does not stand on, or miss what it does."""
+def wrong_dependencies(tree):
+    """Returns the dependencies that headings name wrongly or omit."""
     found = []
     for crate in crates(tree):
         for name, path in files(tree, crate):
             heading, body = parted(path)
-            said = STANDS.search(heading)
-            if said:
-                plain = re.sub(r"\b(and|the laws of|the definitions alone)\b", ",", said[1])
-                words = {word.strip(" `") for word in plain.split(",")} - {""}
-                wrong = sorted(words ^ {*cited(crate, name, body)})
-                found += [f"{path.relative_to(tree)}: {word}" for word in wrong]
+            stated = DEPENDENCIES.search(heading)
+            if stated:
+                plain = re.sub(r"\b(and|the laws of|the definitions alone)\b", ",", stated[1])
+                names = {part.strip(" `") for part in plain.split(",")} - {""}
+                different = sorted(names ^ {*cited(crate, name, body)})
+                found += [f"{path.relative_to(tree)}: {it}" for it in different]
     return found
 
 
 def unlisted(tree):
-    """The files of a folder that its heading does not name."""
+    """Returns the files of a folder that its heading does not name."""
     return [
         f"{path.relative_to(tree)} does not name {name}"
         for crate in crates(tree)
@@ -119,29 +119,29 @@ def test_each_file_has_a_heading():
     assert without_heading(ROOT) == []
 
 
-def test_headings_name_what_is_there():
+def test_headings_name_what_exists():
     assert unknown_names(ROOT) == []
 
 
-def test_headings_say_what_a_file_stands_on():
-    assert wrong_stands(ROOT) == []
+def test_headings_name_the_dependencies_of_a_file():
+    assert wrong_dependencies(ROOT) == []
 
 
 def test_folders_name_their_files():
     assert unlisted(ROOT) == []
 
 
-CHECKS = [without_heading, unknown_names, wrong_stands, unlisted]
+CHECKS = [without_heading, unknown_names, wrong_dependencies, unlisted]
 NUMBERS = "crates/low/proofs/Sizes/Numbers.antt"
 
 
 @pytest.mark.parametrize("check", CHECKS)
-def test_small_tree_is_right(small_tree, check):
+def test_small_tree_has_no_fault(small_tree, check):
     assert check(small_tree) == []
 
 
 @pytest.mark.parametrize(
-    "check, file, old, new, seen",
+    "check, file, old, new, expected",
     cases(
         (
             "a file without a heading",
@@ -169,7 +169,7 @@ def test_small_tree_is_right(small_tree, check):
         ),
         (
             "a file that is not cited",
-            wrong_stands,
+            wrong_dependencies,
             NUMBERS,
             "Stands on Few.",
             "Stands on Few and Further.",
@@ -177,7 +177,7 @@ def test_small_tree_is_right(small_tree, check):
         ),
         (
             "a file that is cited",
-            wrong_stands,
+            wrong_dependencies,
             NUMBERS,
             "Stands on Few.",
             "Stands on the definitions alone.",
@@ -193,6 +193,6 @@ def test_small_tree_is_right(small_tree, check):
         ),
     ),
 )
-def test_a_fault_is_seen(small_tree, check, file, old, new, seen):
+def test_a_fault_is_reported(small_tree, check, file, old, new, expected):
     change(small_tree, [(file, old, new)])
-    assert seen in check(small_tree)
+    assert expected in check(small_tree)

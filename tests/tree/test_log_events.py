@@ -1,4 +1,4 @@
-"""The events and fields that the manual page lists of a log in JSON are those of the code."""
+"""The manual page lists the events and fields of the log in JSON as the code has them."""
 import re
 
 import pytest
@@ -6,25 +6,25 @@ from cases import cases
 from trees import ROOT
 
 MANUAL, CODE = "man/dcmbox.1", "crates/journal/src"
-# What the text beside a data set in a quarantine has, and no line of the log.
+# Fields of the text for a data set in quarantine that no line of the log has.
 OF_SHEETS = {"kept", "whole"}
 
 
 def listed(manual):
-    """The events of the manual page, each with its fields."""
+    """Returns the events of the manual page, each with its fields."""
     part = re.search(r'^\.\\" events\n(.*?)^\.\\" end$', manual, re.M | re.S)[1]
     rows = re.findall(r"^\.TP\n\.B (.*)\n(.*)\.$", part, re.M)
     return {event: fields.replace("\\-", "-") for event, fields in rows}
 
 
 def in_code(code):
-    """The events and the names of fields that the code has."""
+    """Returns the events and the names of fields in the code."""
     events = re.findall(r'Event \{\s*key: "([^"]+)"', code) + re.findall(r'\\"event\\":\\"([^\\]+)\\"', code)
     return set(events), set(re.findall(r'(?:Name::new\(\s*|Name \{\s*key: )"([^"]+)"', code)) - OF_SHEETS
 
 
 def differ(manual, code):
-    """What one of the two has and the other has not."""
+    """Returns the events and fields that only one of the two has."""
     rows = listed(manual)
     named = {field for fields in rows.values() for field in fields.split(", ")} - {"no further fields"}
     events, fields = in_code(code)
@@ -43,10 +43,10 @@ def test_the_manual_has_them(code):
 @pytest.mark.parametrize(
     "old, new, found",
     cases(
-        ("an event that is not there", ".B lines left out\n", ".B lines lost\n", {"lines left out", "lines lost"}),
-        ("a field that is not there", "places.\n", "place.\n", {"place", "places"}),
+        ("an unknown event", ".B lines left out\n", ".B lines lost\n", {"lines left out", "lines lost"}),
+        ("an unknown field", "places.\n", "place.\n", {"place", "places"}),
     ),
 )
-def test_another_one_is_seen(code, old, new, found):
+def test_a_difference_is_found(code, old, new, found):
     manual = (ROOT / MANUAL).read_text()
     assert old in manual and differ(manual.replace(old, new), code) == found

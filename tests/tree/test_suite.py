@@ -1,4 +1,4 @@
-"""What the tests share (tests/conftest.py): a skip fails, and TEST takes words."""
+"""Options of the tests (tests/conftest.py): a skip fails the run, and TEST accepts spaces in names."""
 import os
 import shutil
 import subprocess
@@ -23,16 +23,16 @@ def test_what_this_machine_does_not_have():
 
 @pytest.fixture
 def suite(work):
-    """Runs a suite of three tests, one of which is skipped; gives the status and the output."""
+    """Returns a function that runs three tests, one of which is skipped. It returns the status and the output."""
     for name in ("conftest.py", "pytest.ini"):
         shutil.copy(ROOT / "tests" / name, work)
     (work / "test_three.py").write_text(TESTS)
 
-    def ran(*options, **environment):
-        words = [sys.executable, "-m", "pytest", "-c", "pytest.ini", "test_three.py", *options]
+    def run_suite(*options, **environment):
+        command = [sys.executable, "-m", "pytest", "-c", "pytest.ini", "test_three.py", *options]
         kept = {name: value for name, value in os.environ.items() if name != "MAY_SKIP"}
         done = subprocess.run(
-            words,
+            command,
             cwd=work,
             env={**kept, **environment},
             stdin=subprocess.DEVNULL,
@@ -42,7 +42,7 @@ def suite(work):
         )
         return done.returncode, done.stdout
 
-    return ran
+    return run_suite
 
 
 @pytest.mark.parametrize("workers", ["0", "2"], ids=["alone", "side_by_side"])
@@ -58,14 +58,14 @@ def test_a_skip_that_is_allowed_passes(suite):
 
 
 @pytest.mark.parametrize(
-    "words, passed",
+    "expression, passed",
     cases(
         ("one word", "logged", 2),
         ("words of a name", "calling title", 1),
-        ("words of one name and of another", "calling title or called title", 2),
-        ("words of a name that another has not", "title and not calling title", 1),
+        ("words of one name or of another", "calling title or called title", 2),
+        ("words of one name and not of another", "title and not calling title", 1),
     ),
 )
-def test_words_choose_tests(suite, words, passed):
-    status, output = suite("-k", words)
+def test_words_choose_tests(suite, expression, passed):
+    status, output = suite("-k", expression)
     assert status == 0 and f"{passed} passed, {3 - passed} deselected" in output, output

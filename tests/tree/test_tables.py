@@ -1,14 +1,14 @@
-"""What is made of docs/tables.json is what it gives, and it is what the code has (tools/tables)."""
+"""tools/tables keeps its documents equal to docs/tables.json, and docs/tables.json equal to the code."""
 import pytest
 from cases import cases
 from trees import ROOT, change, run
 
 TABLES, STATEMENT = "docs/tables.json", "docs/CONFORMANCE.md"
 MANUAL, COMPLETION = "man/dcmbox.1", "packaging/dcmbox.bash"
-STALE = " isn't what docs/tables.json gives: run tools/tables\n"
+STALE = " is out of date: run tools/tables\n"
 
 
-def test_tables_are_fresh():
+def test_tables_are_up_to_date():
     assert run(ROOT, "tables", "--check") == (0, "")
 
 
@@ -16,7 +16,7 @@ def test_tables_are_fresh():
     "file, old, new, expected",
     cases(
         (
-            "a fault that the code has not",
+            "a fault that the code lacks",
             TABLES,
             '"number": 62, "name": "TwiceReached"',
             '"number": 62, "name": "TwiceNamed"',
@@ -37,14 +37,14 @@ def test_tables_are_fresh():
             f"{TABLES}: --once is not what serve has",
         ),
         (
-            "an option that the table misses",
+            "an option that the table lacks",
             TABLES,
             '"no-sync", "once"',
             '"no-sync"',
             f"{TABLES}: serve has --once, too\n",
         ),
         (
-            "a limit that the code has not",
+            "a limit that differs from the code",
             TABLES,
             '"1,024 bytes", "code": "COMMAND"',
             '"2,048 bytes", "code": "COMMAND"',
@@ -72,28 +72,28 @@ def test_tables_are_fresh():
             "CHANGELOG.md: its newest release isn't",
         ),
         (
-            "a table that was changed by hand",
+            "a table changed by hand",
             STATEMENT,
             "| Command set | 1,024 bytes |",
             "| Command set | 2,048 bytes |",
             f"{STATEMENT}{STALE}",
         ),
         (
-            "an option of the manual page that was changed by hand",
+            "an option of the manual page changed by hand",
             MANUAL,
             "Ends after one association.",
             "Ends after two associations.",
             f"{MANUAL}{STALE}",
         ),
         (
-            "a completion that was changed by hand",
+            "a completion changed by hand",
             COMPLETION,
             "--once",
             "--twice",
             f"{COMPLETION}{STALE}",
         ),
         (
-            "a marker that is gone",
+            "a missing marker",
             STATEMENT,
             "<!-- limits: made by tools/tables -->",
             "",
@@ -101,19 +101,19 @@ def test_tables_are_fresh():
         ),
     ),
 )
-def test_a_fault_is_seen(copied_tree, file, old, new, expected):
+def test_a_difference_is_reported(copied_tree, file, old, new, expected):
     change(copied_tree, [(file, old, new)])
     status, output = run(copied_tree, "tables", "--check")
     assert status == 1 and expected in output, output
 
 
-def test_tables_are_written_anew(copied_tree):
-    edits = [
+def test_tables_are_regenerated(copied_tree):
+    changes = [
         (STATEMENT, "| Command set | 1,024 bytes |", "| Command set | 2,048 bytes |"),
         (MANUAL, "Ends after one association.", "Ends after two associations."),
         (COMPLETION, "--once", "--twice"),
     ]
-    change(copied_tree, edits)
+    change(copied_tree, changes)
     assert run(copied_tree, "tables") == (0, "")
-    for file, _, _ in edits:
+    for file, _, _ in changes:
         assert (copied_tree / file).read_text() == (ROOT / file).read_text()

@@ -1,8 +1,8 @@
-"""Trees on which the checks of this repository are tried: a small one, and a copy of this one.
+"""Trees for tests of this repository's checks: a small tree, and a copy of this one.
 
 The small tree has three crates: `low`, whose contract cites the definitions `Small`, `◌or_else◌`
-and `◌>>=◌`, and which keeps the word `Loop` in its machine; `high`, which cites `Small`; and
-`engine`, by which it is seen that no crate is let off for its name.
+and `◌>>=◌`, and which has the definition `Loop` in its machine; `high`, which cites `Small`; and
+`engine`, which tests that no crate is exempt because of its name.
 """
 import pathlib
 import re
@@ -10,7 +10,7 @@ import shutil
 import subprocess
 
 ROOT = pathlib.Path(__file__).resolve().parents[2]
-# So many seconds a tool has.
+# The time limit of a tool in seconds.
 PATIENCE = 60
 
 NUMBER = "crates/low/src/number.rt"
@@ -113,7 +113,7 @@ pub fn great() -> u8
     200
 }
 """,
-    "crates/high/wrong-bodies/great.returns_a_few.edit": "file: src/lib.rt\nold: 200\nnew: 3\n",
+    "crates/high/mutants/great.returns_a_few.mutant": "file: src/lib.rt\nold: 200\nnew: 3\n",
     "crates/engine/specs/Lib.antt": "pub mod Turns\npub mod machine\n",
     "crates/engine/specs/machine.antt": "pub mod Turning\n",
     "crates/engine/specs/machine/Turning.antt": """-- The turn.
@@ -129,15 +129,6 @@ abbrev pub turns : ℕ
 turns = 1
 """,
     "crates/engine/src/lib.rt": "",
-    "docs/DEFINITIONS_INDEX.md": """# Index of definitions
-
-## Numbers (`low`)
-
-| Definition | In one sentence |
-|---|---|
-| `Small`, `Number` | at most 9 |
-
-""",
     "docs/PROVED.md": """# What is proved
 
 ## Numbers (`low`)
@@ -170,19 +161,9 @@ Small n = nat_le n 9
 #### `great`
 No small one.
 """,
-    "docs/QUESTIONS.md": """# Questions
-
-## 1. Are a few few?
-
-Yes.
-
-| Clause | Definition |
-|---|---|
-| `either` of `low::few` | `nat_le` of [`Small`](DEFINITIONS.md#small) |
-""",
     "README.md": """# Numbers
 
-| Claim | Clause | A refused body |
+| Claim | Clause | Mutant |
 |---|---|---|
 | A great number isn't small | `great` of `high`, and `few` of `low` | `returns_a_few` |
 
@@ -191,9 +172,9 @@ What is [only tested](docs/PROVED.md#tested).
     "tests/test_numbers.py": "few\n",
 }
 
-# What of this tree the checks read.
+# The parts of this tree that the checks read.
 PARTS = ["CHANGELOG.md", "README.md", "crates.txt", "crates", "docs", "man", "packaging", "tools"]
-LEFT_OUT = shutil.ignore_patterns("out", "proofs", "data", "wrong-bodies", "__pycache__")
+OMITTED = shutil.ignore_patterns("out", "proofs", "data", "mutants", "__pycache__")
 
 
 def write(tree, texts):
@@ -209,35 +190,32 @@ def copy(tree, *names):
     for name in names:
         (tree / name).parent.mkdir(parents=True, exist_ok=True)
         if (ROOT / name).is_dir():
-            shutil.copytree(ROOT / name, tree / name, ignore=LEFT_OUT)
+            shutil.copytree(ROOT / name, tree / name, ignore=OMITTED)
         else:
             shutil.copy(ROOT / name, tree / name)
 
 
 def anchor(heading):
-    """The name by which a link leads to a heading."""
+    """Returns the anchor of a heading in links."""
     return re.sub(r"[^\w -]", "", heading.lower()).replace(" ", "-")
 
 
-def change(tree, edits):
-    """Makes edits, each the name of a file, an old text, and the one that takes its first place."""
-    for name, old, new in edits:
+def change(tree, changes):
+    """Makes changes, each a file and an old text of it, whose first occurrence is replaced by a new text."""
+    for name, old, new in changes:
         text = (tree / name).read_text()
         assert old in text, f"{name} of the tree has no {old!r}"
         (tree / name).write_text(text.replace(old, new, 1))
 
 
-def run(tree, tool, *arguments, **kinds):
-    """Runs a tool of the tree, and gives its status, and all that it prints.
-
-    The other ones are those of subprocess.run.
-    """
+def run(tree, tool, *arguments, **options):
+    """Runs a tool of the tree with options of subprocess.run. Returns its status and its output."""
     done = subprocess.run(
         [tree / "tools" / tool, *arguments],
         stdin=subprocess.DEVNULL,
         stdout=subprocess.PIPE,
         stderr=subprocess.STDOUT,
         text=True,
-        **{"timeout": PATIENCE, **kinds},
+        **{"timeout": PATIENCE, **options},
     )
     return done.returncode, done.stdout

@@ -6,7 +6,7 @@ use Rattle.acceptor.specs.declared.state.State.TheVariants.{Sta1, Sta2, Sta3, St
 use Rattle.acceptor.specs.declared.event.Event.{Event}
 use Rattle.acceptor.specs.declared.event.Event.TheVariants.{Connected, AcceptableRq, UnacceptableRq, Ac, Rj, Data, ReleaseRq, ReleaseRp, Abort, Invalid, Closed, Expired, UserAccepts, UserRefuses, UserReleases, UserAborts}
 use Rattle.acceptor.specs.declared.effect.Timer.{Timer}
-use Rattle.acceptor.specs.declared.effect.Timer.TheVariants.{Starts, Stops, GoesOn}
+use Rattle.acceptor.specs.declared.effect.Timer.TheVariants.{Starts, Stops, Continues}
 use Rattle.acceptor.specs.Effect.{timer, timer_runs}
 use Rattle.acceptor.specs.Table.{table}
 use Rattle.acceptor.specs.TimerLaws.{state_after, is_start, BelongTogether, AStartIsAnEntry, StartsAreSeen}
@@ -60,7 +60,7 @@ step state event n = inl (refl, refl)
 starts_is : (t : Timer) → is_start t ≡ true → t ≡ Starts
 starts_is Starts h = refl
 starts_is Stops h = absurd cc
-starts_is GoesOn h = absurd cc
+starts_is Continues h = absurd cc
 
 no_start : (t : Timer) → is_start t ≡ false → t ≢ Starts
 no_start t h e = let x : true ≡ false = ap is_start (sym e) ∙ h in absurd cc
@@ -74,11 +74,11 @@ entry_by a b t (inr (less, is)) = (λ e. (another a b less, sym is ∙ ap is_sta
 
 pub entry : AStartIsAnEntry
 entry Sta1 Connected = (λ e. (λ (same : Sta2 ≡ Sta1). absurd cc, refl), λ h. refl)
-entry Sta2 Connected = entry_by Sta2 Sta2 GoesOn (inl (refl, refl))
-entry Sta3 Connected = entry_by Sta3 Sta3 GoesOn (inl (refl, refl))
-entry Sta6 Connected = entry_by Sta6 Sta6 GoesOn (inl (refl, refl))
-entry Sta8 Connected = entry_by Sta8 Sta8 GoesOn (inl (refl, refl))
-entry Sta13 Connected = entry_by Sta13 Sta13 GoesOn (inl (refl, refl))
+entry Sta2 Connected = entry_by Sta2 Sta2 Continues (inl (refl, refl))
+entry Sta3 Connected = entry_by Sta3 Sta3 Continues (inl (refl, refl))
+entry Sta6 Connected = entry_by Sta6 Sta6 Continues (inl (refl, refl))
+entry Sta8 Connected = entry_by Sta8 Sta8 Continues (inl (refl, refl))
+entry Sta13 Connected = entry_by Sta13 Sta13 Continues (inl (refl, refl))
 entry state event = entry_by _ _ _ (step state event (λ e. absurd cc))
 
 -- ---- several events

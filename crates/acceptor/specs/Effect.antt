@@ -7,9 +7,10 @@ use Rattle.acceptor.specs.declared.action.Action.TheVariants.{Ae5, Ae6, Ae7, Ae8
 use Rattle.acceptor.specs.declared.effect.Sending.{Sending}
 use Rattle.acceptor.specs.declared.effect.Sending.TheVariants.{Nothing, Answer, ReleaseResponse, Abort}
 use Rattle.acceptor.specs.declared.effect.Timer.{Timer}
-use Rattle.acceptor.specs.declared.effect.Timer.TheVariants.{Starts, Stops, GoesOn}
+use Rattle.acceptor.specs.declared.effect.Timer.TheVariants.{Starts, Stops, Continues}
 
 -- what the action sends if it leads to this state; `reason` is the reason field of an A-ABORT of the service provider
+-- e.g. sending Aa8 Sta13 2 ≡ Abort 2 2
 abbrev pub sending : Action → State → ℕ → Sending
 sending Ae6 Sta13 reason = Answer
 sending Ae7 next reason = Answer
@@ -22,6 +23,7 @@ sending action next reason = Nothing
 
 -- the bytes that are sent, given those of the A-ASSOCIATE-AC or A-ASSOCIATE-RJ, of an A-RELEASE-RP, and of an A-ABORT
 -- with its source and reason
+-- e.g. bytes_sent (1 ∷ []) (2 ∷ []) (λ s r. s ∷ r ∷ []) (Abort 2 6) ≡ 2 ∷ 6 ∷ []
 abbrev pub bytes_sent : (answer release : List ℕ) → (abort : ℕ → ℕ → List ℕ) → Sending → List ℕ
 bytes_sent answer release abort Nothing = []
 bytes_sent answer release abort Answer = answer
@@ -40,13 +42,13 @@ timer Aa1 next = Starts
 timer Aa2 next = Stops
 timer Aa5 next = Stops
 timer Aa8 next = Starts
-timer action next = GoesOn
+timer action next = Continues
 
 -- whether the ARTIM timer runs afterwards, given whether it was running before
 abbrev pub runs_after : Timer → (running : Bool) → Bool
 runs_after Starts running = true
 runs_after Stops running = false
-runs_after GoesOn running = running
+runs_after Continues running = running
 
 -- whether the ARTIM timer runs in this state (PS3.8 section 9.1.5)
 abbrev pub timer_runs : State → Bool

@@ -9,6 +9,7 @@ use Rattle.acceptor.specs.declared.action.Action.TheVariants.{Nothing, Ae5, Ae6,
 -- The action and the next state for an event in a state. That a pair outside the acceptor's part has no action and
 -- keeps the state is this product's own profile. In Sta3 and Sta8 the local user responds before the next input is
 -- read, so no PDU is received in them.
+-- e.g. table Sta6 ReleaseRq ≡ (Ar2, Sta8); table Sta13 Data ≡ (Aa6, Sta13)
 abbrev pub table : State → Event → Action × State
 table Sta1 Connected = (Ae5, Sta2)
 table Sta2 AcceptableRq = (Ae6, Sta3)

@@ -1,12 +1,12 @@
--- The states before and after some events tell whether the ARTIM timer was started in them (PS3.8 sections 9.1.5 and
--- 9.2.3, Table 9-10).
+-- The states before and after some events determine whether the ARTIM timer was started in them (PS3.8 sections 9.1.5
+-- and 9.2.3, Table 9-10).
 use Rattle.std.specs.Prelude.{◌≡◌, ◌≢◌, ◌↔◌, ◌||◌, Bool, true, false, List, [], ◌∷◌}
 use Rattle.std.specs.List.{AllByRecursion}
 use Rattle.acceptor.specs.declared.state.State.{State}
 use Rattle.acceptor.specs.declared.event.Event.{Event}
 use Rattle.acceptor.specs.declared.event.Event.TheVariants.{Connected}
 use Rattle.acceptor.specs.declared.effect.Timer.{Timer}
-use Rattle.acceptor.specs.declared.effect.Timer.TheVariants.{Starts, Stops, GoesOn}
+use Rattle.acceptor.specs.declared.effect.Timer.TheVariants.{Starts, Stops, Continues}
 use Rattle.acceptor.specs.Effect.{timer, timer_runs}
 use Rattle.acceptor.specs.Table.{table}
 
@@ -18,7 +18,7 @@ state_after state (event ∷ events) = state_after (table state event).1 events
 abbrev pub is_start : Timer → Bool
 is_start Starts = true
 is_start Stops = false
-is_start GoesOn = false
+is_start Continues = false
 
 -- whether the ARTIM timer is started by one of these events
 abbrev pub has_start : State → List Event → Bool

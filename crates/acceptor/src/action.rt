@@ -5,21 +5,21 @@ ghost use Rattle.acceptor.specs.Effect as spelling;
 use crate::effect::{Sending, Timer};
 use crate::state::State;
 
-/// An action, named as in PS3.8 Tables 9-6 to 9-9.
+/// An action of the state machine, named as in PS3.8 Tables 9-6 to 9-9.
 #[derive(Clone, Copy, Debug, PartialEq, Eq)]
 pub enum Action {
-    /// No action: the event cannot occur in the state (this product's own profile).
+    /// No action: the event cannot occur in this state (this product's own profile).
     Nothing,
     /// AE-5: the transport connection is accepted and the ARTIM timer starts.
     Ae5,
-    /// AE-6: if the request is acceptable, the timer stops and the local user decides on it; if not,
-    /// an A-ASSOCIATE-RJ is sent and the timer starts.
+    /// AE-6: if the request is acceptable, the timer stops and the local user decides on the
+    /// association; if not, an A-ASSOCIATE-RJ is sent and the timer starts.
     Ae6,
     /// AE-7: an A-ASSOCIATE-AC is sent.
     Ae7,
     /// AE-8: an A-ASSOCIATE-RJ is sent and the timer starts.
     Ae8,
-    /// AR-2: the local user gets an A-RELEASE indication.
+    /// AR-2: the local user receives an A-RELEASE indication.
     Ar2,
     /// AR-4: an A-RELEASE-RP is sent and the timer starts.
     Ar4,
@@ -29,27 +29,27 @@ pub enum Action {
     Aa1,
     /// AA-2: the timer stops and the transport connection is closed.
     Aa2,
-    /// AA-3: the local user gets an A-ABORT indication and the transport connection is closed.
+    /// AA-3: the local user receives an A-ABORT indication and the transport connection is closed.
     Aa3,
-    /// AA-4: the local user gets an A-P-ABORT indication.
+    /// AA-4: the local user receives an A-P-ABORT indication.
     Aa4,
     /// AA-5: the timer stops.
     Aa5,
     /// AA-6: the PDU is ignored.
     Aa6,
-    /// AA-7: an A-ABORT of the service provider is sent; the timer keeps running.
+    /// AA-7: an A-ABORT of the service provider is sent; the timer is unchanged.
     Aa7,
-    /// AA-8: an A-ABORT of the service provider is sent, the local user gets an A-P-ABORT
+    /// AA-8: an A-ABORT of the service provider is sent, the local user receives an A-P-ABORT
     /// indication, and the timer starts.
     Aa8,
-    /// DT-2: the local user gets a P-DATA indication.
+    /// DT-2: the local user receives a P-DATA indication.
     Dt2,
 }
 
 impl Action {
-    /// Returns what this action sends if it leads to the state `next`, on which AE-6 depends. `reason`
-    /// is the reason field of an A-ABORT of the service provider (AA-7 and AA-8, PS3.8 section 9.3.8);
-    /// other actions ignore it.
+    /// Returns what this action sends if it leads to the state `next`, which matters for AE-6.
+    /// `reason` is the reason field of an A-ABORT of the service provider (AA-7 and AA-8, PS3.8
+    /// section 9.3.8); other actions ignore it.
     pub fn sends(self, next: State, reason: u8) -> Sending
         ensures { result ≡ spelling.sending self next reason }
     {
@@ -63,8 +63,8 @@ impl Action {
         }
     }
 
-    /// Returns what this action does to the ARTIM timer if it leads to the state `next`, on which AE-6
-    /// depends.
+    /// Returns the effect of this action on the ARTIM timer if it leads to the state `next`, which
+    /// matters for AE-6.
     pub fn timer(self, next: State) -> Timer
         ensures { result ≡ spelling.timer self next }
     {
@@ -74,7 +74,7 @@ impl Action {
             (Action::Ae5 | Action::Ae8 | Action::Ar4 | Action::Aa1 | Action::Aa8, _) =>
                 Timer::Starts,
             (Action::Aa2 | Action::Aa5 | Action::Ar5, _) => Timer::Stops,
-            (_, _) => Timer::GoesOn,
+            (_, _) => Timer::Continues,
         }
     }
 }

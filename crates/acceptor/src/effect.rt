@@ -1,4 +1,4 @@
-//! The effects of an action: what it sends and what it does to the ARTIM timer.
+//! The effects of an action: the PDU that it sends, and its effect on the ARTIM timer.
 ghost use Rattle.std.specs.Prelude.{◌≡◌};
 ghost use Rattle.acceptor.specs.Effect as spelling;
 
@@ -7,34 +7,34 @@ ghost use Rattle.acceptor.specs.Effect as spelling;
 pub enum Sending {
     /// No PDU.
     Nothing,
-    /// The answer to the association request: an A-ASSOCIATE-AC or an A-ASSOCIATE-RJ.
+    /// The response to an association request: an A-ASSOCIATE-AC or an A-ASSOCIATE-RJ.
     Answer,
     /// An A-RELEASE-RP.
     ReleaseResponse,
-    /// An A-ABORT with this source and this reason (PS3.8 section 9.3.8).
+    /// An A-ABORT with this source and reason (PS3.8 section 9.3.8).
     Abort(u8, u8),
 }
 
-/// What an action does to the ARTIM timer (PS3.8 section 9.2).
+/// The effect of an action on the ARTIM timer (PS3.8 section 9.2).
 #[derive(Clone, Copy, Debug, PartialEq, Eq)]
 pub enum Timer {
     /// The timer starts, or restarts if it is running.
     Starts,
     /// The timer stops if it is running.
     Stops,
-    /// The timer stays as it is, running or stopped.
-    GoesOn,
+    /// The timer is unchanged, running or stopped.
+    Continues,
 }
 
 impl Timer {
-    /// Returns whether the timer runs afterwards, given whether it was `running` before.
+    /// Returns whether the timer runs after the action, if `running` is whether it ran before.
     pub fn after(self, running: bool) -> bool
         ensures { result ≡ spelling.runs_after self running }
     {
         match self {
             Timer::Starts => true,
             Timer::Stops => false,
-            Timer::GoesOn => running,
+            Timer::Continues => running,
         }
     }
 }

@@ -1,12 +1,12 @@
 //! The events of the upper layer's state machine.
 
-/// An event of an association: one of the rows of PS3.8 Table 9-10 that concern an acceptor.
+/// An event of an association: a row of PS3.8 Table 9-10 that concerns an acceptor.
 #[derive(Clone, Copy, Debug, PartialEq, Eq)]
 pub enum Event {
     /// Transport connection indication: the transport connection is open.
     Connected,
-    /// An A-ASSOCIATE-RQ PDU was received that is acceptable to the service provider. This event and the
-    /// next are the two outcomes of action AE-6.
+    /// An A-ASSOCIATE-RQ PDU was received that the service provider accepts. `AcceptableRq` and
+    /// `UnacceptableRq` are the two outcomes of action AE-6.
     AcceptableRq,
     /// An A-ASSOCIATE-RQ PDU was received that the service provider rejects.
     UnacceptableRq,
@@ -24,7 +24,7 @@ pub enum Event {
     Abort,
     /// An unrecognized or invalid PDU was received.
     Invalid,
-    /// Transport connection closed indication: the peer closed it, or it broke.
+    /// Transport connection closed indication: the peer closed the connection, or it broke.
     Closed,
     /// The ARTIM timer expired.
     Expired,

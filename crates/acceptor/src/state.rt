@@ -2,11 +2,11 @@
 ghost use Rattle.std.specs.Prelude.{◌≡◌};
 ghost use Rattle.acceptor.specs.Effect as spelling;
 
-/// A state of an association, named as in PS3.8 section 9.2.1. The standard's other states belong to
-/// the requestor or to a release collision.
+/// A state of an association, named as in PS3.8 section 9.2.1. The standard's other states belong
+/// to the requestor or to a release collision.
 #[derive(Clone, Copy, Debug, PartialEq, Eq)]
 pub enum State {
-    /// Idle: there is no transport connection, not yet or no longer.
+    /// Idle: there is no transport connection.
     Sta1,
     /// The transport connection is open; awaiting an A-ASSOCIATE-RQ PDU.
     Sta2,

@@ -7,10 +7,10 @@ use crate::action::Action;
 use crate::event::Event;
 use crate::state::State;
 
-/// Returns the action and the next state for an event in this state: the acceptor's part of PS3.8 Table
-/// 9-10. A pair that the table does not have, or that concerns a requestor, gives `Action::Nothing` and
-/// the same state. After each action the ARTIM timer runs exactly if it runs in the next state (see
-/// [`State::timer_runs`]).
+/// Returns the action and the next state for an event in this state: the acceptor's part of PS3.8
+/// Table 9-10. For any other pair it returns `Action::Nothing` and the same state, in Sta3 and Sta8
+/// even for PDUs, as there the local user responds before the next input is read. After each action
+/// the ARTIM timer runs exactly if it runs in the next state (see [`State::timer_runs`]).
 pub fn act(state: State, event: Event) -> (Action, State)
     ensures table { result ≡ table state event }
     ensures timer { runs_after (timer result.0 result.1) (timer_runs state) ≡ timer_runs result.1 }

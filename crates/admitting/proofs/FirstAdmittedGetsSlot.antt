@@ -13,9 +13,9 @@ around [] d at lt = absurd (omega (arith, lt))
 around (w ∷ ws) d zero lt = refl
 around (w ∷ ws) d (suc at) lt = ap (λ (xs : List (Waiter _)). w ∷ xs) (around ws d at (omega (arith, lt)))
 
-pub gets : {T : Type 0} (waiters left : List (Waiter T)) (occupants occupants_new : Occupants) (waiter : Waiter T) (at slot : ℕ) → at < length waiters → waiter ≡ get_or waiters at waiter → left ≡ remove waiters at → AllGetNone occupants (take at waiters)
-    → Admits (get_or waiters at waiter).peer occupants occupants_new (admission.Slot slot) → GetsSlot waiters left occupants occupants_new waiter slot
-gets waiters left occupants occupants_new waiter at slot lt is rest passed admits = record {
+pub gets : {T : Type 0} (waiters remaining : List (Waiter T)) (occupants occupants_new : Occupants) (waiter : Waiter T) (at slot : ℕ) → at < length waiters → waiter ≡ get_or waiters at waiter → remaining ≡ remove waiters at → AllGetNone occupants (take at waiters)
+    → Admits (get_or waiters at waiter).peer occupants occupants_new (admission.Slot slot) → GetsSlot waiters remaining occupants occupants_new waiter slot
+gets waiters remaining occupants occupants_new waiter at slot lt is rest passed admits = record {
   before = take at waiters;
   after = drop (suc at) waiters;
   was = around waiters waiter at lt ∙ ap (λ (w : Waiter _). take at waiters ++ w ∷ drop (suc at) waiters) (sym is);

@@ -3,6 +3,6 @@
 use Rattle.std.specs.Prelude.{ℕ, ◌+◌, ◌≤◌, Option, Some, None}
 
 -- a message that was last logged at this time, or never, may be logged at the other: a minute later or more
-abbrev pub IsToldAgain : Option ℕ → ℕ → Type 0
-IsToldAgain None now = Unit {0}
-IsToldAgain (Some told) now = told + 60000000000 ≤ now
+abbrev pub IsReportedAgain : Option ℕ → ℕ → Type 0
+IsReportedAgain None now = Unit {0}
+IsReportedAgain (Some reported) now = reported + 60000000000 ≤ now

@@ -21,7 +21,7 @@ first_vacancy slot [] = None
 first_vacancy slot (None ∷ more) = Some slot
 first_vacancy slot (Some _ ∷ more) = first_vacancy (suc slot) more
 
--- the answer to a connection of this peer: the first free slot, unless the peer has as many as it may have
+-- the slot for a connection of this peer: the first free one, unless the peer has as many as it may have
 abbrev pub Admits : ℕ → Occupants → Occupants → Admission → Type 0
 Admits peer old new (admission.Slot slot) =
     (first_vacancy 0 old.peers ≡ Some slot) × (slots_of peer old.peers < old.per_peer) × (new.peers ≡ set old.peers slot (Some peer))

@@ -31,12 +31,12 @@ pub record GetsSlot {T : Type 0} (old new : List (Waiter T)) (occupants occupant
   pub passed : AllGetNone occupants before
   pub admits : Admits waiter.peer occupants occupants_new (admission.Slot slot)
 
--- the first connection whose peer gets a slot has got it; or none gets one, and nothing has changed
+-- the first connection whose peer can get a slot has got one; or no peer can, and nothing has changed
 abbrev pub AdmitsFirst : {T : Type 0} → List (Waiter T) → List (Waiter T) → Occupants → Occupants → Option (Waiter T × ℕ) → Type 0
 AdmitsFirst old new occupants occupants_new (Some (waiter, slot)) = GetsSlot old new occupants occupants_new waiter slot
 AdmitsFirst old new occupants occupants_new None = (new ≡ old) × (occupants_new ≡ occupants) × AllGetNone occupants old
 
--- the index of the first connection whose peer gets a slot, and that slot, which it has got
+-- the index of the first connection whose peer gets a slot, and that slot, which is now the connection's
 abbrev pub FindsFirst : {T : Type 0} → List (Waiter T) → Occupants → Occupants → Option (ℕ × ℕ) → Type 0
 FindsFirst waiting occupants occupants_new (Some (at, slot)) = (at < length waiting) × AllGetNone occupants (take at waiting)
     × ((d : Waiter _) → Admits (get_or waiting at d).peer occupants occupants_new (admission.Slot slot))
@@ -46,8 +46,8 @@ FindsFirst waiting occupants occupants_new None = (occupants_new ≡ occupants) 
 abbrev pub AllHaveOthers : {T : Type 0} → ℕ → List (Waiter T) → Type 0
 AllHaveOthers number waiters = AllByRecursion (λ w. w.number ≢ number) waiters
 
--- the first connection with this number is gone; the others stay, in their order
-pub record HasLeft {T : Type 0} (number : ℕ) (old new : List (Waiter T)) : Type 0 where
+-- the first connection with this number is removed; the others stay, in their order
+pub record HasRemaining {T : Type 0} (number : ℕ) (old new : List (Waiter T)) : Type 0 where
   pub before : List (Waiter T)
   pub after : List (Waiter T)
   pub gone : Waiter T

@@ -1,5 +1,6 @@
-//! Limits the number of connections: how many are served at a time and how many of one peer
-//! ([`Slots`]), who waits ([`Queue`]), and how often a repeated message is logged ([`Notice`]).
+//! Limits the number of connections: how many are served at a time, in all and of one peer
+//! ([`Slots`]), which ones wait ([`Queue`]), and how often a repeated message is logged
+//! ([`Notice`]).
 #![tactic(auto)]
 
 mod notice;

@@ -5,7 +5,8 @@ ghost use Rattle.admitting.specs.Peers.{peer_of_bits};
 
 use std::net::IpAddr;
 
-/// The first of the IPv6 addresses that IPv4 addresses are mapped to, `::ffff:0.0.0.0`, as a number.
+/// The first of the IPv6 addresses that IPv4 addresses are mapped to, `::ffff:0.0.0.0`, as a
+/// number.
 const MAPPED: u128 = 0xffff_0000_0000;
 
 /// How many addresses IPv4 has.
@@ -14,10 +15,10 @@ const IPV4: u128 = 0x1_0000_0000;
 /// How many addresses an IPv6 network with a prefix of 64 bits has.
 const NETWORK: u128 = 0x1_0000_0000_0000_0000;
 
-/// Returns the number by which the connections of one peer count together. An IPv4 address has that of the
-/// IPv6 address to which it is mapped (RFC 4291 section 2.5.5.2), so that a peer has the same number on a
-/// socket of either kind. Any other IPv6 address has that of its network's first address, since a machine may
-/// use each address of its network of 64 bits.
+/// Returns the number by which the connections of one peer are counted together. An IPv4 address
+/// has that of the IPv6 address to which it is mapped (RFC 4291 section 2.5.5.2), so that a peer
+/// has the same number on a socket of either kind. Any other IPv6 address has that of the first
+/// address of its 64-bit network, since a machine may use every address of that network.
 pub fn peer_number(address: IpAddr) -> u128
     ensures { MatchIp address (λ a. result ≡ 281470681743360 + ipv4_bits a) (λ a. result ≡ peer_of_bits (ipv6_bits a)) }
 {

@@ -10,9 +10,9 @@ use std::alloc::{AllocError, Allocator};
 pub struct Waiter<T> {
     /// The number of its peer's address.
     pub peer: u128,
-    /// The number of the connection, by which it may leave the queue.
+    /// The number of the connection, by which it can be removed from the queue.
     pub number: usize,
-    /// The connection.
+    /// The waiting connection.
     pub waiting: T,
 }
 
@@ -26,7 +26,7 @@ pub struct Queue<T, A: Allocator> {
 }
 
 impl<T: Drop, A: Allocator> Queue<T, A> {
-    ghost use Rattle.admitting.specs.Queues.{AdmitsFirst, AllHaveOthers, FindsFirst, FindsNumber, HasLeft, most_in, waiting_in};
+    ghost use Rattle.admitting.specs.Queues.{AdmitsFirst, AllHaveOthers, FindsFirst, FindsNumber, HasRemaining, most_in, waiting_in};
 
     /// Creates an empty queue of at most `most` connections.
     ///
@@ -41,7 +41,7 @@ impl<T: Drop, A: Allocator> Queue<T, A> {
         })
     }
 
-    /// Appends a connection. Returns `false`, and drops it, if the queue is full.
+    /// Appends a connection. If the queue is full, drops the connection and returns `false`.
     pub fn push(&mut self, waiter: Waiter<T>) -> bool
         ensures room { IsTrue result ↔ (length (waiting_in self.old) < most_in self.old) }
         ensures last { result ≡ true → waiting_in self.new ≡ waiting_in self.old ++ waiter ∷ [] }
@@ -51,8 +51,8 @@ impl<T: Drop, A: Allocator> Queue<T, A> {
         self.waiters.len() < self.most && self.waiters.push(waiter).is_ok()
     }
 
-    /// Gives the first free slot to the first connection whose peer may have it. Returns the index of
-    /// the connection and that of the slot.
+    /// Gives the first free slot to the first connection whose peer may have it. Returns the
+    /// indices of the connection and of the slot, or `None` if no connection gets a slot.
     fn find(&self, slots: &mut Slots<A>) -> Option<(usize, usize)>
         ensures finds { FindsFirst (waiting_in self.now) slots.old slots.new result }
     {
@@ -66,8 +66,8 @@ impl<T: Drop, A: Allocator> Queue<T, A> {
         None
     }
 
-    /// Gives the first free slot to the first connection whose peer may have it. Removes and returns
-    /// the connection, with the index of the slot, or returns `None` if none gets a slot.
+    /// Gives the first free slot to the first connection whose peer may have it. Removes and
+    /// returns the connection, with the index of the slot, or returns `None` if none gets a slot.
     pub fn admit(&mut self, slots: &mut Slots<A>) -> Option<(Waiter<T>, usize)>
         ensures admits { AdmitsFirst (waiting_in self.old) (waiting_in self.new) slots.old slots.new result }
         ensures same_most { most_in self.new ≡ most_in self.old }
@@ -76,7 +76,7 @@ impl<T: Drop, A: Allocator> Queue<T, A> {
         Some((self.waiters.remove(at), slot))
     }
 
-    /// Returns the index of the first connection with this number.
+    /// Returns the index of the first connection with this number, or `None`.
     fn index_of(&self, number: usize) -> Option<usize>
         ensures finds { FindsNumber number (waiting_in self.now) result }
     {
@@ -88,9 +88,9 @@ impl<T: Drop, A: Allocator> Queue<T, A> {
         None
     }
 
-    /// Drops the first connection with this number. Returns `false` if none has it.
+    /// Drops the first connection with this number. Returns `false` if there is none.
     pub fn leave(&mut self, number: usize) -> bool
-        ensures left { result ≡ true → HasLeft number (waiting_in self.old) (waiting_in self.new) }
+        ensures remaining { result ≡ true → HasRemaining number (waiting_in self.old) (waiting_in self.new) }
         ensures same { result ≡ false → (waiting_in self.new ≡ waiting_in self.old) × AllHaveOthers number (waiting_in self.old) }
         ensures same_most { most_in self.new ≡ most_in self.old }
     {

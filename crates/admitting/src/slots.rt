@@ -5,22 +5,22 @@ ghost use Rattle.admitting.specs.Occupants.{Admits, slots_of, first_vacancy};
 use std::alloc::{AllocError, Allocator};
 use std::marker::Model;
 
-/// The answer to a new connection.
+/// Whether a new connection is served.
 #[derive(Clone, Copy, Debug, PartialEq, Eq)]
 pub enum Admission {
-    /// It is served, in the slot with this index, which was free.
+    /// The connection is served, in the free slot with this index.
     Slot(usize),
-    /// It is not served now: all slots are in use.
+    /// The connection is not served: all slots are in use.
     Full,
-    /// It is not served now: its peer has as many slots as one peer may have.
+    /// The connection is not served: its peer has as many slots as allowed.
     PeerFull,
 }
 
-/// The slots of a server: one for each connection that can be served at a time. Each is free or
-/// belongs to a peer, and a peer may have only so many of them.
+/// The slots of a server, one for each connection that can be served at a time. Each slot is free
+/// or belongs to a peer, and a peer may have only `per_peer` of them.
 ///
-/// A peer is identified by the number of its address (see [`peer_number`](crate::peer_number)), so that
-/// the connections of one machine count together.
+/// A peer is identified by the number of its address (see [`peer_number`](crate::peer_number)), so
+/// that the connections of one machine count together.
 #[derive(Drop)]
 pub struct Slots<A: Allocator> {
     peers: Vec<Option<u128>, A>,
@@ -35,7 +35,7 @@ impl<A: Allocator> Model for Slots<A> {
 
     ghost view = { λ p. record { peers = p.peers.items; per_peer = p.per_peer } };
 
-    /// No peer has more slots than one may have.
+    /// No peer has more slots than the limit.
     ghost invariant = { λ p. (peer : ℕ) → slots_of peer p.peers.items ≤ p.per_peer };
 }
 
@@ -66,7 +66,7 @@ impl<A: Allocator> Slots<A> {
         count
     }
 
-    /// Returns the index of the first free slot.
+    /// Returns the index of the first free slot, if any.
     fn first_vacancy(&self) -> Option<usize>
         ensures first { result ≡ first_vacancy 0 self.now.peers }
         ensures within { IfSome result (λ slot. slot < length self.now.peers) }
@@ -79,7 +79,7 @@ impl<A: Allocator> Slots<A> {
         None
     }
 
-    /// Gives a peer the first free slot, unless it has as many as it may have.
+    /// Gives the first free slot to a peer, unless the peer has as many as it may have.
     pub fn admit(&mut self, peer: u128) -> Admission
         ensures admits { Admits peer self.old self.new result }
         ensures same_limit { self.new.per_peer ≡ self.old.per_peer }
@@ -99,7 +99,7 @@ impl<A: Allocator> Slots<A> {
     /// Frees the slot with this index.
     pub fn leave(&mut self, slot: usize)
         requires slot { slot < length self.old.peers }
-        ensures left { self.new.peers ≡ set self.old.peers slot None }
+        ensures remaining { self.new.peers ≡ set self.old.peers slot None }
         ensures same_limit { self.new.per_peer ≡ self.old.per_peer }
     {
         self.peers[slot] = None;
@@ -120,12 +120,12 @@ impl<A: Allocator> Slots<A> {
         self.peers.len()
     }
 
-    /// Does nothing. Its contract states what the type guarantees: no peer has more slots than one may
-    /// have.
+    /// Does nothing. Its contract states what the type guarantees: no peer has more slots than the
+    /// limit.
     pub fn never_more(&self)
         ensures { (peer : ℕ) → slots_of peer self.now.peers ≤ self.now.per_peer }
     {
-        // The prover looks up what the type guarantees where one of its fields is named.
+        // The prover knows what the type guarantees where one of its fields is named.
         let _peers = &self.peers;
     }
 }

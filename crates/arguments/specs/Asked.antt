@@ -1,4 +1,4 @@
--- What the settings of `serve`, `replay` and `index` are for their arguments (this product's own profile).
+-- The settings of `serve`, `replay` and `index` that their arguments determine (this product's own profile).
 use Rattle.std.specs.Prelude.{◌≡◌, ℕ, ◌*◌, ◌^◌, ◌≤◌, ⊤, Bool, not, true, false, List, [], ◌++◌, if◌then◌else◌, nat_eq, map, Option, Some, None, codes, option_map, unwrap_or}
 use Rattle.std.specs.Duration.{as_nanos}
 use Rattle.std.specs.Str.Parse.{IsNumeral, digits_value, without_leading_plus}
@@ -13,15 +13,15 @@ use Rattle.negotiate.specs.Settings.{registered, settings_of, default_max_pdu, d
 use Rattle.arguments.specs.declared.values.IndexArguments.{IndexArguments}
 use Rattle.arguments.specs.declared.values.ReplayArguments.{ReplayArguments}
 use Rattle.arguments.specs.declared.values.ServeArguments.{ServeArguments}
-use Rattle.arguments.specs.declared.options.Layout.{Layout}
-use Rattle.arguments.specs.declared.options.Layout.TheVariants.{Flat, Levels}
+use Rattle.arguments.specs.declared.options.FolderLayout.{FolderLayout}
+use Rattle.arguments.specs.declared.options.FolderLayout.TheVariants.{Flat, Levels}
 use Rattle.arguments.specs.declared.options.LogForm.{LogForm}
 use Rattle.arguments.specs.declared.options.LogForm.TheVariants.{Text, Json}
 use Rattle.arguments.specs.declared.options.Index.{Index}
 use Rattle.arguments.specs.declared.options.Replay.{Replay}
 use Rattle.arguments.specs.declared.options.Serve.{Serve}
 
--- the number that a text of decimal digits spells, which a `+` may lead; it stands between two bounds
+-- the number that a text of decimal digits spells, optionally after a `+`; it lies between two bounds
 pub record Spells (least most : ℕ) (text : List ℕ) (number : ℕ) : Type 0 where
   pub digits : IsNumeral 10 (without_leading_plus text)
   pub value : number ≡ digits_value 10 (without_leading_plus text)
@@ -46,26 +46,26 @@ abbrev pub IsForm : LogForm → List ℕ → Type 0
 IsForm Text name = name ≡ codes "text"
 IsForm Json name = name ≡ codes "json"
 
--- how files are laid out: flat, or in folders of 1 to 9999 files where that is asked for
-abbrev pub IsLayout : Layout → Option (List ℕ) → Type 0
+-- how files are laid out: flat, or in folders of 1 to 9999 files if that is requested
+abbrev pub IsLayout : FolderLayout → Option (List ℕ) → Type 0
 IsLayout Flat per = per ≡ None
 IsLayout (Levels per) None = ⊥
 IsLayout (Levels per) (Some text) = Spells 1 9999 text per.files
 
--- the instance of a directory: the one that is given, or none, where a new one is asked for, and never both
+-- the SOP Instance UID of a directory: the given one, or none if a new one is requested, and never both
 abbrev pub IsDirectoryUid : Option (List ℕ) → Option (List ℕ) → Bool → Type 0
 IsDirectoryUid (Some uid) (Some text) false = uid_of text ≡ Some uid
 IsDirectoryUid None None true = ⊤
 IsDirectoryUid uid text is_new = ⊥
 
--- the further transfer syntaxes: all of the dictionary in which Pixel Data may be encapsulated where they are asked for,
--- else those that the texts name; each text names one
+-- the additional transfer syntaxes: if requested, all of the dictionary in which Pixel Data may be encapsulated; else
+-- those that the texts name, each text one
 pub record AsksFor (all : Bool) (texts : List (List ℕ)) (transfers : List Transfer) : Type 0 where
   pub named : List Transfer
   pub each : map transfer_of texts ≡ map Some named
   pub taken : transfers ≡ (if all then encapsulated_transfers else named)
 
--- what `serve` does is what its arguments say
+-- the settings of `serve` are those of its arguments
 pub record IsServed (serve : Serve) (a : ServeArguments) : Type 0 where
   pub bind : serve.bind.now ≡ a.bind.now
   pub port : Spells 1 65535 a.port.now serve.port
@@ -84,7 +84,7 @@ pub record IsServed (serve : Serve) (a : ServeArguments) : Type 0 where
   pub sync : serve.sync ≡ not a.no_sync
   pub metrics : option_map (λ t. t.now) serve.metrics ≡ option_map (λ t. t.now) a.metrics
 
--- what `replay` does is what its arguments say; any title may call, and the limits are the defaults
+-- the settings of `replay` are those of its arguments; any title may call, and the limits are the defaults
 pub record IsReplayed (replay : Replay) (a : ReplayArguments) : Type 0 where
   pub file : replay.file.now ≡ a.file.now
   pub out : replay.out.now ≡ a.out.now
@@ -98,7 +98,7 @@ pub record IsReplayed (replay : Replay) (a : ReplayArguments) : Type 0 where
   pub cut : Spells 1 65536 a.cut.now replay.cut
   pub layout : IsLayout replay.layout (option_map (λ t. t.now) a.per)
 
--- what `index` does is what its arguments say
+-- the settings of `index` are those of its arguments
 pub record IsIndexed (index : Index) (a : IndexArguments) : Type 0 where
   pub dir : index.dir.now ≡ a.dir.now
   pub uid : IsDirectoryUid index.uid (option_map (λ t. t.now) a.uid) a.new_uid

@@ -1,15 +1,15 @@
--- Which titles may call, for the arguments of `serve` and the text of a file of titles (this product's own profile).
+-- Which titles may call, by the arguments of `serve` and the text of a file of titles (this product's own profile).
 use Rattle.std.specs.Prelude.{◌≡◌, ℕ, ◌<◌, Bool, not, ◌&&◌, ◌||◌, List, [], ◌++◌, length, nat_eq, map, filter, Option, Some, None, IfSome, codes, option_map}
 use Rattle.std.specs.List.{list_all, starts_with}
 use Rattle.std.specs.Str.Lines.{lines}
 use Rattle.element.specs.Title.{title_of_text}
 use Rattle.arguments.specs.declared.values.ServeArguments.{ServeArguments}
 
--- whether a line is blank: it has nothing but spaces and tabs
+-- whether a line is blank: it has only spaces and tabs
 abbrev pub is_blank : List ℕ → Bool
 is_blank line = list_all (λ c. nat_eq c 32 || nat_eq c 9) line
 
--- whether a line of a file of titles is one: it is not blank, and no comment, which begins with `#`
+-- whether a line of a file of titles is a title: it is not blank, and no comment, which begins with `#`
 abbrev pub is_title_line : List ℕ → Bool
 is_title_line line = not (is_blank line) && not (starts_with nat_eq line (codes "#"))
 
@@ -17,12 +17,12 @@ is_title_line line = not (is_blank line) && not (starts_with nat_eq line (codes 
 abbrev pub listed_titles : List ℕ → List (List ℕ)
 listed_titles text = filter is_title_line (lines text)
 
--- the titles of the file that is named, if one is
+-- the titles of the named file, if a file is named
 abbrev pub titles_of_file : Option (List ℕ) → List ℕ → List (List ℕ)
 titles_of_file None text = []
 titles_of_file (Some path) text = listed_titles text
 
--- the titles that may call are those of the file that is named, then those of the options; such a file has one at least
+-- the titles that may call are those of the named file, then those of the options; a named file has at least one title
 pub record AreCallers (callers : List (List ℕ)) (a : ServeArguments) (text : List ℕ) : Type 0 where
   pub titles : map title_of_text (titles_of_file (option_map (λ t. t.now) a.callers_file) text ++ map (λ t. t.now) a.callers.items) ≡ map Some callers
   pub some : IfSome a.callers_file (λ path. 0 < length (listed_titles text))

@@ -60,7 +60,7 @@ abbrev pub with_rules : App → List Rule → App
 with_rules app [] = app
 with_rules app (rule ∷ rules) = with_rules (with_rule app rule) rules
 
--- `serve` and `replay`: which storage classes and transfer syntaxes are taken beside those of the dictionary
+-- `serve` and `replay`: which storage classes and transfer syntaxes are accepted in addition to those of the dictionary
 abbrev pub taking_rules : List Rule
 taking_rules = flag_rule (codes "all-storage") ∷ repeated (codes "storage-class") ∷ flag_rule (codes "all-syntaxes") ∷ repeated (codes "transfer-syntax") ∷ []
 
@@ -69,7 +69,7 @@ replay_app = with_rules (with_rules (new_app (codes "replay"))
     (positional (codes "FILE") ∷ needed (codes "out") ∷ defaulted (codes "ae") (codes "DCMBOX") ∷ optional (codes "cut") (codes "4096") ∷ free (codes "per") ∷ []))
     taking_rules
 
--- `serve`: who is served where, the timeouts and limits, how much is logged and how, how files are kept, and of which classes
+-- `serve`: addresses and titles, timeouts and limits, logging, how files are kept, and of which classes
 abbrev pub listening_app : App
 listening_app = with_rules (new_app (codes "serve"))
     (needed (codes "port") ∷ needed (codes "out") ∷ optional (codes "bind") (codes "127.0.0.1")
@@ -90,24 +90,24 @@ filing_app = with_rules logging_app
     (free (codes "per") ∷ free (codes "numbers") ∷ free (codes "quarantine") ∷ free (codes "quarantine-most")
     ∷ flag_rule (codes "no-sync") ∷ flag_rule (codes "once") ∷ [])
 
--- and how many are served at once, how long, and how that is ended
+-- `serve`, with how many connections are served at once, how long, and how serving ends
 abbrev pub serve_app : App
 serve_app = with_rules (with_rules filing_app (optional (codes "at-once") (codes "1") ∷ free (codes "per-peer") ∷ free (codes "longest")
     ∷ free (codes "stop-file") ∷ optional (codes "grace") (codes "10") ∷ free (codes "metrics") ∷ [])) taking_rules
 
--- a command that takes one file
+-- a command with one file as its argument
 abbrev pub file_app : Text → App
 file_app name = with_rules (new_app name) (positional (codes "FILE") ∷ flag_rule (codes "json") ∷ [])
 
--- `show` and `check` take several files; -r
+-- `show` and `check`, with several files, and -r
 abbrev pub files_app : Text → App
 files_app name = with_rules (new_app name) (several (codes "FILE") ∷ letter_rule (codes "recursive") 114 ∷ [])
 
 abbrev pub show_app : App
-show_app = with_rules (files_app (codes "show")) (flag_rule (codes "values") ∷ flag_rule (codes "full") ∷ flag_rule (codes "meta") ∷ repeated (codes "tag") ∷ flag_rule (codes "json") ∷ flag_rule (codes "all-syntaxes") ∷ [])
+show_app = with_rules (files_app (codes "show")) (flag_rule (codes "values") ∷ flag_rule (codes "full") ∷ flag_rule (codes "meta") ∷ repeated (codes "tag") ∷ flag_rule (codes "json") ∷ flag_rule (codes "all-syntaxes") ∷ flag_rule (codes "any") ∷ [])
 
 abbrev pub check_app : App
-check_app = with_rules (files_app (codes "check")) (flag_rule (codes "strict") ∷ flag_rule (codes "values") ∷ flag_rule (codes "ignore-others") ∷ flag_rule (codes "json") ∷ flag_rule (codes "all-syntaxes") ∷ [])
+check_app = with_rules (files_app (codes "check")) (flag_rule (codes "strict") ∷ flag_rule (codes "values") ∷ flag_rule (codes "ignore-others") ∷ flag_rule (codes "json") ∷ flag_rule (codes "all-syntaxes") ∷ flag_rule (codes "any") ∷ [])
 
 abbrev pub index_app : App
 index_app = with_rules (new_app (codes "index"))
@@ -116,10 +116,10 @@ index_app = with_rules (new_app (codes "index"))
     ∷ flag_rule (codes "replace") ∷ flag_rule (codes "strict") ∷ flag_rule (codes "json") ∷ [])
 
 abbrev pub list_app : App
-list_app = with_rules (new_app (codes "list")) (several (codes "DIR") ∷ flag_rule (codes "series") ∷ flag_rule (codes "instances") ∷ repeated (codes "where") ∷ flag_rule (codes "ignore-others") ∷ flag_rule (codes "json") ∷ [])
+list_app = with_rules (new_app (codes "list")) (several (codes "DIR") ∷ flag_rule (codes "series") ∷ flag_rule (codes "instances") ∷ repeated (codes "where") ∷ free (codes "columns") ∷ flag_rule (codes "ignore-others") ∷ flag_rule (codes "json") ∷ [])
 
 abbrev pub arrange_app : App
-arrange_app = with_rules (new_app (codes "arrange")) (several (codes "DIR") ∷ needed (codes "to") ∷ flag_rule (codes "copy") ∷ flag_rule (codes "dry-run") ∷ flag_rule (codes "ignore-others") ∷ flag_rule (codes "json") ∷ [])
+arrange_app = with_rules (new_app (codes "arrange")) (several (codes "DIR") ∷ needed (codes "to") ∷ free (codes "pattern") ∷ flag_rule (codes "copy") ∷ flag_rule (codes "dry-run") ∷ flag_rule (codes "ignore-others") ∷ flag_rule (codes "json") ∷ [])
 
 abbrev pub with_subcommands : App → List App → App
 with_subcommands app [] = app
@@ -161,6 +161,7 @@ pub record IsShow (a : ShowArguments) (rows : List Row) : Type 0 where
   pub tags : map (λ w. w.now) a.tags.items ≡ values_of rows (codes "tag")
   pub json : IsFlag rows (codes "json") a.json
   pub all_syntaxes : IsFlag rows (codes "all-syntaxes") a.all_syntaxes
+  pub any : IsFlag rows (codes "any") a.any
 
 pub record IsCheck (a : CheckArguments) (rows : List Row) : Type 0 where
   pub files : map (λ w. w.now) a.files.items ≡ values_of rows (codes "FILE")
@@ -170,6 +171,7 @@ pub record IsCheck (a : CheckArguments) (rows : List Row) : Type 0 where
   pub ignore_others : IsFlag rows (codes "ignore-others") a.ignore_others
   pub json : IsFlag rows (codes "json") a.json
   pub all_syntaxes : IsFlag rows (codes "all-syntaxes") a.all_syntaxes
+  pub any : IsFlag rows (codes "any") a.any
 
 pub record IsReplay (a : ReplayArguments) (rows : List Row) : Type 0 where
   pub file : first_of (codes "FILE") rows ≡ Some a.file.now
@@ -200,12 +202,14 @@ pub record IsList (a : ListArguments) (rows : List Row) : Type 0 where
   pub series : IsFlag rows (codes "series") a.series
   pub instances : IsFlag rows (codes "instances") a.instances
   pub conditions : map (λ w. w.now) a.conditions.items ≡ values_of rows (codes "where")
+  pub columns : first_of (codes "columns") rows ≡ option_map (λ w. w.now) a.columns
   pub ignore_others : IsFlag rows (codes "ignore-others") a.ignore_others
   pub json : IsFlag rows (codes "json") a.json
 
 pub record IsArrange (a : ArrangeArguments) (rows : List Row) : Type 0 where
   pub dirs : map (λ w. w.now) a.dirs.items ≡ values_of rows (codes "DIR")
   pub to : first_of (codes "to") rows ≡ Some a.to.now
+  pub pattern : first_of (codes "pattern") rows ≡ option_map (λ w. w.now) a.pattern
   pub copy : IsFlag rows (codes "copy") a.copy
   pub dry_run : IsFlag rows (codes "dry-run") a.dry_run
   pub ignore_others : IsFlag rows (codes "ignore-others") a.ignore_others

@@ -8,32 +8,33 @@ ghost use Rattle.arguments.specs.machine.Tables.{rule_for};
 use clap::{Arg, ArgAction, Command};
 use std::alloc::{AllocError, Global};
 
-/// An argument of a command: its name, what its value is called in help, its default, and what it is.
+/// An argument of a command: its name, the name of an option's value in help, its default, and its
+/// help.
 #[derive(Clone, Copy)]
 pub enum Argument<'a> {
-    /// Given by its place.
+    /// A required positional argument.
     Positional(&'a str, &'a str),
-    /// Given by its place, once or more often.
+    /// A positional argument that is given at least once.
     Several(&'a str, &'a str),
-    /// An option that has to be given.
+    /// A required option.
     Needed(&'a str, &'a str, &'a str),
     /// An option with a default.
     Default(&'a str, &'a str, &'a str, &'a str),
-    /// An option that may be left out.
+    /// An option that may be omitted.
     Free(&'a str, &'a str, &'a str),
-    /// An option with a default that may be given more than once.
+    /// An option with a default that may be repeated.
     Defaults(&'a str, &'a str, &'a str, &'a str),
-    /// An option that may be given more than once.
+    /// An option that may be repeated.
     Repeated(&'a str, &'a str, &'a str),
     /// An option without a value.
     Flag(&'a str, &'a str),
-    /// An option without a value that has a letter, too.
+    /// An option without a value that also has a letter.
     Letter(&'a str, char, &'a str),
-    /// An option without a value that has a letter, and whose uses are counted.
+    /// An option without a value that also has a letter and whose uses are counted.
     Counted(&'a str, char, &'a str),
 }
 
-/// Returns an option that may be left out.
+/// Returns an option that may be omitted.
 fn free_option<'a>(alloc: Global, name: &'a str, value: &'a str, help: &'a str) -> Arg<'a>
     ensures { rule_of result ≡ free name.entry.now }
 {
@@ -64,7 +65,7 @@ fn counted<'a>(alloc: Global, name: &'a str, letter: char, help: &'a str) -> Arg
         .help(help)
 }
 
-/// Returns clap's argument.
+/// Returns clap's argument for this argument.
 fn argument_for<'a>(alloc: Global, argument: Argument<'a>) -> Arg<'a>
     ensures { rule_of result ≡ rule_for argument.entry }
 {
@@ -93,7 +94,7 @@ fn argument_for<'a>(alloc: Global, argument: Argument<'a>) -> Arg<'a>
     }
 }
 
-/// Adds arguments in order, after those that the command has.
+/// Appends arguments to the command, in order.
 pub fn add_arguments<'a>(
     alloc: Global,
     command: Command<'a>,

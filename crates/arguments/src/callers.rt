@@ -1,4 +1,4 @@
-//! The titles that a peer may call, and those of peers that may call.
+//! Reads the AE titles that a peer may call, and those of the peers that may call.
 ghost use Rattle.std.specs.Prelude.{◌≡◌, ◌<◌, ◌≤◌, ◌∷◌, IfOk, IfSome, Some, length, map, nat_eq, option_map};
 ghost use Rattle.std.specs.List.{list_all};
 ghost use Rattle.std.specs.Str.Lines.{lines};
@@ -14,10 +14,10 @@ use failures::WordsError;
 use negotiate::MOST_ALSO;
 use std::alloc::{AllocError, Global};
 
-/// How many calling titles can be named that are accepted.
+/// The most AE titles of peers that may call.
 const MOST_CALLERS: usize = 4096;
 
-/// A file of titles: its path and its text.
+/// A file of AE titles: its path and its text.
 #[derive(Clone, Copy)]
 struct TitleFile<'a> {
     path: &'a str,
@@ -31,7 +31,7 @@ fn is_blank(line: &[u8]) -> bool
     line.iter().all(|byte| *byte == b' ' || *byte == b'\t')
 }
 
-/// Returns whether a line of a file of titles is one: it is not blank, and no comment.
+/// Returns whether a line of a file of titles has a title: it is neither blank nor a comment.
 fn is_title_line(line: &str) -> bool
     ensures { result ≡ asked.is_title_line line.now }
 {
@@ -45,7 +45,7 @@ fn lines_of<'a>(alloc: Global, text: &'a str) -> Result<Vec<&'a str>, AllocError
     text.lines().collect(alloc)
 }
 
-/// The error for more titles than may call.
+/// Returns the error for too many titles of peers that may call.
 fn too_many_titles(alloc: Global) -> WordsError {
     match format!(in alloc;
         "error: --callers and --caller may name {MOST_CALLERS} titles at most\n"
@@ -55,7 +55,7 @@ fn too_many_titles(alloc: Global) -> WordsError {
     }
 }
 
-/// Reads the title of a line of this number, counted from 1.
+/// Reads the title in the line with this number, counted from 1.
 fn line_title(alloc: Global, path: &str, number: usize, line: &str) -> Result<AeTitle, WordsError>
     ensures { IfOk result (λ t. title_of_text line.now ≡ Some t.0) }
 {
@@ -76,7 +76,7 @@ fn line_title(alloc: Global, path: &str, number: usize, line: &str) -> Result<Ae
     }
 }
 
-/// Reads the titles of a file, at least one.
+/// Reads the titles of a file. Fails if the file has none.
 fn listed_titles(alloc: Global, file: TitleFile) -> Result<Vec<AeTitle>, WordsError>
     ensures read { IfOk result (λ titles. map title_of_text (asked.listed_titles file.entry.text.now) ≡ map Some (map (λ t. t.0) titles.items)) }
     ensures some { IfOk result (λ titles. 0 < length (asked.listed_titles file.entry.text.now)) }
@@ -101,7 +101,7 @@ fn listed_titles(alloc: Global, file: TitleFile) -> Result<Vec<AeTitle>, WordsEr
     Ok(titles)
 }
 
-/// Reads the titles of the file with this text, where one is named by its path.
+/// Reads the titles of the file with this path and text, or none if `path` is `None`.
 fn file_titles(alloc: Global, path: Option<&str>, text: &str) -> Result<Vec<AeTitle>, WordsError>
     ensures read { IfOk result (λ titles. map title_of_text (asked.titles_of_file (option_map (λ t. t.now) path.entry) text.now) ≡ map Some (map (λ t. t.0) titles.items)) }
     ensures some { IfOk result (λ _. IfSome path.entry (λ _. 0 < length (asked.listed_titles text.now))) }
@@ -112,7 +112,7 @@ fn file_titles(alloc: Global, path: Option<&str>, text: &str) -> Result<Vec<AeTi
     }
 }
 
-/// Reads the titles of an option.
+/// Reads the titles given with an option.
 fn named_titles<const MOST: usize>(
     alloc: Global,
     option: &str,
@@ -128,14 +128,14 @@ fn named_titles<const MOST: usize>(
     Ok(titles)
 }
 
-/// The titles that a peer may call: the receiver's own, which is the first, and those beside it.
+/// The titles that a peer may call: the receiver's own title, which is given first, and the others.
 #[derive(Drop)]
 pub(crate) struct Called {
     pub own: AeTitle,
     pub also: ArrayVec<AeTitle, MOST_ALSO>,
 }
 
-/// Reads the titles that a peer may call.
+/// Reads the titles that a peer may call. Fails if none is given.
 pub(crate) fn called_of(
     alloc: Global,
     texts: &ArrayVec<&str, MOST_TITLES>,
@@ -153,8 +153,8 @@ pub(crate) fn called_of(
     })
 }
 
-/// Reads the titles that may call: those of the file with this text, where the arguments name one, then those of
-/// the options.
+/// Reads the titles of the peers that may call: those in the file with this text, if the arguments
+/// name a file, then those of the option `--caller`.
 pub(crate) fn callers_of(
     alloc: Global,
     arguments: &ServeArguments,

@@ -1,4 +1,4 @@
-//! The commands that the program knows.
+//! The program's commands.
 ghost use Rattle.std.specs.Prelude.{◌≡◌, IfOk, map};
 ghost use Rattle.clap.specs.Simple.{app_of};
 ghost use Rattle.arguments.specs.CommandLine.{reading_apps, receiving_apps, the_command, with_subcommands};
@@ -6,8 +6,8 @@ ghost use Rattle.arguments.specs.machine.Tables.{app_for};
 
 use crate::argument::{Argument, add_arguments};
 use crate::shared::{
-    AE, ALL_STORAGE, ALL_SYNTAXES, FILES, FOLDERS, IGNORE_OTHERS, JSON, JSON_OF_EACH, OUT, PER,
-    RECURSIVE, STORAGE_CLASS, TRANSFER_SYNTAX,
+    AE, ALL_STORAGE, ALL_SYNTAXES, ANY, FILES, FOLDERS, IGNORE_OTHERS, JSON, JSON_OF_EACH, OUT,
+    PER, RECURSIVE, STORAGE_CLASS, TRANSFER_SYNTAX,
 };
 use clap::Command;
 use std::alloc::{AllocError, Global};
@@ -15,7 +15,7 @@ use std::alloc::{AllocError, Global};
 /// The version of the program.
 pub const VERSION: &str = "1.0.0";
 
-/// A command of the program: its name, what it does, an example for its help, and its arguments.
+/// A command of the program.
 #[derive(Clone, Copy)]
 struct Subcommand<'a> {
     name: &'a str,
@@ -183,6 +183,7 @@ const SHOW: Subcommand<'static> = Subcommand {
         ),
         JSON_OF_EACH,
         ALL_SYNTAXES,
+        ANY,
     ],
 };
 
@@ -204,6 +205,7 @@ const CHECK: Subcommand<'static> = Subcommand {
         IGNORE_OTHERS,
         JSON_OF_EACH,
         ALL_SYNTAXES,
+        ANY,
     ],
 };
 
@@ -261,6 +263,11 @@ const LIST: Subcommand<'static> = Subcommand {
             "KEYWORD=VALUE",
             "Lists only files that have this value, as PatientID=P1; up to 8 times, and all hold",
         ),
+        Argument::Free(
+            "columns",
+            "KEYWORDS",
+            "Adds these values to each line, as StudyTime,BodyPartExamined; up to 8",
+        ),
         IGNORE_OTHERS,
         JSON,
     ],
@@ -273,6 +280,11 @@ const ARRANGE: Subcommand<'static> = Subcommand {
     arguments: &[
         FOLDERS,
         Argument::Needed("to", "TREE", "The folder that the tree stands in"),
+        Argument::Free(
+            "pattern",
+            "PATTERN",
+            "The path of each file in the tree, with keywords in braces, as {PatientID}/{SOPInstanceUID}",
+        ),
         Argument::Flag("copy", "Copies the files in place of linking them"),
         Argument::Flag("dry-run", "Prints what is to be done, and writes no file"),
         IGNORE_OTHERS,
@@ -280,13 +292,13 @@ const ARRANGE: Subcommand<'static> = Subcommand {
     ],
 };
 
-/// The commands that receive.
+/// The commands that receive data sets.
 const RECEIVING: &[Subcommand<'static>] = &[SERVE, REPLAY];
 
 /// The commands that read files.
 const READING: &[Subcommand<'static>] = &[SHOW, CHECK, INDEX, CHECKDIR, LIST, ARRANGE];
 
-/// Returns clap's command.
+/// Returns clap's command for this command.
 fn command_for<'a>(alloc: Global, subcommand: Subcommand<'a>) -> Result<Command<'a>, AllocError>
     ensures { IfOk result (λ c. app_of c ≡ app_for subcommand.entry) }
 {
@@ -296,7 +308,7 @@ fn command_for<'a>(alloc: Global, subcommand: Subcommand<'a>) -> Result<Command<
     add_arguments(alloc, command, subcommand.arguments)
 }
 
-/// Adds commands in order, after those that there are.
+/// Appends subcommands to the command, in order.
 fn add_subcommands<'a>(
     alloc: Global,
     command: Command<'a>,
@@ -311,21 +323,21 @@ fn add_subcommands<'a>(
     Ok(command)
 }
 
-/// Adds the commands that receive.
+/// Appends the commands that receive data sets.
 fn add_receiving<'a>(alloc: Global, command: Command<'a>) -> Result<Command<'a>, AllocError>
     ensures { IfOk result (λ c. app_of c ≡ with_subcommands (app_of command.entry) receiving_apps) }
 {
     add_subcommands(alloc, command, RECEIVING)
 }
 
-/// Adds the commands that read files.
+/// Appends the commands that read files.
 fn add_reading<'a>(alloc: Global, command: Command<'a>) -> Result<Command<'a>, AllocError>
     ensures { IfOk result (λ c. app_of c ≡ with_subcommands (app_of command.entry) reading_apps) }
 {
     add_subcommands(alloc, command, READING)
 }
 
-/// Returns the commands that the program knows.
+/// Returns clap's command of the program, with all subcommands.
 pub fn command<'a>(alloc: Global) -> Result<Command<'a>, AllocError>
     ensures { IfOk result (λ c. app_of c ≡ the_command) }
 {

@@ -1,4 +1,4 @@
-//! The command line of DCMBOX: its commands, what the arguments ask for, and what their values mean.
+//! The command line of DCMBOX: its commands, their arguments, and the settings that these yield.
 #![tactic(auto)]
 
 mod argument;
@@ -6,7 +6,7 @@ mod callers;
 mod command;
 mod options;
 mod quarantine;
-mod service;
+mod service_options;
 mod settings;
 mod shared;
 mod transfers;
@@ -15,7 +15,7 @@ mod words;
 
 pub use command::VERSION;
 pub use failures::WordsError;
-pub use options::{Index, Layout, LogForm, Per, QuarantineOption, Replay, Serve};
+pub use options::{FolderLayout, Index, LogForm, Per, QuarantineOption, Replay, Serve};
 pub use settings::{index_settings, replay_settings, serve_settings};
 pub use values::{
     ArrangeArguments, CheckArguments, FileArguments, IndexArguments, ListArguments, MOST_ADDRESSES,

@@ -1,31 +1,31 @@
-//! What the commands are to do.
+//! The settings of the commands.
 ghost use Rattle.std.specs.Prelude.{◌<◌, ◌≤◌};
 
 use crate::values::MOST_ADDRESSES;
 use arrayvec::ArrayVec;
-use connection::Service;
 use element::Uid;
 use log::Level;
 use negotiate::Config;
+use service::Service;
 
-/// How lines of the log are written.
+/// The format of the log.
 #[derive(Clone, Copy)]
 pub enum LogForm {
-    /// As text, for people.
+    /// Lines of text, for people.
     Text,
-    /// Each as a JSON object, for machines.
+    /// Lines with a JSON object each, for machines.
     Json,
 }
 
-/// How files are laid out in a folder.
+/// How received files are arranged in the output folder.
 #[derive(Clone, Copy)]
-pub enum Layout {
+pub enum FolderLayout {
     Flat,
-    /// In folders of this many files, 1 to 9999.
+    /// In subfolders of this many files, 1 to 9999.
     Levels(Per),
 }
 
-/// How many files a folder of files has, 1 to 9999.
+/// The number of files of a subfolder, 1 to 9999.
 #[derive(Clone, Copy)]
 pub struct Per {
     pub files: u32,
@@ -39,13 +39,13 @@ pub struct Replay<'a> {
     pub file: &'a str,
     pub out: &'a str,
     pub config: Config,
-    /// The bytes of a piece, at least 1.
+    /// How many bytes are read at a time, at least 1.
     pub cut: usize,
-    pub layout: Layout,
+    pub layout: FolderLayout,
     pub ghost some: { 0 < cut },
 }
 
-/// What `serve` does.
+/// The settings of `dcmbox serve`.
 #[derive(Drop)]
 pub struct Serve<'a> {
     pub bind: &'a str,
@@ -55,48 +55,49 @@ pub struct Serve<'a> {
     pub out: &'a str,
     pub config: Config,
     pub service: Service<'a>,
-    /// The least important lines that are logged.
+    /// The least important level that is logged.
     pub level: Level,
     pub form: LogForm,
-    pub layout: Layout,
-    /// The path of the file that keeps the greatest numbers, if one does.
+    pub layout: FolderLayout,
+    /// The path of the file that keeps the greatest file numbers, if any.
     pub numbers: Option<&'a str>,
-    /// The quarantine, if there is one.
+    /// The quarantine, if any.
     pub quarantine: Option<QuarantineOption<'a>>,
-    /// Whether a store is answered only once its file is on the disk.
+    /// Whether a C-STORE-RSP is sent only after the file is synced to the disk.
     pub sync: bool,
-    /// The path of the file that has counters, if one does.
+    /// The path of the file of metrics, if any.
     pub metrics: Option<&'a str>,
 }
 
-/// Where data sets are kept whose stores were refused, and how many of them at most.
+/// The folder that keeps rejected data sets, and the most data sets that it keeps.
 #[derive(Clone, Copy)]
 pub struct QuarantineOption<'a> {
     pub dir: &'a str,
-    /// 1 to 999,999.
+    /// The most data sets that are kept: 1 to 999,999.
     pub most: u32,
 }
 
-/// What `index` does.
+/// The settings of `dcmbox index`.
 #[derive(Drop)]
 pub struct Index<'a> {
     pub dir: &'a str,
-    /// The instance of the directory; where there is none, a new one is made.
+    /// The SOP Instance UID of the directory; `None` for a new one.
     pub uid: Option<Uid>,
-    /// Whether the records of series have Series Description.
+    /// Whether records of series have Series Description.
     pub descriptions: bool,
-    /// Whether files in compressed transfer syntaxes are listed, too.
+    /// Whether files in compressed transfer syntaxes are listed.
     pub all_syntaxes: bool,
-    /// Whether each DICOM file is listed whose path is a file ID, not those with names of received files alone.
+    /// Whether each DICOM file is listed whose path is a file ID, not only files named like
+    /// received files.
     pub any_name: bool,
-    /// Whether the files are those that the present directory keeps.
+    /// Whether the files are those that the present directory names.
     pub keep: bool,
-    /// Whether records of the present directory that can't be kept are left out.
+    /// Whether records of the present directory that can't be kept are dropped.
     pub drop: bool,
-    /// Whether a directory that another implementation wrote is written over.
+    /// Whether a directory of another implementation is replaced.
     pub replace: bool,
-    /// Whether a file that is left out is a fault.
+    /// Whether a file that is left out makes the program exit with status 1.
     pub strict: bool,
-    /// Whether what is left out is written as one JSON object.
+    /// Whether the output is one JSON object.
     pub json: bool,
 }

@@ -1,4 +1,4 @@
-//! What the values of arguments mean of a quarantine.
+//! Reads the settings of the quarantine.
 ghost use Rattle.std.specs.Prelude.{◌≡◌, IfOk, option_map};
 ghost use Rattle.arguments.specs.AskedQuarantine.{IsQuarantine};
 
@@ -8,10 +8,11 @@ use crate::values::ServeArguments;
 use failures::WordsError;
 use std::alloc::Global;
 
-/// How many data sets a quarantine has at most, where nothing else is said.
+/// The most data sets in a quarantine by default.
 const DEFAULT_MOST: u32 = 100;
 
-/// Returns which quarantine `serve` has with these arguments, if any.
+/// Returns the quarantine that the arguments of `serve` request, if any. Fails if they limit one
+/// without a folder.
 pub(crate) fn quarantine_of<'a>(
     alloc: Global,
     arguments: &ServeArguments<'a>,

@@ -1,4 +1,4 @@
-//! What the values of arguments mean.
+//! Reads the settings of commands.
 ghost use Rattle.std.specs.Prelude.{◌≡◌, ◌≤◌, ◌^◌, ◌++◌, IfOk, Some, codes, length, map, option_map, unwrap_or};
 ghost use Rattle.element.specs.Title.{title_of_text};
 ghost use Rattle.element.specs.Uid.{uid_of};
@@ -9,9 +9,9 @@ ghost use Rattle.arguments.specs.AskedCallers.{AreCallers};
 ghost use Rattle.arguments.specs.AskedQuarantine.{IsQuarantine};
 
 use crate::callers::{called_of, callers_of};
-use crate::options::{Index, Layout, LogForm, Per, Replay, Serve};
+use crate::options::{FolderLayout, Index, LogForm, Per, Replay, Serve};
 use crate::quarantine::quarantine_of;
-use crate::service::service_of;
+use crate::service_options::service_of;
 use crate::transfers::taking_transfers;
 use crate::values::{
     IndexArguments, MOST_ADDRESSES, MOST_SYNTAXES, MOST_VALUES, ReplayArguments, ServeArguments,
@@ -25,10 +25,10 @@ use std::alloc::Global;
 use std::net::SocketAddr;
 use std::time::Duration;
 
-/// The longest data set that can be asked for, in bytes: 2^48.
+/// The greatest limit for the length of a data set: 2^48 bytes.
 const MOST_DATA: u64 = 281_474_976_710_656;
 
-/// Reads a number from `least` to `most`, as Rust's number reader does.
+/// Reads a number from `least` to `most` in the syntax of Rust's `u64::from_str`.
 pub(crate) fn number(
     alloc: Global,
     option: &str,
@@ -50,7 +50,7 @@ pub(crate) fn number(
     Err(WordsError::Refused(refused))
 }
 
-/// Reads an AE title: 1 to 16 characters, not all of them spaces, without a backslash.
+/// Reads an AE title: 1 to 16 characters without a backslash, not all of them spaces.
 pub(crate) fn title(alloc: Global, option: &str, text: &str) -> Result<AeTitle, WordsError>
     ensures { IfOk result (λ t. title_of_text text.now ≡ Some t.0) }
 {
@@ -80,7 +80,7 @@ fn identifier(alloc: Global, option: &str, text: &str) -> Result<Uid, WordsError
     }
 }
 
-/// Reads the storage classes that are named, each of them once.
+/// Reads the named storage classes. Fails if one is named twice or ends in a dot.
 fn classes_of(alloc: Global, classes: &ArrayVec<&str, MOST_VALUES>) -> Result<Vec<Uid>, WordsError>
     ensures few { IfOk result (λ uids. length uids.items ≤ 64) }
     ensures read { IfOk result (λ uids. map (λ t. uid_of t.now) classes.now.items ≡ map Some uids.items) }
@@ -103,7 +103,7 @@ fn classes_of(alloc: Global, classes: &ArrayVec<&str, MOST_VALUES>) -> Result<Ve
     Ok(uids)
 }
 
-/// Returns the settings with the storage classes and the transfer syntaxes that are asked for.
+/// Returns the settings with the requested storage classes and transfer syntaxes added.
 fn with_storage(
     alloc: Global,
     config: Config,
@@ -121,7 +121,7 @@ fn with_storage(
     taking_transfers(alloc, taking, all_syntaxes, syntaxes)
 }
 
-/// Returns what `replay` does with these arguments.
+/// Returns the settings of `replay` from its arguments.
 pub fn replay_settings<'a>(
     alloc: Global,
     arguments: &ReplayArguments<'a>,
@@ -152,7 +152,7 @@ pub fn replay_settings<'a>(
     })
 }
 
-/// Reads the further addresses of `serve`, each with its port.
+/// Reads the further addresses of `serve`, each with a port.
 fn addresses_of<'a>(
     alloc: Global,
     texts: &ArrayVec<&'a str, MOST_ADDRESSES>,
@@ -176,7 +176,8 @@ fn addresses_of<'a>(
     Ok(addresses)
 }
 
-/// Returns what `serve` does with these arguments, and with the text of the file of titles, where they name one.
+/// Returns the settings of `serve` from its arguments and the text of the file of titles, if they
+/// name one.
 pub fn serve_settings<'a>(
     alloc: Global,
     arguments: &ServeArguments<'a>,
@@ -219,18 +220,18 @@ pub fn serve_settings<'a>(
     })
 }
 
-/// The limits of `serve`, and how it lays out files.
+/// The limits of `serve` and its layout of files.
 #[derive(Clone, Copy)]
 struct Limits {
     max_pdu: u32,
     max_data: u64,
-    layout: Layout,
+    layout: FolderLayout,
     ghost least_pdu: { 1024 ≤ max_pdu },
     ghost least_data: { 1024 ≤ max_data },
     ghost most_data: { max_data ≤ 2 ^ 48 },
 }
 
-/// Reads the limits of `serve`, and how it lays out files.
+/// Reads the limits of `serve` and its layout of files.
 fn limits_of(alloc: Global, arguments: &ServeArguments) -> Result<Limits, WordsError>
     ensures max_pdu { IfOk result (λ l. Spells 1024 131_072 arguments.now.max_pdu.now l.max_pdu) }
     ensures max_data { IfOk result (λ l. Spells 1024 (2 ^ 48) arguments.now.max_data.now l.max_data) }
@@ -245,7 +246,7 @@ fn limits_of(alloc: Global, arguments: &ServeArguments) -> Result<Limits, WordsE
     })
 }
 
-/// Reads how much is logged.
+/// Reads the level of the log.
 fn level_of(alloc: Global, arguments: &ServeArguments) -> Result<Level, WordsError>
     ensures { IfOk result (λ l. IsLevel arguments.now.verbose arguments.now.quiet l) }
 {
@@ -261,7 +262,7 @@ fn level_of(alloc: Global, arguments: &ServeArguments) -> Result<Level, WordsErr
     }
 }
 
-/// Reads the form of the log.
+/// Reads the format of the log.
 fn form_of(alloc: Global, form: Option<&str>) -> Result<LogForm, WordsError>
     ensures { IfOk result (λ f. IsForm f (unwrap_or (option_map (λ t. t.now) form.entry) (codes "text"))) }
 {
@@ -275,27 +276,28 @@ fn form_of(alloc: Global, form: Option<&str>) -> Result<LogForm, WordsError>
     }
 }
 
-/// Reads how files are laid out.
-fn layout_of(alloc: Global, per: Option<&str>) -> Result<Layout, WordsError>
+/// Reads the layout of files.
+fn layout_of(alloc: Global, per: Option<&str>) -> Result<FolderLayout, WordsError>
     ensures { IfOk result (λ l. IsLayout l (option_map (λ t. t.now) per.entry)) }
 {
     let Some(per) = per else {
-        return Ok(Layout::Flat);
+        return Ok(FolderLayout::Flat);
     };
     let files = number(alloc, "per", per, 1, 9999)?;
-    Ok(Layout::Levels(Per {
+    Ok(FolderLayout::Levels(Per {
         files: files as u32,
     }))
 }
 
-/// Reads a time of 1 second to a day.
+/// Reads a time from 1 second to a day.
 pub(crate) fn seconds(alloc: Global, option: &str, text: &str) -> Result<Duration, WordsError>
     ensures { IfOk result (λ time. SpellsTime text.now time) }
 {
     Ok(Duration::from_secs(number(alloc, option, text, 1, 86400)?))
 }
 
-/// Reads the instance of a directory, or `None` where a new one is asked for.
+/// Reads the SOP Instance UID of a directory, or `None` if a new one is requested. Fails unless
+/// exactly one of the two options is given.
 fn instance_of(alloc: Global, arguments: &IndexArguments) -> Result<Option<Uid>, WordsError>
     ensures { IfOk result (λ uid. IsDirectoryUid uid (option_map (λ t. t.now) arguments.now.uid) arguments.now.new_uid) }
 {
@@ -310,7 +312,7 @@ fn instance_of(alloc: Global, arguments: &IndexArguments) -> Result<Option<Uid>,
     Err(WordsError::Refused(refused))
 }
 
-/// Returns what `index` does with these arguments.
+/// Returns the settings of `index` from its arguments.
 pub fn index_settings<'a>(
     alloc: Global,
     arguments: &IndexArguments<'a>,

@@ -1,14 +1,14 @@
-//! The arguments that more than one command has.
+//! The arguments that several commands share.
 use crate::argument::Argument;
 
-/// Of `serve` and `replay`: where files go.
+/// The output folder of `serve` and `replay`.
 pub(crate) const OUT: Argument<'static> = Argument::Needed(
     "out",
     "DIR",
     "The folder that received files go to",
 );
 
-/// Of `serve` and `replay`: how the box is called.
+/// The AE titles of the receiver in `serve` and `replay`.
 pub(crate) const AE: Argument<'static> = Argument::Defaults(
     "ae",
     "TITLE",
@@ -16,68 +16,74 @@ pub(crate) const AE: Argument<'static> = Argument::Defaults(
     "An AE title that a peer may call, up to 16 times",
 );
 
-/// Of `serve` and `replay`: how files are laid out.
+/// The layout of files in `serve` and `replay`.
 pub(crate) const PER: Argument<'static> = Argument::Free(
     "per",
     "FILES",
     "Files into folders of so many, from 1 to 9999",
 );
 
-/// Of `serve` and `replay`: every storage class.
+/// Accepts every storage class in `serve` and `replay`.
 pub(crate) const ALL_STORAGE: Argument<'static> = Argument::Flag(
     "all-storage",
     "Takes every storage class of the standard",
 );
 
-/// Of `serve` and `replay`: an additional storage class.
+/// A further storage class for `serve` and `replay`.
 pub(crate) const STORAGE_CLASS: Argument<'static> = Argument::Repeated(
     "storage-class",
     "UID",
     "A further storage class that is taken, up to 64 times",
 );
 
-/// Of each command that receives, reads or lists data sets: every transfer syntax.
+/// Accepts every transfer syntax, in commands that receive, read or list data sets.
 pub(crate) const ALL_SYNTAXES: Argument<'static> = Argument::Flag(
     "all-syntaxes",
     "Takes compressed transfer syntaxes, too",
 );
 
-/// Of `serve` and `replay`: an additional transfer syntax.
+/// Also reads data sets without a header, in `show` and `check`.
+pub(crate) const ANY: Argument<'static> = Argument::Flag(
+    "any",
+    "Takes files without a header, and compressed transfer syntaxes, too",
+);
+
+/// A further transfer syntax for `serve` and `replay`.
 pub(crate) const TRANSFER_SYNTAX: Argument<'static> = Argument::Repeated(
     "transfer-syntax",
     "UID",
     "A compressed transfer syntax that is taken, up to 16 times",
 );
 
-/// Of `show` and `check`: the files.
+/// The files for `show` and `check`.
 pub(crate) const FILES: Argument<'static> = Argument::Several(
     "FILE",
     "A DICOM file; - stands for standard input",
 );
 
-/// Of `show` and `check`: also the files in folders.
+/// Also inspects files in folders, in `show` and `check`.
 pub(crate) const RECURSIVE: Argument<'static> = Argument::Letter(
     "recursive",
     'r',
     "Takes the files in folders, too",
 );
 
-/// Of `show` and `check`: JSON.
+/// JSON output of `show` and `check`.
 pub(crate) const JSON_OF_EACH: Argument<'static> = Argument::Flag(
     "json",
     "Writes a JSON object for each file",
 );
 
-/// Of the commands that read folders and directories: JSON.
+/// JSON output of the commands that read folders and directories.
 pub(crate) const JSON: Argument<'static> = Argument::Flag("json", "Writes one JSON object");
 
-/// Of `check`, `list` and `arrange`: files of other kinds.
+/// Ignores files that are no DICOM files, in `check`, `list` and `arrange`.
 pub(crate) const IGNORE_OTHERS: Argument<'static> = Argument::Flag(
     "ignore-others",
     "Passes by files that are no DICOM files, and tells how many",
 );
 
-/// Of `list` and `arrange`: the folders.
+/// The folders for `list` and `arrange`.
 pub(crate) const FOLDERS: Argument<'static> = Argument::Several(
     "DIR",
     "A folder; the files in its folders are taken, too",

@@ -1,4 +1,4 @@
-//! The transfer syntaxes that options take.
+//! Reads the transfer syntaxes given with options.
 ghost use Rattle.std.specs.Prelude.{◌≡◌, IfOk, Some, map};
 ghost use Rattle.dictionary.specs.Transfers.{transfer_of};
 ghost use Rattle.negotiate.specs.Settings.{settings_of};
@@ -12,7 +12,7 @@ use negotiate::Config;
 use std::alloc::Global;
 use std::fmt;
 
-/// The transfer syntaxes that are known, a line for each.
+/// Prints the known transfer syntaxes, a line for each.
 #[derive(Drop)]
 struct Known;
 
@@ -29,7 +29,7 @@ impl fmt::Display for Known {
     }
 }
 
-/// Reads the unique identifier of a transfer syntax.
+/// Reads the UID of a transfer syntax. Fails if the transfer syntax is not known.
 fn transfer(alloc: Global, text: &str) -> Result<Transfer, WordsError>
     ensures { IfOk result (λ t. transfer_of text.now ≡ Some t) }
 {
@@ -45,7 +45,7 @@ fn transfer(alloc: Global, text: &str) -> Result<Transfer, WordsError>
     }
 }
 
-/// Reads the transfer syntaxes that are named.
+/// Reads the named transfer syntaxes.
 fn transfers_of(
     alloc: Global,
     syntaxes: &ArrayVec<&str, MOST_SYNTAXES>,
@@ -59,8 +59,8 @@ fn transfers_of(
     Ok(transfers)
 }
 
-/// Returns the settings with the transfer syntaxes that are asked for: each in which Pixel Data may be encapsulated
-/// where all are, else those that are named.
+/// Returns the settings with transfer syntaxes added: with `all`, every one in which Pixel Data may
+/// be encapsulated, else those that are named.
 pub(crate) fn taking_transfers(
     alloc: Global,
     config: Config,

@@ -1,4 +1,4 @@
-//! The values of a command's arguments, as they were given or by default.
+//! The values of a command's arguments, given or by default.
 ghost use Rattle.std.specs.Prelude.{◌≡◌, ◌<◌, ◌≤◌, IfSome, IfNone, IfOk, Some, false, length, map, take};
 ghost use Rattle.clap.specs.Matches.{found_of};
 ghost use Rattle.clap.specs.Walk.{rows_of, first_of};
@@ -9,19 +9,19 @@ use arrayvec::ArrayVec;
 use clap::ArgMatches;
 use std::alloc::{AllocError, Global};
 
-/// How many titles may be named, and how many storage classes.
+/// The most uses of `--caller` and of `--storage-class`.
 pub const MOST_VALUES: usize = 64;
 
-/// How often `--ae` may be given.
+/// The most uses of `--ae`.
 pub const MOST_TITLES: usize = 16;
 
-/// How often `--listen` may be given.
+/// The most uses of `--listen`.
 pub const MOST_ADDRESSES: usize = 4;
 
-/// How often `--transfer-syntax` may be given.
+/// The most uses of `--transfer-syntax`.
 pub const MOST_SYNTAXES: usize = 16;
 
-/// The arguments of a command that takes one file.
+/// The arguments of a command for one file.
 #[derive(Debug, Drop)]
 pub struct FileArguments<'a> {
     pub file: &'a str,
@@ -39,6 +39,7 @@ pub struct ShowArguments<'a> {
     pub tags: Vec<&'a str>,
     pub json: bool,
     pub all_syntaxes: bool,
+    pub any: bool,
 }
 
 /// The arguments of `check`.
@@ -51,6 +52,7 @@ pub struct CheckArguments<'a> {
     pub ignore_others: bool,
     pub json: bool,
     pub all_syntaxes: bool,
+    pub any: bool,
 }
 
 /// The arguments of `replay`.
@@ -58,15 +60,15 @@ pub struct CheckArguments<'a> {
 pub struct ReplayArguments<'a> {
     pub file: &'a str,
     pub out: &'a str,
-    /// The titles that a peer may call, of which at most 16 count.
+    /// The AE titles that a peer may call.
     pub titles: ArrayVec<&'a str, MOST_TITLES>,
     pub cut: &'a str,
     pub per: Option<&'a str>,
     pub all_storage: bool,
-    /// At most 64 of them count.
+    /// The UIDs of further storage classes.
     pub storage_classes: ArrayVec<&'a str, MOST_VALUES>,
     pub all_syntaxes: bool,
-    /// At most 16 of them count.
+    /// The UIDs of further transfer syntaxes.
     pub transfer_syntaxes: ArrayVec<&'a str, MOST_SYNTAXES>,
 }
 
@@ -93,6 +95,8 @@ pub struct ListArguments<'a> {
     pub series: bool,
     pub instances: bool,
     pub conditions: Vec<&'a str>,
+    /// The keywords of the further columns, separated by commas.
+    pub columns: Option<&'a str>,
     pub ignore_others: bool,
     pub json: bool,
 }
@@ -102,6 +106,7 @@ pub struct ListArguments<'a> {
 pub struct ArrangeArguments<'a> {
     pub dirs: Vec<&'a str>,
     pub to: &'a str,
+    pub pattern: Option<&'a str>,
     pub copy: bool,
     pub dry_run: bool,
     pub ignore_others: bool,
@@ -114,20 +119,20 @@ pub struct ServeArguments<'a> {
     pub port: &'a str,
     pub out: &'a str,
     pub bind: &'a str,
-    /// Further addresses, each with its port, of which at most 4 count.
+    /// Further addresses to listen on, each with its port.
     pub listen: ArrayVec<&'a str, MOST_ADDRESSES>,
-    /// The titles that a peer may call, of which at most 16 count.
+    /// The AE titles that a peer may call.
     pub titles: ArrayVec<&'a str, MOST_TITLES>,
     pub any_called: bool,
-    /// At most 64 of them count.
+    /// The AE titles of peers that may call.
     pub callers: ArrayVec<&'a str, MOST_VALUES>,
-    /// The path of a file of further titles.
+    /// The path of a file with more titles of peers that may call.
     pub callers_file: Option<&'a str>,
     pub timeout: &'a str,
     pub idle: &'a str,
     pub max_pdu: &'a str,
     pub max_data: &'a str,
-    /// How often it was given.
+    /// How often `--verbose` was given.
     pub verbose: u8,
     pub quiet: bool,
     pub log: Option<&'a str>,
@@ -144,10 +149,10 @@ pub struct ServeArguments<'a> {
     pub grace: &'a str,
     pub metrics: Option<&'a str>,
     pub all_storage: bool,
-    /// At most 64 of them count.
+    /// The UIDs of further storage classes.
     pub storage_classes: ArrayVec<&'a str, MOST_VALUES>,
     pub all_syntaxes: bool,
-    /// At most 16 of them count.
+    /// The UIDs of further transfer syntaxes.
     pub transfer_syntaxes: ArrayVec<&'a str, MOST_SYNTAXES>,
 }
 
@@ -155,7 +160,7 @@ pub struct ServeArguments<'a> {
 #[derive(Drop)]
 struct Texts<'a>([&'a str; 10]);
 
-/// Returns the first value of each argument, or `None` where one has none.
+/// Returns the first value of each argument, or `None` if an argument has none.
 fn texts_of<'a>(matches: &ArgMatches<'a>, ids: &[&str]) -> Option<Texts<'a>>
     requires { length ids.now ≤ 10 }
     ensures some { IfSome result (λ t. map (λ id. first_of id.now (rows_of (found_of matches.now))) ids.now ≡ map (λ v. Some v.now) (take (length ids.now) t.0)) }
@@ -168,7 +173,7 @@ fn texts_of<'a>(matches: &ArgMatches<'a>, ids: &[&str]) -> Option<Texts<'a>>
     Some(found)
 }
 
-/// Returns the arguments of a command that takes one file.
+/// Returns the arguments of a command for one file, or `None` if the file is missing.
 pub fn file_arguments<'a>(matches: &ArgMatches<'a>) -> Option<FileArguments<'a>>
     ensures some { IfSome result (λ a. IsFile a (rows_of (found_of matches.now))) }
     ensures none { IfNone result (have_values (rows_of (found_of matches.now)) file_needs ≡ false) }
@@ -178,7 +183,7 @@ pub fn file_arguments<'a>(matches: &ArgMatches<'a>) -> Option<FileArguments<'a>>
     Some(FileArguments { file, json })
 }
 
-/// Returns the values of an argument that may be given more than once.
+/// Returns the values of an argument that may be repeated.
 fn all_values<'a>(
     alloc: Global,
     matches: &ArgMatches<'a>,
@@ -204,6 +209,7 @@ pub fn show_arguments<'a>(
     let meta = matches.get_flag("meta");
     let json = matches.get_flag("json");
     let all_syntaxes = matches.get_flag("all-syntaxes");
+    let any = matches.get_flag("any");
     let files = all_values(alloc, matches, "FILE")?;
     let tags = all_values(alloc, matches, "tag")?;
     Ok(ShowArguments {
@@ -215,6 +221,7 @@ pub fn show_arguments<'a>(
         tags,
         json,
         all_syntaxes,
+        any,
     })
 }
 
@@ -231,6 +238,7 @@ pub fn check_arguments<'a>(
     let ignore_others = matches.get_flag("ignore-others");
     let json = matches.get_flag("json");
     let all_syntaxes = matches.get_flag("all-syntaxes");
+    let any = matches.get_flag("any");
     let files = all_values(alloc, matches, "FILE")?;
     Ok(CheckArguments {
         files,
@@ -240,11 +248,12 @@ pub fn check_arguments<'a>(
         ignore_others,
         json,
         all_syntaxes,
+        any,
     })
 }
 
-/// Returns the arguments of `replay`, where each has its value and at most 16 titles, 64 storage classes and 16
-/// transfer syntaxes are named.
+/// Returns the arguments of `replay`, or `None` if a required value is missing or there are more
+/// than 16 titles, 64 storage classes or 16 transfer syntaxes.
 pub fn replay_arguments<'a>(matches: &ArgMatches<'a>) -> Option<ReplayArguments<'a>>
     ensures some { IfSome result (λ a. IsReplay a (rows_of (found_of matches.now))) }
     ensures none { IfNone result (fits_replay (rows_of (found_of matches.now)) ≡ false) }
@@ -267,7 +276,7 @@ pub fn replay_arguments<'a>(matches: &ArgMatches<'a>) -> Option<ReplayArguments<
     })
 }
 
-/// Returns the arguments of `index`, where each has its value.
+/// Returns the arguments of `index`, or `None` if a required value is missing.
 pub fn index_arguments<'a>(matches: &ArgMatches<'a>) -> Option<IndexArguments<'a>>
     ensures some { IfSome result (λ a. IsIndex a (rows_of (found_of matches.now))) }
     ensures none { IfNone result (have_values (rows_of (found_of matches.now)) index_needs ≡ false) }
@@ -311,12 +320,13 @@ pub fn list_arguments<'a>(
         series,
         instances,
         conditions,
+        columns: matches.get_str("columns"),
         ignore_others,
         json,
     })
 }
 
-/// Returns the arguments of `arrange`, where each has its value.
+/// Returns the arguments of `arrange`, or `None` if a required value is missing.
 pub fn arrange_arguments<'a>(
     alloc: Global,
     matches: &ArgMatches<'a>,
@@ -327,6 +337,7 @@ pub fn arrange_arguments<'a>(
     let Some(to) = matches.get_str("to") else {
         return Ok(None);
     };
+    let pattern = matches.get_str("pattern");
     let copy = matches.get_flag("copy");
     let dry_run = matches.get_flag("dry-run");
     let ignore_others = matches.get_flag("ignore-others");
@@ -335,6 +346,7 @@ pub fn arrange_arguments<'a>(
     Ok(Some(ArrangeArguments {
         dirs,
         to,
+        pattern,
         copy,
         dry_run,
         ignore_others,
@@ -342,7 +354,7 @@ pub fn arrange_arguments<'a>(
     }))
 }
 
-/// Returns the values of an argument that may be given more than once, or `None` for more than `MOST`.
+/// Returns the values of an argument that may be repeated, or `None` for more than `MOST`.
 pub(crate) fn values<'a, const MOST: usize>(
     matches: &ArgMatches<'a>,
     id: &str,
@@ -362,8 +374,9 @@ pub(crate) fn values<'a, const MOST: usize>(
     Some(values)
 }
 
-/// Returns the arguments of `serve`, where each has its value and at most 4 further addresses, 16 titles of the receiver, 64 of callers,
-/// as many storage classes and 16 transfer syntaxes are named.
+/// Returns the arguments of `serve`, or `None` if a required value is missing or there are more
+/// than 4 further addresses, 16 titles of the receiver, 64 titles of callers, 64 storage classes or
+/// 16 transfer syntaxes.
 pub fn serve_arguments<'a>(matches: &ArgMatches<'a>) -> Option<ServeArguments<'a>>
     ensures some { IfSome result (λ a. IsServe a (rows_of (found_of matches.now))) }
     ensures none { IfNone result (fits_serve (rows_of (found_of matches.now)) ≡ false) }

@@ -1,4 +1,4 @@
-//! The command line.
+//! Reads the command line.
 ghost use Rattle.std.specs.Prelude.{◌≡◌, IfOk, IfSome, IsOk, Some, [], map};
 ghost use Rattle.clap.specs.Faults.{fault_of};
 ghost use Rattle.clap.specs.Matches.{found_of};
@@ -18,12 +18,12 @@ use clap::{ArgMatches, Error};
 use failures::WordsError;
 use std::alloc::{AllocError, Global};
 
-/// What the arguments ask for.
+/// The command that the arguments request.
 #[derive(Debug, Drop)]
 pub enum Job<'a> {
     /// Serve associations.
     Serve(ServeArguments<'a>),
-    /// Run a recorded association again.
+    /// Replay a recorded association.
     Replay(ReplayArguments<'a>),
     /// List the elements of files.
     Show(ShowArguments<'a>),
@@ -39,7 +39,7 @@ pub enum Job<'a> {
     Arrange(ArrangeArguments<'a>),
 }
 
-/// Returns clap's error as this program reports it: help and the version are shown, the others are
+/// Returns this program's error for clap's: help and the version are shown, other errors are
 /// refusals.
 fn refusal(alloc: Global, error: Error) -> WordsError {
     let text = match format!(in alloc; "{error}") {
@@ -53,8 +53,8 @@ fn refusal(alloc: Global, error: Error) -> WordsError {
     }
 }
 
-/// The only arguments that clap takes and this program does not: more addresses, titles, storage classes
-/// or transfer syntaxes than it keeps.
+/// Returns the error for an option given too often, the only arguments that clap accepts and this
+/// program does not.
 fn too_many(alloc: Global, matches: &ArgMatches) -> WordsError {
     let (option, most) = if values::<MOST_VALUES>(matches, "caller").is_none() {
         ("caller", MOST_VALUES)
@@ -73,8 +73,8 @@ fn too_many(alloc: Global, matches: &ArgMatches) -> WordsError {
     }
 }
 
-/// Returns the job of a subcommand that takes no list of files or folders, or `None` for more titles, storage classes or
-/// transfer syntaxes than the program keeps.
+/// Returns the job of a subcommand without a list of files or folders, or `None` for another
+/// subcommand or an option given too often.
 fn job_without_files<'a>(name: &str, matches: &ArgMatches<'a>) -> Option<Job<'a>>
     ensures { IfSome result (λ job. Names job (Some (name.now, rows_of (found_of matches.now)))) }
 {
@@ -88,8 +88,7 @@ fn job_without_files<'a>(name: &str, matches: &ArgMatches<'a>) -> Option<Job<'a>
     Some(job)
 }
 
-/// Returns the job of a subcommand, or `None` for more titles, storage classes or transfer syntaxes than the
-/// program keeps.
+/// Returns the job of a subcommand, or `None` for an option given too often.
 fn job_of<'a>(
     alloc: Global,
     name: &str,
@@ -110,12 +109,13 @@ fn job_of<'a>(
     Ok(Some(job))
 }
 
-/// Reads the arguments of the command line, of which the first is the program's name.
+/// Reads the arguments of the command line; the first is the program's name.
 ///
-/// `taken`: the arguments have none of the faults of clap's definition of a simple command, such as an
-/// option that is given twice.
-/// `named`: the subcommand, the values and the flags are those that clap's definition of a simple
-/// command gives for these arguments.
+/// `taken`: if the arguments are accepted, they have none of the faults of clap's definition of a
+/// simple command, such as a repeated option.
+///
+/// `named`: the subcommand, the values and the flags are those of clap's definition of a simple
+/// command for these arguments.
 pub fn read_words<'a>(alloc: Global, words: &'a [&'a str]) -> Result<Job<'a>, WordsError>
     ensures taken { IsOk result → fault_of the_command (map (λ w. w.now) words.entry.now) ≡ [] }
     ensures named { IfOk result (λ job. Names job (subcommand_of the_command (map (λ w. w.now) words.entry.now))) }

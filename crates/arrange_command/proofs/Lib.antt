@@ -1,1 +1,3 @@
 mod NamesArePrintable
+mod PathsStayInTheTree
+mod PatternsAreRead

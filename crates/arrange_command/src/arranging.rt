@@ -1,7 +1,7 @@
-//! `dcmbox arrange`: links or copies the files in folders into a tree of folders by patient, study and
-//! series.
+//! `dcmbox arrange`: links or copies the files in folders into a tree of folders by patient, study
+//! and series.
 use crate::copying::locked;
-use crate::paths::ARRANGED;
+use crate::pattern::{Part, tags_of};
 use crate::placing::Placer;
 use failures::{Failure, ProgramError, WordsError, flushed};
 use folder_filing::StoredFile;
@@ -14,15 +14,19 @@ use std::rt::Files;
 /// The options of `arrange`.
 #[derive(Clone, Copy)]
 pub struct ArrangeOptions<'a> {
-    /// The path of the folder in which the tree is made.
+    /// The path of the root folder of the tree.
     pub tree: &'a str,
+    /// The pattern of the paths of files in the tree.
+    pub pattern: &'a [Part<'a>],
     /// Whether files are copied rather than linked.
     pub copy: bool,
     /// Whether the actions are only printed, and nothing is written.
     pub dry_run: bool,
-    /// Whether files that are no DICOM files are passed by.
+    /// Whether files that are no DICOM files are ignored.
     pub ignore_others: bool,
     pub form: OutputForm,
+    /// Whether lines have characters beyond ASCII, in UTF-8. JSON always has them.
+    pub unicode: bool,
 }
 
 /// Creates the folder of the tree, unless it is a dry run.
@@ -36,8 +40,8 @@ fn make_tree<R: Files>(rt: &R, options: ArrangeOptions<'_>) -> Result<(), Progra
     }
 }
 
-/// Locks the folder of the tree, if files are copied into it. Returns the open folder, which has the
-/// lock.
+/// Locks the folder of the tree if files are copied into it. Returns the open folder, which holds
+/// the lock.
 fn lock_for<R: Files>(rt: &R, options: ArrangeOptions<'_>) -> Result<Option<R::File>, ProgramError>
 where
     R::File: StoredFile,
@@ -48,23 +52,22 @@ where
     Ok(None)
 }
 
-/// Gives each DICOM file in folders and their subfolders the path
-/// `PatientID/StudyInstanceUID/SeriesInstanceUID/SOPInstanceUID.dcm` in the tree, by a hard link or a
-/// copy, and writes a line with the numbers of files, or one JSON object. If the tree is inside a
-/// folder, it is not visited.
+/// Gives each DICOM file in folders and their subfolders the path of the pattern in the tree, with
+/// `.dcm` appended, by a hard link or a copy, and writes a line with the numbers of files, or one
+/// JSON object. A tree inside one of the folders is not visited.
 ///
-/// If the path is that of the same file already, or of one with the same bytes, the file is left as it
-/// is. If something else has the path, the file gets the name with `-2`, `-3` and so on. Nothing is
-/// overwritten. A copy is synced to the disk before it gets its name.
+/// If the path already has the same file or the same bytes, nothing is done. If the path has
+/// something else, `-2`, `-3` and so on is appended to the file's name. Nothing is overwritten. A
+/// copy is synced to the disk before it gets its name.
 ///
-/// Files that are no DICOM files, or have a fault before the values of the path, are reported on `err`;
-/// the outcome is `Faulty` then. Files that cannot be read are reported, too, and the error is `Unread`
-/// then. Memory does not grow with the number of files.
+/// Files that are no DICOM files, or have a fault before the values of the path, are reported on
+/// `err`; the outcome is then `Faulty`. Files that cannot be read are reported too; the error is
+/// then `Unread`. Memory does not grow with the number of files.
 ///
-/// Of several folders one that cannot be listed is reported as a file that cannot be read.
+/// With several folders, a folder that cannot be listed is reported as a file that cannot be read.
 ///
-/// Fails also if the only folder cannot be listed, a file cannot be linked, the tree or the output cannot be
-/// written, or memory runs out. Files that were linked or copied before stay.
+/// Fails also if the only folder cannot be listed, a file cannot be linked, the tree or the output
+/// cannot be written, or memory runs out. Files linked or copied before stay.
 pub fn arrange_folders<R: Files + Alloc + Clone + Drop, O: Write, E: Write + Drop>(
     rt: &R,
     dirs: &[&str],
@@ -78,7 +81,8 @@ where
 {
     make_tree(rt, options)?;
     let _lock = lock_for(rt, options)?;
-    let mut visitor = Visitor::new(rt, &ARRANGED, err, counter);
+    let tags = tags_of(rt.alloc(), options.pattern)?;
+    let mut visitor = Visitor::new(rt, tags.as_slice(), err, counter);
     if options.ignore_others {
         visitor.ignore_others();
     }
@@ -93,7 +97,7 @@ where
     tally.outcome()
 }
 
-/// Returns whether two paths lead to the same folder.
+/// Returns whether two paths are those of the same folder.
 fn are_same(rt: &HostRuntime, one: &str, other: &str) -> bool {
     match (fs::metadata(rt, one), fs::metadata(rt, other)) {
         (Ok(one), Ok(other)) => NodeId::of(&one) == NodeId::of(&other),
@@ -101,8 +105,8 @@ fn are_same(rt: &HostRuntime, one: &str, other: &str) -> bool {
     }
 }
 
-/// Arranges the files in folders as [`arrange_folders`] does, and prints the numbers of files. What was
-/// written before an error is printed, too.
+/// Arranges the files in folders as [`arrange_folders`] does, and prints the numbers of files.
+/// Output written before an error is printed as well.
 ///
 /// Fails also if the tree is one of the folders.
 pub fn arrange(
@@ -115,7 +119,7 @@ pub fn arrange(
         return Err(ProgramError::Words(WordsError::Refused(text)));
     }
     let mut out = BufWriter::new(rt.alloc(), io::writer(rt)).map_err(ProgramError::of_output)?;
-    let told = (rt.stderr(), Counter::new(rt));
-    let arranged = arrange_folders(rt, dirs, options, &mut out, told);
+    let reported = (rt.stderr(), Counter::new(rt));
+    let arranged = arrange_folders(rt, dirs, options, &mut out, reported);
     flushed(arranged, &mut out)
 }

@@ -1,4 +1,4 @@
-//! Copies files: to a draft, which gets its name once it is complete.
+//! Copies files: to a draft, which is renamed once it is complete.
 ghost use Rattle.std.specs.Prelude.{IfOk, OnOk};
 ghost use Rattle.arrange_command.specs.Placing.{HasGiven, TakesNone};
 
@@ -10,10 +10,10 @@ use std::fs::{self, File, OpenFile};
 use std::io::{self, Error, ErrorKind, Read, Write};
 use std::rt::Files;
 
-/// The number of bytes that are copied at a time.
+/// How many bytes are copied at a time.
 const PIECE: usize = 16384;
 
-/// The number of the system error `EPERM`, with which Linux rejects hard links on vfat and exFAT.
+/// The system error `EPERM`, with which Linux rejects hard links on vfat and exFAT.
 const NOT_PERMITTED: i32 = 1;
 
 /// Opens and locks the folder of the tree, so that no other program uses its draft. The lock lasts
@@ -47,7 +47,7 @@ fn copy<R: Read, W: Write>(from: &mut R, to: &mut W) -> Result<(), ProgramError>
     Ok(())
 }
 
-/// Copies a file to the draft, and syncs that to the disk. A draft that exists is removed rather than
+/// Copies a file to the draft and syncs the draft to the disk. An existing draft is removed, not
 /// overwritten, since it may be a hard link to a file of the tree.
 fn write_draft<R: Files>(rt: &R, file: &str, draft: &str) -> Result<(), ProgramError> {
     let mut from = match fs::open(rt, file) {
@@ -69,8 +69,8 @@ fn is_without_links(error: &Error) -> bool {
     error.kind() == ErrorKind::Unsupported || error.raw_os_error() == Some(NOT_PERMITTED)
 }
 
-/// Gives the draft this path: by a hard link or, on a file system without them, by a rename after a
-/// check that the path is free.
+/// Gives the draft this path: by a hard link or, on a file system without hard links, by a rename
+/// after a check that the path is free.
 ///
 /// Fails with `AlreadyExists` if something exists at the path.
 fn name_draft<R: Files>(rt: &R, draft: &str, path: &str, calls: &mut TreeCalls) -> io::Result<()>
@@ -86,7 +86,8 @@ fn name_draft<R: Files>(rt: &R, draft: &str, path: &str, calls: &mut TreeCalls) 
     }
 }
 
-/// Copies a file to the draft and gives that this path. The inner result is that of giving the path.
+/// Copies a file to the draft and gives the draft this path. The inner result is that of giving the
+/// path.
 ///
 /// Fails if the file cannot be read or the draft cannot be written.
 pub(crate) fn put_copy<R: Files>(

@@ -5,7 +5,7 @@ use inspection::OutputForm;
 use keyed_files::Tally;
 use std::io::{self, Write};
 
-/// The numbers of files that were put at their path, passed over, and put with a number in their name.
+/// The numbers of files that were put at their path, passed over, and renamed with a number.
 #[derive(Clone, Copy)]
 pub(crate) struct Counts {
     put: u64,
@@ -23,7 +23,7 @@ impl Counts {
         }
     }
 
-    /// Counts a file by its outcome.
+    /// Counts a file by what was done with it.
     pub fn add(&mut self, placed: Placed) {
         let count = match placed {
             Placed::Put => &mut self.put,
@@ -33,8 +33,8 @@ impl Counts {
         *count = count.saturating_add(1);
     }
 
-    /// Writes the numbers, and that of the files that were left out: as a line, or as the last members of
-    /// an object.
+    /// Writes the counts and the number of files left out: as a line, or as the last members of a
+    /// JSON object.
     pub fn write<O: Write>(
         &self,
         options: ArrangeOptions<'_>,
@@ -46,17 +46,17 @@ impl Counts {
             passed_over,
             renamed,
         } = *self;
-        let (done, left_out) = (
+        let (done, omitted) = (
             if options.copy { "copied" } else { "linked" },
-            tally.left_out,
+            tally.omitted,
         );
         if options.form == OutputForm::Lines {
             return writeln!(
                 out,
-                "{done} {put} passed over {passed_over} renamed {renamed} left out {left_out}"
+                "{done} {put} passed over {passed_over} renamed {renamed} left out {omitted}"
             );
         }
         write!(out, "\"{done}\":{put},\"passed_over\":{passed_over},")?;
-        writeln!(out, "\"renamed\":{renamed},\"left_out\":{left_out}}}")
+        writeln!(out, "\"renamed\":{renamed},\"left_out\":{omitted}}}")
     }
 }

@@ -1,4 +1,4 @@
-//! Names of files and folders, made from values of data sets.
+//! Names of files and folders, derived from values of data sets.
 ghost use Rattle.std.specs.Prelude.{◌≡◌, ◌≢◌, ◌<◌, ◌≤◌, length, get_or};
 ghost use Rattle.std.specs.List.{AllByRecursion};
 ghost use Rattle.arrange_command.specs.Names as spelling;
@@ -6,14 +6,14 @@ ghost use Rattle.arrange_command.specs.Names as spelling;
 use arrayvec::ArrayVec;
 use element::unpadded;
 
-/// The greatest size of a name in bytes: with a number and `.dcm` after it, it is at most 255, the
+/// The longest name in bytes: with a number and `.dcm` appended, a name has at most 255 bytes, the
 /// limit of file systems.
 pub const LONGEST_NAME: usize = 230;
 
-/// The byte that replaces those that a name may not have.
+/// The byte that replaces bytes not allowed in a name.
 const BLANK: u8 = b'_';
 
-/// Returns a byte as it is in a name, or `_` if a name may not have it.
+/// Returns a byte, or `_` if the byte is not allowed in a name.
 fn kept_or_blank(byte: u8) -> u8
     ensures { result ≡ spelling.kept_or_blank byte }
 {
@@ -24,7 +24,8 @@ fn kept_or_blank(byte: u8) -> u8
     }
 }
 
-/// Returns a byte as it is at the front of a name: `_` for `.`, too, which would hide the file.
+/// Returns a byte, or `_` if the byte is not allowed at the front of a name: `.` would hide the
+/// file.
 fn front_or_blank(byte: u8) -> u8
     ensures { result ≡ spelling.front_or_blank byte }
 {
@@ -35,10 +36,10 @@ fn front_or_blank(byte: u8) -> u8
     }
 }
 
-/// Returns the name of a file or folder for a value, of 1 to 230 bytes: the value without the spaces
-/// and zero bytes at its end, with `_` in place of `/`, of each byte that is neither a printable ASCII
-/// character nor a space, and of `.` at its front. The name is `_` if nothing is left, or if the value
-/// has more than 230 bytes.
+/// Returns the name of a file or folder for a value, of 1 to 230 bytes: the value without the
+/// spaces and zero bytes at its end, with `_` for `/`, for each byte that is neither a printable
+/// ASCII character nor a space, and for `.` at the front. The name is `_` if the value is empty
+/// without padding or has more than 230 bytes.
 pub fn name_of(value: &[u8]) -> ArrayVec<u8, LONGEST_NAME>
     ensures value { result.items ≡ spelling.name_for value.now }
     ensures some { 0 < length result.items }

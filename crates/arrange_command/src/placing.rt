@@ -8,11 +8,11 @@ use crate::arranging::ArrangeOptions;
 use crate::comparing::Present;
 use crate::copying::put_copy;
 use crate::counts::Counts;
-use crate::paths::{folder_of, path_of};
+use crate::paths::{folder_of, numbered, path_of};
 use crate::planned::PlannedPaths;
 use crate::tree_calls::TreeCalls;
 use failures::{Failure, ProgramError};
-use inspection::{JsonPath, OutputForm, Printable};
+use inspection::{JsonPath, OutputForm, PathText};
 use keyed_files::{FoundFile, TREE_DRAFT, Taking};
 use std::alloc::Allocator;
 use std::fs;
@@ -22,26 +22,26 @@ use std::rt::Files;
 /// What was done with a file.
 #[derive(Clone, Copy, PartialEq, Eq)]
 pub(crate) enum Placed {
-    /// It was put at the path of its values.
+    /// The file got the path of its values.
     Put,
-    /// The same file or bytes were at its path already.
+    /// The path already had the same file or the same bytes.
     PassedOver,
-    /// It was put at the path with a number, since something else is at the one without.
+    /// The file got a path with a number, since the path without has something else.
     Renamed,
 }
 
-/// The name that a file is to get.
+/// A file and the path that it is to get.
 #[derive(Clone, Copy)]
 struct TreeFile<'a> {
     file: FoundFile<'a>,
-    /// The path of the folder in which the name stands.
+    /// The folder of the path.
     folder: &'a str,
     path: &'a str,
-    /// The number that is appended to the name, from 2 on.
+    /// The number in the name; 1 for none.
     number: u64,
 }
 
-/// Returns what is done with a file that gets the name with this number.
+/// Returns what was done with a file that got the name with this number.
 fn placed_as(number: u64) -> Placed
     ensures { result ≡ (if nat_eq number 1 then Put else Renamed) }
 {
@@ -52,14 +52,14 @@ fn placed_as(number: u64) -> Placed
     }
 }
 
-/// Gives each file its path in the tree, and counts the outcomes.
+/// Gives each file its path in the tree and counts the results.
 #[derive(Drop)]
 pub(crate) struct Placer<'a, R: Alloc, O: Write> {
     rt: &'a R,
     options: ArrangeOptions<'a>,
     /// The path of the draft that files are copied to.
     draft: String<R::A>,
-    /// The paths that are given in a dry run.
+    /// The paths given in a dry run.
     planned: PlannedPaths<R::A>,
     pub counts: Counts,
     /// The text before the next action, in JSON.
@@ -74,7 +74,7 @@ impl<'a, R: Files + Alloc, O: Write> Placer<'a, R, O>
 where
     R::A: Copy,
 {
-    /// Creates a placer before the first file.
+    /// Creates a placer that has placed no file.
     pub fn new(
         rt: &'a R,
         options: ArrangeOptions<'a>,
@@ -110,7 +110,7 @@ where
     }
 
     /// Links or copies a file to a path in a folder, which is created if it does not exist. Returns
-    /// `false` if something is at the path.
+    /// `false` if something exists at the path.
     fn put(&self, target: TreeFile<'_>, calls: &mut TreeCalls) -> Result<bool, ProgramError>
         ensures given { IfOk result (λ is_put. is_put ≡ true → HasGiven calls.new) }
         ensures none { TakesNone calls.old → TakesNone calls.new }
@@ -129,14 +129,15 @@ where
             Ok(()) => Ok(true),
             Err(error) => match error.kind() {
                 ErrorKind::AlreadyExists => Ok(false),
-                // The file was removed after it was found.
+                // The file was removed after the visit found it.
                 ErrorKind::NotFound => Err(ProgramError::of(Failure::Open, error)),
                 _ => Err(ProgramError::of(Failure::Link, error)),
             },
         }
     }
 
-    /// Gives a file its name, at which nothing was found.
+    /// Gives a file its path, at which nothing was found. Returns `None` if something else was put
+    /// there meanwhile.
     fn place_new(
         &self,
         target: TreeFile<'_>,
@@ -148,15 +149,15 @@ where
         if self.put(target, calls)? {
             return Ok(Some(placed_as(target.number)));
         }
-        // Another program used the name in the meantime.
+        // Another program put something at the path meanwhile.
         match calls.look(self.rt, target.file, target.path)? {
             Present::Same => Ok(Some(Placed::PassedOver)),
             Present::Other | Present::Nothing => Ok(None),
         }
     }
 
-    /// Returns what a real run would do at a name at which nothing was found: it would have put the file there that has the
-    /// name in this dry run, or else it would put this one there.
+    /// Returns what a real run would do at a path at which nothing was found: compare with the file
+    /// to which this dry run gave the path, or else put this file there.
     fn plan(
         &mut self,
         target: TreeFile<'_>,
@@ -176,8 +177,8 @@ where
         Ok(Some(placed_as(target.number)))
     }
 
-    /// Gives a file a name if that is free; in a dry run it is only planned. Returns `None` where something else has the
-    /// name.
+    /// Gives a file its path if that is free; a dry run only plans it. Returns `None` if something
+    /// else has the path.
     fn place_at(
         &mut self,
         target: TreeFile<'_>,
@@ -194,8 +195,8 @@ where
         }
     }
 
-    /// Prints the action for a file, in a dry run.
-    fn tell(&mut self, placed: Placed, file: &str, path: &str) -> Result<(), ProgramError> {
+    /// Prints the action for a file in a dry run.
+    fn report(&mut self, placed: Placed, file: &str, path: &str) -> Result<(), ProgramError> {
         if !self.options.dry_run {
             return Ok(());
         }
@@ -205,9 +206,14 @@ where
             Placed::PassedOver => "pass over",
             Placed::Renamed => "rename",
         };
-        let told = match self.options.form {
+        let reported = match self.options.form {
             OutputForm::Lines => {
-                let (file, path) = (Printable(file.as_bytes()), Printable(path.as_bytes()));
+                let unicode = self.options.unicode;
+                let file = PathText {
+                    path: file,
+                    unicode,
+                };
+                let path = PathText { path, unicode };
                 writeln!(self.out, "{done}\t{file}\t{path}")
             }
             OutputForm::Json => {
@@ -219,31 +225,32 @@ where
                 )
             }
         };
-        told.map_err(ProgramError::of_output)
+        reported.map_err(ProgramError::of_output)
     }
 
-    /// Gives a file its path, or else the first one with a number that is free or has the same bytes
-    /// already.
+    /// Gives a file its path, or else the first path with a number that is free or already has the
+    /// same bytes.
     fn place(&mut self, file: FoundFile<'_>) -> Result<(), ProgramError> {
-        let folder = folder_of(self.rt.alloc(), self.options.tree, file.keys)?;
+        let alloc = self.rt.alloc();
+        let named = path_of(alloc, self.options.tree, self.options.pattern, file.keys)?;
         for number in 1..u64::MAX {
-            let path = path_of(self.rt.alloc(), folder.as_str(), file.keys, number)?;
+            let path = numbered(alloc, named.as_str(), number)?;
             let target = TreeFile {
                 file,
-                folder: folder.as_str(),
+                folder: folder_of(named.as_str()),
                 path: path.as_str(),
                 number,
             };
             if let Some(placed) = self.place_at(target, &mut TreeCalls::new())? {
                 self.counts.add(placed);
-                return self.tell(placed, file.path, path.as_str());
+                return self.report(placed, file.path, path.as_str());
             }
         }
         Ok(())
     }
 
-    /// Writes the numbers of files, in JSON after the end of the actions of a dry run.
-    pub fn finish(&mut self, left_out: keyed_files::Tally) -> Result<(), ProgramError> {
+    /// Writes the counts of files; in JSON, after closing the actions of a dry run.
+    pub fn finish(&mut self, omitted: keyed_files::Tally) -> Result<(), ProgramError> {
         let (counts, options) = (self.counts, self.options);
         let front = match (options.form, options.dry_run) {
             (OutputForm::Lines, _) => "",
@@ -253,7 +260,7 @@ where
         };
         write!(self.out, "{front}").map_err(ProgramError::of_output)?;
         counts
-            .write(options, left_out, self.out)
+            .write(options, omitted, self.out)
             .map_err(ProgramError::of_output)
     }
 }

@@ -1,18 +1,18 @@
-//! The paths that files would get in a dry run.
+//! The paths that a dry run would give to files.
 use indexmap::IndexSet;
 use std::alloc::{AllocError, Allocator};
 use std::hash::{BuildHasherDefault, FoldHasher};
 
-/// The paths that a dry run has given so far, and to which files.
+/// The paths that a dry run gave so far, with their files.
 #[derive(Drop)]
 pub(crate) struct PlannedPaths<A: Allocator> {
     paths: IndexSet<Vec<u8, A>, BuildHasherDefault<FoldHasher>, A>,
-    /// The file of each of them.
+    /// The file of each path.
     files: Vec<String<A>, A>,
 }
 
 impl<A: Allocator + Copy> PlannedPaths<A> {
-    /// Returns none.
+    /// Returns a list without paths.
     pub(crate) fn new(alloc: A) -> PlannedPaths<A> {
         PlannedPaths {
             paths: IndexSet::new(alloc),
@@ -20,7 +20,7 @@ impl<A: Allocator + Copy> PlannedPaths<A> {
         }
     }
 
-    /// Returns the file that would have a path.
+    /// Returns the file that has this path, or `None`.
     pub(crate) fn file_at(&self, path: &str) -> Option<&str> {
         let place = self.paths.get_index_of(path.as_bytes())?;
         match self.files.get(place) {

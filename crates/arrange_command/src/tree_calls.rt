@@ -1,7 +1,8 @@
-//! The system calls on a name of the tree, recorded for contracts.
+//! The system calls on a path of the tree, recorded for contracts.
 //!
-//! Only this module gives files their names in the tree. Each method makes its system call and records what came of it, so
-//! that contracts can require that a file is passed over only where its bytes are there, and that none is written over.
+//! Only this module gives files their paths in the tree. Each method makes its system call and
+//! records a success, so that contracts can require that a file is passed over only if its bytes
+//! are there, and that no file is overwritten.
 ghost use Rattle.std.specs.Prelude.{◌≡◌, List, [], ◌∷◌, IfOk, OnOk, OnErr, reverse};
 ghost use Rattle.arrange_command.specs.declared.tree_calls.TreeCall.{TreeCall as SeenCall};
 ghost use Rattle.arrange_command.specs.declared.tree_calls.TreeCall.TheVariants as seen;
@@ -16,21 +17,22 @@ use std::io::{self, Error, ErrorKind};
 use std::marker::Model;
 use std::rt::Files;
 
-/// A system call on a name of the tree, as contracts see it.
+/// A system call on a path of the tree, as recorded for contracts.
 #[derive(Clone, Copy)]
 pub enum TreeCall {
-    /// This was found at the name; in a dry run also at the file that is to get it.
+    /// What was found at the path; in a dry run, also in the file that is to get the path.
     Found(Present),
-    /// A file got the name by a hard link, which fails where the name is in use.
+    /// A file got the path by a hard link, which fails if the path is in use.
     Linked,
-    /// The draft was renamed to the name, which replaces what has it.
+    /// The draft was renamed to the path, which replaces anything there.
     Renamed,
 }
 
-/// The calls on a name so far, the newest first. It is a ghost value: contracts can name it, the program cannot read it.
+/// The calls on a path so far, newest first. A ghost value: contracts can use it, the program
+/// cannot read it.
 #[derive(Drop)]
 pub struct TreeCalls {
-    /// The oldest first.
+    /// The calls, oldest first.
     history: History<TreeCall>,
 }
 
@@ -50,14 +52,14 @@ impl TreeCalls {
         }
     }
 
-    /// Adds a call as the newest.
+    /// Adds the newest call.
     fn push(&mut self, call: &TreeCall)
         ensures { self.new ≡ call.now ∷ self.old }
     {
         self.history.push(call);
     }
 
-    /// Records a call that succeeds, and returns what came of it.
+    /// Records a call if it succeeded, and returns its result.
     fn made(&mut self, call: TreeCall, given: io::Result<()>) -> io::Result<()>
         ensures same { result ≡ given }
         ensures made { OnOk result (self.new ≡ call ∷ self.old) }
@@ -84,8 +86,8 @@ impl TreeCalls {
         Ok(present)
     }
 
-    /// Fails with `AlreadyExists` if something exists at this path, and with the system's error if that
-    /// cannot be checked.
+    /// Fails with `AlreadyExists` if something exists at this path, and with the system's error if
+    /// that cannot be checked.
     pub(crate) fn check_free<R: Files>(&mut self, rt: &R, path: &str) -> io::Result<()>
         ensures free { OnOk result (self.new ≡ seen.Found Nothing ∷ self.old) }
         ensures refused { OnErr result (self.new ≡ self.old) }

@@ -1,17 +1,17 @@
-//! A table of cases.
+//! Reads a table of test cases.
 
 use std::alloc::Global;
 use std::test::Fail;
 
-/// A case of a table: a line of it.
+/// A test case: a line of a table.
 #[derive(Clone, Copy)]
 pub struct Case<'a> {
-    /// The case's name, by which a test fails.
+    /// The name of the test case, printed if the test fails.
     pub name: &'a str,
     fields: &'a str,
 }
 
-/// Returns the cases of a table, which has to have so many.
+/// Returns the test cases of a table. Fails if there are not `count`.
 pub fn cases<'a>(alloc: Global, table: &'a str, count: usize) -> Result<Vec<Case<'a>>, Fail> {
     let mut cases = Vec::new(alloc);
     for line in table.lines() {
@@ -32,7 +32,7 @@ pub fn cases<'a>(alloc: Global, table: &'a str, count: usize) -> Result<Vec<Case
 }
 
 impl<'a> Case<'a> {
-    /// Returns the case of a line, which has one empty field if it has no bar.
+    /// Returns the test case of a line; a line without a bar has one empty field.
     pub fn of(line: &'a str) -> Case<'a> {
         let (name, fields) = line.split_once('|').unwrap_or((line, ""));
         Case {
@@ -41,7 +41,7 @@ impl<'a> Case<'a> {
         }
     }
 
-    /// Returns the field at this place, counted from 0.
+    /// Returns the field at this index, counted from 0.
     pub fn field(&self, place: usize) -> Result<&'a str, Fail> {
         match self.fields.split('|').nth(place) {
             Some(field) => Ok(field.trim()),
@@ -49,7 +49,7 @@ impl<'a> Case<'a> {
         }
     }
 
-    /// Fails by the case's name unless this is the field at this place.
+    /// Fails with the name of the test case unless the field at this index is `found`.
     pub fn expect(&self, place: usize, found: &str) -> Result<(), Fail> {
         if self.field(place)? == found {
             return Ok(());
@@ -57,7 +57,7 @@ impl<'a> Case<'a> {
         Err(self.fails(found))
     }
 
-    /// Returns a failure that has the case's name.
+    /// Returns a failure with the name of the test case.
     pub fn fails(&self, why: &str) -> Fail {
         let name = self.name;
         Fail::new(format_args!("{name}: {why}"))

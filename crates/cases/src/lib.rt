@@ -1,12 +1,12 @@
-//! Cases of tests in text: a further one is a line more, and costs no proof.
+//! Test cases in text: a further test case is a line more and needs no proof.
 //!
-//! A line is the case's name and its fields, with bars between them:
+//! A line is the name of the test case and its fields, separated by bars:
 //!
 //!     a text that is too long | SH | '12345678901234567 ' | 5
 //!
-//! A field of bytes has pairs of hexadecimal digits (`00 1f ff` or `001fff`), a text of one byte a character between
-//! apostrophes, and names of `Parts`, of which some bytes may be taken (`request[10..26]`, `request[..60]`), in any order;
-//! a word may say how often it comes (`00*32`, `echo*50`).
+//! A field of bytes has, in any order, pairs of hexadecimal digits (`00 1f ff` or `001fff`), text
+//! between apostrophes, and names of `Parts`, possibly with a range of bytes (`request[10..26]`,
+//! `request[..60]`). `*` and a number repeat a word (`00*32`, `echo*50`).
 #![tactic(auto)]
 
 mod case;

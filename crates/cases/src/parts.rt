@@ -1,4 +1,4 @@
-//! Bytes as a person writes them.
+//! Reads bytes from text.
 
 use crate::case::{Case, cases};
 use std::alloc::Global;
@@ -11,7 +11,7 @@ struct NamedBytes<'a> {
     bytes: Vec<u8>,
 }
 
-/// The names that fields of bytes may have.
+/// The named bytes that fields may refer to.
 #[derive(Drop)]
 pub struct Parts<'a> {
     alloc: Global,
@@ -33,7 +33,7 @@ fn byte_of(pair: &[u8]) -> Option<u8> {
     }
 }
 
-/// Returns the bytes of a range as `10..26]`, whose places may be left out.
+/// Returns the bytes of a range like `10..26]`; both offsets may be omitted.
 fn within<'x>(bytes: &'x [u8], range: &str) -> Option<&'x [u8]> {
     let (from, to) = range.strip_suffix(']')?.split_once("..")?;
     let upto = if to.is_empty() {
@@ -48,7 +48,7 @@ fn within<'x>(bytes: &'x [u8], range: &str) -> Option<&'x [u8]> {
 }
 
 impl<'a> Parts<'a> {
-    /// Returns no names.
+    /// Returns an empty list of names.
     pub fn new(alloc: Global) -> Parts<'a> {
         Parts {
             alloc,
@@ -56,7 +56,8 @@ impl<'a> Parts<'a> {
         }
     }
 
-    /// Names the bytes of each case of a table, which has to have so many and may have the names before it.
+    /// Names the bytes of each of the `count` test cases of a table; each may refer to the names
+    /// before it.
     pub fn read(alloc: Global, table: &'a str, count: usize) -> Result<Parts<'a>, Fail> {
         let mut parts = Parts::new(alloc);
         for case in cases(alloc, table, count)?.as_slice() {
@@ -66,13 +67,13 @@ impl<'a> Parts<'a> {
         Ok(parts)
     }
 
-    /// Names these bytes.
+    /// Adds bytes under a name.
     pub fn add(&mut self, name: &'a str, bytes: Vec<u8>) -> Result<(), Fail> {
         self.parts.push(NamedBytes { name, bytes })?;
         Ok(())
     }
 
-    /// Returns the bytes of a case's field.
+    /// Returns the bytes of the field at this index.
     pub fn bytes(&self, case: &Case, place: usize) -> Result<Vec<u8>, Fail> {
         let mut bytes = Vec::new(self.alloc);
         for (at, text) in case.field(place)?.split('\'').enumerate() {
@@ -89,7 +90,8 @@ impl<'a> Parts<'a> {
         Ok(bytes)
     }
 
-    /// Fails by the case's name unless these are the bytes of the field at this place.
+    /// Fails with the name of the test case unless `found` equals the bytes of the field at this
+    /// index.
     pub fn expect(&self, case: &Case, place: usize, found: &[u8]) -> Result<(), Fail> {
         if self.bytes(case, place)?.as_slice() == found {
             return Ok(());
@@ -97,7 +99,7 @@ impl<'a> Parts<'a> {
         Err(Fail::new(format_args!("{}: {found:?}", case.name)))
     }
 
-    /// Appends the bytes of a word; returns whether it has some.
+    /// Appends the bytes of a word, which may be repeated. Returns whether the word is valid.
     fn put(&self, bytes: &mut Vec<u8>, word: &str) -> Result<bool, Fail> {
         let (text, times) = match word.split_once('*') {
             Some((text, times)) => (text, times.parse::<usize>().unwrap_or(0)),
@@ -111,7 +113,7 @@ impl<'a> Parts<'a> {
         Ok(times > 0)
     }
 
-    /// Appends the bytes of a word without a number; returns whether it has some.
+    /// Appends the bytes of a word once. Returns whether the word is valid.
     fn put_once(&self, bytes: &mut Vec<u8>, text: &str) -> Result<bool, Fail> {
         let (name, range) = text.split_once('[').unwrap_or((text, "..]"));
         if let Some(part) = self.parts.iter().find(|part| part.name == name) {

@@ -9,8 +9,8 @@ use std::alloc::{AllocError, Allocator};
 use std::io;
 use std::io::{Read, Write};
 
-/// Writes the line of a record: its position in the file, its type, indented by level, and the path of
-/// its file, if it has one.
+/// Writes the line of a record: its offset in the file, its type, indented by level, and the path
+/// of its file, if any.
 fn write_record<O: Write>(record: &TreeRecord<'_>, out: &mut O) -> io::Result<()> {
     let (place, kind) = (record.place(), Printable(record.kind()));
     let indent = Indent(usize::from(record.level().saturating_sub(1)));
@@ -23,7 +23,7 @@ fn write_record<O: Write>(record: &TreeRecord<'_>, out: &mut O) -> io::Result<()
     }
 }
 
-/// Writes a line for each record, and a last one with the number of records.
+/// Writes a line for each record and a last line with the number of records.
 fn write_lines<A: Allocator + Copy, O: Write>(tree: &Tree<'_, A>, out: &mut O) -> io::Result<()> {
     for record in tree.records() {
         write_record(record, out)?;
@@ -32,7 +32,7 @@ fn write_lines<A: Allocator + Copy, O: Write>(tree: &Tree<'_, A>, out: &mut O) -
     writeln!(out, "records {count}")
 }
 
-/// Writes a record as an object, with its level from 0 on.
+/// Writes a record as an object; its level counts from 0.
 fn write_object<O: Write>(record: &TreeRecord<'_>, out: &mut O) -> io::Result<()> {
     let (place, kind) = (record.place(), JsonText::ascii(record.kind()));
     let level = record.level().saturating_sub(1);
@@ -49,7 +49,7 @@ fn write_object<O: Write>(record: &TreeRecord<'_>, out: &mut O) -> io::Result<()
     }
 }
 
-/// Writes the last members of an object: the array of the records, and their number.
+/// Writes the last members of an object: the array of records and their number.
 fn write_members<A: Allocator + Copy, O: Write>(tree: &Tree<'_, A>, out: &mut O) -> io::Result<()> {
     let mut before = "\"records\":[";
     for record in tree.records() {
@@ -61,9 +61,9 @@ fn write_members<A: Allocator + Copy, O: Write>(tree: &Tree<'_, A>, out: &mut O)
     writeln!(out, "],\"result\":\"good\",\"record_count\":{count}}}")
 }
 
-/// Writes a fault as [`write_dir_fault`] does, and returns `Outcome::Faulty`. Fails if the fault is 67, that
-/// memory ran out, or the output cannot be written.
-pub fn tell_fault<O: Write>(
+/// Writes a fault as [`write_dir_fault`] does, and returns `Outcome::Faulty`. Fails if the fault is
+/// 67, that memory ran out, or if the output cannot be written.
+pub fn report_fault<O: Write>(
     fault: DirFault,
     form: OutputForm,
     out: &mut O,
@@ -80,10 +80,10 @@ pub fn tell_fault<O: Write>(
 /// The tag of Directory Record Type.
 const RECORD_TYPE: Tag = Tag(0x0004, 0x1430);
 
-/// The bytes of the header of an item.
+/// The size of an item's header in bytes.
 const ITEM_HEADER: usize = 8;
 
-/// The types of records that may stand beside PATIENT in the root (PS3.3 section F.4).
+/// The types of records that the standard allows beside PATIENT in the root (PS3.3 section F.4).
 const ROOT_TYPES: [&[u8]; 6] = [
     b"HANGING PROTOCOL",
     b"IMPLANT",
@@ -93,14 +93,15 @@ const ROOT_TYPES: [&[u8]; 6] = [
     b"PRIVATE",
 ];
 
-/// Returns the type of the record at a place of a directory, or `None` where no record is there.
+/// Returns the type of the record at an offset of a directory, or `None` if there is no record.
 fn type_at(bytes: &[u8], place: u64) -> Option<&[u8]> {
     let first = usize::try_from(place).ok()?.checked_add(ITEM_HEADER)?;
     Some(unpadded(value_from(bytes, first, RECORD_TYPE)?))
 }
 
-/// Tells of a record that is at a wrong level here, and that the standard has in the root.
-fn tell_root_type<E: Write>(bytes: &[u8], fault: DirFault, file: &str, err: &mut E) {
+/// Reports that a record at a wrong level has a type that the standard allows in the root and
+/// `checkdir` does not.
+fn report_root_type<E: Write>(bytes: &[u8], fault: DirFault, file: &str, err: &mut E) {
     if fault.number != DirFault::WRONG_LEVEL {
         return;
     }
@@ -116,7 +117,8 @@ fn tell_root_type<E: Write>(bytes: &[u8], fault: DirFault, file: &str, err: &mut
     }
 }
 
-/// Checks a directory file, and writes its records, or its first fault, of which more may be told on `err`.
+/// Checks a directory and writes its records or its first fault; may report more about the fault on
+/// `err`.
 fn list_records<A: Allocator + Copy, O: Write, E: Write>(
     alloc: A,
     (file, bytes): (&str, &[u8]),
@@ -129,8 +131,8 @@ fn list_records<A: Allocator + Copy, O: Write, E: Write>(
             OutputForm::Json => write_members(&tree, out),
         },
         Err(fault) => {
-            tell_root_type(bytes, fault, file, err);
-            return tell_fault(fault, form, out);
+            report_root_type(bytes, fault, file, err);
+            return report_fault(fault, form, out);
         }
     };
     match written {
@@ -139,7 +141,7 @@ fn list_records<A: Allocator + Copy, O: Write, E: Write>(
     }
 }
 
-/// Writes that a directory can't be read, where members of an object are written, and returns the error of that.
+/// Writes in JSON that a directory can't be read, and returns the error.
 fn unread<O: Write>(form: OutputForm, error: ProgramError, out: &mut O) -> ProgramError {
     if form == OutputForm::Json {
         if let Err(error) = writeln!(out, "\"result\":\"unread\"}}") {
@@ -149,12 +151,13 @@ fn unread<O: Write>(form: OutputForm, error: ProgramError, out: &mut O) -> Progr
     error
 }
 
-/// Checks the directory file in the input. Writes a line for each record, depth first, with its
-/// position in the file, its type and the path of its file, and a last line with their number; or the
-/// line of the first fault. In JSON they are the last members of an object, which a line feed ends.
+/// Checks the directory in the input. Writes a line for each record, depth first, with its offset
+/// in the file, its type and the path of its file, and a last line with the number of records; or
+/// the line of the first fault. In JSON these are the last members of an object, ended by a line
+/// feed.
 ///
-/// Of a record that the standard has in the root, and whose type is not taken there, a line on `err` tells with the name of
-/// the file.
+/// If a record of a type that the standard allows in the root is not accepted there, a line on
+/// `err` says so with the file's name.
 ///
 /// Fails if the input cannot be read, the output cannot be written, or memory runs out.
 pub fn checkdir_named<A: Allocator + Copy, R: Read, O: Write, E: Write>(
@@ -169,7 +172,8 @@ pub fn checkdir_named<A: Allocator + Copy, R: Read, O: Write, E: Write>(
     }
 }
 
-/// Checks the directory file in the input as `checkdir_named` does, in lines, and tells nothing on standard error.
+/// Checks the directory in the input as `checkdir_named` does, writing lines, and reports nothing
+/// on standard error.
 pub fn checkdir_over<A: Allocator + Copy, R: Read, O: Write>(
     alloc: A,
     input: &mut R,

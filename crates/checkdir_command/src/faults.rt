@@ -4,8 +4,8 @@ use inspection::{OutputForm, TagText};
 use std::io;
 use std::io::Write;
 
-/// Writes a fault of a directory as a line, or as the last members of an object: number, name, position in
-/// bytes from the start of the file, and the tag of a fault of the data set (10 to 21).
+/// Writes a fault of a directory as a line, or as the last members of an object: number, name,
+/// offset in bytes from the start of the file, and for a fault of the data set (10 to 21) its tag.
 pub fn write_dir_fault<O: Write>(fault: DirFault, form: OutputForm, out: &mut O) -> io::Result<()> {
     let DirFault { number, place, tag } = fault;
     let (name, tag) = (fault.name(), TagText(tag));

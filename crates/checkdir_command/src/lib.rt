@@ -1,9 +1,9 @@
-//! `dcmbox checkdir`, and the printed form of the file IDs and the faults of a directory.
+//! `dcmbox checkdir`, and the printed form of file IDs and of directory faults.
 #![tactic(auto)]
 
 mod checkdir;
 mod faults;
 mod texts;
 
-pub use checkdir::{checkdir_named, checkdir_over, tell_fault};
+pub use checkdir::{checkdir_named, checkdir_over, report_fault};
 pub use texts::PathText;

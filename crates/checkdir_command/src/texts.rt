@@ -2,7 +2,7 @@
 use dicomdir::FileId;
 use std::fmt;
 
-/// A file ID that is printed as a path, with `/` between its components.
+/// Prints a file ID as a path, with `/` between its components.
 #[derive(Clone, Copy)]
 pub struct PathText(pub FileId);
 

@@ -4,11 +4,11 @@ use std::alloc::Global;
 use std::env::{self, Env, FillError};
 use std::{io, str};
 
-/// A byte that no argument and no file name has. It stands for each byte that is no ASCII in an argument that is not
-/// UTF-8, so that this one reaches its command as the name of a file that can't be opened.
+/// A byte that no argument and no file name has. It replaces each non-ASCII byte of an argument
+/// that is not UTF-8, so that a command takes it as the name of a file that cannot be opened.
 const MARK: u8 = 0;
 
-/// The arguments of the program, marked where they are not UTF-8.
+/// The arguments of the program, with `MARK` in those that are not UTF-8.
 #[derive(Clone, Copy)]
 struct MarkedArguments<'a>(&'a HostRuntime);
 
@@ -35,7 +35,8 @@ impl Env for MarkedArguments<'_> {
     }
 }
 
-/// Returns the arguments of the program, marked where they are not UTF-8. Fails if memory runs out.
+/// Returns the arguments of the program, with `MARK` in those that are not UTF-8. Fails if memory
+/// runs out.
 pub(crate) fn owned_words(rt: &HostRuntime) -> io::Result<Vec<String, Global>> {
     let mut owned = Vec::new(rt.alloc());
     for word in env::args(&(MarkedArguments(rt), rt.alloc()))? {
@@ -44,12 +45,13 @@ pub(crate) fn owned_words(rt: &HostRuntime) -> io::Result<Vec<String, Global>> {
     Ok(owned)
 }
 
-/// Returns whether a word is among these.
+/// Returns whether `words` contains `word`.
 fn has(words: &[&str], word: &str) -> bool {
     words.iter().any(|one| *one == word)
 }
 
-/// Returns whether a word is a file that a command reads among others, so that it stops none of them if it can't be opened.
+/// Returns whether an argument is one of the files that `show` or `check` reads. If such a file
+/// cannot be opened, the others are still read.
 fn is_file(job: &Job<'_>, word: &str) -> bool {
     match job {
         Job::Show(arguments) => has(arguments.files.as_slice(), word),
@@ -58,7 +60,8 @@ fn is_file(job: &Job<'_>, word: &str) -> bool {
     }
 }
 
-/// Returns the number of the first argument that is not UTF-8 and no such file, and the argument.
+/// Returns the index and the text of the first argument that is not UTF-8 and not a file of `show`
+/// or `check`.
 pub(crate) fn refused_word<'a>(owned: &'a [String], job: &Job<'_>) -> Option<(usize, &'a str)> {
     for (place, word) in owned.iter().enumerate().skip(1) {
         let word = word.as_str();

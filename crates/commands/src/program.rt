@@ -18,12 +18,12 @@ const REFUSED: u8 = 2;
 /// The exit status if the system failed or memory ran out.
 const FAILED: u8 = 3;
 
-/// A text that has what the user gave, without control characters, which might change the terminal: a question mark
-/// stands for each.
+/// A text from the user, shown with a question mark for each control character, which might change
+/// the terminal.
 #[derive(Clone, Copy)]
 struct Masked<'a> {
     text: &'a str,
-    /// Whether the ends of its lines are kept.
+    /// Whether line feeds are kept.
     has_lines: bool,
 }
 
@@ -37,7 +37,7 @@ impl fmt::Display for Masked<'_> {
     }
 }
 
-/// Returns the only file or folder, or an empty text if there are several.
+/// Returns the only file or folder, or an empty text if there is not exactly one.
 fn only<'a>(files: &[&'a str]) -> &'a str {
     match files {
         [file] => *file,
@@ -45,8 +45,8 @@ fn only<'a>(files: &[&'a str]) -> &'a str {
     }
 }
 
-/// Returns what an error concerns, for its message: a file, a folder, an address or a port; an empty
-/// text if none.
+/// Returns the subject of an error for its message: a file, a folder, an address or a port, or an
+/// empty text if there is none.
 fn subject<'a>(job: &Job<'a>, error: &ProgramError) -> &'a str {
     match (job, error.failure()) {
         (Job::Serve(arguments), Some(Failure::Listen | Failure::KeptPort)) => arguments.port,
@@ -73,7 +73,8 @@ fn subject<'a>(job: &Job<'a>, error: &ProgramError) -> &'a str {
     }
 }
 
-/// Prints an error on standard error, unless it is that the output is closed. Returns exit status 3.
+/// Prints an error on standard error, unless the error is that the output is closed. Returns exit
+/// status 3.
 fn fail(rt: &HostRuntime, subject: &str, error: &ProgramError) -> ExitCode {
     if !error.is_of_closed_output() {
         let _ = if subject.is_empty() {
@@ -132,7 +133,7 @@ fn status_of(rt: &HostRuntime, job: &Job) -> ExitCode {
 }
 
 /// Reads the arguments, runs their command, and returns the exit status. Fails if the arguments are
-/// invalid or ask for help, or if one is not UTF-8 and no file that is read among others.
+/// invalid or ask for help, or if one is neither UTF-8 nor a file of `show` or `check`.
 fn run_words(rt: &HostRuntime, owned: &[String]) -> Result<ExitCode, ProgramError> {
     let words = words_of(rt.alloc(), owned)?;
     let job = read_words(rt.alloc(), words.as_slice())?;
@@ -144,8 +145,8 @@ fn run_words(rt: &HostRuntime, owned: &[String]) -> Result<ExitCode, ProgramErro
 }
 
 /// Runs the program: opens the standard descriptors that are closed, reads the arguments, runs the
-/// command, and prints an error on standard error. Returns the exit status: 0; 1 if a fault was found
-/// in a file; 2 for invalid arguments; 3 if the system failed or memory ran out.
+/// command, and prints an error on standard error. Returns the exit status: 0; 1 if a fault was
+/// found in a file; 2 for invalid arguments; 3 if the system failed or memory ran out.
 pub fn run_program(rt: &HostRuntime) -> ExitCode {
     open_standard(rt);
     let ran = match owned_words(rt) {

@@ -4,9 +4,10 @@ use Rattle.decisions.specs.declared.decision.Decision.TheVariants as decision
 use Rattle.decisions.specs.declared.value_end.ValueEnd.{ValueEnd}
 use Rattle.decisions.specs.declared.value_end.ValueEnd.TheVariants as end
 
--- what the end of a value decided, where that was the last decision, or bytes after it were found no head of a further one
+-- what the end of a value decided, if that was the last decision, or if the bytes after the value were found to be no
+-- head of another value
 abbrev pub value_end : Decision → ValueEnd
 value_end decision.DataDue = end.DataDue
 value_end (decision.Replied status detail) = end.Replied status detail
-value_end (decision.BytesLeft before) = before
+value_end (decision.BytesRemaining before) = before
 value_end other = end.Nothing

@@ -1,4 +1,4 @@
-//! What an association decided.
+//! What an association decided last.
 ghost use Rattle.std.specs.Prelude.{◌≡◌};
 
 use crate::value_end::ValueEnd;
@@ -10,35 +10,38 @@ use pdu::{PduFault, PduHead, PdvHead};
 /// 9.2). It holds no text that the peer sent.
 #[derive(Clone, Copy, Debug, PartialEq, Eq)]
 pub enum Decision {
-    /// Nothing: the PDU is read on, or ignored.
+    /// Nothing was decided: the PDU is read further, or ignored.
     Nothing,
-    /// The PDU with this head is invalid, too long, or out of place in this state: it is answered with
-    /// an A-ABORT, unless that was sent before.
+    /// The PDU with this head is invalid, too long, or not allowed in this state: it is answered
+    /// with an A-ABORT, unless one was sent before.
     PduRefused(PduHead),
-    /// The body of an A-ASSOCIATE-RQ, of so many bytes, is longer than the limit: it is rejected.
+    /// The body of an A-ASSOCIATE-RQ, with this length in bytes, exceeds the limit: the request is
+    /// rejected.
     RequestTooLong(u32),
-    /// An A-ASSOCIATE-RQ is invalid, by its first fault: it is answered with an A-ABORT.
+    /// An A-ASSOCIATE-RQ is invalid, with this first fault: it is answered with an A-ABORT.
     RequestInvalid(PduFault),
     /// An A-ASSOCIATE-RQ is accepted or rejected.
     RequestJudged(Answer),
     /// The fragment after this head continues the message.
     Fragment(PdvHead),
-    /// The presentation context of the fragment after this head is not accepted: an A-ABORT is sent.
+    /// The presentation context of the fragment after this head was not accepted: an A-ABORT is
+    /// sent.
     ContextRefused(PdvHead),
     /// The fragment after this head does not continue the message: the association is aborted.
     FragmentRefused(PdvHead, DimseFault),
-    /// The head of a presentation data value has a length below 2 or beyond the PDU: an A-ABORT is sent.
+    /// The head of a presentation data value has a length below 2 or beyond its PDU: an A-ABORT is
+    /// sent.
     ValueInvalid,
-    /// Bytes after the last presentation data value of a PDU are no head of one: an A-ABORT is sent. The
-    /// end of that value decided this, at the same byte.
-    BytesLeft(ValueEnd),
-    /// A command set is invalid, by this fault; its Command Field, if it has one: the association is
-    /// aborted.
+    /// The bytes after the last presentation data value of a PDU are no head of another: an A-ABORT
+    /// is sent. The field is what the end of that value decided, at the same byte.
+    BytesRemaining(ValueEnd),
+    /// A command set is invalid, with this fault and its Command Field, if it has one: the
+    /// association is aborted.
     CommandRefused(DimseFault, Option<u16>),
-    /// A command is whole, and its data set is due.
+    /// A command set is complete, and its data set must follow.
     DataDue,
-    /// A command is answered, after its data set if it has one, with this status; the cause of a
-    /// C-STORE's failure, if its response reports one.
+    /// A command, complete with its data set if it has one, is answered with this status, and with
+    /// the cause of a C-STORE's failure if the response reports one.
     Replied(u16, Option<Detail>),
     /// The association is released.
     Released,
@@ -49,15 +52,15 @@ pub enum Decision {
 impl Decision {
     ghost use Rattle.decisions.specs.ValueEnds as ends;
 
-    /// Returns what the end of a presentation data value decided, where that is this decision, also if
-    /// the bytes after it were found to be no head of a further one.
+    /// Returns what the end of a presentation data value decided, if this decision is due to one,
+    /// even if the bytes after the value were no head of another (`BytesRemaining`).
     pub fn value_end(self) -> ValueEnd
         ensures { result ≡ ends.value_end self }
     {
         match self {
             Decision::DataDue => ValueEnd::DataDue,
             Decision::Replied(status, detail) => ValueEnd::Replied(status, detail),
-            Decision::BytesLeft(end) => end,
+            Decision::BytesRemaining(end) => end,
             _ => ValueEnd::Nothing,
         }
     }

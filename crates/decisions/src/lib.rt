@@ -1,4 +1,4 @@
-//! What an association decides: the values in which `engine` tells it, and a log hears it.
+//! What an association decides, as values that `engine` reports and the log prints.
 #![tactic(auto)]
 
 mod decision;

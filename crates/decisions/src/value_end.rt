@@ -1,13 +1,13 @@
 //! What the end of a presentation data value decided.
 use dimse::Detail;
 
-/// What the end of a presentation data value decided, if the bytes after it in its PDU are no head of
-/// a further one.
+/// What the end of a presentation data value decided. `Decision::BytesRemaining` keeps it if the bytes
+/// after the value in its PDU are no head of another.
 #[derive(Clone, Copy, Debug, PartialEq, Eq)]
 pub enum ValueEnd {
-    /// Nothing: the message goes on, or the value was not handled.
+    /// Nothing was decided: the message continues, or the value was not handled.
     Nothing,
-    /// A command is whole, and its data set is due.
+    /// A command set is complete, and its data set must follow.
     DataDue,
     /// A command is answered, with this status and cause.
     Replied(u16, Option<Detail>),

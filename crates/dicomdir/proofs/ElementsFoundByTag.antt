@@ -1,4 +1,4 @@
--- Passing over what a header announces goes on with the next element (`next_elements`, `next_items`), and finds what
+-- Passing over what a header announces continues with the next element (`next_elements`, `next_items`), and finds what
 -- stands under a tag (`stands_here`, `finds_value`, `finds_items`), or that nothing does (`missing_at_end`). Stands on
 -- FrontIsFirstElement.
 use Rattle.std.proofs.Common.{◌≡◌, ◌≢◌, ℕ, ◌%◌, true, false, List, ◌++◌, length, drop, Some, None, refl, sym, ap, subst, ◌∙◌, arith, append_assoc, ◌+◌, ◌-◌, ◌≤◌, ◌<◌, not, [], ◌⊎◌, length-append, eqb-true, eq-eqb, nat_eq, take, nat_le, le-leb, ne_eqb}
@@ -109,7 +109,7 @@ defined_content h b more text other size whole = grind (arith, common_steps, len
 open_content : (h : Header) (text : List ℕ) → h.length ≡ undefined_length → content_at h text ≡ text
 open_content h text unsized = grind (arith, common_steps, eq-eqb h.length undefined_length unsized)
 
--- the text is this one, and goes on by nothing or by the end of the level
+-- the text is this one, and continues by nothing or by the end of the level
 pub record EndsAs (mark : Tag) (b text : List ℕ) : Type 0 where
   pub more : List ℕ
   pub after : IsAfter mark more
@@ -161,7 +161,7 @@ other_number t u fits low e = grind (arith, nat_tests)
 -- ---- one element after the other
 
 -- what is left to look through: elements among which the tag is found as among all
-pub record LeftOf (s : Coding) (tag place : ℕ) (es : Elements) (text rest : List ℕ) : Type 0 where
+pub record RemainingOf (s : Coding) (tag place : ℕ) (es : Elements) (text rest : List ℕ) : Type 0 where
   pub last : ℕ
   pub others : Elements
   pub more : List ℕ
@@ -169,24 +169,24 @@ pub record LeftOf (s : Coding) (tag place : ℕ) (es : Elements) (text rest : Li
   pub spelled : ElementsThen s last others more rest
   pub same : found tag place es ≡ found tag (place + (length text - length rest)) others
 
-pub all_left : (s : Coding) (tag place : ℕ) (es : Elements) (text : List ℕ) → HasElements s es text → LeftOf s tag place es text text
-all_left s tag place es text has = grind (arith, common_steps)
+pub all_remaining : (s : Coding) (tag place : ℕ) (es : Elements) (text : List ℕ) → HasElements s es text → RemainingOf s tag place es text text
+all_remaining s tag place es text has = grind (arith, common_steps)
 
-pub left_after : (s : Coding) (tag place : ℕ) (es : Elements) (text rest after : List ℕ) (head : Head) → length rest ≤ length text → LeftOf s tag place es text rest
+pub remaining_after : (s : Coding) (tag place : ℕ) (es : Elements) (text rest after : List ℕ) (head : Head) → length rest ≤ length text → RemainingOf s tag place es text rest
     → head_at s rest ≡ Some head → is_marker head.header.tag ≡ false → (IsTag head.header.tag → nat_eq (number head.header.tag) tag ≡ false)
     → ((p : ℕ) (f : Found) (c more : List ℕ) → IsContent s head.header p f c → drop head.size rest ≡ c ++ more → after ≡ more)
-    → LeftOf s tag place es text after
-left_after s tag place es text rest after head fits left read plain other passes = grind (arith, common_steps, element_here head left.after left.spelled read plain)
+    → RemainingOf s tag place es text after
+remaining_after s tag place es text rest after head fits remaining read plain other passes = grind (arith, common_steps, element_here head remaining.after remaining.spelled read plain)
 
-none_left : (s : Coding) (tag place : ℕ) (es : Elements) (text rest : List ℕ) (left : LeftOf s tag place es text rest) → left.others ≡ no_elements → found tag place es ≡ missing
-none_left s tag place es text rest left none = left.same ∙ ap (λ z. found tag (place + (length text - length rest)) z) none
+none_remaining : (s : Coding) (tag place : ℕ) (es : Elements) (text rest : List ℕ) (remaining : RemainingOf s tag place es text rest) → remaining.others ≡ no_elements → found tag place es ≡ missing
+none_remaining s tag place es text rest remaining none = remaining.same ∙ ap (λ z. found tag (place + (length text - length rest)) z) none
 
-pub missing_at_mark : (s : Coding) (tag place : ℕ) (es : Elements) (text rest : List ℕ) (head : Head) → LeftOf s tag place es text rest → head_at s rest ≡ Some head
+pub missing_at_mark : (s : Coding) (tag place : ℕ) (es : Elements) (text rest : List ℕ) (head : Head) → RemainingOf s tag place es text rest → head_at s rest ≡ Some head
     → is_marker head.header.tag ≡ true → found tag place es ≡ missing
-missing_at_mark s tag place es text rest head left read marks = none_left s tag place es text rest left (no_elements_here left.spelled (λ other there plain. absurd cc)).0
+missing_at_mark s tag place es text rest head remaining read marks = none_remaining s tag place es text rest remaining (no_elements_here remaining.spelled (λ other there plain. absurd cc)).0
 
-pub missing_at_end : (s : Coding) (tag place : ℕ) (es : Elements) (text rest : List ℕ) → LeftOf s tag place es text rest → head_at s rest ≡ None → found tag place es ≡ missing
-missing_at_end s tag place es text rest left read = none_left s tag place es text rest left (no_elements_here left.spelled (λ other there plain. absurd cc)).0
+pub missing_at_end : (s : Coding) (tag place : ℕ) (es : Elements) (text rest : List ℕ) → RemainingOf s tag place es text rest → head_at s rest ≡ None → found tag place es ≡ missing
+missing_at_end s tag place es text rest remaining read = none_remaining s tag place es text rest remaining (no_elements_here remaining.spelled (λ other there plain. absurd cc)).0
 
 -- the element with the tag: what stands there, and what its header announces
 pub record Stands (s : Coding) (head : Head) (place : ℕ) (text : List ℕ) (f : Found) : Type 0 where
@@ -196,7 +196,7 @@ pub record Stands (s : Coding) (head : Head) (place : ℕ) (text : List ℕ) (f 
   pub is : IsContent s head.header place f content
   pub whole : text ≡ content ++ more
 
-pub stands_here : (s : Coding) (tag place at : ℕ) (es : Elements) (text rest next : List ℕ) (head : Head) → LeftOf s tag place es text rest → head_at s rest ≡ Some head
+pub stands_here : (s : Coding) (tag place at : ℕ) (es : Elements) (text rest next : List ℕ) (head : Head) → RemainingOf s tag place es text rest → head_at s rest ≡ Some head
     → is_marker head.header.tag ≡ false → nat_eq (number head.header.tag) tag ≡ true → at ≡ place + (length text - length rest) → next ≡ drop head.size rest
     → Stands s head at next (found tag place es)
-stands_here s tag place at es text rest next head left read plain same at_is next_is = grind (arith, common_steps, element_here head left.after left.spelled read plain)
+stands_here s tag place at es text rest next head remaining read plain same at_is next_is = grind (arith, common_steps, element_here head remaining.after remaining.spelled read plain)

@@ -43,7 +43,7 @@ pub not_false : (b : Bool) → not b ≡ false → b ≡ true
 not_false v1 e = grind (arith, nat_tests)
 
 -- paths that go on from one along distinct records, and name others
-pub record GoOn (links : Links) (path : List Turn) (paths : List (List Turn)) : Type 0 where
+pub record Continue (links : Links) (path : List Turn) (paths : List (List Turn)) : Type 0 where
   pub along : IsIn links.records (map (λ t. t.place) path)
   pub distinct : is_distinct (reached_by links paths) ≡ true
   pub apart : (p : ℕ) → is_one_of p (reached_by links paths) ≡ true → is_one_of p (map (λ t. t.place) path) ≡ false
@@ -53,10 +53,10 @@ pub record GoOn (links : Links) (path : List Turn) (paths : List (List Turn)) : 
 pub record GoDown (links : Links) (path : List Turn) (xs ys : List (List Turn)) : Type 0 where
   pub stands : record_at (named_by links path) links.records ≡ Some (elements_at links.records (named_by links path))
   pub fit : fits (level_of path) (carried_node (elements_at links.records (named_by links path))) ≡ true
-  pub lower : GoOn links (lower_path links path) xs
-  pub next : GoOn links (next_path links path) ys
+  pub lower : Continue links (lower_path links path) xs
+  pub next : Continue links (next_path links path) ys
 
-pub go_down : (links : Links) (path : List Turn) (xs ys : List (List Turn)) → GoOn links path (path ∷ (xs ++ ys)) → GoDown links path xs ys
+pub go_down : (links : Links) (path : List Turn) (xs ys : List (List Turn)) → Continue links path (path ∷ (xs ++ ys)) → GoDown links path xs ys
 go_down links path xs ys on =
     let o : ℕ = named_by links path in
     let joined : reached_by links (xs ++ ys) ≡ reached_by links xs ++ reached_by links ys = map-append (named_by links) xs ys in
@@ -118,7 +118,7 @@ node_links links path below next xs ys has down low nxt =
     )
 
 pub links_to : (most : ℕ) (links : Links) (path : List Turn) → HaveOffsets links.records → length path + most ≡ suc (length links.records)
-    → GoOn links path (paths_from most links path) → LinksTo links path (forest_from most links.records (named_by links path))
+    → Continue links path (paths_from most links path) → LinksTo links path (forest_from most links.records (named_by links path))
 links_to zero links path has size on = grind (arith, common_steps, few_in, length-map)
 links_to (suc most) links path has size on =
     by (nat_eq (named_by links path) 0) refl
@@ -126,14 +126,14 @@ links_to (suc most) links path has size on =
     (λ down. links_to most links (next_path links path) has (omega (arith, size)) down)
   where
     by : (b : Bool) → nat_eq (named_by links path) 0 ≡ b
-        → (GoOn links (lower_path links path) (paths_from most links (lower_path links path)) → LinksTo links (lower_path links path) (forest_from most links.records (named_by links (lower_path links path))))
-        → (GoOn links (next_path links path) (paths_from most links (next_path links path)) → LinksTo links (next_path links path) (forest_from most links.records (named_by links (next_path links path))))
+        → (Continue links (lower_path links path) (paths_from most links (lower_path links path)) → LinksTo links (lower_path links path) (forest_from most links.records (named_by links (lower_path links path))))
+        → (Continue links (next_path links path) (paths_from most links (next_path links path)) → LinksTo links (next_path links path) (forest_from most links.records (named_by links (next_path links path))))
         → LinksTo links path (forest_from (suc most) links.records (named_by links path))
     by true is low nxt =
         let none : named_by links path ≡ 0 = eqb-true (named_by links path) 0 is in
         subst (λ z. LinksTo links path z) (sym (cond-true (nat_eq (named_by links path) 0) no_nodes _ is)) (sym none, tt)
     by false is low nxt =
-        let down = go_down links path (paths_from most links (lower_path links path)) (paths_from most links (next_path links path)) (subst (λ z. GoOn links path z) (paths_more most links path is) on) in
+        let down = go_down links path (paths_from most links (lower_path links path)) (paths_from most links (next_path links path)) (subst (λ z. Continue links path z) (paths_more most links path is) on) in
         subst (λ z. LinksTo links path z) (sym (cond-false (nat_eq (named_by links path) 0) no_nodes _ is))
         (node_links links path _ _ (paths_from most links (lower_path links path)) (paths_from most links (next_path links path)) has down (low down.lower) (nxt down.next))
 
@@ -300,7 +300,7 @@ steady (suc most) more links path reached later later2 along among size alike =
 
 -- paths that have none
 
-unchanged : (most more : ℕ) (links : Links) (path : List Turn) → length path + most ≡ suc (length links.records) → GoOn links path (paths_from most links path)
+unchanged : (most more : ℕ) (links : Links) (path : List Turn) → length path + most ≡ suc (length links.records) → Continue links path (paths_from most links path)
     → paths_from (most + more) links path ≡ paths_from most links path
 unchanged zero more links path size on = absurd (too_many links path on.along size)
 unchanged (suc most) more links path size on =
@@ -309,14 +309,14 @@ unchanged (suc most) more links path size on =
     ∙ by (nat_eq (named_by links path) 0) refl (unchanged most more links (lower_path links path) (omega (arith, size))) (unchanged most more links (next_path links path) (omega (arith, size)))
   where
     by : (b : Bool) → nat_eq (named_by links path) 0 ≡ b
-        → (GoOn links (lower_path links path) (paths_from most links (lower_path links path)) → paths_from (most + more) links (lower_path links path) ≡ paths_from most links (lower_path links path))
-        → (GoOn links (next_path links path) (paths_from most links (next_path links path)) → paths_from (most + more) links (next_path links path) ≡ paths_from most links (next_path links path))
+        → (Continue links (lower_path links path) (paths_from most links (lower_path links path)) → paths_from (most + more) links (lower_path links path) ≡ paths_from most links (lower_path links path))
+        → (Continue links (next_path links path) (paths_from most links (next_path links path)) → paths_from (most + more) links (next_path links path) ≡ paths_from most links (next_path links path))
         → paths_from (suc (most + more)) links path ≡ paths_from (suc most) links path
     by true is low nxt =
         let none : named_by links path ≡ 0 = eqb-true (named_by links path) 0 is in
         paths_none (suc (most + more)) links path none ∙ sym (paths_none (suc most) links path none)
     by false is low nxt =
-        let down = go_down links path (paths_from most links (lower_path links path)) (paths_from most links (next_path links path)) (subst (λ z. GoOn links path z) (paths_more most links path is) on) in
+        let down = go_down links path (paths_from most links (lower_path links path)) (paths_from most links (next_path links path)) (subst (λ z. Continue links path z) (paths_more most links path is) on) in
         let one = low down.lower in
         let two = nxt down.next in
         paths_more (most + more) links path is ∙ ((λ i. path ∷ (one i ++ two i)) ∙ sym (paths_more most links path is))

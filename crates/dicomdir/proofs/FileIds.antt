@@ -56,8 +56,8 @@ count_more c v2 some = grind (arith, nat_tests)
 ends : (xs : List ℕ) (n : ℕ) → n < length xs → nat_eq (get_or xs n 0) 92 ≡ true → parts_of (drop n xs) ≡ [] ∷ parts_of (drop (n + 1) xs)
 ends xs n lt e = rw (drop-cons xs n 0, e, add-one) refl
 
-goes_on : (xs : List ℕ) (n : ℕ) → n < length xs → nat_eq (get_or xs n 0) 92 ≡ false → parts_of (drop n xs) ≡ before_parts (get_or xs n 0) (parts_of (drop (n + 1) xs))
-goes_on xs n lt e = rw (drop-cons xs n 0, e, add-one) refl
+continues : (xs : List ℕ) (n : ℕ) → n < length xs → nat_eq (get_or xs n 0) 92 ≡ false → parts_of (drop n xs) ≡ before_parts (get_or xs n 0) (parts_of (drop (n + 1) xs))
+continues xs n lt e = rw (drop-cons xs n 0, e, add-one) refl
 
 pub good_before_end : (xs : List ℕ) (n : ℕ) → n < length xs → nat_eq (get_or xs n 0) 92 ≡ true
     → is_good (parts_of (drop n xs)) ≡ (is_good (parts_of (drop (n + 1) xs)) && is_size (first_size (parts_of (drop (n + 1) xs))))
@@ -71,13 +71,13 @@ count_before_end xs n lt e = ap length (ends xs n lt e) ∙ sym (add-one (length
 
 pub good_before : (xs : List ℕ) (n : ℕ) → n < length xs → nat_eq (get_or xs n 0) 92 ≡ false
     → is_good (parts_of (drop n xs)) ≡ (is_good (parts_of (drop (n + 1) xs)) && is_id_character (get_or xs n 0))
-good_before xs n lt e = ap is_good (goes_on xs n lt e) ∙ good_more (get_or xs n 0) (parts_of (drop (n + 1) xs)) (some_part (drop (n + 1) xs))
+good_before xs n lt e = ap is_good (continues xs n lt e) ∙ good_more (get_or xs n 0) (parts_of (drop (n + 1) xs)) (some_part (drop (n + 1) xs))
 
 pub size_before : (xs : List ℕ) (n : ℕ) → n < length xs → nat_eq (get_or xs n 0) 92 ≡ false → first_size (parts_of (drop n xs)) ≡ first_size (parts_of (drop (n + 1) xs)) + 1
-size_before xs n lt e = ap first_size (goes_on xs n lt e) ∙ size_more (get_or xs n 0) (parts_of (drop (n + 1) xs)) (some_part (drop (n + 1) xs))
+size_before xs n lt e = ap first_size (continues xs n lt e) ∙ size_more (get_or xs n 0) (parts_of (drop (n + 1) xs)) (some_part (drop (n + 1) xs))
 
 pub count_before : (xs : List ℕ) (n : ℕ) → n < length xs → nat_eq (get_or xs n 0) 92 ≡ false → length (parts_of (drop n xs)) ≡ length (parts_of (drop (n + 1) xs))
-count_before xs n lt e = ap length (goes_on xs n lt e) ∙ count_more (get_or xs n 0) (parts_of (drop (n + 1) xs)) (some_part (drop (n + 1) xs))
+count_before xs n lt e = ap length (continues xs n lt e) ∙ count_more (get_or xs n 0) (parts_of (drop (n + 1) xs)) (some_part (drop (n + 1) xs))
 
 gathered : (a b c d e : Bool) → (e && ((a && b && c) && d)) ≡ ((d && c) && ((a && b) && e))
 gathered v1 b c d v5 = grind (arith, common_steps)

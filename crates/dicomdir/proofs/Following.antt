@@ -1,4 +1,4 @@
--- Following the links starts at the root (`starts`), goes on from turn to turn (`turn`), and ends with a fault (`stops`) or
+-- Following the links starts at the root (`starts`), continues from turn to turn (`turn`), and ends with a fault (`stops`) or
 -- with all nodes (`nodes_of_all`). Stands on FaultFree, PathForests and Trails.
 use Rattle.std.proofs.Common.{◌≡◌, ℕ, suc, ◌<◌, ◌≤◌, ◌-◌, min, Bool, true, false, ◌&&◌, ◌||◌, List, [], ◌∷◌, ◌++◌, length, replicate, set, get_or, Option, Some, None, Result, IfErr, refl, sym, ap, subst, ◌∙◌, arith, nat_eq, if◌then◌else◌}
 use Rattle.std.proofs.lemmas.Bool.{cond-true, cond-false}
@@ -20,7 +20,7 @@ use Rattle.dicomdir.specs.Linked.{record_at, fits, fits_level, is_one_of, elemen
 use Rattle.dicomdir.specs.Paths.{Links, Turn, named_by, level_of, paths_of, reached_by, root_records, last_from}
 use Rattle.dicomdir.specs.DirFault.{Fault, fault, ◌or_else◌, path_fault, first_fault, unreached_fault, links_of, links_fault, place_in}
 use Rattle.dicomdir.specs.NodesInUse.{LevelNode}
-use Rattle.dicomdir.specs.machine.Trail.{AreRead, FailsToFollow, carried_by, path_along, mark_of, own_node, node_on, paths_on, later, to_come, AreMarks, IsStep, AreFlagged, LeadsTo, GoesOn}
+use Rattle.dicomdir.specs.machine.Trail.{AreRead, FailsToFollow, carried_by, path_along, mark_of, own_node, node_on, paths_on, later, expected, AreMarks, IsStep, AreFlagged, LeadsTo, Continues}
 use Rattle.dicomdir.proofs.PathForests.{lower_path, next_path, paths_more, elements_is, path_free, or_some}
 use Rattle.dicomdir.proofs.FaultFree.{IsIn, not_false, one_more_in, few_in}
 use Rattle.dicomdir.proofs.Trails.{length_along, AtEntry, at_entry, length_entries, none_flagged}
@@ -29,7 +29,7 @@ use Rattle.dicomdir.proofs.Trails.{length_along, AtEntry, at_entry, length_entri
 pub record Following (links : Links) (entries : List ReadRecord) (flags : List Bool) (ms : List Mark) (pending : Option Step) (before nodes : List LevelNode) (last : ℕ) : Type 0 where
   pub gone : List (List Turn)
   pub reached : List ℕ
-  pub whole : paths_of links ≡ gone ++ to_come links ms pending
+  pub whole : paths_of links ≡ gone ++ expected links ms pending
   pub good : (more : List (List Turn)) → first_fault links [] (gone ++ more) ≡ first_fault links reached more
   pub members : (p : ℕ) → is_one_of p reached ≡ is_one_of p (reached_by links gone)
   pub nodes_are : before ++ flat_map (node_on links) gone ≡ nodes
@@ -42,7 +42,7 @@ pub record Following (links : Links) (entries : List ReadRecord) (flags : List B
 
 pub starts : (links : Links) (entries : List ReadRecord) (start : ℕ) (es : Elements) (root : Root) (flags : List Bool) (pending : Option Step) (nodes : List LevelNode)
     → AreRead root entries start es links.records → flags ≡ replicate (length entries) false
-    → (paths_of links ≡ to_come links [] pending) × IsStep links [] pending
+    → (paths_of links ≡ expected links [] pending) × IsStep links [] pending
     → Following links entries flags [] pending nodes nodes 0
 starts links entries start es root flags pending nodes read none begins = record {
   gone = [];
@@ -129,12 +129,12 @@ pub turn : (links : Links) (entries : List ReadRecord) (flags : List Bool) (ms m
     → e ≡ get_or entries at e → at < length entries
     → nodes2 ≡ nodes ++ own_node step.shown step.level e.place (carried_by e) → marked ≡ mark_of e step ∷ ms
     → last2 ≡ (if nat_eq step.level 1 then e.place else last)
-    → GoesOn marked ms2 step pending2 e
+    → Continues marked ms2 step pending2 e
     → Following links entries (set flags at true) ms2 pending2 before nodes2 last2
 turn links entries flags ms marked ms2 step pending2 before nodes nodes2 last last2 e at f target is fits_in added shape ends after =
     let path : List Turn = path_along step.begins ms in
     let o : ℕ = named_by links path in
-    let here : GoesOn (mark_of e step ∷ ms) ms2 step pending2 e = subst (λ z. GoesOn z ms2 step pending2 e) shape after in
+    let here : Continues (mark_of e step ∷ ms) ms2 step pending2 e = subst (λ z. Continues z ms2 step pending2 e) shape after in
     let found = target links f.reached f.flagged f.step in
     let got = turned links entries flags path f.reached e at f.is_in f.flagged found.good (λ d. found.place d ∙ f.step.1) is fits_in in
     let some : nat_eq o 0 ≡ false = grind (arith, nat_tests, f.step.0, f.step.1) in
@@ -143,10 +143,10 @@ turn links entries flags ms marked ms2 step pending2 before nodes nodes2 last la
     let goes = here links (level_of path) marks (got.lower ∙ ap (λ z. lower_at links.records z) (sym got.place)) f.step.2.0 refl (λ i. f.step.2.1 i && used i) in
     let few = f.few in
     let fewer = goes.fewer in
-    let opened : to_come links ms (Some step) ≡ path ∷ to_come links ms2 pending2 =
+    let opened : expected links ms (Some step) ≡ path ∷ expected links ms2 pending2 =
     ap (λ z. z ++ later links step.begins ms) (open_path links step.begins ms f.reached f.is_in few some)
     ∙ (ap (λ z. path ∷ z) (append_assoc (paths_on links (lower_path links path)) (paths_on links (next_path links path)) (later links step.begins ms))
-    ∙ ap (λ z. path ∷ z) ((λ i. paths_on links (record { place = sym got.place i; lower = true } ∷ path) ++ (paths_on links (record { place = sym got.place i; lower = false } ∷ path) ++ later links step.begins ms)) ∙ goes.come)) in
+    ∙ ap (λ z. path ∷ z) ((λ i. paths_on links (record { place = sym got.place i; lower = true } ∷ path) ++ (paths_on links (record { place = sym got.place i; lower = false } ∷ path) ++ later links step.begins ms)) ∙ goes.received)) in
     let nodes_same : node_on links path ≡ own_node step.shown step.level e.place (carried_by e) =
     (λ i. own_node (sym f.step.2.1 i) (level_of path) o (carried_node (elements_at links.records o)))
     ∙ (own_same step.shown step.level (level_of path) o (carried_node (elements_at links.records o)) f.step.2.0 got.fit
@@ -154,7 +154,7 @@ turn links entries flags ms marked ms2 step pending2 before nodes nodes2 last la
     record {
       gone = f.gone ++ path ∷ [];
       reached = o ∷ f.reached;
-      whole = f.whole ∙ (ap (λ z. f.gone ++ z) opened ∙ sym (append_assoc f.gone (path ∷ []) (to_come links ms2 pending2)));
+      whole = f.whole ∙ (ap (λ z. f.gone ++ z) opened ∙ sym (append_assoc f.gone (path ∷ []) (expected links ms2 pending2)));
       good = λ more. ap (λ z. first_fault links [] z) (append_assoc f.gone (path ∷ []) more)
           ∙ (f.good (path ∷ more) ∙ ap (λ z. z or_else first_fault links (o ∷ f.reached) more) found.good);
       members = λ p. ap (λ z. nat_eq p o || z) (f.members p)

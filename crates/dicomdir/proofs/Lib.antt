@@ -6,7 +6,7 @@ pub mod Distinct
 pub mod FrontIsFirstElement
 pub mod ElementsFoundByTag
 pub mod RecordsAreAsSpelled
-pub mod FaultsComeInOrder
+pub mod FaultsAreInOrder
 pub mod Trails
 pub mod WalksEndOrFail
 pub mod PathForests

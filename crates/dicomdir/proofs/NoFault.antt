@@ -231,11 +231,11 @@ accepted_has_no_fault file nodes _ _ _ taken has (in_data_set {back = back} x fi
     let fronts = same_fronts taken.header.explicit x in
     no_first_fault (unbroken_there taken.back back fronts.1 (whole_breaks_no_rule codings.Explicit check_limits taken.back taken.whole)) first
 accepted_has_no_fault file nodes _ _ _ taken has (at_the_end x end) = no_end_fault (same_fronts taken.header.explicit x).1 taken.whole.text end
-accepted_has_no_fault file nodes _ _ _ taken has (in_directory {front = front} {back = back} {elements = elements} {f = f} x unbroken text told) =
+accepted_has_no_fault file nodes _ _ _ taken has (in_directory {front = front} {back = back} {elements = elements} {f = f} x unbroken text reported) =
     let same = same_files has.is_file (record { front = front; back = back; explicit = x; data_set = text; begins = refl }) in
     let none = linked_has_no_fault has.start has.elements has.tree has.linked has.all_reached in
     let both : directory_fault has.start has.elements ≡ directory_fault (length front) elements = λ i. directory_fault (same.0 i) (same.1 i) in
-    let no : None ≡ Some f = sym none ∙ (both ∙ told) in
+    let no : None ≡ Some f = sym none ∙ (both ∙ reported) in
     absurd cc
 
 pub one_list_of_nodes : OneListOfNodes
@@ -249,7 +249,7 @@ one_list_of_nodes file nodes other a b =
 same_directory_faults : {file front back front2 back2 : List ℕ} {elements elements2 : Elements} {f f2 : Fault} → IsExplicitFile file front back → IsExplicitFile file front2 back2
     → DataSet codings.Explicit 0 elements back → DataSet codings.Explicit 0 elements2 back2
     → directory_fault (length front) elements ≡ Some f → directory_fault (length front2) elements2 ≡ Some f2 → f ≡ f2
-same_directory_faults {front = front} {back = back} {front2 = front2} {back2 = back2} {elements = elements} {elements2 = elements2} {f = f} {f2 = f2} x y text text2 told told2 = grind (arith, common_steps, same_files (record { front = front; back = back; explicit = x; data_set = text; begins = refl }) (record { front = front2; back = back2; explicit = y; data_set = text2; begins = refl }))
+same_directory_faults {front = front} {back = back} {front2 = front2} {back2 = back2} {elements = elements} {elements2 = elements2} {f = f} {f2 = f2} x y text text2 reported reported2 = grind (arith, common_steps, same_files (record { front = front; back = back; explicit = x; data_set = text; begins = refl }) (record { front = front2; back = back2; explicit = y; data_set = text2; begins = refl }))
 
 same_ends : {b b2 : List ℕ} {tag tag2 : Tag} → b ≡ b2 → EndFault codings.Explicit check_limits b tag → EndFault codings.Explicit check_limits b2 tag2 → tag ≡ tag2
 same_ends {b = b} {b2 = b2} {tag = tag} {tag2 = tag2} same end end2 =
@@ -262,12 +262,12 @@ one_check_fault file _ _ _ _ _ _ (in_header fault is) (in_header fault2 is2) = g
 one_check_fault file _ _ _ _ _ _ (in_header fault is) (in_syntax meta implicit) = absurd (implicit_is_taken meta implicit fault is)
 one_check_fault file _ _ _ _ _ _ (in_header fault is) (in_data_set y first) = absurd (header_is_taken y fault is)
 one_check_fault file _ _ _ _ _ _ (in_header fault is) (at_the_end y end) = absurd (header_is_taken y fault is)
-one_check_fault file _ _ _ _ _ _ (in_header fault is) (in_directory y unbroken text told) = absurd (header_is_taken y fault is)
+one_check_fault file _ _ _ _ _ _ (in_header fault is) (in_directory y unbroken text reported) = absurd (header_is_taken y fault is)
 one_check_fault file _ _ _ _ _ _ (in_syntax meta implicit) (in_header fault is) = absurd (implicit_is_taken meta implicit fault is)
 one_check_fault file _ _ _ _ _ _ (in_syntax meta implicit) (in_syntax meta2 implicit2) = (refl, refl, refl)
 one_check_fault file _ _ _ _ _ _ (in_syntax meta implicit) (in_data_set y first) = absurd (not_implicit y meta implicit)
 one_check_fault file _ _ _ _ _ _ (in_syntax meta implicit) (at_the_end y end) = absurd (not_implicit y meta implicit)
-one_check_fault file _ _ _ _ _ _ (in_syntax meta implicit) (in_directory y unbroken text told) = absurd (not_implicit y meta implicit)
+one_check_fault file _ _ _ _ _ _ (in_syntax meta implicit) (in_directory y unbroken text reported) = absurd (not_implicit y meta implicit)
 one_check_fault file _ _ _ _ _ _ (in_data_set x first) (in_header fault is) = absurd (header_is_taken x fault is)
 one_check_fault file _ _ _ _ _ _ (in_data_set x first) (in_syntax meta implicit) = absurd (not_implicit x meta implicit)
 one_check_fault file _ _ _ _ _ _ (in_data_set {front = front} {back = back} {p = p} {u = u} {rule = rule} {tag = tag} x first) (in_data_set {front = front2} {p = p2} {u = u2} {rule = rule2} {tag = tag2} y first2) =
@@ -277,17 +277,17 @@ one_check_fault file _ _ _ _ _ _ (in_data_set {front = front} {back = back} {p =
     (same.2, (λ i. length (fronts.0 i) + length (same.0 i)), same.3)
 one_check_fault file _ _ _ _ _ _ (in_data_set x first) (at_the_end {back = back} y end) =
     absurd (no_first_fault (unbroken_there back _ (same_fronts y x).1 end.unbroken) first)
-one_check_fault file _ _ _ _ _ _ (in_data_set x first) (in_directory {back = back} y unbroken text told) =
+one_check_fault file _ _ _ _ _ _ (in_data_set x first) (in_directory {back = back} y unbroken text reported) =
     absurd (no_first_fault (unbroken_there back _ (same_fronts y x).1 unbroken) first)
 one_check_fault file _ _ _ _ _ _ (at_the_end x end) (in_header fault is) = absurd (header_is_taken x fault is)
 one_check_fault file _ _ _ _ _ _ (at_the_end x end) (in_syntax meta implicit) = absurd (not_implicit x meta implicit)
 one_check_fault file _ _ _ _ _ _ (at_the_end {back = back} x end) (in_data_set y first) =
     absurd (no_first_fault (unbroken_there back _ (same_fronts x y).1 end.unbroken) first)
 one_check_fault file _ _ _ _ _ _ (at_the_end x end) (at_the_end y end2) = (refl, refl, same_ends (same_fronts x y).1 end end2)
-one_check_fault file _ _ _ _ _ _ (at_the_end x end) (in_directory y unbroken text told) = absurd (no_end_fault (same_fronts y x).1 text end)
-one_check_fault file _ _ _ _ _ _ (in_directory x unbroken text told) (in_header fault is) = absurd (header_is_taken x fault is)
-one_check_fault file _ _ _ _ _ _ (in_directory x unbroken text told) (in_syntax meta implicit) = absurd (not_implicit x meta implicit)
-one_check_fault file _ _ _ _ _ _ (in_directory {back = back} x unbroken text told) (in_data_set y first) =
+one_check_fault file _ _ _ _ _ _ (at_the_end x end) (in_directory y unbroken text reported) = absurd (no_end_fault (same_fronts y x).1 text end)
+one_check_fault file _ _ _ _ _ _ (in_directory x unbroken text reported) (in_header fault is) = absurd (header_is_taken x fault is)
+one_check_fault file _ _ _ _ _ _ (in_directory x unbroken text reported) (in_syntax meta implicit) = absurd (not_implicit x meta implicit)
+one_check_fault file _ _ _ _ _ _ (in_directory {back = back} x unbroken text reported) (in_data_set y first) =
     absurd (no_first_fault (unbroken_there back _ (same_fronts x y).1 unbroken) first)
-one_check_fault file _ _ _ _ _ _ (in_directory x unbroken text told) (at_the_end y end) = absurd (no_end_fault (same_fronts x y).1 text end)
-one_check_fault file _ _ _ _ _ _ (in_directory x unbroken text told) (in_directory y unbroken2 text2 told2) = grind (arith, common_steps, same_directory_faults x y text text2 told told2)
+one_check_fault file _ _ _ _ _ _ (in_directory x unbroken text reported) (at_the_end y end) = absurd (no_end_fault (same_fronts x y).1 text end)
+one_check_fault file _ _ _ _ _ _ (in_directory x unbroken text reported) (in_directory y unbroken2 text2 reported2) = grind (arith, common_steps, same_directory_faults x y text text2 reported reported2)

@@ -95,20 +95,20 @@ each_append (x ∷ xs) ys e = grind (arith, nat_tests, each_append xs ys)
 
 pub record ReadUpTo (s : Coding) (first : ℕ) (items : Items) (text rest : List ℕ) (old now : List ReadRecord) : Type 0 where
   pub done : List Record
-  pub left : Items
+  pub remaining : Items
   pub more : List ℕ
   pub after : IsAfter sequence_end_tag more
-  pub spelled : ItemsThen s left more rest
+  pub spelled : ItemsThen s remaining more rest
   pub entries_are : (before : List Record) → AreEntries old before → AreEntries now (before ++ done)
   pub good : each_fault done ≡ None
-  pub all : records_at first items ≡ done ++ records_at (first + (length text - length rest)) left
+  pub all : records_at first items ≡ done ++ records_at (first + (length text - length rest)) remaining
 
 pub read_none : (s : Coding) (first : ℕ) (items : Items) (text : List ℕ) (old : List ReadRecord) → HasItems s items text → ReadUpTo s first items text text old old
 read_none s first items text old has =
     let none : first ≡ first + (length text - length text) = omega arith in
     record {
       done = [];
-      left = items;
+      remaining = items;
       more = has.more;
       after = has.after;
       spelled = has.spelled;
@@ -133,7 +133,7 @@ read_next s first items text rest after old now new head e fits r read tagged en
     let places : next_place ≡ first + (length text - length after) = omega (arith, f.long, f.size, f.content_size, ap length is, fits) in
     record {
       done = r.done ++ one ∷ [];
-      left = f.others;
+      remaining = f.others;
       more = r.more;
       after = r.after;
       spelled = subst (λ z. ItemsThen s f.others r.more z) (sym is) f.spelled;
@@ -162,7 +162,7 @@ read_fails s first items text rest old now head f r read tagged fails =
 
 -- ---- all records
 
-all_read : (s : Coding) (first : ℕ) (items : Items) (text rest : List ℕ) (old now : List ReadRecord) (before : List Record) (r : ReadUpTo s first items text rest old now) → r.left ≡ no_items
+all_read : (s : Coding) (first : ℕ) (items : Items) (text rest : List ℕ) (old now : List ReadRecord) (before : List Record) (r : ReadUpTo s first items text rest old now) → r.remaining ≡ no_items
     → AreEntries old before → AreEntries now (before ++ records_at first items)
 all_read s first items text rest old now before r none are = grind (arith, common_steps)
 

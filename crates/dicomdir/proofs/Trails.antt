@@ -7,7 +7,7 @@ use Rattle.dicomdir.specs.declared.links.Mark.{Mark}
 use Rattle.dicomdir.specs.declared.links.Step.{Step}
 use Rattle.dicomdir.specs.Linked.{is_one_of, record_at, fits}
 use Rattle.dicomdir.specs.Paths.{Links, Turn, named_by, paths_from, paths_of, above, before, line_of, level_of}
-use Rattle.dicomdir.specs.machine.Trail.{path_along, left_of, paths_on, later, AreMarks, told_along, IsStep, IsToCome, flags_of, AreFlagged, IsTarget, IsEntry, AreEntries, no_entries, entry_then, Rise, carried_by}
+use Rattle.dicomdir.specs.machine.Trail.{path_along, remaining_of, paths_on, later, AreMarks, reported_along, IsStep, IsExpected, flags_of, AreFlagged, IsTarget, IsEntry, AreEntries, no_entries, entry_then, Rise, carried_by}
 use Rattle.dicomdir.proofs.PathForests.{paths_none, elements_is}
 use Rattle.std.proofs.lemmas.Grind.{common_steps}
 use Rattle.std.specs.List.{HoldsAt, AllWithin}
@@ -21,16 +21,16 @@ use Rattle.dicomdir.specs.DirFault.{fault, unreached_fault, names_no_record, nam
 use Rattle.dicomdir.proofs.Distinct.{same_place}
 use Rattle.sequence.specs.Tree.{Elements}
 
-abbrev pub left_in : List Bool → ℕ
-left_in [] = 0
-left_in (reached ∷ rest) = if reached then left_in rest else suc (left_in rest)
+abbrev pub remaining_in : List Bool → ℕ
+remaining_in [] = 0
+remaining_in (reached ∷ rest) = if reached then remaining_in rest else suc (remaining_in rest)
 
-pub left_fewer : (xs : List Bool) (i : ℕ) → get_or xs i true ≡ false → left_in (set xs i true) < left_in xs
-left_fewer [] i e = absurd cc
-left_fewer (true ∷ xs) zero e = absurd cc
-left_fewer (false ∷ xs) zero e = omega arith
-left_fewer (true ∷ xs) (suc i) e = left_fewer xs i e
-left_fewer (false ∷ xs) (suc i) e = let fewer = left_fewer xs i e in omega (arith, fewer)
+pub remaining_fewer : (xs : List Bool) (i : ℕ) → get_or xs i true ≡ false → remaining_in (set xs i true) < remaining_in xs
+remaining_fewer [] i e = absurd cc
+remaining_fewer (true ∷ xs) zero e = absurd cc
+remaining_fewer (false ∷ xs) zero e = omega arith
+remaining_fewer (true ∷ xs) (suc i) e = remaining_fewer xs i e
+remaining_fewer (false ∷ xs) (suc i) e = let fewer = remaining_fewer xs i e in omega (arith, fewer)
 
 -- ---- the trail: what leads back, and the paths that are to come as chains end
 
@@ -115,41 +115,41 @@ paths_first links =
 
 -- chains that end
 
-later_left : (links : Links) (ms : List Mark) → later links false ms ≡ later links true (left_of ms)
-later_left links [] = refl
-later_left links (m ∷ ms) = grind (arith, nat_tests, later_left links ms)
+later_remaining : (links : Links) (ms : List Mark) → later links false ms ≡ later links true (remaining_of ms)
+later_remaining links [] = refl
+later_remaining links (m ∷ ms) = grind (arith, nat_tests, later_remaining links ms)
 
-left_marks : (links : Links) (ms : List Mark) → AreMarks links ms → AreMarks links (left_of ms)
-left_marks links [] marks = tt
-left_marks links (m ∷ ms) marks = grind (arith, nat_tests, left_marks links ms marks.2)
+remaining_marks : (links : Links) (ms : List Mark) → AreMarks links ms → AreMarks links (remaining_of ms)
+remaining_marks links [] marks = tt
+remaining_marks links (m ∷ ms) marks = grind (arith, nat_tests, remaining_marks links ms marks.2)
 
 -- a trail from which chains were dropped that were at their end
 pub record Climbed (links : Links) (ms ms2 : List Mark) : Type 0 where
-  pub come : later links true ms ≡ later links true ms2
+  pub received : later links true ms ≡ later links true ms2
   pub fewer : length ms2 ≤ length ms
   pub marks : AreMarks links ms2
 
 -- the last chain is at its end
-chain_ends : (links : Links) (m : Mark) (ms : List Mark) → m.next ≡ 0 → AreMarks links (m ∷ ms) → later links true (m ∷ ms) ≡ later links true (left_of (m ∷ ms))
-chain_ends links m ms none marks = grind (arith, common_steps, later_left links (m ∷ ms))
+chain_ends : (links : Links) (m : Mark) (ms : List Mark) → m.next ≡ 0 → AreMarks links (m ∷ ms) → later links true (m ∷ ms) ≡ later links true (remaining_of (m ∷ ms))
+chain_ends links m ms none marks = grind (arith, common_steps, later_remaining links (m ∷ ms))
 
-pub climbed : (links : Links) (ms : List Mark) (xs ys : List Mark) (m : Mark) → Some m ≡ slice_get xs (length xs - 1) → m.next ≡ 0 → reverse ys ≡ left_of (reverse xs)
+pub climbed : (links : Links) (ms : List Mark) (xs ys : List Mark) (m : Mark) → Some m ≡ slice_get xs (length xs - 1) → m.next ≡ 0 → reverse ys ≡ remaining_of (reverse xs)
     → (0 < length xs → length ys < length xs) → Climbed links ms (reverse xs) → Climbed links ms (reverse ys)
-climbed links ms xs ys m got none left fewer before =
+climbed links ms xs ys m got none remaining fewer before =
     let shape = last_first xs m got in
     let rest : List Mark = reverse (take (length xs - 1) xs) in
     let marks : AreMarks links (m ∷ rest) = subst (λ z. AreMarks links z) shape before.marks in
-    grind (arith, common_steps, last_first xs m got, length-reverse xs, length-reverse ys, some_length xs m (length xs - 1) got, chain_ends links m rest none marks, left_marks links (m ∷ rest) marks)
+    grind (arith, common_steps, last_first xs m got, length-reverse xs, length-reverse ys, some_length xs m (length xs - 1) got, chain_ends links m rest none marks, remaining_marks links (m ∷ rest) marks)
 
--- it goes on
+-- it continues
 pub goes_next : (links : Links) (ms xs : List Mark) (m : Mark) → Some m ≡ slice_get xs (length xs - 1) → (m.next ≡ 0 → ⊥) → Climbed links ms (reverse xs)
-    → IsToCome links (later links true ms) ms (reverse xs) (Some (record { offset = m.next; begins = false; level = m.level; shown = m.shown }))
+    → IsExpected links (later links true ms) ms (reverse xs) (Some (record { offset = m.next; begins = false; level = m.level; shown = m.shown }))
 goes_next links ms xs m got other before = grind (arith, common_steps, last_first xs m got)
 
 -- no record is below the last mark
 pub lower_none : (links : Links) (ms ms2 : List Mark) (pending : Option Step) (lower : ℕ) → lower ≡ 0 → lower ≡ named_by links (path_along true ms)
-    → IsToCome links (later links true ms) ms ms2 pending → IsToCome links (paths_on links (path_along true ms) ++ later links true ms) ms ms2 pending
-lower_none links ms ms2 pending lower none named comes = grind (arith, common_steps, paths_none)
+    → IsExpected links (later links true ms) ms ms2 pending → IsExpected links (paths_on links (path_along true ms) ++ later links true ms) ms ms2 pending
+lower_none links ms ms2 pending lower none named arrives = grind (arith, common_steps, paths_none)
 
 -- ---- entries of records, whose places rise: a search among them, and the flags of those that were reached
 
@@ -229,7 +229,7 @@ pub record AtEntry (e : ReadRecord) (records : List Record) (at least : ℕ) : T
   pub stands : record_at of_it.place records ≡ Some of_it.elements
   pub flag : (reached : List ℕ) (d : Bool) → get_or (flags_of reached records) at d ≡ is_one_of of_it.place reached
   pub marked : (reached : List ℕ) → set (flags_of reached records) at true ≡ flags_of (of_it.place ∷ reached) records
-  pub left : (reached : List ℕ) → unreached_fault reached (drop at records)
+  pub remaining : (reached : List ℕ) → unreached_fault reached (drop at records)
       ≡ (if not (carried_node of_it.elements).in_use || is_one_of of_it.place reached then unreached_fault reached (drop (suc at) records) else fault 63 of_it.place)
 
 first_entry : (e : ReadRecord) (r : Record) (rs : List Record) (least : ℕ) → IsEntry e r → Rise least (r ∷ rs) → AtEntry e (r ∷ rs) 0 least
@@ -249,10 +249,10 @@ at_entry (e ∷ es) (r ∷ rs) least zero d (entry_then is rest) rise fits = fir
 at_entry (e ∷ es) (r ∷ rs) least (suc at) d (entry_then is rest) rise fits = grind (arith, common_steps, later_entry (get_or es at d) r rs at least rise.0 (at_entry es rs (suc r.place) at d rest rise.1 (omega (arith, fits))))
 
 -- an entry in use that was not reached is the first such one; any other is passed over
-pub left_at : (entries : List ReadRecord) (flags : List Bool) (records : List Record) (reached : List ℕ) (e : ReadRecord) (at : ℕ) → AreFlagged entries flags records reached
+pub remaining_at : (entries : List ReadRecord) (flags : List Bool) (records : List Record) (reached : List ℕ) (e : ReadRecord) (at : ℕ) → AreFlagged entries flags records reached
     → e ≡ get_or entries at e → at < length entries
     → unreached_fault reached (drop at records) ≡ (if not e.in_use || get_or flags at false then unreached_fault reached (drop (suc at) records) else fault 63 e.place)
-left_at entries flags records reached e at flagged is fits = grind (arith, common_steps, at_entry entries records 0 at e flagged.are flagged.rise fits)
+remaining_at entries flags records reached e at flagged is fits = grind (arith, common_steps, at_entry entries records 0 at e flagged.are flagged.rise fits)
 
 pub passes : (u r : Bool) → (u ≡ false) ⊎ (r ≡ true) → (not u || r) ≡ true
 passes v1 r e = grind (arith, nat_tests)
@@ -296,11 +296,11 @@ no_fault : (links : Links) (path : List Turn) (reached : List ℕ) (offset : ℕ
     → is_one_of offset reached ≡ false → fits (level_of path) (carried_node es) ≡ true → path_fault links reached path ≡ None
 no_fault links path reached offset es named stands new fit = grind (arith, common_steps, has_record links path offset es named stands, fits_there links path offset es true named stands fit)
 
-pub old_target : (links : Links) (entries : List ReadRecord) (flags : List Bool) (reached : List ℕ) (ms : List Mark) (step : Step) (at root told : ℕ) (b : Bool)
+pub old_target : (links : Links) (entries : List ReadRecord) (flags : List Bool) (reached : List ℕ) (ms : List Mark) (step : Step) (at root reported : ℕ) (b : Bool)
     → AreFlagged entries flags links.records reached → IsStep links ms (Some step) → root ≡ links.place → at < length entries → ((d : ReadRecord) → (get_or entries at d).place ≡ step.offset)
-    → get_or flags at false ≡ true → is_one_of step.offset (line_of (path_along true ms)) ≡ b → told ≡ told_along root ms
-    → path_fault links reached (path_along step.begins ms) ≡ fault (if b then 61 else 62) told
-old_target links entries flags reached ms step at root told b flagged is_step root_is fits found old back is = grind (arith, common_steps, at_offset entries flags links.records reached step.offset at flagged fits found)
+    → get_or flags at false ≡ true → is_one_of step.offset (line_of (path_along true ms)) ≡ b → reported ≡ reported_along root ms
+    → path_fault links reached (path_along step.begins ms) ≡ fault (if b then 61 else 62) reported
+old_target links entries flags reached ms step at root reported b flagged is_step root_is fits found old back is = grind (arith, common_steps, at_offset entries flags links.records reached step.offset at flagged fits found)
 
 pub unfit_target : (links : Links) (entries : List ReadRecord) (flags : List Bool) (reached : List ℕ) (ms : List Mark) (step : Step) (at : ℕ) (e : ReadRecord)
     → AreFlagged entries flags links.records reached → IsStep links ms (Some step) → at < length entries → ((d : ReadRecord) → (get_or entries at d).place ≡ step.offset)

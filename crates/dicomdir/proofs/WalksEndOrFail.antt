@@ -34,9 +34,9 @@ use Rattle.dicomdir.specs.Walking.{IsGoing, IsSameSet, FailsIn}
 use Rattle.element.specs.Numbers.{IsBytes}
 use Rattle.sequence.specs.declared.step.Step.{Step}
 use Rattle.sequence.specs.FirstFault.{IsUnbroken}
-use Rattle.sequence.specs.Walk.{Told, Tells, going, refused}
+use Rattle.sequence.specs.Walk.{Report, Reports, going, refused}
 use Rattle.sequence.specs.declared.step.Step.TheVariants.{Refused}
-use Rattle.sequence.specs.Answering.{IsRun, Answers, no_piece, goes_on, element, opened, closed, runs, refuses, stays}
+use Rattle.sequence.specs.Answering.{IsRun, Answers, no_piece, continues, element, opened, closed, runs, refuses, stays}
 use Rattle.sequence.specs.declared.walker.Walker.{Walker}
 use Rattle.sequence.specs.Taken.{StandsAt, walker_syntax, limits_of, fault_of}
 use Rattle.dicomdir.specs.Laws.{WalkersStartWithoutFault}
@@ -132,7 +132,7 @@ data_set_check {file = file} {back = back} h fault start from (ends_early {tag =
 -- where nothing is refused, no rule is broken
 pub unrefused : {s : Coding} {lim : Limits} {b piece taken : List ℕ} {step : Step} → Answers s lim b piece taken step → refusal_of step ≡ None → IsUnbroken s lim (b ++ taken)
 unrefused {s = s} {lim = lim} {b = b} (no_piece unbroken p t) e = subst (λ z. IsUnbroken s lim z) (sym (ap (λ z. b ++ z) t ∙ append-nil b)) unbroken
-unrefused (goes_on unbroken part all) e = unbroken
+unrefused (continues unbroken part all) e = unbroken
 unrefused (element unbroken ends mark) e = unbroken
 unrefused (opened unbroken ends mark same) e = unbroken
 unrefused (closed unbroken ends mark same) e = unbroken
@@ -143,11 +143,11 @@ unrefused (stays fault none) e = absurd cc
 runs_none : (bytes : List ℕ) (step : Step) → IsRun bytes step → refusal_of step ≡ None
 runs_none bytes v2 r = grind (arith, nat_tests)
 
--- and else a rule is broken, in any text that goes on from there
+-- and else a rule is broken, in any text that continues from there
 pub refused_fails : {s : Coding} {lim : Limits} {b piece taken : List ℕ} {step : Step} (more text : List ℕ) (fault : Fault) → Answers s lim b piece taken step → refusal_of step ≡ Some fault
     → IsBytes text → text ≡ (b ++ taken) ++ more → Fails s lim text fault
 refused_fails more text fault (no_piece unbroken p t) e bytes whole = absurd cc
-refused_fails more text fault (goes_on unbroken part all) e bytes whole = absurd cc
+refused_fails more text fault (continues unbroken part all) e bytes whole = absurd cc
 refused_fails more text fault (element unbroken ends mark) e bytes whole = absurd cc
 refused_fails more text fault (opened unbroken ends mark same) e bytes whole = absurd cc
 refused_fails more text fault (closed unbroken ends mark same) e bytes whole = absurd cc
@@ -162,10 +162,10 @@ refused_fails {s = s} {lim = lim} {b = b} {taken = taken} more text fault (stays
     let stays_first = fault_stays s lim b more p u rule tag (subst (λ z. IsBytes z) all bytes) first in
     subst (λ z. Fails s lim text z) same (subst (λ z. Fails s lim z (record { number = rule; place = length p; tag = tag })) (sym all) (breaks_rule stays_first))
 
--- what is told where no rule is broken is no fault
-pub tells_none : {s : Coding} {lim : Limits} {b : List ℕ} {told : Told} → Tells s lim b told → IsUnbroken s lim b → told.fault ≡ None
-tells_none (going unbroken front) u = refl
-tells_none (refused {p = p} {u = t} {rule = rule} {tag = tag} first front) u = absurd (u p t first.rest rule tag first.text first.breaks)
+-- what is reported where no rule is broken is no fault
+pub reports_none : {s : Coding} {lim : Limits} {b : List ℕ} {reported : Report} → Reports s lim b reported → IsUnbroken s lim b → reported.fault ≡ None
+reports_none (going unbroken front) u = refl
+reports_none (refused {p = p} {u = t} {rule = rule} {tag = tag} first front) u = absurd (u p t first.rest rule tag first.text first.breaks)
 
 pub failed_text : {s : Coding} {lim : Limits} (s2 : Coding) (lim2 : Limits) (text : List ℕ) (fault : Fault) → s ≡ s2 → lim ≡ lim2 → Fails s lim text fault → Fails s2 lim2 text fault
 failed_text {s = s} {lim = lim} s2 lim2 text fault e f w = grind (arith, common_steps)
@@ -228,7 +228,7 @@ walks_on w0 w v piece rest n step goes g within stands answers syntax limits non
       fits = far.fits;
       is_rest = far.is_rest;
       along = λ c at. subst (λ z. StandsAt v z) (append_assoc c (take a piece) (take n rest) ∙ ap (λ z. c ++ z) far.taken) (stands (c ++ take a piece) (g.along c at));
-      good = tells_none there.tells moved;
+      good = reports_none there.reports moved;
       same = (syntax ∙ g.same.0, limits ∙ g.same.1);
     }
 
@@ -260,7 +260,7 @@ walks_fails w0 w piece rest n step fault g within answers was b more stands byte
 -- ---- a walk over a whole text as one piece
 
 pub starts_good : WalkersStartWithoutFault
-starts_good V D w stands = tells_none stands.tells (nothing_unbroken (walker_syntax w) (limits_of w))
+starts_good V D w stands = reports_none stands.reports (nothing_unbroken (walker_syntax w) (limits_of w))
 
 pub going_first : {V D : ℕ} (w : Walker V D) → StandsAt w [] → IsGoing w
 going_first {V = V} {D = D} w stands = ([], stands, starts_good V D w stands)

@@ -5,7 +5,7 @@ use Rattle.sequence.specs.Tree.{Elements, DataSet}
 use Rattle.dicomdir.specs.FaultNumbers.{bad_offset, cycle, twice_reached, unreached, wrong_level, bad_file_id, bad_record, out_of_memory}
 use Rattle.dicomdir.specs.Directory.{Found, missing, value_at, items_at, found, Record, carried_node, first_offset, last_offset, records_of, or_zero, has_record, has_file_id, IsExplicitFile}
 use Rattle.dicomdir.specs.Linked.{fits, is_one_of, record_at, elements_at}
-use Rattle.dicomdir.specs.Paths.{Links, Turn, named_by, told_at, level_of, makes_cycle, paths_of, reached_by, root_records, last_from}
+use Rattle.dicomdir.specs.Paths.{Links, Turn, named_by, reported_at, level_of, makes_cycle, paths_of, reached_by, root_records, last_from}
 use Rattle.sequence.specs.declared.coding.Coding.TheVariants as codings
 use Rattle.element.specs.declared.syntax.Syntax.TheVariants.{Implicit}
 use Rattle.element.specs.declared.tag.Tag.{Tag}
@@ -22,9 +22,11 @@ pub record Fault : Type 0 where
   pub number : ℕ
   pub place : ℕ
 
+-- a fault with this number at this position
 abbrev pub fault : ℕ → ℕ → Option Fault
 fault number place = Some (record { number = number; place = place })
 
+-- the first of two faults
 infixr 20 ◌or_else◌
 abbrev pub ◌or_else◌ : Option Fault → Option Fault → Option Fault
 None or_else later = later
@@ -32,30 +34,32 @@ None or_else later = later
 
 -- the fault of an offset of the root: a missing element is reported at the first byte of the data set, one of the
 -- wrong size at its header
-
 abbrev pub offset_fault : ℕ → Found → Option Fault
 offset_fault start missing = fault bad_record start
 offset_fault start (value_at place v) = if nat_eq (length v) 4 then None else fault bad_record place
 offset_fault start (items_at place h is) = fault bad_record place
 
+-- the fault of Directory Record Sequence itself
 abbrev pub records_fault : ℕ → Found → Option Fault
 records_fault start missing = fault bad_record start
 records_fault start (value_at place v) = fault bad_record place
 records_fault start (items_at place h is) = None
 
+-- the first fault of the root
 abbrev pub root_fault : ℕ → Elements → Option Fault
 root_fault start es =
     offset_fault start (found 0x00041200 start es)
     or_else offset_fault start (found 0x00041202 start es)
     or_else records_fault start (found 0x00041220 start es)
 
--- the fault of a record: a missing or wrong element, or else its file ID
+-- the fault of a record by itself: a missing or wrong element, or else its file ID
 abbrev pub record_fault : Record → Option Fault
 record_fault r =
     if not (has_record r.elements) then fault bad_record r.place
     else (if not (has_file_id r.elements) then fault bad_file_id r.place
     else None)
 
+-- the first fault of these records, each by itself
 abbrev pub each_fault : List Record → Option Fault
 each_fault [] = None
 each_fault (r ∷ records) = record_fault r or_else each_fault records
@@ -75,8 +79,8 @@ names_wrong_level links path = not (fits (level_of path) (carried_node (elements
 -- records that earlier paths lead to
 abbrev pub path_fault : Links → List ℕ → List Turn → Option Fault
 path_fault links reached path =
-    if names_no_record links path then fault bad_offset (told_at links path)
-    else (if is_one_of (named_by links path) reached then fault (if makes_cycle links path then cycle else twice_reached) (told_at links path)
+    if names_no_record links path then fault bad_offset (reported_at links path)
+    else (if is_one_of (named_by links path) reached then fault (if makes_cycle links path then cycle else twice_reached) (reported_at links path)
     else (if names_wrong_level links path then fault wrong_level (named_by links path)
     else None))
 
@@ -103,8 +107,8 @@ unreached_fault reached [] = None
 unreached_fault reached (r ∷ records) =
     if not (carried_node r.elements).in_use || is_one_of r.place reached then unreached_fault reached records else fault unreached r.place
 
--- the first fault of the offsets: of the paths along them; then of the root's last offset; then the first record in
--- use that no path leads to
+-- the first fault of the offsets of a directory: of the paths along them; then of the root's last offset; then the
+-- first record in use that no path leads to
 abbrev pub links_fault : ℕ → Elements → Links → Option Fault
 links_fault start es links =
     first_fault links [] (paths_of links)
@@ -116,6 +120,7 @@ abbrev pub links_of : ℕ → Elements → List Record → Links
 links_of start es records =
     record { place = place_in (found 0x00041200 start es); first = or_zero (first_offset start es); records = records }
 
+-- the first fault of the records, or else of their offsets
 abbrev pub records_then_links : ℕ → Elements → Option (List Record) → Option Fault
 records_then_links start es None = None
 records_then_links start es (Some records) = each_fault records or_else links_fault start es (links_of start es records)
@@ -124,7 +129,7 @@ records_then_links start es (Some records) = each_fault records or_else links_fa
 unfoldable pub directory_fault : ℕ → Elements → Option Fault
 directory_fault start es = root_fault start es or_else records_then_links start es (records_of start es)
 
--- ---- what is first found wrong with a file that ought to be a directory (this product's own profile)
+-- ---- the first fault of a file that should be a directory (this product's own profile)
 
 -- the limits of the data set: 64 open levels and 2^48 bytes; no value of it is kept
 abbrev pub check_limits : Limits

@@ -31,10 +31,11 @@ pub record IsDirectoryFile (file : List ℕ) (start : ℕ) (elements : Elements)
   pub data_set : DataSet codings.Explicit 0 elements back
   pub begins : start ≡ length front
 
--- the size of a header; that of the delimitation after an undefined length follows
+-- the size of a header in bytes
 abbrev pub header_size : Header → ℕ
 header_size h = length (header_bytes h)
 
+-- the size of the delimitation after an undefined length, 8 bytes; 0 after a defined one
 abbrev pub end_size : ℕ → ℕ
 end_size n = if is_undefined n then 8 else 0
 
@@ -45,6 +46,7 @@ abbrev mutual
   size_of (value h v es) = header_size h + length v + size_of es
   size_of (sequence h is es) = header_size h + size_of_items is + end_size h.length + size_of es
 
+  -- the size of these items in bytes
   pub size_of_items : Items → ℕ
   size_of_items no_items = 0
   size_of_items (item h es is) = header_size h + size_of es + end_size h.length + size_of_items is
@@ -83,26 +85,31 @@ records_at place (item h es is) =
     record { place = place; elements = es } ∷ records_at (place + header_size h + size_of es + end_size h.length) is
 records_at place (fragment h v is) = records_at (place + header_size h + length v) is
 
+-- the records in these items, each with its position
 abbrev pub records_in : Found → Option (List Record)
 records_in missing = None
 records_in (value_at place v) = None
 records_in (items_at place h is) = Some (records_at (place + header_size h) is)
 
--- the root's offset of its first record (0004,1200); that of its last one and the records follow
+-- the root's offset of its first record (0004,1200)
 abbrev pub first_offset : ℕ → Elements → Option ℕ
 first_offset start es = number_in 4 (found 0x00041200 start es)
 
+-- the offset of the last record of the root (0004,1202)
 abbrev pub last_offset : ℕ → Elements → Option ℕ
 last_offset start es = number_in 4 (found 0x00041202 start es)
 
+-- the records of a directory, if its Directory Record Sequence is a sequence
 abbrev pub records_of : ℕ → Elements → Option (List Record)
 records_of start es = records_in (found 0x00041220 start es)
 
--- the offset of the next record at the same level (0004,1400); the other elements of a record follow
+-- ---- the elements of a record
 
+-- the offset of the next record at the same level (0004,1400)
 abbrev pub next_offset : Elements → Option ℕ
 next_offset es = number_in 4 (found 0x00041400 0 es)
 
+-- the offset of the first record at the lower level (0004,1420)
 abbrev pub lower_offset : Elements → Option ℕ
 lower_offset es = number_in 4 (found 0x00041420 0 es)
 
@@ -111,6 +118,7 @@ abbrev pub or_zero : Option ℕ → ℕ
 or_zero None = 0
 or_zero (Some n) = n
 
+-- whether the Record In-use Flag (0004,1410) is not 0000H
 abbrev pub is_in_use : Option ℕ → Bool
 is_in_use None = false
 is_in_use (Some flag) = nat_eq flag 0xffff
@@ -130,11 +138,13 @@ kind_in missing = []
 kind_in (value_at place v) = key v
 kind_in (items_at place h is) = []
 
+-- the Referenced File ID (0004,1500) of a record
 abbrev pub file_id_in : Found → Option (List ℕ)
 file_id_in missing = None
 file_id_in (value_at place v) = file_id_of v
 file_id_in (items_at place h is) = None
 
+-- whether there is no element with the tag
 abbrev pub is_missing : Found → Bool
 is_missing missing = true
 is_missing (value_at place v) = false

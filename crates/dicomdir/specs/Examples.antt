@@ -16,7 +16,7 @@ FileIdsAreRead =
     × (file_id_of (codes "S1" ++ 92 ∷ 92 ∷ codes "I1") ≡ None)
     × (file_id_of [] ≡ None)
 
--- ---- faults of the file header, as a check of a directory tells them (this product's own profile)
+-- ---- faults of the file header, as a check of a directory reports them (this product's own profile)
 
 -- the faults of an empty file, and of files in JPEG Baseline and in Implicit VR Little Endian
 abbrev pub HeaderFaults : Type 0

@@ -7,10 +7,11 @@ use Rattle.element.specs.Padding.{is_space, without_trailing}
 abbrev pub is_id_character : ℕ → Bool
 is_id_character c = (nat_le 65 c && nat_le c 90) || (nat_le 48 c && nat_le c 57) || nat_eq c 95
 
--- a component of a file ID: one to eight such characters
+-- whether the bytes are one to eight characters of a file ID
 abbrev pub is_file_id_component : List ℕ → Bool
 is_file_id_component text = nat_le 1 (length text) && nat_le (length text) 8 && list_all is_id_character text
 
+-- a component put before the others
 abbrev pub before_parts : ℕ → List (List ℕ) → List (List ℕ)
 before_parts c [] = (c ∷ []) ∷ []
 before_parts c (part ∷ parts) = (c ∷ part) ∷ parts
@@ -28,6 +29,7 @@ is_file_id text = nat_le (length (parts_of text)) 8 && list_all is_file_id_compo
 abbrev pub filled : List ℕ → List ℕ
 filled text = text ++ replicate (71 - length text) 0
 
+-- these bytes, if they are a valid file ID; else none
 abbrev pub if_file_id : List ℕ → Option (List ℕ)
 if_file_id text = if is_file_id text then Some text else None
 

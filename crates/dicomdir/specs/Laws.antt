@@ -44,7 +44,7 @@ OneCheckFault = (file : List ℕ) (number number2 place place2 : ℕ) (tag tag2 
 abbrev pub OneListOfNodes : Type 0
 OneListOfNodes = (file : List ℕ) (nodes other : List LevelNode) → HasNodes file nodes → HasNodes file other → nodes ≡ other
 
--- ---- what the faults of a directory have to do with its links (this product's own profile)
+-- ---- the faults of a directory and its links (this product's own profile)
 
 -- in a linked directory the tree has at most as many nodes as there are records, and no record is at position 0
 abbrev pub NodesAreRecords : Type 0
@@ -73,7 +73,7 @@ NoFaultIsLinked = (start : ℕ) (elements : Elements) → directory_fault start 
 abbrev pub OneTreeOfFile : Type 0
 OneTreeOfFile = (file : List ℕ) (tree other : Forest Node) → Linked file tree → Linked file other → tree ≡ other
 
--- ---- longer paths change nothing, and what paths name
+-- ---- longer paths change nothing; the records that paths lead to
 
 -- following paths longer than the number of records finds no other first fault, and no further paths if there is no
 -- fault

@@ -14,6 +14,7 @@ abbrev pub carried_forest : Forest Elements → Forest Node
 carried_forest no_nodes = no_nodes
 carried_forest (node es below next) = node (carried_node es) (carried_forest below) (carried_forest next)
 
+-- whether the record type is PATIENT, STUDY or SERIES
 abbrev pub is_upper_kind : List ℕ → Bool
 is_upper_kind kind = bytes_eq kind (kind_of Patient) || bytes_eq kind (kind_of Study) || bytes_eq kind (kind_of Series)
 
@@ -35,6 +36,7 @@ pub record PlacedNode : Type 0 where
   pub place : ℕ
   pub carries : Node
 
+-- the tree without the positions of its records
 abbrev pub nodes_of : Forest PlacedNode → Forest Node
 nodes_of no_nodes = no_nodes
 nodes_of (node n below next) = node n.carries (nodes_of below) (nodes_of next)
@@ -44,25 +46,30 @@ abbrev pub places_of : Forest PlacedNode → List ℕ
 places_of no_nodes = []
 places_of (node n below next) = n.place ∷ (places_of below ++ places_of next)
 
--- the position of the first of these siblings, 0 if there is none; that of the last follows
+-- the position of the first of these siblings, 0 if there is none
 abbrev pub first_place : Forest PlacedNode → ℕ
 first_place no_nodes = 0
 first_place (node n below next) = n.place
 
+-- the position of the last of these siblings, or `place` if there is none
 abbrev pub last_place_behind : ℕ → Forest PlacedNode → ℕ
 last_place_behind place no_nodes = place
 last_place_behind place (node n below next) = last_place_behind n.place next
 
+-- the position of the last of these siblings, 0 if there is none
 abbrev pub last_place : Forest PlacedNode → ℕ
 last_place nodes = last_place_behind 0 nodes
 
+-- whether the number is in the list
 abbrev pub is_one_of : ℕ → List ℕ → Bool
 is_one_of place places = list_any (nat_eq place) places
 
+-- whether no number occurs twice in the list
 abbrev pub is_distinct : List ℕ → Bool
 is_distinct [] = true
 is_distinct (place ∷ places) = not (is_one_of place places) && is_distinct places
 
+-- the elements of the record at this position, if there is one
 abbrev pub record_at : ℕ → List Record → Option Elements
 record_at place [] = None
 record_at place (r ∷ records) = if nat_eq r.place place then Some r.elements else record_at place records
@@ -97,6 +104,7 @@ AreLinked records level (node n below next) =
     × AreLinked records (suc level) below
     × AreLinked records level next
 
+-- whether each record has its required elements and, if it needs one, a valid file ID
 abbrev pub are_records : List Record → Bool
 are_records records = list_all (λ r. has_record r.elements && has_file_id r.elements) records
 

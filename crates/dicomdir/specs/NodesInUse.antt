@@ -36,17 +36,19 @@ pub record HasNodes (file : List ℕ) (nodes : List LevelNode) : Type 0 where
   pub all_reached : IsAllReached linked
   pub nodes_are : nodes_in_use 1 linked.placed ≡ nodes
 
--- ---- what is left of a tree without its inactive records (PS3.3 section F.5.1), and the files that it keeps
+-- ---- a tree without its inactive records (PS3.3 section F.5.1), and its files
 
 -- the tree without inactive nodes and those below them
 abbrev pub pruned : Forest Node → Forest Node
 pruned no_nodes = no_nodes
 pruned (node n below next) = if n.in_use then node n (pruned below) (pruned next) else pruned next
 
+-- an optional file ID as a list
 abbrev pub listed : Option (List ℕ) → List (List ℕ)
 listed None = []
 listed (Some file_id) = file_id ∷ []
 
+-- the file ID of an image record in use
 abbrev pub file_id_of_image : Node → List (List ℕ)
 file_id_of_image n = if bytes_eq n.kind (kind_of Image) then listed n.file_id else []
 
@@ -65,6 +67,7 @@ KeptOf tree = images_of (pruned tree)
 abbrev pub node_of : TreeRecord → LevelNode
 node_of r = record { place = r.place; level = r.level; carries = record { in_use = true; kind = r.kind.now; file_id = r.file_id } }
 
+-- the records of a tree, depth first
 abbrev pub tree_nodes : {A : Type 0} → Tree A → List LevelNode
 tree_nodes tree = map node_of tree.records.items
 

@@ -25,10 +25,11 @@ abbrev pub named_by : Links → List Turn → ℕ
 named_by links [] = links.first
 named_by links (t ∷ path) = if t.lower then lower_at links.records t.place else next_at links.records t.place
 
--- the position at which a fault of that offset is reported: the last record, or the element of the root
-abbrev pub told_at : Links → List Turn → ℕ
-told_at links [] = links.place
-told_at links (t ∷ path) = t.place
+-- the position at which a fault of the offset at the end of a path is reported: the last record, or the element of the
+-- root
+abbrev pub reported_at : Links → List Turn → ℕ
+reported_at links [] = links.place
+reported_at links (t ∷ path) = t.place
 
 -- the level of the record that a path leads to: 1 from the root, and one more for each offset of a lower level
 abbrev pub level_of : List Turn → ℕ

@@ -21,8 +21,8 @@ use part10::{MetaFault, read_meta};
 use sequence::{Coding, Fault, Walker, Wanted};
 use std::alloc::Allocator;
 
-/// Returns the fault of a directory file with this fault in its File Meta Information. `ReadFailed`
-/// does not occur, as no read of a slice fails.
+/// Returns the fault of a directory file for a fault of its File Meta Information. `ReadFailed`
+/// does not occur, since reading from a slice never fails.
 fn header_fault(fault: MetaFault) -> DirFault
     ensures { result ≡ header_fault_of fault }
 {
@@ -35,7 +35,7 @@ fn header_fault(fault: MetaFault) -> DirFault
 }
 
 /// Reads the File Meta Information, and returns the bytes after it. Fails with 50, 51 or 53; any
-/// transfer syntax but Explicit VR Little Endian is 53.
+/// transfer syntax other than Explicit VR Little Endian is 53.
 #[tactic(auto, using(crate::proofs::WalksEndOrFail::header_check, crate::proofs::WalksEndOrFail::header_at_none, crate::proofs::WalksEndOrFail::implicit_check, crate::proofs::WalksEndOrFail::explicit_check))]
 fn after_header(bytes: &[u8]) -> Result<&[u8], DirFault>
     ensures read { IfOk result (λ rest. HasHeader bytes.now rest.now) }
@@ -52,7 +52,7 @@ fn after_header(bytes: &[u8]) -> Result<&[u8], DirFault>
     }
 }
 
-/// Checks that the bytes are a whole data set in Explicit VR Little Endian, with at most 64 open
+/// Checks that the bytes are a complete data set in Explicit VR Little Endian, with at most 64 open
 /// levels.
 fn walk(text: &[u8]) -> Result<(), Fault>
     ensures good { IsOk result → IsWholeDataSet Explicit check_limits text.now }
@@ -65,8 +65,8 @@ fn walk(text: &[u8]) -> Result<(), Fault>
     walker.finish()
 }
 
-/// Returns the position and the value of an element with an offset, which must have four bytes. Fails
-/// with 68 (`BadRecord`).
+/// Returns the position and the value of an offset element, of four bytes. Fails with 68
+/// (`BadRecord`), at `start` if the element is missing.
 fn root_offset(element: &Element, start: u64) -> Result<(u64, u32), DirFault>
     ensures read { IfOk result (λ r. (f : Found) → Finds element.now f → IsRootOffset start f r.0 r.1) }
     ensures fails { IfErr result (λ fault. (f : Found) → Finds element.now f → FailsAs (offset_fault start f) fault) }
@@ -81,7 +81,7 @@ fn root_offset(element: &Element, start: u64) -> Result<(u64, u32), DirFault>
     }
 }
 
-/// Checks the elements of a directory. `start` is the position of the first in the file.
+/// Checks the elements of a directory. `start` is the position of the first element in the file.
 fn check_elements<'a, A: Allocator + Copy>(
     alloc: A,
     start: u64,
@@ -126,14 +126,14 @@ fn check_elements<'a, A: Allocator + Copy>(
 /// Checks a directory file (PS3.3 annex F) in Explicit VR Little Endian, with defined or undefined
 /// lengths. Returns its tree: the records in use that have no inactive record above them.
 ///
-/// The error is the first fault in this order: of the File Meta Information (50, 51, 53); of the data
-/// set (10 to 20), with at most 64 open levels and 2^48 bytes; a missing or wrong element of the root
-/// or of a record (68), and an invalid or missing file ID of a record in use that needs one (65),
-/// record by record. Then the offsets are followed from the root, that of the lower level before that
-/// of the next record: each must be the position of a record (60) that was not reached before (61, 62)
-/// and whose type fits its level (64). At last the root's offset of its last record must be right (60),
-/// and every record in use must have been reached (63). Inactive records are followed like others, but
-/// need not fit their level.
+/// The error is the first fault in this order: of the File Meta Information (50, 51, 53); of the
+/// data set (10 to 20), with at most 64 open levels and 2^48 bytes; a missing or wrong element of
+/// the root (68); record by record, a missing or wrong element (68), or an invalid or missing file
+/// ID of a record in use that needs one (65). Then the offsets are followed from the root, that to
+/// the lower level before that to the next record: each must be the position of a record (60) that
+/// was not reached before (61, 62) and whose type fits its level (64). Last, the root's offset of
+/// its last record must be right (60), and every record in use must have been reached (63).
+/// Inactive records are followed like others, but need not fit their level.
 ///
 /// If memory runs out, the error is 67, with position 0 and no tag.
 #[tactic(auto, using(crate::proofs::WalksEndOrFail::data_set_check, crate::proofs::WalksEndOrFail::header_before, crate::proofs::WalksEndOrFail::fault_within, crate::proofs::WalksEndOrFail::fault_at_none))]

@@ -1,11 +1,11 @@
-//! Walks data sets in pieces.
+//! Walks data sets piece by piece.
 ghost use Rattle.std.specs.Prelude.{◌≡◌, ℕ, List, ◌++◌, None, OnOk, IfErr};
 ghost use Rattle.sequence.specs.Taken.{StandsAt, fault_of};
 ghost use Rattle.dicomdir.specs.Walking.{IsGoing, IsSameSet, FailsIn};
 
 use sequence::{Fault, Step, Walker};
 
-/// Walks a piece of a data set to its end. The error is the first fault of the data set.
+/// Walks a piece of a data set to the end of the piece. Fails with the first fault of the data set.
 pub fn walk_piece<const V: usize, const D: usize>(
     walker: &mut Walker<V, D>,
     piece: &[u8],

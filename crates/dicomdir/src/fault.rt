@@ -1,4 +1,4 @@
-//! The fault of a directory.
+//! The faults of directory files.
 ghost use Rattle.std.specs.Prelude.{◌≡◌};
 ghost use Rattle.sequence.specs.Rules.{no_tag};
 ghost use Rattle.dicomdir.specs.FaultNumbers as names;
@@ -62,21 +62,21 @@ impl DirFault {
         }
     }
 
-    /// Returns the fault of a file that would be too large, 66.
+    /// Returns the fault of a file that would be too large (66).
     pub fn too_large() -> DirFault
         ensures { result ≡ record { number = 66; place = 0; tag = no_tag } }
     {
         DirFault::at(DirFault::TOO_LARGE, 0)
     }
 
-    /// Returns the fault of memory that ran out, 67.
+    /// Returns the fault that memory ran out (67).
     pub fn out_of_memory() -> DirFault
         ensures { result ≡ record { number = 67; place = 0; tag = no_tag } }
     {
         DirFault::at(DirFault::OUT_OF_MEMORY, 0)
     }
 
-    /// Returns the fault of a data set with the same number, position and tag.
+    /// Returns this fault as one of a data set, with the same number, position and tag.
     fn of_data_set(self) -> Fault
         ensures { result ≡ record { number = self.number; place = self.place; tag = self.tag } }
     {
@@ -103,8 +103,8 @@ impl DirFault {
     }
 }
 
-/// Prints the number and the name of the rule and the position, as `60 BadOffset at 320`; of a fault of
-/// the data set also the tag, as `17 Overrun at 346 tag 0008,0060`.
+/// Prints the number and the name of the rule and the position, as `60 BadOffset at 320`; for a
+/// fault of the data set also the tag, as `17 Overrun at 346 tag 0008,0060`.
 impl Display for DirFault {
     fn fmt<W: fmt::Write>(&self, f: &mut Formatter<W>) -> fmt::Result {
         if 10 <= self.number && self.number <= 21 {

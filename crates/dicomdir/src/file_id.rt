@@ -1,4 +1,4 @@
-//! File IDs.
+//! Reads file IDs.
 ghost use Rattle.std.specs.Prelude.{◌≡◌, ◌≤◌, ◌&&◌, true, nat_le, length};
 ghost use Rattle.dicomdir.specs.FileId.{file_id_of};
 ghost use Rattle.dicomdir.specs.FileId as spelling;
@@ -79,8 +79,8 @@ fn filled(text: &[u8]) -> [u8; 71]
 }
 
 impl FileId {
-    /// Reads a file ID from the value of an element, without the spaces at its end. Returns `None` if
-    /// the rest is not a valid file ID.
+    /// Reads a file ID from the value of an element, ignoring spaces at its end. Returns `None` if
+    /// the remaining text is no valid file ID.
     #[tactic(auto, using(crate::proofs::FileIds::file_id_room, crate::proofs::FileIds::kept_filled, crate::proofs::FileIds::shown_filled))]
     pub fn read(value: &[u8]) -> Option<FileId>
         ensures { result ≡ file_id_of value.now }

@@ -19,7 +19,7 @@ pub(crate) struct Head {
     pub size: usize,
 }
 
-/// Returns the bytes after the first `count`, none if there are fewer.
+/// Returns the bytes after the first `count`, or no bytes if there are fewer.
 pub(crate) fn after(text: &[u8], count: usize) -> &[u8]
     ensures { result.now ≡ drop count text.now }
 {
@@ -30,7 +30,8 @@ pub(crate) fn after(text: &[u8], count: usize) -> &[u8]
     }
 }
 
-/// Reads the header at the front of the bytes. Returns `None` if it is unfinished or has no valid VR.
+/// Reads the header at the start of the bytes. Returns `None` if it is incomplete or has no valid
+/// VR.
 #[tactic(auto, using(crate::proofs::FrontIsFirstElement::head_whole, crate::proofs::FrontIsFirstElement::head_some))]
 pub(crate) fn head_of(syntax: Coding, text: &[u8]) -> Option<Head>
     ensures value { result ≡ head_at syntax text.now }
@@ -52,7 +53,8 @@ pub(crate) fn head_of(syntax: Coding, text: &[u8]) -> Option<Head>
     }
 }
 
-/// Returns the bytes after the value or the items of an element. `text` begins after its header.
+/// Returns the bytes after the value or the items of an element. `text` starts after the element's
+/// header.
 #[cycle(levels)]
 pub(crate) fn after_content(syntax: Coding, header: Header, text: &[u8]) -> &[u8]
     ensures within { length result.now ≤ length text.now }
@@ -67,8 +69,8 @@ pub(crate) fn after_content(syntax: Coding, header: Header, text: &[u8]) -> &[u8
     }
 }
 
-/// Returns the bytes after the items of a sequence and its delimitation. `text` begins with the first
-/// item.
+/// Returns the bytes after the items of a sequence and its delimitation. `text` starts with the
+/// first item.
 #[cycle(levels)]
 fn after_items(syntax: Coding, text: &[u8]) -> &[u8]
     ensures within { length result.now ≤ length text.now }
@@ -85,7 +87,7 @@ fn after_items(syntax: Coding, text: &[u8]) -> &[u8]
     &[]
 }
 
-/// Returns the bytes after the elements of an item. `text` begins after its header.
+/// Returns the bytes after the elements of an item. `text` starts after the item's header.
 #[cycle(levels)]
 pub(crate) fn after_item(syntax: Coding, header: Header, text: &[u8]) -> &[u8]
     ensures within { length result.now ≤ length text.now }
@@ -97,8 +99,8 @@ pub(crate) fn after_item(syntax: Coding, header: Header, text: &[u8]) -> &[u8]
     after_elements(syntax, text)
 }
 
-/// Returns the bytes after the elements of an item and its delimitation. `text` begins with the first
-/// element.
+/// Returns the bytes after the elements of an item and its delimitation. `text` starts with the
+/// first element.
 #[cycle(levels)]
 fn after_elements(syntax: Coding, text: &[u8]) -> &[u8]
     ensures within { length result.now ≤ length text.now }
@@ -116,7 +118,7 @@ fn after_elements(syntax: Coding, text: &[u8]) -> &[u8]
 }
 
 /// Returns the value or the items of an element, or the elements of an item: as many bytes as the
-/// header says, or all if the length is undefined. `text` begins after the header.
+/// header states, or all bytes if its length is undefined. `text` starts after the header.
 pub(crate) fn content_of(header: Header, text: &[u8]) -> &[u8]
     ensures within { length result.now ≤ length text.now }
     ensures value { result.now ≡ content_at header text.now }
@@ -129,8 +131,8 @@ pub(crate) fn content_of(header: Header, text: &[u8]) -> &[u8]
     }
 }
 
-/// The element with a tag: its position in the file and its value; or the encoding and the bytes of its
-/// items, of which `first` is the position of the first.
+/// The element with a tag: its position in the file (`place`), and its value; or the encoding and
+/// the bytes of its items, and the position of the first (`first`).
 #[derive(Clone, Copy)]
 pub(crate) enum Element<'a> {
     Missing,
@@ -164,8 +166,8 @@ fn element_at<'a>(syntax: Coding, head: Head, place: u64, text: &'a [u8]) -> Ele
     }
 }
 
-/// Finds the element with this tag among the elements in `text`. `place` is the position of the first
-/// in the file.
+/// Finds the element with this tag among the elements in `text`. `place` is the position of the
+/// first element in the file.
 pub(crate) fn find<'a>(syntax: Coding, tag: Tag, place: u64, text: &'a [u8]) -> Element<'a>
     requires room { place + length text.now < 2 ^ 64 }
     requires is_tag { IsTag tag }
@@ -188,7 +190,7 @@ pub(crate) fn find<'a>(syntax: Coding, tag: Tag, place: u64, text: &'a [u8]) -> 
 }
 
 impl<'a> Element<'a> {
-    /// Returns the number in a value of four bytes, or `None` for anything else.
+    /// Returns the number in a value of four bytes, or `None` for any other element.
     pub fn long(&self) -> Option<u32>
         ensures { result ≡ number_in 4 (texts.shown self.now) }
     {
@@ -198,7 +200,7 @@ impl<'a> Element<'a> {
         }
     }
 
-    /// Returns the number in a value of two bytes, or `None` for anything else.
+    /// Returns the number in a value of two bytes, or `None` for any other element.
     pub fn short(&self) -> Option<u16>
         ensures { result ≡ number_in 2 (texts.shown self.now) }
     {

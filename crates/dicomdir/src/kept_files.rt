@@ -21,8 +21,8 @@ fn image_id(node: &TreeRecord) -> Option<FileId>
     }
 }
 
-/// Returns the file ID of a record that has one and is left out of the files that are kept, since its type is not IMAGE.
-pub fn left_out(node: &TreeRecord) -> Option<FileId>
+/// Returns the file ID, if any, of a record whose type is not IMAGE, so that [`kept_of`] omits it.
+pub fn omitted(node: &TreeRecord) -> Option<FileId>
     ensures { file_id_of_image (node_of node.now).carries ++ listed result ≡ listed (node_of node.now).carries.file_id }
 {
     if !is_text(node.kind(), Level::Image.kind()) {
@@ -48,9 +48,8 @@ fn images<A: Allocator + Copy>(alloc: A, records: &[TreeRecord]) -> Result<Vec<F
     Ok(kept)
 }
 
-/// Returns the file IDs of the records of type IMAGE in the tree of a directory, depth first. These are
-/// the images in use that have no inactive record above them. Fails with 67 (`OutOfMemory`) if memory
-/// runs out.
+/// Returns the file IDs of the IMAGE records in the tree of a directory, depth first: those in use
+/// with no inactive record above them. Fails with 67 (`OutOfMemory`) if memory runs out.
 pub fn kept_of<'a, A: Allocator + Copy>(
     alloc: A,
     tree: &Tree<'a, A>,

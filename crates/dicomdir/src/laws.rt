@@ -1,7 +1,8 @@
-//! Lemmas on the definitions of this crate and examples, each stated as the contract of a function with
-//! an empty body.
+//! Lemmas on the definitions of this crate, and examples, each stated as the contract of a function
+//! with an empty body.
 //!
-//! A directory is linked to a tree if the offsets of its records form that tree, from the root down.
+//! A directory is linked to a tree if the offsets of its records form that tree, from the root
+//! down.
 ghost use Rattle.std.specs.Prelude.{◌≡◌, ◌∷◌, []};
 ghost use Rattle.dicomdir.specs.Examples.{FileIdsAreRead, HeaderFaults};
 ghost use Rattle.dicomdir.specs.FaultNumbers.{bad_offset, cycle, twice_reached, unreached, wrong_level, bad_file_id, too_large, out_of_memory, bad_record};
@@ -9,7 +10,7 @@ ghost use Rattle.dicomdir.specs.Laws.{FileIdsAreShort, FileIdsAreReadBack, Walke
 
 use crate::fault::DirFault;
 
-/// Returns the numbers of the faults as [`DirFault`] names them: they equal those of the definitions.
+/// Returns the numbers of the faults that [`DirFault`] names. They equal those of the definitions.
 pub fn fault_numbers() -> [u8; 9]
     ensures { result ≡ bad_offset ∷ cycle ∷ twice_reached ∷ unreached ∷ wrong_level ∷ bad_file_id ∷ too_large ∷ out_of_memory ∷ bad_record ∷ [] }
 {
@@ -26,7 +27,7 @@ pub fn fault_numbers() -> [u8; 9]
     ]
 }
 
-/// Examples: file IDs have one to eight components, and spaces at the end of the value are ignored.
+/// Examples: a file ID has one to eight components, and spaces at the end of the value are ignored.
 #[tactic(auto, using(crate::proofs::Examples::file_ids_are_read))]
 pub fn file_ids_are_read()
     ensures { FileIdsAreRead }
@@ -42,7 +43,7 @@ pub fn file_ids_are_read_back()
     ensures { FileIdsAreReadBack }
 {}
 
-/// A walker that has read no bytes has found no fault.
+/// A walker that has read no byte has found no fault.
 pub fn walkers_start_without_fault()
     ensures { WalkersStartWithoutFault }
 {}
@@ -54,18 +55,18 @@ pub fn header_faults()
     ensures { HeaderFaults }
 {}
 
-/// In a linked directory the tree has at most as many nodes as there are records, and no record is at
-/// position 0.
+/// The tree of a linked directory has at most as many nodes as the directory has records, and no
+/// record is at position 0.
 pub fn nodes_are_records()
     ensures { NodesAreRecords }
 {}
 
-/// A directory whose records are linked to a tree that contains each record in use has no fault.
+/// A directory whose records are linked to a tree with every record in use has no fault.
 pub fn linked_has_no_fault()
     ensures { LinkedHasNoFault }
 {}
 
-/// The records of a directory without a fault are linked to a tree that contains each record in use.
+/// The records of a directory without a fault are linked to a tree with every record in use.
 #[tactic(auto, using(crate::proofs::FaultFree::no_fault_is_linked))]
 pub fn no_fault_is_linked()
     ensures { NoFaultIsLinked }
@@ -87,18 +88,19 @@ pub fn one_fault_of_a_check()
     ensures { OneCheckFault }
 {}
 
-/// The file determines the records that [`check`](crate::check) returns.
+/// A file determines the records that [`check`](crate::check) returns for it.
 pub fn one_list_of_nodes()
     ensures { OneListOfNodes }
 {}
 
-/// Following paths longer than the number of records finds no other first fault, and no further paths
+/// Following longer paths than there are records finds the same first fault, and no further paths
 /// if there is no fault.
 pub fn longer_paths_change_nothing()
     ensures { LongerPathsChangeNothing }
 {}
 
-/// The paths along the offsets of a directory that is linked to a tree lead to its nodes, depth first.
+/// The paths along the offsets of a directory that is linked to a tree lead to the tree's nodes,
+/// depth first.
 pub fn paths_name_nodes()
     ensures { PathsNameNodes }
 {}

@@ -1,4 +1,4 @@
-//! The levels of a directory.
+//! The levels of directory records.
 ghost use Rattle.std.specs.Prelude.{◌≡◌};
 ghost use Rattle.dicomdir.specs.Level.{lower_level, kind_of};
 ghost use Rattle.dicomdir.specs.Level as levels;
@@ -20,7 +20,7 @@ impl Level {
         matches!(self, Level::Image)
     }
 
-    /// Returns the next lower level; for images, the lowest, the same.
+    /// Returns the next lower level, or the same for images, the lowest.
     pub fn below(self) -> Level
         ensures { result ≡ lower_level self }
     {

@@ -3,7 +3,7 @@ ghost use Rattle.std.specs.Prelude.{◌≡◌, ◌≤◌, ◌<◌, ◌+◌, ◌+
 ghost use Rattle.sequence.specs.Rules.{no_tag};
 ghost use Rattle.dicomdir.specs.Linked as linked;
 ghost use Rattle.dicomdir.specs.NodesInUse.{node_of};
-ghost use Rattle.dicomdir.specs.machine.Trail.{AreFollowed, FailsToFollow, carried_by, left_of, mark_of, own_node, path_along, told_along, AreAllReached, Begins, Climbs, IsWrongOffset, LeadsTo, GoesOn, IsLeftOver, IsNoPlace};
+ghost use Rattle.dicomdir.specs.machine.Trail.{AreFollowed, FailsToFollow, carried_by, remaining_of, mark_of, own_node, path_along, reported_along, AreAllReached, Begins, Climbs, IsWrongOffset, LeadsTo, Continues, IsRemainder, IsNoPlace};
 ghost use Rattle.dicomdir.specs.Paths.{line_of};
 ghost use Rattle.dicomdir.specs.Linked.{is_one_of};
 
@@ -13,8 +13,8 @@ use crate::records::{ReadRecord, is_text};
 use crate::tree::TreeRecord;
 use std::alloc::Allocator;
 
-/// The offsets of the root, to its first and its last record, and the positions of the two elements
-/// that have them, in the file.
+/// The offsets of the root, to its first and its last record (`first`, `last`), and the positions
+/// in the file of the two elements that have them.
 #[derive(Clone, Copy)]
 pub(crate) struct Root {
     pub first: u32,
@@ -23,21 +23,21 @@ pub(crate) struct Root {
     pub last_place: u64,
 }
 
-/// A record that was reached, in a chain that has not ended. A chain is a list of sibling records, each
-/// with the offset of the next.
+/// A record that was reached, in a chain that has not ended. A chain is a list of sibling records,
+/// each with the offset of the next.
 #[derive(Clone, Copy)]
 struct Mark {
     place: u64,
     next: u32,
-    /// Whether it is the first record of its chain.
+    /// Whether the record is the first of its chain.
     begins: bool,
     level: u8,
-    /// Whether no record above it is inactive.
+    /// Whether no record above the record is inactive.
     shown: bool,
 }
 
-/// An offset that is to be followed next: whether it starts a chain, the level of the record that it
-/// leads to, and whether no record above that is inactive.
+/// An offset that is to be followed next: whether it starts a chain, the level of the record to
+/// which it leads, and whether no record above that record is inactive.
 #[derive(Clone, Copy)]
 struct Step {
     offset: u32,
@@ -68,8 +68,8 @@ fn fits_level(level: u8, kind: &[u8]) -> bool
     }
 }
 
-/// Returns whether the type of a record fits a level, from 1 for patients to 4 for images. An inactive
-/// record fits any.
+/// Returns whether the type of a record fits a level, from 1 for patients to 4 for images. An
+/// inactive record fits every level.
 fn fits(level: u8, entry: &ReadRecord) -> bool
     ensures { result ≡ linked.fits level (carried_by entry.now) }
 {
@@ -83,8 +83,8 @@ fn below(level: u8) -> u8
     if level < 5 { level + 1 } else { 5 }
 }
 
-/// Returns the index of the record at a position of the file, by binary search, or `None` if no record
-/// is there.
+/// Returns the index of the record at a position of the file, by binary search, or `None` if no
+/// record is there.
 fn index_of(entries: &[ReadRecord], place: u32) -> Option<usize>
     ensures within { IfSome result (λ at. at < length entries.now) }
     ensures found { IfSome result (λ at. (d : ReadRecord) → (slice_index_or entries.now at d).place ≡ place) }
@@ -98,7 +98,8 @@ fn index_of(entries: &[ReadRecord], place: u32) -> Option<usize>
 }
 
 /// Returns whether an offset leads back to a record of the last chain of the trail, or to one above
-/// that. The trail has the records whose chains have not ended, the last one last.
+/// that chain. The trail has the records whose chains have not ended, in the order they were
+/// reached.
 fn leads_back(trail: &[Mark], offset: u32) -> bool
     ensures { result ≡ is_one_of offset (line_of (path_along true (reverse trail.now))) }
 {
@@ -119,7 +120,7 @@ fn leads_back(trail: &[Mark], offset: u32) -> bool
 
 /// Removes the last chain from the trail.
 fn leave_chain<A: Allocator + Copy>(trail: &mut Vec<Mark, A>)
-    ensures left { reverse trail.new.items ≡ left_of (reverse trail.old.items) }
+    ensures remaining { reverse trail.new.items ≡ remaining_of (reverse trail.old.items) }
     ensures fewer { 0 < length trail.old.items → length trail.new.items < length trail.old.items }
 {
     while let Some(mark) = trail.pop() {
@@ -129,8 +130,8 @@ fn leave_chain<A: Allocator + Copy>(trail: &mut Vec<Mark, A>)
     }
 }
 
-/// Returns the next offset to follow after a record with nothing below it, and removes the chains that
-/// have ended. Returns `None` at the end of all.
+/// Removes the chains that have ended from the end of the trail, and returns the next offset to
+/// follow, or `None` at the end of all chains.
 fn climb<A: Allocator + Copy>(trail: &mut Vec<Mark, A>) -> Option<Step>
     ensures climbs { Climbs (reverse trail.old.items) (reverse trail.new.items) result }
 {
@@ -158,10 +159,10 @@ fn none_reached<A: Allocator + Copy>(alloc: A, count: usize) -> Result<Vec<bool,
     }
 }
 
-/// Returns the position at which a fault of the next offset is reported: the record that has it, or the
-/// element of the root.
-fn told_of(trail: &[Mark], root: &Root) -> u64
-    ensures { result ≡ told_along root.now.first_place (reverse trail.now) }
+/// Returns where a fault of the next offset is reported: the position of the record that has the
+/// offset, or of the root's element.
+fn reported_of(trail: &[Mark], root: &Root) -> u64
+    ensures { result ≡ reported_along root.now.first_place (reverse trail.now) }
 {
     match trail.last() {
         Some(mark) => mark.place,
@@ -169,7 +170,7 @@ fn told_of(trail: &[Mark], root: &Root) -> u64
     }
 }
 
-/// Returns the index of the record that an offset leads to. Fails with 60 (no record there), 61
+/// Returns the index of the record to which an offset leads. Fails with 60 (no record there), 61
 /// (cycle), 62 (reached before) or 64 (its type does not fit the level).
 fn target(
     entries: &[ReadRecord],
@@ -185,15 +186,15 @@ fn target(
     ensures fault { IfErr result (IsWrongOffset root.now.first_place entries.now reached.now (reverse trail.now) step.now) }
     ensures links { IfErr result (λ f. record { from : 60 ≤ f.number; to : f.number ≤ 64; tag : f.tag ≡ no_tag }) }
 {
-    let told = told_of(trail, root);
+    let reported = reported_of(trail, root);
     let Some(at) = index_of(entries, step.offset) else {
-        return Err(DirFault::at(DirFault::BAD_OFFSET, told));
+        return Err(DirFault::at(DirFault::BAD_OFFSET, reported));
     };
     if reached[at] {
         if leads_back(trail, step.offset) {
-            return Err(DirFault::at(DirFault::CYCLE, told));
+            return Err(DirFault::at(DirFault::CYCLE, reported));
         }
-        return Err(DirFault::at(DirFault::TWICE_REACHED, told));
+        return Err(DirFault::at(DirFault::TWICE_REACHED, reported));
     }
     if !fits(step.level, &entries[at]) {
         return Err(DirFault::at(DirFault::WRONG_LEVEL, entries[at].place));
@@ -201,8 +202,8 @@ fn target(
     Ok(at)
 }
 
-/// Appends a record to the trail and, if it is in use and no record above it is inactive, to the tree.
-/// Fails with 67 if memory runs out.
+/// Appends a record to the trail and, if it is in use and no record above it is inactive, to the
+/// tree. Fails with 67 if memory runs out.
 fn reach<'a, A: Allocator + Copy>(
     entry: &ReadRecord<'a>,
     step: &Step,
@@ -232,14 +233,14 @@ fn reach<'a, A: Allocator + Copy>(
     Ok(())
 }
 
-/// Returns the offset to follow after a record: that of its lower level, or else the next one of the
-/// trail.
+/// Returns the offset to follow after a record: the one to its lower level, else the next one of
+/// the trail.
 fn step_after<A: Allocator + Copy>(
     entry: &ReadRecord,
     step: &Step,
     trail: &mut Vec<Mark, A>,
 ) -> Option<Step>
-    ensures goes_on { GoesOn (reverse trail.old.items) (reverse trail.new.items) step.now result entry.now }
+    ensures continues { Continues (reverse trail.old.items) (reverse trail.new.items) step.now result entry.now }
 {
     if entry.lower != 0 {
         return Some(Step {
@@ -252,7 +253,7 @@ fn step_after<A: Allocator + Copy>(
     climb(trail)
 }
 
-/// Returns the position of the last record of the root's chain so far, once this record was reached.
+/// Returns the position of the last record of the root's chain, after this record was reached.
 fn last_of_root(entry: &ReadRecord, step: &Step, last: u64) -> u64
     ensures { result ≡ (if nat_eq step.now.level 1 then entry.now.place else last) }
 {
@@ -273,10 +274,10 @@ fn first_step(root: &Root) -> Option<Step>
     })
 }
 
-/// Follows the offsets from the root, depth first, that of the lower level before that of the next
-/// record, and appends the records in use to the tree. Fails with the first fault of an offset (60 to
-/// 64), or with 67 if memory runs out.
-#[tactic(auto, using(crate::proofs::Trails::left_fewer))]
+/// Follows the offsets from the root, depth first, lower level before next record. Appends the
+/// records in use with no inactive record above them to the tree. Fails with the first fault of an
+/// offset (60 to 64), or with 67 if memory runs out.
+#[tactic(auto, using(crate::proofs::Trails::remaining_fewer))]
 pub(crate) fn follow<'a, A: Allocator + Copy>(
     alloc: A,
     entries: &[ReadRecord<'a>],
@@ -304,11 +305,11 @@ pub(crate) fn follow<'a, A: Allocator + Copy>(
     all_reached(entries, reached.as_slice())
 }
 
-/// Fails with 63 (`Unreached`) at the first record in use that was not reached.
+/// Fails with 63 (`Unreached`) at the first record in use that no offset reached.
 fn all_reached(entries: &[ReadRecord], reached: &[bool]) -> Result<(), DirFault>
     requires { length reached.now ≡ length entries.now }
     ensures good { IsOk result → AreAllReached entries.now reached.now }
-    ensures fault { IfErr result (IsLeftOver entries.now reached.now) }
+    ensures fault { IfErr result (IsRemainder entries.now reached.now) }
     ensures links { IfErr result (λ f. record { number : f.number ≡ 63; tag : f.tag ≡ no_tag }) }
 {
     for (at, entry) in entries.iter().enumerate() {

@@ -15,8 +15,8 @@ use element::{Tag, unpadded};
 use sequence::Coding;
 use std::alloc::Allocator;
 
-/// A record of a directory: the position of its item in the file, its two offsets, Record In-use Flag,
-/// Directory Record Type without padding, and file ID.
+/// A record of a directory: the position of its item in the file, its offsets to the next record
+/// and to the lower level, whether it is in use, its type without padding, and file ID.
 #[derive(Clone, Copy)]
 pub(crate) struct ReadRecord<'a> {
     pub place: u64,
@@ -34,8 +34,8 @@ pub(crate) fn is_text(bytes: &[u8], text: &[u8]) -> bool
     bytes == text
 }
 
-/// Returns whether a record with this Record In-use Flag (0004,1410) is in use, FFFFH, or inactive,
-/// 0000H. Returns `None` for any other value.
+/// Returns whether this Record In-use Flag (0004,1410) means in use, FFFFH, or inactive, 0000H.
+/// Returns `None` for any other value.
 fn use_of(flag: Option<u16>) -> Option<bool>
     ensures { result ≡ use_flag flag }
 {
@@ -64,8 +64,8 @@ fn file_id_of<'a>(element: &Element<'a>) -> Option<FileId>
     }
 }
 
-/// Reads the record of an item at `place` with the elements in `text`. Returns `None` if an element is
-/// missing or wrong: an offset, Record In-use Flag or Directory Record Type.
+/// Reads the record of an item at `place` with the elements in `text`. Returns `None` if an offset,
+/// Record In-use Flag or Directory Record Type is missing or wrong.
 fn entry_of<'a>(syntax: Coding, place: u64, text: &'a [u8]) -> Option<ReadRecord<'a>>
     ensures read { IfSome result (λ e. (es : Elements) → HasElements syntax es text.now → EntrySays e (record { place = place; elements = es })) }
     ensures lacks { IsNone result → (es : Elements) → HasElements syntax es text.now → has_record es ≡ false }
@@ -88,8 +88,8 @@ fn entry_of<'a>(syntax: Coding, place: u64, text: &'a [u8]) -> Option<ReadRecord
     })
 }
 
-/// Returns whether the record has a valid file ID if it needs one. `element` is its Referenced File ID:
-/// a record in use must have a valid one, except that it may be missing outside IMAGE records.
+/// Returns whether the record has the file ID that it needs. `element` is its Referenced File ID: a
+/// record in use must have a valid one, except that it may be missing in records other than IMAGE.
 fn has_file_id(entry: &ReadRecord, element: &Element) -> bool
     ensures { result ≡ entry_has_file_id entry.now element.now }
 {
@@ -112,8 +112,9 @@ fn read_record<'a>(syntax: Coding, place: u64, text: &'a [u8]) -> Result<ReadRec
     Ok(entry)
 }
 
-/// Reads the records of the items in `text`, and appends them to `records`. `first` is the position of
-/// the first item in the file. Fails with the first fault of a record, or with 67 if memory runs out.
+/// Reads the records of the items in `text`, and appends them to `records`. `first` is the position
+/// of the first item in the file. Fails with the first fault of a record, or with 67 if memory runs
+/// out.
 pub(crate) fn read_records<'a, A: Allocator + Copy>(
     syntax: Coding,
     first: u64,

@@ -3,26 +3,26 @@ ghost use Rattle.std.specs.Prelude.{◌≡◌};
 ghost use Rattle.std.specs.List.{find};
 ghost use Rattle.dicomdir.specs.FaultNumbers as numbers;
 
-/// A rule that the records of a directory and their offsets have to obey (PS3.3 annex F; the limits and
-/// the numbers are this product's own profile). The variant says how it is broken. Its discriminant is
-/// the number that is printed.
+/// A rule that the records of a directory and their offsets must obey (PS3.3 annex F; the limits
+/// and the numbers are this product's own profile). The variant says how a directory breaks the
+/// rule; its discriminant is the number that is printed.
 #[derive(Clone, Copy, Debug, PartialEq, Eq)]
 pub enum DirRule {
-    /// An offset is not the position of a record. Reported at the record that has the offset, or at the
-    /// element of the root.
+    /// An offset is not the position of a record. It is reported at the record that has the offset,
+    /// or at the element of the root.
     BadOffset = 60,
-    /// An offset leads back to the record that has it, to an earlier sibling of that, or to a record
-    /// above.
+    /// An offset leads back to the record that has it, to an earlier sibling of that record, or to
+    /// a record above it.
     Cycle = 61,
     /// An offset leads to any other record that was reached before.
     TwiceReached = 62,
-    /// No offset leads to a record in use.
+    /// A record in use is reached by no offset.
     Unreached = 63,
     /// The Directory Record Type of a record does not fit its level.
     WrongLevel = 64,
     /// The Referenced File ID of a record in use is invalid, or an IMAGE record has none.
     BadFileId = 65,
-    /// The file would have 2^32 bytes or more, or more than the limit.
+    /// The file would have 2^32 bytes or more, or more than the caller's limit.
     TooLarge = 66,
     /// Memory ran out.
     OutOfMemory = 67,
@@ -30,7 +30,7 @@ pub enum DirRule {
     BadRecord = 68,
 }
 
-/// Returns the first of these rules with this number.
+/// Returns the first of these rules that has this number.
 fn first_with(rules: &[DirRule], number: u8) -> Option<DirRule>
     ensures { result ≡ find (numbers.has_number number) rules.now }
 {

@@ -1,4 +1,4 @@
-//! The records of a directory that was checked.
+//! The tree of records of a directory that was checked.
 ghost use Rattle.std.specs.Prelude.{◌≡◌, map};
 ghost use Rattle.dicomdir.specs.NodesInUse.{node_of, tree_nodes};
 
@@ -41,7 +41,8 @@ impl<'a> TreeRecord<'a> {
         self.place
     }
 
-    /// Returns the level of the record: 1 for a patient, 2 for a study, 3 for a series, 4 for an image.
+    /// Returns the level of the record: 1 for a patient, 2 for a study, 3 for a series, 4 for an
+    /// image.
     pub fn level(&self) -> u8
         ensures { result ≡ (node_of self.now).level }
     {

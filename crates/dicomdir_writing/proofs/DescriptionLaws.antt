@@ -67,11 +67,11 @@ fits_some p (rule ∷ rest) last n size rising fits =
         → passes (room_of (row_wants (cond b (rule ∷ filter p rest) (filter p rest))) n) size ≡ false
     by more rises true taken true same fits = rw same fits
     by more rises true taken false other fits = rw other (more fits)
-    by more rises false left true same fits =
+    by more rises false remaining true same fits =
         let is = eqb-true (number rule.tag) n same in
         let none = none_below (row_wants rest) (number rule.tag) n rises (omega (arith, is)) in
         more (ap (λ o. passes o size) none)
-    by more rises false left false other fits = more fits
+    by more rises false remaining false other fits = more fits
 
 room_passes : (n size : ℕ) → passes (room_of all.wanted n) size ≡ false → passes (room_of plain.wanted n) size ≡ false
 room_passes n size e = fits_some (is_read Needed) key_table 0 n size refl e

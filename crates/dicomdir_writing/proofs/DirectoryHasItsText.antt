@@ -21,7 +21,7 @@ use Rattle.dicomdir.specs.Directory.{Record}
 use Rattle.dicomdir_writing.specs.declared.build_plan.Stop.{Stop}
 use Rattle.dicomdir_writing.specs.declared.build_plan.Stop.TheVariants.{TooLarge, OutOfMemory}
 use Rattle.dicomdir_writing.specs.machine.Building.{StopsFor, stop_fault, place_from_end, laid_text, forest_text, Lays, entry_text, IsBuilt, root_text}
-use Rattle.dicomdir_writing.specs.Row.{Row, without_doubles}
+use Rattle.dicomdir_writing.specs.Row.{Row, without_duplicates}
 use Rattle.std.proofs.lemmas.Bool.{ltb-false}
 use Rattle.std.proofs.KnownBytes.{Appends-trans}
 use Rattle.std.specs.Io.KnownBytes.{Appends}
@@ -68,20 +68,20 @@ pub root_size_is : root_size ≡ 54
 unfolding is_short
 root_size_is = refl
 
-tree_is : (rows : List Row) → forest_for Patient (without_doubles [] rows) ≡ TreeOf rows
+tree_is : (rows : List Row) → forest_for Patient (without_duplicates [] rows) ≡ TreeOf rows
 unfolding TreeOf
 tree_is rows = refl
 
-same_tree : (kept rows : List Row) → kept ≡ without_doubles [] rows → forest_for Patient kept ≡ TreeOf rows
+same_tree : (kept rows : List Row) → kept ≡ without_duplicates [] rows → forest_for Patient kept ≡ TreeOf rows
 same_tree kept rows e = ap (forest_for Patient) e ∙ tree_is rows
 
 -- records of more bytes are too large already without what stands before them
-pub records_too_large : (most : ℕ) (uid : List ℕ) (rows kept : List Row) (old : ℕ) → kept ≡ without_doubles [] rows → old ≡ 0 → most < old + forest_size (forest_for Patient kept)
+pub records_too_large : (most : ℕ) (uid : List ℕ) (rows kept : List Row) (old : ℕ) → kept ≡ without_duplicates [] rows → old ≡ 0 → most < old + forest_size (forest_for Patient kept)
     → file_is_too_large most uid rows ≡ true
 records_too_large most uid rows kept old e none large = grind (arith, common_steps, same_tree kept rows e)
 
 -- why no records are laid down is why no file is built
-pub stopped : (most : ℕ) (uid : List ℕ) (rows kept : List Row) (old : ℕ) (stop : Stop) (f : DirFault) → kept ≡ without_doubles [] rows → old ≡ 0
+pub stopped : (most : ℕ) (uid : List ℕ) (rows kept : List Row) (old : ℕ) (stop : Stop) (f : DirFault) → kept ≡ without_duplicates [] rows → old ≡ 0
     → StopsFor most (old + forest_size (forest_for Patient kept)) stop → f ≡ stop_fault stop → IsNotBuilt most uid rows f
 stopped most uid rows kept old TooLarge f e none large is = too_large (records_too_large most uid rows kept old e none large) is
 stopped most uid rows kept old OutOfMemory f e none large is = no_memory is
@@ -119,7 +119,7 @@ at_least n m h = omega (arith, h)
 pub size_with : (uid : List ℕ) (header records size : ℕ) → header ≡ length (directory_header uid) → size ≡ records + (header + 54) → size ≡ length (directory_header uid) + root_size + records
 size_with uid header records size e s = let root = root_size_is in omega (arith, e, s, root)
 
-pub lays_tree : {A : Type 0} (rows kept : List Row) (e0 e1 : List (LaidRecord A)) (s0 s1 first last : ℕ) → kept ≡ without_doubles [] rows → e0 ≡ [] → s0 ≡ 0
+pub lays_tree : {A : Type 0} (rows kept : List Row) (e0 e1 : List (LaidRecord A)) (s0 s1 first last : ℕ) → kept ≡ without_duplicates [] rows → e0 ≡ [] → s0 ≡ 0
     → Lays (forest_for Patient kept) e0 e1 s0 s1 first last → Lays (TreeOf rows) [] e1 0 s1 first last
 lays_tree rows kept e0 e1 s0 s1 first last e none zero_is lays = rw (← same_tree kept rows e, ← none, ← zero_is) lays
 
@@ -145,7 +145,7 @@ unfolding directory_elements
 directory_text front rows = refl
 
 -- the file is its header, its root, and the records that are laid down
-pub file_text : {A : Type 0} {uid : List ℕ} {rows : List Row} {entries : List (LaidRecord A)} {records first last size : ℕ} {doubles top root : List ℕ} → IsBuilt uid rows entries records first last size doubles
+pub file_text : {A : Type 0} {uid : List ℕ} {rows : List Row} {entries : List (LaidRecord A)} {records first last size : ℕ} {duplicates top root : List ℕ} → IsBuilt uid rows entries records first last size duplicates
     → top ≡ directory_header uid → root ≡ root_text (place_from_end size first) (place_from_end size last) records
     → directory_file (record { uid = uid; rows = rows }) ≡ top ++ (root ++ laid_text size entries)
 file_text {uid = uid} {rows = rows} {entries = entries} {records = records} {first = first} {last = last} {size = size} b top_is root_is =

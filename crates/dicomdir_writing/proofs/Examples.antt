@@ -12,7 +12,7 @@ use Rattle.dicomdir.specs.Directory.{carried_node, IsExplicitFile, IsDirectoryFi
 use Rattle.dicomdir.specs.Linked.{LinkedElements, elements_at, nodes_of, Linked, PlacedNode, carried_forest, record_at, first_place, AreLinked}
 use Rattle.dicomdir.specs.DirFault.{directory_fault}
 use Rattle.dicomdir_writing.specs.Record.{spelled}
-use Rattle.dicomdir_writing.specs.Examples.{one_image_row, one_image_header, one_image_file, one_image_elements, OneImageIsLinked, OneImageFaults, preamble_left_out, PreambleCounts, RecordFaults, no_rows_elements, NoRowsAreLinked, OneImageHasNodes, RowsAreGrouped, InactiveRecords, PlacesAreAssigned}
+use Rattle.dicomdir_writing.specs.Examples.{one_image_row, one_image_header, one_image_file, one_image_elements, OneImageIsLinked, OneImageFaults, preamble_omitted, PreambleCounts, RecordFaults, no_rows_elements, NoRowsAreLinked, OneImageHasNodes, RowsAreGrouped, InactiveRecords, PlacesAreAssigned}
 use Rattle.dicomdir_writing.proofs.Laid.{laid_elements}
 use Rattle.dicomdir_writing.proofs.WrittenLinked.{header_read, written_is_linked}
 use Rattle.dicomdir_writing.specs.Built.{directory_meta, directory_header, directory_file, file_is_too_large}
@@ -114,12 +114,12 @@ one_image_has_nodes = record {
   nodes_are = refl;
 }
 
-preamble_is_file : IsDirectoryFile (one_image_header ++ spelled preamble_left_out) 266 preamble_left_out
+preamble_is_file : IsDirectoryFile (one_image_header ++ spelled preamble_omitted) 266 preamble_omitted
 unfolding is_short
-preamble_is_file = grind (arith, nat_tests, explicit_file (one_image_header ++ spelled preamble_left_out) (spelled preamble_left_out) refl, laid_elements 0 preamble_left_out refl)
+preamble_is_file = grind (arith, nat_tests, explicit_file (one_image_header ++ spelled preamble_omitted) (spelled preamble_omitted) refl, laid_elements 0 preamble_omitted refl)
 
 preamble_records : List Record
-preamble_records = records_or_none (records_of 266 preamble_left_out)
+preamble_records = records_or_none (records_of 266 preamble_omitted)
 
 none_there : record_at 192 preamble_records ≡ None
 unfolding preamble_records records_or_none is_short

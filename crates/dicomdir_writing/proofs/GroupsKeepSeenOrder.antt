@@ -1,5 +1,5 @@
 -- Rows that are put one after the other into the groups of their keys are grouped in first-seen order (`step`,
--- `finished`), and the doubles are left out (`leaves_all`). Stands on the definitions alone.
+-- `finished`), and the duplicates are left out (`leaves_all`). Stands on the definitions alone.
 use Rattle.std.proofs.Common.{◌≡◌, ℕ, suc, ◌+◌, Bool, true, false, cond, not, ◌||◌, List, [], ◌∷◌, ◌++◌, map, get_or, set, refl, sym, ap, ap₂, ◌∙◌, arith, zero, ◌<◌, ◌≤◌, take, length, Vec, subst, drop, drop-cons}
 use Rattle.std.proofs.lemmas.Bool.{or_parts, or_from, or_right}
 use Rattle.std.specs.List.{list_any, position_or_len, AllByRecursion}
@@ -7,12 +7,12 @@ use Rattle.std.specs.Str.{bytes_eq}
 use Rattle.std.proofs.lemmas.List.{append-nil, map-append, length-map, take_all}
 use Rattle.std.proofs.lemmas.List.Elements.{filter-append}
 use Rattle.std.proofs.lemmas.Slice.Eq.{bytes_eq-Decides}
-use Rattle.dicomdir_writing.specs.Row.{Row, without_doubles}
+use Rattle.dicomdir_writing.specs.Row.{Row, without_duplicates}
 use Rattle.dicomdir_writing.specs.TreeOf.{with_key, seen_after, rows_with, rows_at, row_groups, groups_of}
 use Rattle.std.proofs.lemmas.Grind.{common_steps}
 use Rattle.std.specs.Borrow.{Bor}
 use Rattle.dicomdir_writing.specs.machine.FirstSeen.{texts, is_seen, Sees, Puts, TakesRow}
-use Rattle.dicomdir_writing.specs.Places.{doubles_of, doubles_after}
+use Rattle.dicomdir_writing.specs.Places.{duplicates_of, duplicates_after}
 use Rattle.std.proofs.lemmas.Bool.{false_from_ne_true, true≢false}
 use Rattle.std.proofs.lemmas.Bool.Decides.{nat_tests}
 
@@ -200,18 +200,18 @@ finished key_of rows n keys groups le g = grind (arith, common_steps)
 rest_is : (rows : List Row) (at : ℕ) (row : Row) → at < length rows → row ≡ get_or rows at row → drop at rows ≡ row ∷ drop (at + 1) rows
 rest_is rows at row lt is = grind (arith, common_steps, drop-cons rows at row lt)
 
--- the rows that are kept so far and the doubles, with those of the rest, are all
-pub record Leaves (rows : List Row) (at : ℕ) (before : List (List ℕ)) (kept : List Row) (doubles : List ℕ) : Type 0 where
-  pub rows_are : kept ++ without_doubles before (drop at rows) ≡ without_doubles [] rows
-  pub doubles_are : doubles ++ doubles_after at before (drop at rows) ≡ doubles_of rows
+-- the rows that are kept so far and the duplicates, with those of the rest, are all
+pub record Leaves (rows : List Row) (at : ℕ) (before : List (List ℕ)) (kept : List Row) (duplicates : List ℕ) : Type 0 where
+  pub rows_are : kept ++ without_duplicates before (drop at rows) ≡ without_duplicates [] rows
+  pub duplicates_are : duplicates ++ duplicates_after at before (drop at rows) ≡ duplicates_of rows
 
-pub leaves_next : (rows : List Row) (at : ℕ) (row : Row) (keys new : List (List ℕ)) (kept kept2 : List Row) (doubles doubles2 : List ℕ) → at < length rows → row ≡ get_or rows at row
-    → Leaves rows at keys kept doubles → TakesRow at row keys new kept kept2 doubles doubles2 → Leaves rows (at + 1) new kept2 doubles2
-leaves_next rows at row keys new kept kept2 doubles doubles2 lt is l t = grind (arith, common_steps, rest_is rows at row lt is)
+pub leaves_next : (rows : List Row) (at : ℕ) (row : Row) (keys new : List (List ℕ)) (kept kept2 : List Row) (duplicates duplicates2 : List ℕ) → at < length rows → row ≡ get_or rows at row
+    → Leaves rows at keys kept duplicates → TakesRow at row keys new kept kept2 duplicates duplicates2 → Leaves rows (at + 1) new kept2 duplicates2
+leaves_next rows at row keys new kept kept2 duplicates duplicates2 lt is l t = grind (arith, common_steps, rest_is rows at row lt is)
 
-pub leaves_all : (rows : List Row) (at : ℕ) (before : List (List ℕ)) (kept : List Row) (doubles : List ℕ) → length rows ≤ at → Leaves rows at before kept doubles
-    → (kept ≡ without_doubles [] rows) × (doubles ≡ doubles_of rows)
-leaves_all rows at before kept doubles le l = grind (arith, common_steps, append-nil kept, append-nil doubles)
+pub leaves_all : (rows : List Row) (at : ℕ) (before : List (List ℕ)) (kept : List Row) (duplicates : List ℕ) → length rows ≤ at → Leaves rows at before kept duplicates
+    → (kept ≡ without_duplicates [] rows) × (duplicates ≡ duplicates_of rows)
+leaves_all rows at before kept duplicates le l = grind (arith, common_steps, append-nil kept, append-nil duplicates)
 
 -- one row more is one
 pub all_more : {X : Type 0} (P : X → Type 0) (xs : List X) (at : ℕ) (x : X) → at < length xs → x ≡ get_or xs at x → P x → AllByRecursion P (take at xs) → AllByRecursion P (take (at + 1) xs)
@@ -222,6 +222,6 @@ all_more P (y ∷ xs) (suc at) x lt is one all = grind (arith, nat_tests, all_mo
 pub all_taken : {X : Type 0} (P : X → Type 0) (xs : List X) (at : ℕ) → length xs ≤ at → AllByRecursion P (take at xs) → AllByRecursion P xs
 all_taken P xs at le all = rw (← take_all at xs le) all
 
-pub double_left : (at : ℕ) (row : Row) (key : List ℕ) (keys new : List (List ℕ)) (number : ℕ) (is_new : Bool) (rows : List Row) (doubles more : List ℕ)
-    → key ≡ row.instance → Sees key keys new number is_new → is_new ≡ false → more ≡ doubles ++ at ∷ [] → TakesRow at row keys new rows rows doubles more
-double_left at row key keys new number is_new rows doubles more is sees old last = grind (arith, common_steps)
+pub duplicate_remaining : (at : ℕ) (row : Row) (key : List ℕ) (keys new : List (List ℕ)) (number : ℕ) (is_new : Bool) (rows : List Row) (duplicates more : List ℕ)
+    → key ≡ row.instance → Sees key keys new number is_new → is_new ≡ false → more ≡ duplicates ++ at ∷ [] → TakesRow at row keys new rows rows duplicates more
+duplicate_remaining at row key keys new number is_new rows duplicates more is sees old last = grind (arith, common_steps)

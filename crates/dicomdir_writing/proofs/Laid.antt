@@ -150,9 +150,9 @@ mutual
       (laid_items is back.1)
   laid_items (fragment h v is) e = absurd cc
 
--- ---- elements with even values and a VR whose length takes two bytes
+-- ---- elements with even values and a VR whose length has two bytes
 
--- whether an element with this tag and this VR, whose length takes two bytes, can follow the tag with number `last`
+-- whether an element with this tag and this VR, whose length has two bytes, can follow the tag with number `last`
 abbrev pub is_fixed : ℕ → Tag → List ℕ → Bool
 is_fixed last t vr =
     ((nat_lt t.0 65536 && nat_lt t.1 65536) && (is_vr_or_none (Some vr) && not (is_plain (layout Explicit) t)))

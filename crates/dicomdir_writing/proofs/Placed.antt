@@ -16,7 +16,7 @@ use Rattle.dicomdir_writing.proofs.LaidRecords.{IsNode, node_level, record_node}
 use Rattle.std.proofs.lemmas.Grind.{common_steps}
 use Rattle.std.specs.Str.{bytes_eq}
 use Rattle.dicomdir_writing.specs.Keys.{IsRow}
-use Rattle.dicomdir_writing.specs.Row.{Row, without_doubles}
+use Rattle.dicomdir_writing.specs.Row.{Row, without_duplicates}
 use Rattle.dicomdir.specs.declared.level.Level.{Level}
 use Rattle.dicomdir.specs.declared.level.Level.TheVariants.{Patient, Study, Series, Image}
 
@@ -200,9 +200,9 @@ with_rows : (p : Row → Bool) (rows : List Row) → AreRows rows → AreRows (f
 with_rows p [] all = all
 with_rows p (row ∷ rows) all = grind (arith, nat_tests, with_rows p rows all.1)
 
-no_doubles : (before : List (List ℕ)) (rows : List Row) → AreRows rows → AreRows (without_doubles before rows)
-no_doubles before [] all = all
-no_doubles before (row ∷ rows) all = grind (arith, nat_tests, no_doubles before rows all.1, no_doubles (before ++ row.instance ∷ []) rows all.1)
+no_duplicates : (before : List (List ℕ)) (rows : List Row) → AreRows rows → AreRows (without_duplicates before rows)
+no_duplicates before [] all = all
+no_duplicates before (row ∷ rows) all = grind (arith, nat_tests, no_duplicates before rows all.1, no_duplicates (before ++ row.instance ∷ []) rows all.1)
 
 images_are : (rows : List Row) → AreRows rows → AreNodes 4 (images rows)
 images_are [] all = tt
@@ -225,4 +225,4 @@ studies_are rows all = groups_are Study series series_are rows _ all
 
 pub tree_nodes : (rows : List Row) → AllByRecursion IsRow rows → AreNodes 1 (TreeOf rows)
 unfolding TreeOf
-tree_nodes rows all = groups_are Patient studies studies_are (without_doubles [] rows) _ (no_doubles [] rows all)
+tree_nodes rows all = groups_are Patient studies studies_are (without_duplicates [] rows) _ (no_duplicates [] rows all)

@@ -103,7 +103,7 @@ record_fields Study row next lower = refl
 record_fields Series row next lower = refl
 record_fields Image row next lower = refl
 
--- what the longest record takes
+-- what the longest record needs
 
 pub record_fits : (level : Level) → rules_room level record_table ≤ 960
 record_fits v1 = grind (arith, nat_tests)

@@ -94,7 +94,7 @@ pub wants_have_room : (keys : RecordKeys) → rooms (row_wants (keys_read keys))
 wants_have_room Needed = omega arith
 wants_have_room Described = omega arith
 
--- one step of the loop that takes what a walk keeps for them
+-- one step of the loop that consumes what a walk keeps for them
 
 pub wants_more : (keys : RecordKeys) (rules : List RecordRule) (out new whole : List Want) (i : ℕ) (d : RecordRule) → i < length rules
     → is_read keys (get_or rules i d) ≡ true → new ≡ out ++ want_of (get_or rules i d) ∷ []
@@ -250,7 +250,7 @@ kept_fits ws (sequence h is es) t room v fit r e = kept_fits ws es t room v fit 
 kept_fits ws (value h w es) t room v fit r e =
     some_fits ws (number h.tag) t room w v (kept_of ws es) (is_wanted ws (number h.tag)) fit.0 r (λ f. kept_fits ws es t room v fit.1 r f) e
 
--- what a row takes of the values is among them
+-- what a row consumes of the values is among them
 pub taken_from : (rules : List RecordRule) (values : Values) (t : ℕ) (v : List ℕ) → value_of (values_for rules values) t ≡ Some v → value_of values t ≡ Some v
 taken_from [] values t v e = absurd cc
 taken_from (rule ∷ rules) values t v e = by (λ f. taken_from rules values t v f) (value_of values (number rule.tag)) refl e

@@ -10,7 +10,7 @@ use Rattle.sequence.specs.Transfer.{coding_in}
 use Rattle.sequence.specs.declared.fault.Fault.{Fault}
 use Rattle.sequence.specs.declared.walker.Walker.{Walker}
 use Rattle.sequence.specs.Ending.{Fails, IsWholeDataSet}
-use Rattle.sequence.specs.Taken.{StandsAt, walker_syntax, limits_of, fault_of, told_by}
+use Rattle.sequence.specs.Taken.{StandsAt, walker_syntax, limits_of, fault_of, reported_by}
 use Rattle.sequence.proofs.Public.{one_path, no_header, whole_breaks_no_rule}
 use Rattle.dicomdir_writing.specs.declared.skip.Skip.{Skip}
 use Rattle.dicomdir.specs.Walking.{IsSameSet, FailsIn}
@@ -26,7 +26,7 @@ use Rattle.dictionary.specs.declared.transfer.Transfer.{Transfer}
 use Rattle.part10.specs.MetaText.{meta_values_of, TakesMeta, fault_number}
 use Rattle.sequence.specs.Tree.{Elements, DataSet}
 use Rattle.sequence.specs.Open.{header_tail, in_header, last_of, Nested, at_elements, Open}
-use Rattle.sequence.specs.Walk.{Told, Tells, going, refused}
+use Rattle.sequence.specs.Walk.{Report, Reports, going, refused}
 use Rattle.sequence.specs.Wanted.{kept_of}
 use Rattle.sequence.specs.Rules.{Limits}
 use Rattle.dicomdir_writing.specs.Row.{Row}
@@ -40,7 +40,7 @@ use Rattle.dicomdir_writing.specs.machine.RowReading as walking
 
 -- ---- over what a reader gives
 
--- what was read so far is what the walker took
+-- what was read so far is what the walker consumed
 pub record Reads {V D : ℕ} (w0 w : Walker V D) (old new : Option (List ℕ)) : Type 0 where
   pub taken : List ℕ
   pub consumed : Consumes old new taken
@@ -66,13 +66,13 @@ pub reads_whole : {V D : ℕ} (w0 w : Walker V D) (old mid new : Option (List �
     → IsAtEnd new → ((b : List ℕ) → StandsAt w b → IsWholeDataSet (walker_syntax w) (limits_of w) b) → TookWhole w old
 reads_whole w0 w old mid new room count r more none end whole = by old new (Consumes-trans old mid new r.taken (take count room) r.consumed more) end
   where
-    same : (text left : List ℕ) → text ≡ (r.taken ++ take count room) ++ left → left ≡ [] → r.taken ≡ text
-    same text left c e = grind (arith, common_steps, append-nil r.taken)
+    same : (text remaining : List ℕ) → text ≡ (r.taken ++ take count room) ++ remaining → remaining ≡ [] → r.taken ≡ text
+    same text remaining c e = grind (arith, common_steps, append-nil r.taken)
 
     by : (o n : Option (List ℕ)) → Consumes o n (r.taken ++ take count room) → IsAtEnd n → TookWhole w o
     by None n c e = tt
     by (Some text) None c e = absurd c
-    by (Some text) (Some left) c e = subst (λ z. StandsAt w z × IsWholeDataSet (walker_syntax w) (limits_of w) z) (same text left c e) (r.stands, whole r.taken r.stands)
+    by (Some text) (Some remaining) c e = subst (λ z. StandsAt w z × IsWholeDataSet (walker_syntax w) (limits_of w) z) (same text remaining c e) (r.stands, whole r.taken r.stands)
 
 by_same : {V D : ℕ} (w0 w : Walker V D) (text : List ℕ) (reason : Skip) → IsSameSet w0 w → FailsBy (walker_syntax w) (limits_of w) text reason → FailsBy (walker_syntax w0) (limits_of w0) text reason
 by_same w0 w text reason same f = (f.0, subst (λ z. Fails (walker_syntax w0) z text f.0) same.1 (subst (λ z. Fails z (limits_of w) text f.0) same.0 f.1), f.2)
@@ -84,8 +84,8 @@ reads_fails w0 w old mid new piece fault r more fails = text_fails (by old new (
     by : (o n : Option (List ℕ)) → Consumes o n (r.taken ++ piece) → IfSome o (λ text. IsBytes text → FailsBy (walker_syntax w0) (limits_of w0) text (skip.Fault fault.number))
     by None n c = tt
     by (Some text) None c = absurd c
-    by (Some text) (Some left) c = λ bytes. by_same w0 w text (skip.Fault fault.number) r.same
-        (fault, subst (λ z. Fails (walker_syntax w) (limits_of w) z fault) (sym c) (fails r.taken left r.stands (subst (λ z. IsBytes z) c bytes)), refl)
+    by (Some text) (Some remaining) c = λ bytes. by_same w0 w text (skip.Fault fault.number) r.same
+        (fault, subst (λ z. Fails (walker_syntax w) (limits_of w) z fault) (sym c) (fails r.taken remaining r.stands (subst (λ z. IsBytes z) c bytes)), refl)
 
 -- ---- what reading a file for its row gives
 
@@ -93,10 +93,10 @@ reads_fails w0 w old mid new piece fault r more fails = text_fails (by old new (
 whole_is_open : {s : Coding} {es : Elements} {b : List ℕ} → DataSet s 0 es b → Open s b es [] (last_of 0 es) (in_header [])
 whole_is_open {s = s} {es = es} {b = b} d =
     let nested : Nested s (b ++ []) es [] (last_of 0 es) (in_header []) = at_elements d (header_tail (no_header s)) in
-    record { nested = subst (λ z. Nested s z es [] (last_of 0 es) (in_header [])) (append-nil b) nested; left = record {}; innermost = record {} }
+    record { nested = subst (λ z. Nested s z es [] (last_of 0 es) (in_header [])) (append-nil b) nested; remaining = record {}; innermost = record {} }
 
 -- the values that are kept of a whole data set are those of its elements
-pub kept_at_end : {s : Coding} {lim : Limits} {b : List ℕ} {told : Told} (whole : IsWholeDataSet s lim b) → Tells s lim b told → told.kept ≡ kept_of lim.wanted whole.elements
+pub kept_at_end : {s : Coding} {lim : Limits} {b : List ℕ} {reported : Report} (whole : IsWholeDataSet s lim b) → Reports s lim b reported → reported.kept ≡ kept_of lim.wanted whole.elements
 kept_at_end {s = s} {lim = lim} {b = b} whole (going {es = es} {path = path} {last = last} {tail = tail} unbroken front) = grind (arith, common_steps, one_path s b es whole.elements path [] last (last_of 0 whole.elements) tail (in_header []) front (whole_is_open whole.text))
 kept_at_end {s = s} {lim = lim} {b = b} whole (refused {p = p} {u = u} {rule = rule} {tag = tag} first front) = grind (arith, common_steps, whole_breaks_no_rule s lim b whole p u first.rest rule tag first.text first.breaks)
 
@@ -138,22 +138,22 @@ refused_data_set w additional rules meta None mid file_id reason takes syntax li
 refused_data_set w additional rules meta (Some file) None file_id reason takes syntax limits fails = absurd takes.header.2
 refused_data_set w additional rules meta (Some file) (Some back) file_id reason takes syntax limits (walking.read_failed e) = λ _. read_failed (ap (λ z. Err z) e)
 refused_data_set w additional rules meta (Some file) (Some back) file_id reason takes syntax limits (walking.text_fails f) = λ bytes.
-    let told = f (bytes_behind takes.header.0 back (subst (λ z. IsBytes z) takes.header.2 bytes)) in
-    let fails : Fails (coding_in meta.syntax) (row_limits rules) back told.0 = subst (λ z. Fails z (row_limits rules) back told.0) syntax (subst (λ z. Fails (walker_syntax w) z back told.0) limits told.1) in
-    has_row (in_data_set (instance_of additional meta file back takes) told.0 fails (ap (λ z. Err z) told.2))
+    let reported = f (bytes_behind takes.header.0 back (subst (λ z. IsBytes z) takes.header.2 bytes)) in
+    let fails : Fails (coding_in meta.syntax) (row_limits rules) back reported.0 = subst (λ z. Fails z (row_limits rules) back reported.0) syntax (subst (λ z. Fails (walker_syntax w) z back reported.0) limits reported.1) in
+    has_row (in_data_set (instance_of additional meta file back takes) reported.0 fails (ap (λ z. Err z) reported.2))
 
 pub out_of_memory : (additional : List Transfer) (rules : List RecordRule) (old : Option (List ℕ)) (file_id : List ℕ) (reason : Skip) → reason ≡ skip.OutOfMemory → Read additional rules old file_id (Err reason)
 out_of_memory additional rules v1 file_id reason e = grind (arith, nat_tests)
 
 pub whole_file : {V D : ℕ} (w : Walker V D) (additional : List Transfer) (rules : List RecordRule) (meta : Meta) (old mid : Option (List ℕ)) (file_id : List ℕ) (result : Result Row Skip) → Takes additional meta old mid
     → walker_syntax w ≡ coding_in meta.syntax → limits_of w ≡ row_limits rules → TookWhole w mid
-    → result ≡ checked_row (row_from rules file_id meta.class meta.instance meta.syntax (told_by w).kept) → Read additional rules old file_id result
+    → result ≡ checked_row (row_from rules file_id meta.class meta.instance meta.syntax (reported_by w).kept) → Read additional rules old file_id result
 whole_file w additional rules meta None mid file_id result takes syntax limits took is = tt
 whole_file w additional rules meta (Some file) None file_id result takes syntax limits took is = absurd takes.header.2
 whole_file w additional rules meta (Some file) (Some back) file_id result takes syntax limits took is = λ _.
     let whole : IsWholeDataSet (coding_in meta.syntax) (row_limits rules) back = subst (λ z. IsWholeDataSet z (row_limits rules) back) syntax (subst (λ z. IsWholeDataSet (walker_syntax w) z back) limits took.1) in
-    let tells : Tells (coding_in meta.syntax) (row_limits rules) back (told_by w) = subst (λ z. Tells z (row_limits rules) back (told_by w)) syntax (subst (λ z. Tells (walker_syntax w) z back (told_by w)) limits took.0.tells) in
-    let kept : (told_by w).kept ≡ kept_of (row_wants rules) whole.elements = kept_at_end whole tells in
+    let reports : Reports (coding_in meta.syntax) (row_limits rules) back (reported_by w) = subst (λ z. Reports z (row_limits rules) back (reported_by w)) syntax (subst (λ z. Reports (walker_syntax w) z back (reported_by w)) limits took.0.reports) in
+    let kept : (reported_by w).kept ≡ kept_of (row_wants rules) whole.elements = kept_at_end whole reports in
     has_row (of_values (instance_of additional meta file back takes) whole.elements whole.text whole.within
     (is ∙ ap (λ z. checked_row (row_from rules file_id meta.class meta.instance meta.syntax z)) kept))
 

@@ -115,7 +115,7 @@ forest_is Study rows h = nodes_are (key_for Study) (record_for Study) (forest_fo
 forest_is Series rows h = nodes_are (key_for Series) (record_for Series) (forest_for Image) rows (seen_after [] (map (key_for Series) rows))
 forest_is Image rows h = absurd cc
 
--- a record takes the bytes that its size says
+-- a record has as many bytes as its size says
 item_length : (es : Elements) → length (spelled_items (record_item 0 0 es no_items)) ≡ record_size es
 item_length es = let n = append-nil (spelled (with_offsets 0 0 es)) in rw n (omega arith)
 

@@ -28,6 +28,7 @@ directory_meta uid = record {
   calling = record { 0 = replicate 16 32 };
 }
 
+-- preamble, prefix and File Meta Information of a directory file
 unfoldable pub directory_header : List ℕ → List ℕ
 directory_header uid = head (directory_meta uid)
 
@@ -52,11 +53,11 @@ pub data IsNotBuilt (most : ℕ) (uid : List ℕ) (rows : List Row) (f : DirFaul
   too_large : file_is_too_large most uid rows ≡ true → f ≡ too_large_fault → IsNotBuilt most uid rows f
   no_memory : f ≡ memory_fault → IsNotBuilt most uid rows f
 
--- if memory did not run out, the directory is not built because its file is too large
+-- if memory did not run out, a directory is not built because its file is too large
 abbrev pub FailsAsTooLarge : DirFault → Type 0
 FailsAsTooLarge f = (f ≡ memory_fault → ⊥) → f ≡ too_large_fault
 
--- ---- what a writer has of a text of which a write failed
+-- ---- the part of a text that is written if a write fails
 
 -- the first bytes of the text, from none to all, were appended
 abbrev pub AppendsFront : Option (List ℕ) → Option (List ℕ) → List ℕ → Type 0

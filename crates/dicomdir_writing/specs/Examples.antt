@@ -11,7 +11,7 @@ use Rattle.dicomdir_writing.specs.TreeOf.{TreeOf}
 use Rattle.dicomdir.specs.Directory.{IsDirectoryFile, Node, carried_node}
 use Rattle.dicomdir.specs.Linked.{Linked, LinkedElements, carried_forest}
 use Rattle.dicomdir.specs.DirFault.{directory_fault, fault}
-use Rattle.dicomdir_writing.specs.Places.{record_size, root_size, with_places, flattened, place_each, directory_elements, directory_of, directory_size, doubles_of}
+use Rattle.dicomdir_writing.specs.Places.{record_size, root_size, with_places, flattened, place_each, directory_elements, directory_of, directory_size, duplicates_of}
 use Rattle.dicomdir.specs.NodesInUse.{HasNodes, pruned, KeptOf}
 
 abbrev pub one_image_row : Row
@@ -129,8 +129,8 @@ abbrev pub OneImageIsLinked : Type 0
 OneImageIsLinked = Linked one_image_file (carried_forest (TreeOf (one_image_row ∷ [])))
 
 -- the same directory with offsets that count from the end of the preamble
-abbrev pub preamble_left_out : Elements
-preamble_left_out = one_image_elements 192 192 0 276 406 498
+abbrev pub preamble_omitted : Elements
+preamble_omitted = one_image_elements 192 192 0 276 406 498
 
 -- the faults of the directory of one image: unchanged, none; the patient's next offset leads to itself, and to its
 -- study; its offset of the lower level leads to no record, and is 0; the root's last offset leads to the study; and
@@ -143,13 +143,13 @@ OneImageFaults =
     × (directory_fault 266 (one_image_elements 320 320 0 405 534 626) ≡ fault 60 320)
     × (directory_fault 266 (one_image_elements 320 320 0 0 534 626) ≡ fault 63 404)
     × (directory_fault 266 (one_image_elements 320 404 0 404 534 626) ≡ fault 60 286)
-    × (directory_fault 266 preamble_left_out ≡ fault 60 274)
+    × (directory_fault 266 preamble_omitted ≡ fault 60 274)
 
 -- that directory is a directory file, too, but linked to no tree
 abbrev pub PreambleCounts : Type 0
 PreambleCounts =
-    IsDirectoryFile (one_image_header ++ spelled preamble_left_out) 266 preamble_left_out
-    × ((tree : Forest Node) → ¬ LinkedElements 266 preamble_left_out tree)
+    IsDirectoryFile (one_image_header ++ spelled preamble_omitted) 266 preamble_omitted
+    × ((tree : Forest Node) → ¬ LinkedElements 266 preamble_omitted tree)
 
 -- the directory with another row for its image
 abbrev pub with_image : Row → Elements
@@ -185,7 +185,7 @@ NoRowsAreLinked =
     × Linked (one_image_header ++ spelled no_rows_elements) (carried_forest (TreeOf []))
     × (directory_fault 266 no_rows_elements ≡ None)
 
--- ---- rows of five files by which grouping, doubles and file IDs are tried (PS3.3 section F.4)
+-- ---- rows of five files by which grouping, duplicates and file IDs are tried (PS3.3 section F.4)
 
 -- a second image of the series, with other padding of its keys
 abbrev pub second_row : Row
@@ -208,8 +208,8 @@ third_row = record one_image_row {
 }
 
 -- the first instance again
-abbrev pub double_row : Row
-double_row = record one_image_row { file_id = codes "I0000004" }
+abbrev pub duplicate_row : Row
+duplicate_row = record one_image_row { file_id = codes "I0000004" }
 
 -- an image of another patient
 abbrev pub fourth_row : Row
@@ -227,8 +227,8 @@ fourth_row = record one_image_row {
 -- which keys are first seen, each record with the keys of its first row; that of no rows is empty
 abbrev pub RowsAreGrouped : Type 0
 RowsAreGrouped =
-    (count_of (TreeOf (one_image_row ∷ second_row ∷ third_row ∷ double_row ∷ [])) ≡ 7)
-    × (TreeOf (third_row ∷ fourth_row ∷ second_row ∷ one_image_row ∷ double_row ∷ [])
+    (count_of (TreeOf (one_image_row ∷ second_row ∷ third_row ∷ duplicate_row ∷ [])) ≡ 7)
+    × (TreeOf (third_row ∷ fourth_row ∷ second_row ∷ one_image_row ∷ duplicate_row ∷ [])
     ≡ node (record_for Patient third_row)
     (node (record_for Study third_row)
     (node (record_for Series third_row) (node (record_for Image third_row) no_nodes no_nodes)
@@ -243,10 +243,10 @@ RowsAreGrouped =
     no_nodes))
     × (TreeOf [] ≡ no_nodes)
 
--- ---- positions and sizes of records, and doubles, of rows whose directories are known byte by byte
+-- ---- positions and sizes of records, and duplicates, of rows whose directories are known byte by byte
 
--- of the directory of one image the sizes of its four records, their positions, the elements and the whole file; of
--- two images of a series the positions and the size; of no rows the elements and the size; and the double among four
+-- of the directory of one image the sizes of its four records, their positions, the elements and the whole file; of two
+-- images of a series the positions and the size; of no rows the elements and the size; and the duplicate among four
 -- rows
 abbrev pub PlacesAreAssigned : Type 0
 PlacesAreAssigned =
@@ -263,7 +263,7 @@ PlacesAreAssigned =
     × (directory_size 266 (one_image_row ∷ second_row ∷ []) ≡ 950)
     × (directory_elements 266 (TreeOf []) ≡ no_rows_elements)
     × (directory_size 266 [] ≡ 320)
-    × (doubles_of (one_image_row ∷ second_row ∷ third_row ∷ double_row ∷ []) ≡ 3 ∷ [])
+    × (duplicates_of (one_image_row ∷ second_row ∷ third_row ∷ duplicate_row ∷ []) ≡ 3 ∷ [])
 
 -- the directory of any rows has the size for which its offsets are computed, and as many records as the tree has
 -- nodes
@@ -273,7 +273,7 @@ SizesAreTrue =
     → (length (directory_of front rows) ≡ directory_size (length front) rows)
     × (length (flattened (with_places (length front + root_size) (TreeOf rows))) ≡ count_of (TreeOf rows))
 
--- ---- the records of the directory of one image, with their places and levels
+-- ---- the records of the directory of one image, with their positions and levels
 
 abbrev pub OneImageHasNodes : Type 0
 OneImageHasNodes =

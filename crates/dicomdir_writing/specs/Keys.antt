@@ -20,15 +20,16 @@ use Rattle.dictionary.specs.declared.transfer.Transfer.{Transfer}
 use Rattle.dicomdir_writing.specs.declared.keys.Entry.{Entry}
 use Rattle.dicomdir_writing.specs.declared.keys.Keys.{Keys}
 
+-- the size of an optional value in bytes, 0 if there is none
 abbrev pub optional_size : Option (List ℕ) → ℕ
 optional_size None = 0
 optional_size (Some v) = length v
 
--- the value of this key is at most as long as the table allows
-
+-- whether the value of this key is at most as long as the table allows
 abbrev pub fits_room : Values → RecordRule → Bool
 fits_room values rule = nat_le (optional_size (value_of values (number rule.tag))) rule.room
 
+-- whether no key is longer than the table allows
 abbrev pub fits_rooms : Row → Bool
 fits_rooms row = list_all (fits_room row.values) key_table
 
@@ -36,11 +37,13 @@ fits_rooms row = list_all (fits_room row.values) key_table
 abbrev pub is_empty_key : List ℕ → Bool
 is_empty_key value = is_empty (key value)
 
+-- whether a key is of type 1: it must have a value
 abbrev pub needs_value : ElementType → Bool
 needs_value Unique = true
 needs_value Type1 = true
 needs_value kind = false
 
+-- whether a key of type 1 is absent or empty
 abbrev pub is_missing : Values → RecordRule → Bool
 is_missing values rule = needs_value rule.kind && is_empty_key (key_in values rule.tag)
 
@@ -48,6 +51,7 @@ is_missing values rule = needs_value rule.kind && is_empty_key (key_in values ru
 abbrev pub first_empty : Row → Option Tag
 first_empty row = option_map (λ rule. rule.tag) (find (is_missing row.values) key_table)
 
+-- the row, or the tag of the first key of type 1 that is missing
 abbrev pub row_unless : Row → Option Tag → Result Row Skip
 row_unless row None = Ok row
 row_unless row (Some t) = Err (Missing t)
@@ -64,7 +68,7 @@ pub record IsRow (row : Row) : Type 0 where
   pub fits : fits_rooms row ≡ true
   pub full : first_empty row ≡ None
 
--- ---- the row that a file ID, what a file header says, and keys make
+-- ---- the row of a file ID, the contents of a file header, and keys
 
 abbrev pub RowValue : Type 0
 RowValue = Row

@@ -47,7 +47,8 @@ DescriptionsCostNoRow =
     (additional : List Transfer) (file file_id : List ℕ) (row : Row) (result : Result Row Skip)
     → RowOf additional (keys_read Needed) file file_id (Ok row) → DescribedRow additional file file_id result → IsOk result
 
--- if no transfer syntax is accepted beside the two native ones, a file header has the faults that it has for those
+-- if no transfer syntax is accepted in addition to the two native ones, a file header has the faults that it has for
+-- those
 abbrev pub NativeAloneAreTaken : Type 0
 NativeAloneAreTaken = (file : List ℕ) (fault : MetaFault) → (HeaderFaultOf [] file fault → MetaFaultOf file fault) × (MetaFaultOf file fault → HeaderFaultOf [] file fault)
 
@@ -58,7 +59,7 @@ KeysFit =
     → FitRooms (row_wants (keys_read keys)) elements
     → fits_rooms (row_from (keys_read keys) file_id class instance s (kept_of (row_wants (keys_read keys)) elements)) ≡ true
 
--- ---- what a directory has of a file that was filed (PS3.10 section 7.1)
+-- ---- the row of a stored file (PS3.10 section 7.1)
 
 -- the file of an instance in an accepted transfer syntax, with a whole data set within the limits of a row, gives the
 -- row of that SOP class, SOP instance, transfer syntax and keys, or the first key of type 1 that is missing

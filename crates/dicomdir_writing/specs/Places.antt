@@ -18,6 +18,7 @@ record_size es = 8 + length (spelled (with_offsets 0 0 es))
 abbrev pub root_size : ℕ
 root_size = length (spelled (root_elements 0 0 no_items))
 
+-- the size of the records of a tree, in bytes
 abbrev pub forest_size : Forest Elements → ℕ
 forest_size no_nodes = 0
 forest_size (node es below next) = record_size es + forest_size below + forest_size next
@@ -40,16 +41,17 @@ abbrev pub place_each : List Record → List ℕ
 place_each [] = []
 place_each (r ∷ records) = r.place ∷ place_each records
 
--- the position of the first of these siblings, 0 if there is none; that of the last follows
-
+-- the position of the first of these sibling records, 0 if there is none
 abbrev pub first_record_place : Forest Record → ℕ
 first_record_place no_nodes = 0
 first_record_place (node r below next) = r.place
 
+-- the position of the last of these sibling records, or `place` if there is none
 abbrev pub last_record_place_after : ℕ → Forest Record → ℕ
 last_record_place_after place no_nodes = place
 last_record_place_after place (node r below next) = last_record_place_after r.place next
 
+-- the position of the last of these sibling records, 0 if there is none
 abbrev pub last_record_place : Forest Record → ℕ
 last_record_place records = last_record_place_after 0 records
 
@@ -60,6 +62,7 @@ record_items no_nodes others = others
 record_items (node r below next) others =
     record_item (first_record_place next) (first_record_place below) r.elements (record_items below (record_items next others))
 
+-- the elements of the directory of these records
 abbrev pub elements_with_places : Forest Record → Elements
 elements_with_places records = root_elements (first_record_place records) (last_record_place records) (record_items records no_items)
 
@@ -67,10 +70,11 @@ elements_with_places records = root_elements (first_record_place records) (last_
 unfoldable pub directory_elements : ℕ → Forest Elements → Elements
 directory_elements start tree = elements_with_places (with_places (start + root_size) tree)
 
--- the bytes of the directory of rows after this file header; their number follows
+-- the bytes of the directory of rows after this file header
 abbrev pub directory_of : List ℕ → List Row → List ℕ
 directory_of front rows = front ++ spelled (directory_elements (length front) (TreeOf rows))
 
+-- the size of the directory of rows, in bytes (law `dicomdir_writing::sizes_are_true`)
 abbrev pub directory_size : ℕ → List Row → ℕ
 directory_size start rows = start + root_size + forest_size (TreeOf rows)
 
@@ -82,12 +86,12 @@ greatest_size = 2 ^ 32 - 1
 abbrev pub is_too_large : ℕ → ℕ → List Row → Bool
 is_too_large most start rows = nat_lt most (directory_size start rows)
 
--- the indices of the rows that are left out as doubles, where the first of these rows has index `at`
-abbrev pub doubles_after : ℕ → List (List ℕ) → List Row → List ℕ
-doubles_after at before [] = []
-doubles_after at before (row ∷ rows) =
-    if list_any (bytes_eq row.instance) before then at ∷ doubles_after (suc at) before rows
-    else doubles_after (suc at) (before ++ row.instance ∷ []) rows
+-- the indices of the rows that are left out as duplicates, where the first of these rows has index `at`
+abbrev pub duplicates_after : ℕ → List (List ℕ) → List Row → List ℕ
+duplicates_after at before [] = []
+duplicates_after at before (row ∷ rows) =
+    if list_any (bytes_eq row.instance) before then at ∷ duplicates_after (suc at) before rows
+    else duplicates_after (suc at) (before ++ row.instance ∷ []) rows
 
-abbrev pub doubles_of : List Row → List ℕ
-doubles_of rows = doubles_after 0 [] rows
+abbrev pub duplicates_of : List Row → List ℕ
+duplicates_of rows = duplicates_after 0 [] rows

@@ -18,6 +18,7 @@ use Rattle.dicomdir.specs.Directory.{key}
 use Rattle.dicomdir.specs.Level.{kind_of}
 use Rattle.element.specs.declared.header.Header.{Header}
 
+-- the tag with this group and element number
 abbrev pub tag : ℕ → ℕ → Tag
 tag group element = record { 0 = group; 1 = element }
 
@@ -78,6 +79,7 @@ abbrev mutual
   spelled (value h v es) = header_bytes h ++ (v ++ spelled es)
   spelled (sequence h is es) = header_bytes h ++ (spelled_items is ++ spelled es)
 
+  -- the bytes of items, one after the other
   pub spelled_items : Items → List ℕ
   spelled_items no_items = []
   spelled_items (item h es is) = header_bytes h ++ (spelled es ++ spelled_items is)
@@ -91,6 +93,7 @@ with_offsets next lower (value in_use flag es) =
     (value in_use flag (field (tag 0x0004 0x1420) (codes "UL") (le lower 4) es))
 with_offsets next lower (sequence h is es) = sequence h is es
 
+-- an item of these elements, before the other items
 abbrev pub item_of : Elements → Items → Items
 item_of es is = item (record { tag = item_tag; vr = None; length = length (spelled es) }) es is
 
@@ -98,7 +101,7 @@ item_of es is = item (record { tag = item_tag; vr = None; length = length (spell
 abbrev pub record_item : ℕ → ℕ → Elements → Items → Items
 record_item next lower es is = item_of (with_offsets next lower es) is
 
--- the header of Directory Record Sequence, whose items have `size` bytes
+-- the header of Directory Record Sequence (0004,1220), whose items have `size` bytes
 abbrev pub records_header : ℕ → Header
 records_header size = record { tag = tag 0x0004 0x1220; vr = Some (codes "SQ"); length = size }
 

@@ -1,5 +1,5 @@
--- The elements that the records of a directory have, in the order of their tags (PS3.3 table F.3-3 and section F.5). How
--- long a key may be, and which must not be empty, is this product's own profile.
+-- The elements that the records of a directory have, in the order of their tags (PS3.3 table F.3-3 and section F.5).
+-- How long a key may be, and which must not be empty, is this product's own profile.
 use Rattle.std.specs.Prelude.{ℕ, Bool, true, false, ◌&&◌, List, [], ◌∷◌, codes, filter}
 use Rattle.sequence.specs.declared.wanted.Want.{Want}
 use Rattle.dicomdir_writing.specs.declared.record_table.RecordRule.{RecordRule}
@@ -12,6 +12,7 @@ use Rattle.dicomdir_writing.specs.declared.record_table.RecordKeys.TheVariants.{
 use Rattle.dicomdir.specs.declared.level.Level.{Level}
 use Rattle.dicomdir.specs.declared.level.Level.TheVariants.{Patient, Study, Series, Image}
 
+-- whether the records of this level have the element
 abbrev pub has_level : Levels → Level → Bool
 has_level Each level = true
 has_level (Only Patient) Patient = true
@@ -20,6 +21,8 @@ has_level (Only Series) Series = true
 has_level (Only Image) Image = true
 has_level (Only own) level = false
 
+-- a row of the table of records: group and element number, VR, greatest size of the value in bytes, type, and the
+-- records that have it
 abbrev pub record_rule : ℕ → ℕ → List ℕ → ℕ → ElementType → Levels → RecordRule
 record_rule group element vr room kind levels = record {
   tag = record { 0 = group; 1 = element };

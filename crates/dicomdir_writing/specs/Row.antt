@@ -8,7 +8,8 @@ use Rattle.element.specs.declared.tag.Tag.{Tag}
 use Rattle.element.specs.Header.{number}
 use Rattle.sequence.specs.Wanted.{Values, value_of}
 
--- the row of a file: its file ID; the SOP class, SOP instance and transfer syntax of its file header; and its keys
+-- the row of a file: its file ID; the SOP class, SOP instance and transfer syntax of its file header; and the values of
+-- its keys
 pub record Row : Type 0 where
   pub file_id : List ℕ
   pub class : List ℕ
@@ -21,9 +22,9 @@ pub record Row : Type 0 where
 abbrev pub key_in : Values → Tag → List ℕ
 key_in values t = unwrap_or (value_of values (number t)) []
 
--- the rows without doubles: rows whose SOP Instance UID is one of `before` or that of an earlier row
-abbrev pub without_doubles : List (List ℕ) → List Row → List Row
-without_doubles before [] = []
-without_doubles before (row ∷ rows) =
-    if list_any (bytes_eq row.instance) before then without_doubles before rows
-    else row ∷ without_doubles (before ++ row.instance ∷ []) rows
+-- the rows without duplicates: rows whose SOP Instance UID is one of `before` or that of an earlier row
+abbrev pub without_duplicates : List (List ℕ) → List Row → List Row
+without_duplicates before [] = []
+without_duplicates before (row ∷ rows) =
+    if list_any (bytes_eq row.instance) before then without_duplicates before rows
+    else row ∷ without_duplicates (before ++ row.instance ∷ []) rows

@@ -37,6 +37,7 @@ abbrev pub with_value : ℕ → Option (List ℕ) → Values → Values
 with_value n None others = others
 with_value n (Some v) others = (n, v) ∷ others
 
+-- those of these values that are keys of the table, in the order of the table
 abbrev pub values_for : List RecordRule → Values → Values
 values_for [] values = []
 values_for (rule ∷ rules) values = with_value (number rule.tag) (value_of values (number rule.tag)) (values_for rules values)
@@ -93,7 +94,7 @@ pub data RowIsRead (Gives : Result Row Skip → Type 0) (result : Result Row Ski
   read_failed : result ≡ Err (skip.Fault 54) → RowIsRead Gives result
   has_row : Gives result → RowIsRead Gives result
 
--- ---- the row where Series Description is asked for
+-- ---- the row if Series Description is requested
 
 -- whether a file has no row because a key is too long
 abbrev pub is_too_long : Skip → Bool

@@ -13,15 +13,15 @@ use element::unpadded;
 use indexmap::IndexSet;
 use std::alloc::{AllocError, Allocator};
 
-/// Returns the first of these keys that is the unique key of a level: Patient ID, Study Instance UID or
-/// Series Instance UID. There is none for images.
+/// Returns the rule of these whose element is the unique key of a level: Patient ID, Study Instance
+/// UID or Series Instance UID. Returns `None` for images.
 fn grouping_key(rules: &[RecordRule], level: Level) -> Option<RecordRule>
     ensures { result ≡ find (table.groups level) rules.now }
 {
     rules.iter().copied().find(|rule| rule.groups(level))
 }
 
-/// Returns the value by which rows are grouped at a level, without its padding: that of the level's
+/// Returns the value by which rows are grouped at a level, without padding: that of the level's
 /// unique key, or for images the SOP Instance UID.
 fn key_of<A: Allocator>(row: &Row<A>, level: Level) -> &[u8]
     ensures { result.now ≡ key_for level row.now }
@@ -60,7 +60,7 @@ fn put_row<'r, A: Allocator>(
     Ok(())
 }
 
-/// Appends a row to the group of its key, which is created if the key is new. Fails if memory runs out.
+/// Appends a row to the group of its key, which is created for a new key. Fails if memory runs out.
 fn put_by_key<'r, A: Allocator + Copy>(
     alloc: A,
     seen: &mut SeenKeys<A>,
@@ -76,8 +76,8 @@ fn put_by_key<'r, A: Allocator + Copy>(
     put_row(groups, number, row)
 }
 
-/// Groups the rows by their key at this level: groups in the order in which their keys are first seen,
-/// rows in their order. Fails if memory runs out.
+/// Groups the rows by their key at this level. Groups are in the order in which their keys are
+/// first seen, and rows stay in order. Fails if memory runs out.
 pub(crate) fn groups<'r, A: Allocator + Copy>(
     alloc: A,
     rows: &[&'r Row<A>],

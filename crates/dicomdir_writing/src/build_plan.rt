@@ -1,4 +1,4 @@
-//! Plans the records of a directory and their offsets, last record first.
+//! Plans the records of a directory and their offsets, starting with the last record.
 ghost use Rattle.std.specs.Prelude.{◌≡◌, ◌<◌, ◌≤◌, ◌+◌, [], IfOk, IfErr, IfSome, IfNone, if◌then◌else◌, nat_eq};
 ghost use Rattle.dicomdir_writing.specs.TreeOf.{rows_at, images, forest_for};
 ghost use Rattle.dicomdir_writing.specs.machine.Building.{StopsFor, stop_fault, Adds, Lays};
@@ -14,14 +14,14 @@ use std::alloc::Allocator;
 /// Why a directory cannot be planned.
 #[derive(Clone, Copy)]
 pub(crate) enum Stop {
-    /// It would have more bytes than the limit.
+    /// The directory would have more bytes than the limit.
     TooLarge,
     /// Memory ran out.
     OutOfMemory,
 }
 
 impl Stop {
-    /// Returns the fault that [`build`](crate::build) returns for it: 66 or 67.
+    /// Returns the fault that [`build`](crate::build) returns for this reason: 66 or 67.
     pub(crate) fn fault(self) -> DirFault
         ensures { result ≡ stop_fault self }
     {
@@ -44,9 +44,9 @@ pub(crate) fn sum_up_to(most: u32, size: u32, more: u32) -> Option<u32>
     Some(sum)
 }
 
-/// A planned record: its level and the row whose keys it has. Its offsets, to the next record of the
-/// level (`next`) and to the first of the lower level (`lower`), are counted back from the end of the
-/// file, which is all that is known while planning; 0 stands for no record.
+/// A planned record: its level and the row that has its keys. Its offsets, to the next record of
+/// the level (`next`) and to the first of the lower level (`lower`), are counted back from the end
+/// of the file, since its start is not known during planning; 0 is no record.
 #[derive(Drop)]
 pub(crate) struct LaidRecord<'r, A: Allocator> {
     pub(crate) level: Level,
@@ -55,8 +55,8 @@ pub(crate) struct LaidRecord<'r, A: Allocator> {
     pub(crate) lower: u32,
 }
 
-/// The first and the last of some sibling records, as offsets counted back from the end of the file; 0
-/// stands for no record.
+/// The first and the last of some sibling records, as offsets counted back from the end of the
+/// file; 0 is no record.
 #[derive(Clone, Copy)]
 pub(crate) struct Chain {
     pub(crate) first: u32,
@@ -64,7 +64,7 @@ pub(crate) struct Chain {
 }
 
 impl Chain {
-    /// Returns the chain with one more record in front, at offset `start`.
+    /// Returns the chain with one more record before the others, at offset `start`.
     fn after(self, start: u32) -> Chain
         ensures first { result.first ≡ start }
         ensures last { result.last ≡ (if nat_eq self.first 0 then start else self.last) }
@@ -94,8 +94,8 @@ impl<'r, A: Allocator> Plan<'r, A> {
         }
     }
 
-    /// Plans a record in front of the others, and returns its offset, counted back from the end of the
-    /// file. Fails if there would be more than `most` bytes of records, or memory runs out.
+    /// Plans a record before the others, and returns its offset, counted back from the end of the
+    /// file. Fails if the records would have more than `most` bytes, or memory runs out.
     #[tactic(auto, using(crate::proofs::TreeIsLaidDown::record_length))]
     fn add(&mut self, most: u32, entry: LaidRecord<'r, A>) -> Result<u32, Stop>
         ensures added { IfOk result (λ start. Adds entry.entry.level entry.entry.row.now entry.entry.next entry.entry.lower self.old.entries.items self.new.entries.items) }
@@ -115,7 +115,7 @@ impl<'r, A: Allocator> Plan<'r, A> {
     }
 }
 
-/// Plans an IMAGE record for each row.
+/// Plans an IMAGE record for each row. Returns their chain.
 fn lay_images<'r, A: Allocator>(
     plan: &mut Plan<'r, A>,
     rows: &[&'r Row<A>],
@@ -140,8 +140,9 @@ fn lay_images<'r, A: Allocator>(
     Ok(chain)
 }
 
-/// Plans the records of rows at a level and below it: one for each group, with the keys of its first
-/// row. Fails if there would be more than `most` bytes of records, or memory runs out.
+/// Plans the records of rows at a level and below: one for each group, with the keys of its first
+/// row. Returns the chain of the level. Fails if the records would exceed `most` bytes, or memory
+/// runs out.
 pub(crate) fn lay<'r, A: Allocator + Copy>(
     alloc: A,
     plan: &mut Plan<'r, A>,

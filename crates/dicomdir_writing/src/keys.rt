@@ -13,8 +13,8 @@ struct Entry<A: Allocator> {
     value: Vec<u8, A>,
 }
 
-/// The keys of a file for its directory records: values of its data set, each with its tag, and with
-/// the padding that it has there.
+/// The keys of a file for its directory records: values of its data set, each with its tag and with
+/// its padding.
 #[derive(Drop)]
 pub struct Keys<A: Allocator> {
     entries: Vec<Entry<A>, A>,
@@ -32,8 +32,8 @@ impl<A: Allocator> Keys<A> {
         }
     }
 
-    /// Appends a value with its tag. Of several with the same tag the first counts. Fails if memory
-    /// runs out; the list stays as it was.
+    /// Appends a value with its tag. Of several values with the same tag the first is used. Fails
+    /// if memory runs out; the list is then unchanged.
     pub fn push(&mut self, tag: Tag, value: Vec<u8, A>) -> Result<(), AllocError>
         ensures added { OnOk result (key_values self.new ≡ key_values self.old ++ (number tag, value.items) ∷ []) }
         ensures kept { OnErr result (key_values self.new ≡ key_values self.old) }

@@ -1,5 +1,5 @@
-//! Lemmas on the definitions of this crate and examples, each stated as the contract of a function with
-//! an empty body. [`dicomdir::laws`] says when a directory is linked to a tree.
+//! Lemmas on the definitions of this crate, and examples, each stated as the contract of a function
+//! with an empty body. [`dicomdir::laws`] defines when a directory is linked to a tree.
 ghost use Rattle.dicomdir_writing.specs.Examples.{OneImageHasNodes, RowsAreGrouped, InactiveRecords, OneImageIsLinked, OneImageFaults, PreambleCounts, RecordFaults, NoRowsAreLinked, PlacesAreAssigned, SizesAreTrue};
 ghost use Rattle.dicomdir_writing.specs.Laws.{FiledHasRow, PathsNameRecords, KeysFit, NativeAloneAreTaken, OneRow, OneDescribedRow, DescriptionsCostNoRow, WrittenIsLinked};
 
@@ -9,27 +9,29 @@ pub fn one_image_is_linked()
     ensures { OneImageIsLinked }
 {}
 
-/// Example: with offsets that count from the end of the preamble, that directory is linked to no tree.
+/// Example: with offsets that are counted from the end of the preamble, the directory of one image
+/// is linked to no tree.
 #[tactic(auto, using(crate::proofs::Examples::preamble_counts))]
 pub fn preamble_counts()
     ensures { PreambleCounts }
 {}
 
-/// Examples: the first fault, and its position, of that directory with one of its offsets changed.
+/// Examples: the first fault, and its position, of the directory of one image with one of its
+/// offsets changed.
 #[tactic(auto, using(crate::proofs::Examples::one_image_faults))]
 pub fn one_image_faults()
     ensures { OneImageFaults }
 {}
 
-/// Examples: rows are grouped in the order in which their keys are first seen, padding of keys is
-/// ignored, and doubles are left out.
+/// Examples: rows are grouped in the order in which their keys are first seen, the padding of keys
+/// is ignored, and duplicates are omitted.
 #[tactic(auto, using(crate::proofs::Examples::rows_are_grouped))]
 pub fn rows_are_grouped()
     ensures { RowsAreGrouped }
 {}
 
-/// Examples: the fault, and its position, of a missing or wrong element of the root or of a record, and
-/// of a record whose type does not fit its level.
+/// Examples: the fault, and its position, of a missing or wrong element of the root or of a record,
+/// and of a record whose type does not fit its level.
 #[tactic(auto, using(crate::proofs::Examples::record_faults))]
 pub fn record_faults()
     ensures { RecordFaults }
@@ -40,75 +42,77 @@ pub fn no_rows_are_linked()
     ensures { NoRowsAreLinked }
 {}
 
-/// Example: the directory that the definitions give for one image is the known one, byte by byte, with
-/// its records depth first and without gaps.
+/// Examples: sizes, record positions and bytes of the directories of one image, of two images and
+/// of no rows; and the duplicate among four rows.
 #[tactic(auto, using(crate::proofs::Examples::places_are_assigned))]
 pub fn places_are_assigned()
     ensures { PlacesAreAssigned }
 {}
 
-/// The directory of any rows has the size for which its offsets are computed, and a record for each
-/// node of the tree.
+/// The directory of any rows has the size for which its offsets are computed, and one record for
+/// each node of the tree.
 pub fn sizes_are_true()
     ensures { SizesAreTrue }
 {}
 
-/// Examples: the offsets of inactive records are followed like others, but neither they nor the records
-/// below them are in the tree.
+/// Examples: the offsets of inactive records are followed like others, but neither they nor the
+/// records below them are in the tree.
 #[tactic(auto, using(crate::proofs::Examples::inactive_records))]
 pub fn inactive_records()
     ensures { InactiveRecords }
 {}
 
-/// Example: the directory of one image has four records, with these positions and levels.
+/// Example: the directory of one image has four records, at known positions and levels.
 #[tactic(auto, using(crate::proofs::Examples::one_image_has_nodes))]
 pub fn one_image_has_nodes()
     ensures { OneImageHasNodes }
 {}
 
-/// A file determines its row, or why it has none, for each choice of the accepted transfer syntaxes.
+/// A file determines its row, or why it has none, for each set of accepted transfer syntaxes.
 pub fn one_row_of_a_file()
     ensures { OneRow }
 {}
 
-/// With Series Description, too, a file determines its row, or why it has none.
+/// A file also determines its row with Series Description, or why it has none.
 pub fn one_described_row_of_a_file()
     ensures { OneDescribedRow }
 {}
 
-/// A file that has a row without Series Description has one with it, too, however long that value is.
+/// A file that has a row without Series Description also has one with it, however long that value
+/// is.
 pub fn descriptions_cost_no_row()
     ensures { DescriptionsCostNoRow }
 {}
 
-/// If no transfer syntax is accepted beside the two native ones, File Meta Information has the faults
-/// that `part10::read_meta` returns.
+/// If no transfer syntax is accepted besides the two native ones, File Meta Information has the
+/// faults that `part10::read_meta` returns.
 #[tactic(auto, using(crate::proofs::OtherSyntaxesFail::native_alone))]
 pub fn native_alone_are_taken()
     ensures { NativeAloneAreTaken }
 {}
 
-/// Values that are within the limits with which a file is read are within those of a row.
+/// Values within the limits with which a file is read are within the limits of a row.
 pub fn keys_fit_their_rooms()
     ensures { KeysFit }
 {}
 
-/// A file that this product stored in an accepted transfer syntax, with a whole data set within the
-/// limits of a row, gives the row of its SOP class, SOP instance, transfer syntax and keys, or the
-/// first required key that is missing.
+/// A file that this product stored in an accepted transfer syntax, with a complete data set within
+/// the limits of a row, gives the row of its SOP class, SOP instance, transfer syntax and keys, or
+/// the error with the first required key that is missing.
 pub fn a_filed_instance_has_its_row()
     ensures { FiledHasRow }
 {}
 
-/// The directory that is written for rows is linked to their tree, which contains every record, and has
+/// The directory that is written for rows is linked to their tree, which has every record, and has
 /// no fault.
 #[tactic(auto, using(crate::proofs::WrittenLinked::written_is_linked))]
 pub fn written_is_linked()
     ensures { WrittenIsLinked }
 {}
 
-/// Examples: the paths along the offsets of a directory lead to its records in order; an offset back to
-/// a record above makes a cycle, one to a record before that is the fault `TwiceReached`.
+/// Examples: the paths along the offsets of a directory lead to its records in order; an offset
+/// back to a record above makes a cycle, an offset to another record that was reached is the fault
+/// `TwiceReached`.
 #[tactic(auto, using(crate::proofs::Examples::paths_name_records))]
 pub fn paths_name_records()
     ensures { PathsNameRecords }

@@ -1,11 +1,11 @@
-//! Makes DICOMDIR files, directories of DICOM files (PS3.3 annex F, PS3.10 section 8): [`rows_of`] reads
-//! the rows of files, [`build`] makes a directory of them, and [`write_dir`] writes it.
+//! Makes DICOMDIR files, directories of DICOM files (PS3.3 annex F, PS3.10 section 8): [`rows_of`]
+//! reads the rows of files, [`build`] makes a directory of them, and [`write_dir`] writes it.
 #![tactic(auto)]
 
 mod build_groups;
 mod build_plan;
 mod built;
-mod doubles;
+mod duplicates;
 mod first_seen;
 mod keys;
 pub mod laws;

@@ -21,7 +21,7 @@ use dicomdir::Level;
 use element::{Header, Syntax, Tag, Vr, write_header};
 use std::alloc::Allocator;
 
-/// A buffer for one record: none is longer than 1024 bytes.
+/// A buffer for one record, of at most 1024 bytes.
 pub(crate) type RecordBytes = ArrayVec<u8, 1024>;
 
 fn put(out: &mut RecordBytes, bytes: &[u8])
@@ -42,8 +42,8 @@ pub(crate) fn put_header(out: &mut RecordBytes, header: &Header)
     put(out, &room[..size]);
 }
 
-/// Appends an element in Explicit VR Little Endian, with a VR whose length field has two bytes. The
-/// value is padded to an even length.
+/// Appends an element in Explicit VR Little Endian, with a VR whose length field has two bytes.
+/// Pads the value to an even length.
 #[tactic(auto, unfolding(crate::specs::Record::element_text))]
 pub(crate) fn put_element(out: &mut RecordBytes, tag: Tag, vr: Vr, value: &[u8], padding: u8)
     requires room { array_vec_len out.old + length value.now + 12 ≤ 1024 }
@@ -52,7 +52,7 @@ pub(crate) fn put_element(out: &mut RecordBytes, tag: Tag, vr: Vr, value: &[u8],
     ensures items { out.new.items ≡ out.old.items ++ text.element_text tag vr (padded padding value.now) }
     ensures bound { array_vec_len out.new ≤ array_vec_len out.old + length value.now + 9 }
 {
-    // `letters` ensures that there are two.
+    // By the contract of `letters`, the VR has two.
     vr.letters();
     let odd = value.len() % 2;
     let header = Header {
@@ -75,7 +75,7 @@ fn offset_bytes(offset: u32) -> [u8; 4]
     bytes
 }
 
-/// Appends an element with an offset, of VR UL.
+/// Appends an element of VR UL whose value is an offset.
 #[tactic(auto, unfolding(element::specs::Vr::is_short))]
 pub(crate) fn put_offset(out: &mut RecordBytes, tag: Tag, offset: u32)
     requires room { array_vec_len out.old + 16 ≤ 1024 }
@@ -86,7 +86,7 @@ pub(crate) fn put_offset(out: &mut RecordBytes, tag: Tag, offset: u32)
     put_element(out, tag, Vr::UL, &offset_bytes(offset), 0);
 }
 
-/// Appends an element of a record, padded to an even length: UI with 00H, others with a space.
+/// Appends an element of a record, padded to an even length: UI with 00H, other VRs with a space.
 #[tactic(auto, using(crate::proofs::RecordIsItsElements::field_text, crate::proofs::RecordIsItsElements::short_named))]
 fn put_field(out: &mut RecordBytes, rule: &RecordRule, value: &[u8])
     requires room { array_vec_len out.old + length value.now + 12 ≤ 1024 }
@@ -105,7 +105,7 @@ fn put_field(out: &mut RecordBytes, rule: &RecordRule, value: &[u8])
     put_element(out, rule.tag, vr, value, padding);
 }
 
-/// Appends the element of this rule, if the record has it by the element's type.
+/// Appends the element of this rule, unless the record has none according to the element's type.
 fn put_rule<A: Allocator>(out: &mut RecordBytes, rule: &RecordRule, entry: &RowRecord<A>)
     requires room { array_vec_len out.old + rule.now.room + 12 ≤ 1024 }
     requires short { has_short_header rule.now ≡ true }
@@ -122,7 +122,7 @@ fn put_rule<A: Allocator>(out: &mut RecordBytes, rule: &RecordRule, entry: &RowR
     }
 }
 
-/// Appends the elements of these rules that a record of this level has.
+/// Appends those elements of these rules that a record of this level has.
 fn put_rules<A: Allocator>(out: &mut RecordBytes, rules: &[RecordRule], entry: &RowRecord<A>)
     requires room { array_vec_len out.old + rules_room entry.now.level rules.now + 3 ≤ 1024 }
     requires short { list_all has_short_header rules.now ≡ true }
@@ -137,8 +137,8 @@ fn put_rules<A: Allocator>(out: &mut RecordBytes, rules: &[RecordRule], entry: &
     }
 }
 
-/// Returns the elements of the record of a row at a level, with the offsets of the next record and of
-/// the lower level.
+/// Returns the elements of the record of a row at a level, with the offsets of the next record and
+/// of the lower level.
 #[tactic(auto, using(crate::proofs::RecordIsItsElements::record_fields, crate::proofs::RecordIsItsElements::record_fits, crate::proofs::RecordIsItsElements::short_table))]
 fn record_elements<A: Allocator>(level: Level, row: &Row<A>, next: u32, lower: u32) -> RecordBytes
     ensures items { result.items ≡ spelled (with_offsets next lower (record_for level row.now)) }
@@ -156,8 +156,8 @@ fn record_elements<A: Allocator>(level: Level, row: &Row<A>, next: u32, lower: u
     out
 }
 
-/// Returns the record of a row at a level, with the offsets of the next record and of the lower level:
-/// an item of defined length (PS3.5 section 7.5.1), at most 968 bytes.
+/// Returns the record of a row at a level, with the offsets of the next record and of the lower
+/// level: an item of defined length (PS3.5 section 7.5.1), of at most 968 bytes.
 #[tactic(auto, unfolding(crate::specs::Record::record_text))]
 pub(crate) fn record_bytes<A: Allocator>(
     level: Level,

@@ -5,37 +5,37 @@ ghost use Rattle.dicomdir_writing.specs.RecordTable as table;
 use dicomdir::Level;
 use element::Tag;
 
-/// The type of an element of a record: when the record has it, and whether it must have a value (PS3.5
-/// section 7.4).
+/// The type of an element of a record: when the record has the element, and whether it must have a
+/// value (PS3.5 section 7.4).
 #[derive(Clone, Copy)]
 pub(crate) enum ElementType {
-    /// Type 1, and the unique key of its level: the records of that level differ in it.
+    /// Type 1, and the unique key of its level: two records of that level differ in it.
     Unique,
-    /// Type 1: always there, with a value.
+    /// Type 1: always present, with a value.
     Type1,
-    /// Type 1C: there if there is a value.
+    /// Type 1C: present if there is a value.
     Type1C,
-    /// Type 2: always there; the value may be empty.
+    /// Type 2: always present; the value may be empty.
     Type2,
-    /// Type 3: there if it is asked for and there is a value.
+    /// Type 3: present if it is requested and there is a value.
     Type3,
 }
 
 /// Which keys the records of a directory have.
 #[derive(Clone, Copy)]
 pub(crate) enum RecordKeys {
-    /// All except those of type 3.
+    /// All keys except those of type 3.
     Needed,
-    /// All, including Series Description, of type 3.
+    /// All keys, with Series Description, of type 3.
     Described,
 }
 
 /// The levels of the records that have an element.
 #[derive(Clone, Copy)]
 pub(crate) enum Levels {
-    /// All four.
+    /// All four levels.
     Each,
-    /// This level alone.
+    /// Only this level.
     Only(Level),
 }
 
@@ -96,8 +96,8 @@ macro_rules! levels {
     };
 }
 
-/// A row of the table: group and element number, VR, greatest size of the value in bytes, type, and
-/// level (or `Each`).
+/// Makes a row of the table: group and element number, VR, greatest size of the value in bytes,
+/// type, and level (or `Each`).
 macro_rules! rule {
     ($group:literal, $element:literal, $vr:literal, $room:literal, $kind:ident, $levels:ident) => {
         RecordRule {
@@ -110,8 +110,8 @@ macro_rules! rule {
     };
 }
 
-/// The elements of all records, in the order of their tags: those of the record itself and of its file
-/// (PS3.3 table F.3-3), then the keys from the data set (PS3.3 section F.5).
+/// The elements of all records, in the order of their tags: those of the record itself and of its
+/// file (PS3.3 table F.3-3), then the keys from the data set (PS3.3 section F.5).
 const RECORD_TABLE: &[RecordRule] = &[
     rule!(0x0004, 0x1400, b"UL", 4, Type1C, Each),
     rule!(0x0004, 0x1410, b"US", 2, Type1C, Each),

@@ -11,8 +11,8 @@ use std::alloc::Allocator;
 use std::io;
 use std::io::Write;
 
-/// Returns the offset from the start of a file of this size, for an offset counted back from its end,
-/// which is at most `size`. 0 stands for no record in both.
+/// Returns the offset from the start of a file of this size, for an offset counted back from its
+/// end, which is at most `size`. 0 is no record in both.
 pub(crate) fn place_of(size: u32, distance: u32) -> u32
     ensures { result ≡ place_from_end size distance }
 {
@@ -37,7 +37,7 @@ fn write_record<A: Allocator, W: Write>(
     write_all(writer, record.as_slice())
 }
 
-/// Writes the records of a file of this size. The slice has the last record first.
+/// Writes the records of a file of this size. `entries` has the last record first.
 pub(crate) fn write_records<A: Allocator, W: Write>(
     writer: &mut W,
     entries: &[LaidRecord<'_, A>],

@@ -13,17 +13,18 @@ use part10::{Meta, meta_bytes};
 /// The UID of the SOP class Media Storage Directory Storage (PS3.6 annex A).
 const DIRECTORY_CLASS: &[u8] = b"1.2.840.10008.1.3.10";
 
-/// The size in bytes of the elements before the first record, with the header of the record sequence.
+/// The size in bytes of the elements before the first record, with the header of the record
+/// sequence.
 pub(crate) const ROOT_SIZE: u32 = 54;
 
-/// Returns the preamble, prefix and File Meta Information (PS3.10 section 7.1) of a directory with this
-/// SOP Instance UID.
+/// Returns the preamble, prefix and File Meta Information (PS3.10 section 7.1) of a directory with
+/// this SOP Instance UID.
 #[tactic(auto, unfolding(crate::specs::Built::directory_header))]
 pub(crate) fn file_header(uid: &Uid) -> ArrayVec<u8, 512>
     ensures bytes { result.items ≡ directory_header uid.now }
     ensures known { is_uid uid.now ≡ true }
 {
-    // `len` ensures that it is an identifier.
+    // By the contract of `len`, the UID is valid.
     uid.len();
     let meta = Meta {
         class: Uid::read(DIRECTORY_CLASS).unwrap(),
@@ -34,9 +35,9 @@ pub(crate) fn file_header(uid: &Uid) -> ArrayVec<u8, 512>
     meta_bytes(&meta)
 }
 
-/// Returns the elements before the first record (PS3.3 section F.3): an empty File-set ID, the offsets
-/// of the first and the last record of the root, File-set Consistency Flag, and the header of Directory
-/// Record Sequence, whose items have `size` bytes.
+/// Returns the elements before the first record (PS3.3 section F.3): an empty File-set ID, the
+/// offsets of the first and the last record of the root, File-set Consistency Flag, and the header
+/// of Directory Record Sequence, whose items have `size` bytes.
 #[tactic(auto, using(crate::proofs::RecordIsItsElements::four_fields), unfolding(element::specs::Vr::is_short, crate::specs::machine::Building::root_text))]
 pub(crate) fn root_bytes(first: u32, last: u32, size: u32) -> RecordBytes
     ensures { result.items ≡ root_text first last size }

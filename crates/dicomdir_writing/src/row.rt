@@ -1,4 +1,4 @@
-//! The rows that a directory is built from.
+//! The rows from which a directory is built.
 ghost use Rattle.std.specs.Prelude.{◌≡◌, ◌≤◌, ℕ, true, Some, option_map};
 ghost use Rattle.std.specs.List.{list_all, find};
 ghost use Rattle.element.specs.Header.{number};
@@ -18,9 +18,9 @@ use element::{Tag, Uid, unpadded};
 use std::alloc::Allocator;
 use std::marker::Model;
 
-/// A row of a directory: the file ID of a file, and what the directory records of it. No key is longer
-/// than its VR allows (UI, SH and CS 64 bytes, DA, TM and IS 32, LO 256, PN 512), and no key of type 1
-/// is empty.
+/// A row of a directory: the file ID of a file, and what the directory records of it. No key is
+/// longer than its VR allows (UI, SH and CS 64 bytes, DA, TM and IS 32, LO 256, PN 512), and no key
+/// of type 1 is empty.
 #[derive(Drop)]
 pub struct Row<A: Allocator> {
     file_id: FileId,
@@ -81,8 +81,9 @@ fn first_empty<A: Allocator>(rules: &[RecordRule], keys: &Keys<A>) -> Option<Rec
 }
 
 impl<A: Allocator> Row<A> {
-    /// Creates a row of these values. Fails with `Fault(21)` if a key is longer than allowed, else with
-    /// `Missing` and the tag of the first key of type 1 that is absent or empty apart from padding.
+    /// Creates a row with these values. Fails with `Fault(21)` if a key is longer than the table
+    /// allows, else with `Missing` and the tag of the first key of type 1 that is absent or empty
+    /// apart from padding.
     #[tactic(auto, using(crate::proofs::RowLaws::too_long, crate::proofs::RowLaws::one_empty, crate::proofs::RowLaws::none_empty))]
     pub fn new(
         file_id: FileId,
@@ -111,12 +112,12 @@ impl<A: Allocator> Row<A> {
         })
     }
 
-    /// Does nothing. Its contract states what the type guarantees: no key is longer than allowed, and
-    /// no key of type 1 is empty.
+    /// Does nothing. Its contract states what the type guarantees: no key is longer than the table
+    /// allows, and no key of type 1 is empty.
     pub fn keeps(&self)
         ensures { IsRow self.now }
     {
-        // The prover looks up what the type guarantees where one of its fields is named.
+        // The prover knows what the type guarantees where one of its fields is named.
         let _ = &self.file_id;
     }
 

@@ -3,7 +3,7 @@ ghost use Rattle.std.specs.Prelude.{◌≡◌, ◌<◌, ◌≤◌, ℕ, List, []
 ghost use Rattle.element.specs.Numbers.{IsBytes};
 ghost use Rattle.element.specs.Header.{number};
 ghost use Rattle.sequence.specs.Wanted.{value_of};
-ghost use Rattle.sequence.specs.Taken.{StandsAt, told_by};
+ghost use Rattle.sequence.specs.Taken.{StandsAt, reported_by};
 ghost use Rattle.sequence.specs.Stored.{wanted_tags};
 ghost use Rattle.dicomdir_writing.specs.declared.skip.Skip.TheVariants as skip;
 ghost use Rattle.dicomdir_writing.specs.RowOf.{row_wants, with_value, values_for, RowOf, DescribedRow, RowIsRead};
@@ -29,13 +29,13 @@ use sequence::{Walker, Want, Wanted};
 use std::alloc::Allocator;
 use std::io::Read;
 
-/// The greatest number of bytes that one read takes.
+/// The greatest number of bytes of one read.
 const PIECE: usize = 4096;
 
-/// A walker with room for the keys of a row, for data sets of at most 64 open levels.
+/// A walker with capacity for the keys of a row, for data sets with at most 64 open levels.
 type RowWalker = Walker<2048, 64>;
 
-/// Returns the tags of these keys that are read, with the greatest sizes of their values, for a walker.
+/// Returns the tags of those rules whose keys are read, with the greatest sizes of their values.
 fn wants_of(rules: &[RecordRule], keys: RecordKeys) -> ArrayVec<Want, 16>
     requires { length rules.now ≤ 16 }
     ensures { result.items ≡ row_wants (filter (is_read keys) rules.now) }
@@ -52,7 +52,8 @@ fn wants_of(rules: &[RecordRule], keys: RecordKeys) -> ArrayVec<Want, 16>
     wants
 }
 
-/// Returns the tags whose values a walker keeps for a row, each with the greatest size of its value.
+/// Returns the tags whose values a walker keeps for a row, each with the greatest size of its
+/// value.
 #[tactic(auto, using(crate::proofs::RowLaws::wants_are_few, crate::proofs::RowLaws::wants_rise))]
 fn wanted(keys: RecordKeys) -> Wanted
     ensures { wanted_tags result ≡ row_wants (keys_read keys) }
@@ -63,8 +64,8 @@ fn wanted(keys: RecordKeys) -> Wanted
     }
 }
 
-/// Walks the data set in the rest of the input. Fails with the number of its first fault (10 to 21), or
-/// with 54 if a read fails.
+/// Walks the data set in the rest of the input. Fails with the number of the first fault (10 to
+/// 21), or with 54 if a read fails.
 fn walk<R: Read>(walker: &mut RowWalker, reader: &mut R) -> Result<(), Skip>
     requires start { StandsAt walker.old [] }
     ensures whole { OnOk result (TookWhole walker.new (R.remaining reader.old)) }
@@ -72,7 +73,7 @@ fn walk<R: Read>(walker: &mut RowWalker, reader: &mut R) -> Result<(), Skip>
     ensures fails { IfErr result (WalkFails walker.old (R.remaining reader.old)) }
 {
     let mut room = [0; PIECE];
-    // The walker stops at its limit of bytes, so there are never so many pieces.
+    // The walker stops at its limit of bytes, long before so many pieces.
     for _ in 0..u64::MAX {
         let Ok(count) = read_retrying(reader, &mut room) else {
             return Err(Skip::Fault(MetaFault::ReadFailed.number()));
@@ -91,14 +92,14 @@ fn walk<R: Read>(walker: &mut RowWalker, reader: &mut R) -> Result<(), Skip>
     Err(Skip::Fault(MetaFault::ReadFailed.number()))
 }
 
-/// Appends a copy of the value with this tag, if the walker has one. Fails if memory runs out.
+/// Appends a copy of the value with this tag, if the walker kept one. Fails if memory runs out.
 fn copy_key<A: Allocator + Copy>(
     alloc: A,
     walker: &RowWalker,
     tag: Tag,
     keys: &mut Keys<A>,
 ) -> Result<(), Skip>
-    ensures added { OnOk result (key_values keys.new ≡ key_values keys.old ++ with_value (number tag) (value_of (told_by walker.now).kept (number tag)) []) }
+    ensures added { OnOk result (key_values keys.new ≡ key_values keys.old ++ with_value (number tag) (value_of (reported_by walker.now).kept (number tag)) []) }
     ensures failed { IfErr result (λ reason. reason ≡ skip.OutOfMemory) }
 {
     let Some(value) = walker.kept(tag) else {
@@ -113,15 +114,15 @@ fn copy_key<A: Allocator + Copy>(
     }
 }
 
-/// Returns copies of the values that the walker has for these keys, as far as they are read. Fails if
-/// memory runs out.
+/// Returns copies of the values that the walker kept for those of these rules whose keys are read.
+/// Fails if memory runs out.
 fn keys_of<A: Allocator + Copy>(
     alloc: A,
     walker: &RowWalker,
     rules: &[RecordRule],
     keys: RecordKeys,
 ) -> Result<Keys<A>, Skip>
-    ensures values { IfOk result (λ copied. key_values copied ≡ values_for (filter (is_read keys) rules.now) (told_by walker.now).kept) }
+    ensures values { IfOk result (λ copied. key_values copied ≡ values_for (filter (is_read keys) rules.now) (reported_by walker.now).kept) }
     ensures failed { IfErr result (λ reason. reason ≡ skip.OutOfMemory) }
 {
     let mut copied = Keys::new(alloc);
@@ -133,7 +134,7 @@ fn keys_of<A: Allocator + Copy>(
     Ok(copied)
 }
 
-/// Reads the row of a file with these keys, as [`rows_of`] does.
+/// Reads the row of a file as [`rows_of`] does, with this choice of keys.
 #[tactic(auto, using(crate::proofs::RowLaws::wants_have_room))]
 fn row_with<A: Allocator + Copy, R: Read>(
     alloc: A,
@@ -155,18 +156,18 @@ fn row_with<A: Allocator + Copy, R: Read>(
     Row::new(*file_id, meta.class, meta.instance, meta.syntax, keys)
 }
 
-/// Reads a whole file and returns its row: SOP class, SOP instance and transfer syntax of the File Meta
-/// Information (PS3.10 section 7.1), and the values of the data set that directory records have (PS3.3
-/// section F.5), except those of type 3.
+/// Reads a whole file and returns its row: the SOP class, SOP instance and transfer syntax of the
+/// File Meta Information (PS3.10 section 7.1), and those values of the data set that directory
+/// records have (PS3.3 section F.5), except those of type 3.
 ///
-/// Files in the two native transfer syntaxes are accepted, and in those of `additional`.
+/// Accepts files in the two native transfer syntaxes and in those of `additional`.
 ///
-/// Fails with the first of these: `Fault` with the number of a fault of the File Meta Information (50,
-/// 51; 53 for another transfer syntax); `Fault` with that of a fault of the data set (10 to 21), which
-/// may have at most 64 open levels, 2^48 bytes and the greatest sizes of keys; `Missing` with the tag
-/// of the first key of type 1 that is absent or empty. A failed read is `Fault(54)` wherever it
-/// happens; a read that a signal interrupts is repeated. Memory is allocated for the keys alone; if it
-/// runs out, the error is `OutOfMemory`.
+/// Fails with the first of these: `Fault` with the number of a fault of the File Meta Information
+/// (50, 51; 53 for a transfer syntax that is not accepted); `Fault` with that of a fault of the
+/// data set (10 to 21), which may have at most 64 open levels, 2^48 bytes and the greatest sizes of
+/// keys; `Missing` with the tag of the first key of type 1 that is absent or empty. A failed read
+/// is `Fault(54)` wherever it occurs; a read that a signal interrupts is repeated. Memory is
+/// allocated only for the keys; if it runs out, the error is `OutOfMemory`.
 ///
 /// After an error the position of the reader is unspecified.
 pub fn rows_of<A: Allocator + Copy, R: Read>(
@@ -188,9 +189,9 @@ fn is_too_long(reason: Skip) -> bool
     matches!(reason, Skip::Fault(21))
 }
 
-/// Reads the row of a file as [`rows_of`] does, with Series Description (0008,103E), of type 3, if the
-/// data set has one of at most 256 bytes. Both readers must be at the start of the file; the second is
-/// read only if a value is too long, to read the row without Series Description.
+/// Reads the row of a file as [`rows_of`] does, with Series Description (0008,103E), of type 3, if
+/// the data set has one of at most 256 bytes. Both readers must be at the start of the file; the
+/// second is read only if a value is too long, to read the row without Series Description.
 pub fn described_row_of<A: Allocator + Copy, R: Read>(
     alloc: A,
     reader: &mut R,

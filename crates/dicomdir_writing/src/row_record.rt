@@ -9,8 +9,8 @@ use dicomdir::Level;
 use element::{Tag, unpadded};
 use std::alloc::Allocator;
 
-/// The record of a row at a level, with its offsets, to the next record and to the lower level, as the
-/// bytes of their elements.
+/// The record of a row at a level, with its offsets to the next record and to the lower level as
+/// the bytes of their values.
 #[derive(Drop)]
 pub(crate) struct RowRecord<'r, A: Allocator> {
     pub(crate) level: Level,
@@ -20,8 +20,8 @@ pub(crate) struct RowRecord<'r, A: Allocator> {
 }
 
 impl<'r, A: Allocator> RowRecord<'r, A> {
-    /// Returns the value of an element of group 0004, by the number of its tag: of the record itself
-    /// and of its file (PS3.3 table F.3-3). Record In-use Flag is FFFFH, in use.
+    /// Returns the value of an element of group 0004 (PS3.3 table F.3-3), by the number of its tag,
+    /// or `None` if the record has no such element. Record In-use Flag is FFFFH, in use.
     fn own_value(&self, number: u32) -> Option<&[u8]>
         ensures { option_map (λ v. v.now) result ≡ value_of (own_values_of self.now) number }
     {
@@ -38,8 +38,8 @@ impl<'r, A: Allocator> RowRecord<'r, A> {
         }
     }
 
-    /// Returns the value of the element with this tag: of group 0004 that of the record itself or its
-    /// file, of any other group the key of the row, without padding.
+    /// Returns the value of the element with this tag: in group 0004 that of the record itself or
+    /// of its file, in any other group the key of the row, without padding.
     pub(crate) fn value(&self, tag: Tag) -> Option<&[u8]>
         ensures { option_map (λ v. v.now) result ≡ says_of self.now (number tag) }
     {

@@ -1,4 +1,4 @@
-//! The transfer syntaxes of the files that are accepted for a directory.
+//! Reads the File Meta Information of files that a directory accepts.
 ghost use Rattle.std.specs.Prelude.{◌≡◌, true, IfOk, IfErr};
 ghost use Rattle.std.specs.List.{list_any};
 ghost use Rattle.dictionary.specs.Transfers.{is_text_of, transfer_uid};
@@ -17,15 +17,16 @@ fn is_among(transfers: &[Transfer], transfer: Transfer) -> bool
     transfers.iter().any(|other| other.uid() == transfer.uid())
 }
 
-/// Returns whether a file in this transfer syntax is accepted: in a native one, or in one of `additional`.
+/// Returns whether a file in this transfer syntax is accepted: a native one, or one of
+/// `additional`.
 fn is_taken(additional: &[Transfer], transfer: Transfer) -> bool
     ensures { result ≡ rule.is_taken additional.now transfer }
 {
     !transfer.is_encapsulated() || is_among(additional, transfer)
 }
 
-/// Reads the File Meta Information at the start of the input. Fails as [`read_any_meta`] does, and with
-/// `OtherSyntax` if the transfer syntax is not accepted.
+/// Reads the File Meta Information at the start of the input. Fails as [`read_any_meta`] does, and
+/// with `OtherSyntax` if the transfer syntax is not accepted.
 pub(crate) fn read_taken<R: Read>(
     reader: &mut R,
     additional: &[Transfer],

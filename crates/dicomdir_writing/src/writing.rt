@@ -7,8 +7,9 @@ use element::interrupted::write_retrying;
 use std::io;
 use std::io::{ErrorKind, Write};
 
-/// Writes all of the bytes. Fails as the writer does, or with `WriteZero` if it takes no byte; some of
-/// the first bytes may have been written then. A write that a signal interrupts is repeated.
+/// Writes all of the bytes. Fails as the writer does, or with `WriteZero` if the writer accepts no
+/// byte; some of the first bytes may have been written then. A write that a signal interrupts is
+/// repeated.
 pub(crate) fn write_all<W: Write>(writer: &mut W, bytes: &[u8]) -> io::Result<()>
     ensures all { OnOk result (Appends (W.contents writer.old) (W.contents writer.new) bytes.now) }
     ensures front { OnErr result (AppendsFront (W.contents writer.old) (W.contents writer.new) bytes.now) }

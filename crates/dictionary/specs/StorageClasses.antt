@@ -1,5 +1,5 @@
--- The storage classes (PS3.4 table B.5-1), and those that are retired (PS3.6 annex A), as `tools/storage-classes` writes
--- them.
+-- The storage classes (PS3.4 table B.5-1), and those that are retired (PS3.6 annex A), as `tools/storage-classes`
+-- writes them.
 use Rattle.std.specs.Prelude.{ℕ, Bool, true, false, List, [], ◌∷◌, codes}
 use Rattle.std.specs.List.{flat_map}
 
@@ -10,6 +10,7 @@ pub record StorageRow : Type 0 where
   pub keyword : List ℕ
   pub is_image : Bool
 
+-- rows 1 to 14 of the table of storage classes
 unfoldable pub part_0 : List StorageRow
 part_0 =
     record { uid = codes "1.2.840.10008.5.1.1.27"; keyword = codes "StoredPrintStorage"; is_image = false }
@@ -28,6 +29,7 @@ part_0 =
     ∷ record { uid = codes "1.2.840.10008.5.1.4.1.1.3"; keyword = codes "UltrasoundMultiFrameImageStorageRetired"; is_image = true }
     ∷ []
 
+-- rows 15 to 28 of the table of storage classes
 unfoldable pub part_1 : List StorageRow
 part_1 =
     record { uid = codes "1.2.840.10008.5.1.4.1.1.3.1"; keyword = codes "UltrasoundMultiFrameImageStorage"; is_image = true }
@@ -46,6 +48,7 @@ part_1 =
     ∷ record { uid = codes "1.2.840.10008.5.1.4.1.1.7.3"; keyword = codes "MultiFrameGrayscaleWordSecondaryCaptureImageStorage"; is_image = true }
     ∷ []
 
+-- rows 29 to 42 of the table of storage classes
 unfoldable pub part_2 : List StorageRow
 part_2 =
     record { uid = codes "1.2.840.10008.5.1.4.1.1.7.4"; keyword = codes "MultiFrameTrueColorSecondaryCaptureImageStorage"; is_image = true }
@@ -64,6 +67,7 @@ part_2 =
     ∷ record { uid = codes "1.2.840.10008.5.1.4.1.1.9.6.2"; keyword = codes "MultichannelRespiratoryWaveformStorage"; is_image = false }
     ∷ []
 
+-- rows 43 to 56 of the table of storage classes
 unfoldable pub part_3 : List StorageRow
 part_3 =
     record { uid = codes "1.2.840.10008.5.1.4.1.1.9.7.1"; keyword = codes "RoutineScalpElectroencephalogramWaveformStorage"; is_image = false }
@@ -82,6 +86,7 @@ part_3 =
     ∷ record { uid = codes "1.2.840.10008.5.1.4.1.1.11.7"; keyword = codes "CompositingPlanarMPRVolumetricPresentationStateStorage"; is_image = false }
     ∷ []
 
+-- rows 57 to 70 of the table of storage classes
 unfoldable pub part_4 : List StorageRow
 part_4 =
     record { uid = codes "1.2.840.10008.5.1.4.1.1.11.8"; keyword = codes "AdvancedBlendingPresentationStateStorage"; is_image = false }
@@ -100,6 +105,7 @@ part_4 =
     ∷ record { uid = codes "1.2.840.10008.5.1.4.1.1.13.1.5"; keyword = codes "BreastProjectionXRayImageStorageForProcessing"; is_image = true }
     ∷ []
 
+-- rows 71 to 84 of the table of storage classes
 unfoldable pub part_5 : List StorageRow
 part_5 =
     record { uid = codes "1.2.840.10008.5.1.4.1.1.14.1"; keyword = codes "IntravascularOpticalCoherenceTomographyImageStorageForPresentation"; is_image = true }
@@ -118,6 +124,7 @@ part_5 =
     ∷ record { uid = codes "1.2.840.10008.5.1.4.1.1.68.2"; keyword = codes "SurfaceScanPointCloudStorage"; is_image = false }
     ∷ []
 
+-- rows 85 to 98 of the table of storage classes
 unfoldable pub part_6 : List StorageRow
 part_6 =
     record { uid = codes "1.2.840.10008.5.1.4.1.1.77.1"; keyword = codes "VLImageStorageTrial"; is_image = true }
@@ -136,6 +143,7 @@ part_6 =
     ∷ record { uid = codes "1.2.840.10008.5.1.4.1.1.77.1.5.6"; keyword = codes "WideFieldOphthalmicPhotography3DCoordinatesImageStorage"; is_image = true }
     ∷ []
 
+-- rows 99 to 112 of the table of storage classes
 unfoldable pub part_7 : List StorageRow
 part_7 =
     record { uid = codes "1.2.840.10008.5.1.4.1.1.77.1.5.7"; keyword = codes "OphthalmicOpticalCoherenceTomographyEnFaceImageStorage"; is_image = true }
@@ -154,6 +162,7 @@ part_7 =
     ∷ record { uid = codes "1.2.840.10008.5.1.4.1.1.79.1"; keyword = codes "MacularGridThicknessAndVolumeReportStorage"; is_image = false }
     ∷ []
 
+-- rows 113 to 126 of the table of storage classes
 unfoldable pub part_8 : List StorageRow
 part_8 =
     record { uid = codes "1.2.840.10008.5.1.4.1.1.80.1"; keyword = codes "OphthalmicVisualFieldStaticPerimetryMeasurementsStorage"; is_image = false }
@@ -172,6 +181,7 @@ part_8 =
     ∷ record { uid = codes "1.2.840.10008.5.1.4.1.1.88.50"; keyword = codes "MammographyCADSRStorage"; is_image = false }
     ∷ []
 
+-- rows 127 to 140 of the table of storage classes
 unfoldable pub part_9 : List StorageRow
 part_9 =
     record { uid = codes "1.2.840.10008.5.1.4.1.1.88.59"; keyword = codes "KeyObjectSelectionDocumentStorage"; is_image = false }
@@ -190,6 +200,7 @@ part_9 =
     ∷ record { uid = codes "1.2.840.10008.5.1.4.1.1.91.1"; keyword = codes "MicroscopyBulkSimpleAnnotationsStorage"; is_image = false }
     ∷ []
 
+-- rows 141 to 154 of the table of storage classes
 unfoldable pub part_10 : List StorageRow
 part_10 =
     record { uid = codes "1.2.840.10008.5.1.4.1.1.104.1"; keyword = codes "EncapsulatedPDFStorage"; is_image = false }
@@ -208,6 +219,7 @@ part_10 =
     ∷ record { uid = codes "1.2.840.10008.5.1.4.1.1.481.2"; keyword = codes "RTDoseStorage"; is_image = false }
     ∷ []
 
+-- rows 155 to 168 of the table of storage classes
 unfoldable pub part_11 : List StorageRow
 part_11 =
     record { uid = codes "1.2.840.10008.5.1.4.1.1.481.3"; keyword = codes "RTStructureSetStorage"; is_image = false }
@@ -226,6 +238,7 @@ part_11 =
     ∷ record { uid = codes "1.2.840.10008.5.1.4.1.1.481.16"; keyword = codes "RTRadiationRecordSetStorage"; is_image = false }
     ∷ []
 
+-- rows 169 to 177 of the table of storage classes
 unfoldable pub part_12 : List StorageRow
 part_12 =
     record { uid = codes "1.2.840.10008.5.1.4.1.1.481.17"; keyword = codes "RTRadiationSalvageRecordStorage"; is_image = false }
@@ -239,9 +252,11 @@ part_12 =
     ∷ record { uid = codes "1.2.840.10008.5.1.4.34.10"; keyword = codes "RTBrachyApplicationSetupDeliveryInstructionStorage"; is_image = false }
     ∷ []
 
+-- the parts of the table, in order
+-- e.g. length parts ≡ 13
 abbrev pub parts : List (List StorageRow)
 parts = part_0 ∷ part_1 ∷ part_2 ∷ part_3 ∷ part_4 ∷ part_5 ∷ part_6 ∷ part_7 ∷ part_8 ∷ part_9 ∷ part_10 ∷ part_11 ∷ part_12 ∷ []
 
--- the table, by the numbers of the identifiers
+-- the table, by the numbers of the identifiers (law `dictionary::storage_classes_are_few`)
 abbrev pub storage_classes : List StorageRow
 storage_classes = flat_map (λ rows. rows) parts

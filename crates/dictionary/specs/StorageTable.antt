@@ -2,6 +2,6 @@
 use Rattle.dictionary.specs.declared.storage.StorageClass.{StorageClass}
 use Rattle.dictionary.specs.StorageClasses.{StorageRow}
 
--- the row that a constant of the code is
+-- the row of the table for a constant of the code
 abbrev pub storage_row : StorageClass → StorageRow
 storage_row class = record { uid = class.uid.now; keyword = class.keyword.now; is_image = class.is_image }

@@ -1,5 +1,5 @@
--- The registry of data elements (PS3.6 section 6), as far as this product speaks of it. That PixelData has VR
--- OW, and which tags are known, is this product's own profile.
+-- The registry of data elements (PS3.6 section 6), as far as this product uses it. That PixelData has VR OW, and which
+-- tags are known, is this product's own profile.
 use Rattle.std.specs.Prelude.{ℕ, Bool, ◌&&◌, List, [], ◌∷◌, Option, nat_eq, codes}
 use Rattle.std.specs.List.{find}
 use Rattle.std.specs.Option.{option_map}
@@ -12,6 +12,7 @@ pub record Row : Type 0 where
   pub vr : List ℕ
   pub name : List ℕ
 
+-- the rows of the registry that the product knows
 abbrev pub registry : List Row
 registry =
     record { group = 0x0008; element = 0x0005; vr = codes "CS"; name = codes "SpecificCharacterSet" }
@@ -77,13 +78,17 @@ registry =
     ∷ record { group = 0xFFFC; element = 0xFFFC; vr = codes "OB"; name = codes "DataSetTrailingPadding" }
     ∷ []
 
+-- whether the row is that of this group and element
 abbrev pub is_at : ℕ → ℕ → Row → Bool
 is_at group element row = nat_eq group row.group && nat_eq element row.element
 
 -- the row of a tag
+-- e.g. option_map (λ row. row.vr) (row_of 0x0008 0x0016) ≡ Some (codes "UI")
 unfoldable pub row_of : ℕ → ℕ → Option Row
 row_of group element = find (is_at group element) registry
 
+-- the VR of a tag, where it is known
+-- e.g. vr_of (record { 0 = 0x7fe0; 1 = 0x0010 }) ≡ Some (codes "OW"); vr_of (record { 0 = 0x0009; 1 = 0x0010 }) ≡ None
 abbrev pub vr_of : Tag → Option (List ℕ)
 vr_of tag = option_map (λ row. row.vr) (row_of tag.0 tag.1)
 

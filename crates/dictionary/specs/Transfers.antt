@@ -9,6 +9,7 @@ use Rattle.element.specs.declared.syntax.Syntax.TheVariants as layout
 use Rattle.dictionary.specs.declared.transfer.Transfer.{Transfer}
 use Rattle.dictionary.specs.declared.transfer.Transfer.TheVariants.{Implicit, Explicit, EncapsulatedUncompressed, JpegBaseline8Bit, JpegExtended12Bit, JpegLossless, JpegLosslessSv1, JpegLsLossless, JpegLsNearLossless, Jpeg2000Lossless, Jpeg2000, Jpeg2000McLossless, Jpeg2000Mc, Mpeg2MainLevel, Mpeg2HighLevel, Mpeg4High41, Mpeg4High41Bd, Mpeg4High42For2d, Mpeg4High42For3d, Mpeg4High42Stereo, HevcMainLevel51, HevcMain10Level51, Htj2kLossless, Htj2kLosslessRpcl, Htj2k, RleLossless}
 
+-- the text of the identifier of a transfer syntax
 abbrev pub transfer_uid : Transfer → List ℕ
 transfer_uid Implicit = codes "1.2.840.10008.1.2"
 transfer_uid Explicit = codes "1.2.840.10008.1.2.1"
@@ -65,6 +66,7 @@ transfer_keyword Htj2kLosslessRpcl = codes "HTJ2KLosslessRPCL"
 transfer_keyword Htj2k = codes "HTJ2K"
 transfer_keyword RleLossless = codes "RLELossless"
 
+-- the transfer syntaxes, by the numbers of their identifiers
 abbrev pub all_transfers : List Transfer
 all_transfers =
     Implicit
@@ -95,6 +97,7 @@ all_transfers =
     ∷ RleLossless
     ∷ []
 
+-- whether this is the text of the transfer syntax
 abbrev pub is_text_of : List ℕ → Transfer → Bool
 is_text_of text transfer = pointwise nat_eq (transfer_uid transfer) text
 
@@ -106,21 +109,22 @@ transfer_named text = find (is_text_of text) all_transfers
 abbrev pub transfer_of : List ℕ → Option Transfer
 transfer_of bytes = transfer_named (without_trailing is_padding bytes)
 
--- the default of the standard (PS3.5 section 10.1)
+-- the default transfer syntax of the standard (PS3.5 section 10.1)
 abbrev pub default_transfer : Transfer
 default_transfer = Implicit
 
--- how elements are laid out
+-- the layout of elements in a transfer syntax
 abbrev pub syntax_in : Transfer → Syntax
 syntax_in Implicit = layout.Implicit
 syntax_in _ = layout.Explicit
 
+-- whether Pixel Data may be encapsulated in the transfer syntax
 abbrev pub is_encapsulated : Transfer → Bool
 is_encapsulated Implicit = false
 is_encapsulated Explicit = false
 is_encapsulated _ = true
 
--- each of those in which it may be
+-- the transfer syntaxes in which Pixel Data may be encapsulated
 abbrev pub encapsulated_transfers : List Transfer
 encapsulated_transfers = filter is_encapsulated all_transfers
 

@@ -1,15 +1,15 @@
-//! Service classes.
+//! The SOP classes that the receiver accepts without configuration.
 ghost use Rattle.std.specs.Prelude.{◌≡◌};
 ghost use Rattle.std.specs.List.{find};
 ghost use Rattle.dictionary.specs.Classes as table;
 
 use element::unpadded;
 
-/// A service class that the receiver supports: Verification, or one of eleven storage classes (PS3.4
-/// sections A.4 and B.5, PS3.6 annex A).
+/// A SOP class that the receiver accepts without configuration: Verification, or one of eleven
+/// storage classes (PS3.4 sections A.4 and B.5, PS3.6 annex A).
 #[derive(Clone, Copy, Debug, PartialEq, Eq)]
 pub enum Class {
-    /// Verification, the class of C-ECHO.
+    /// Verification, the SOP class of C-ECHO.
     Verification,
     /// Computed Radiography Image Storage.
     ComputedRadiography,
@@ -51,7 +51,7 @@ impl Class {
         Class::Pet,
     ];
 
-    /// Returns the text of its unique identifier.
+    /// Returns the SOP Class UID.
     pub fn uid(self) -> &'static [u8]
         ensures { result.now ≡ table.class_uid self }
     {
@@ -71,7 +71,7 @@ impl Class {
         }
     }
 
-    /// Returns whether it is a storage class.
+    /// Returns whether this is a storage class.
     pub fn is_storage(self) -> bool
         ensures { result ≡ table.is_storage self }
     {
@@ -85,8 +85,8 @@ fn first_named(classes: &[Class], text: &[u8]) -> Option<Class>
     classes.iter().copied().find(|class| class.uid() == text)
 }
 
-/// Returns the class whose unique identifier the bytes are, after the spaces and zero bytes at their
-/// end are dropped, or `None` if it is not known.
+/// Returns the variant with this UID, or `None` if there is none. Ignores trailing spaces and zero
+/// bytes.
 pub fn class_of(bytes: &[u8]) -> Option<Class>
     ensures { result ≡ table.class_of bytes.now }
 {

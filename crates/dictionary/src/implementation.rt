@@ -1,4 +1,4 @@
-//! What names this implementation to its peers and in the files that it writes.
+//! The names of this implementation for peers and for the files that it writes.
 
 /// The implementation class UID (PS3.7 annex D.3.3.2, PS3.10 section 7.1).
 pub const IMPLEMENTATION_CLASS_UID: &[u8] = b"2.25.20260101";

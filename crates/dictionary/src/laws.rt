@@ -1,4 +1,4 @@
-//! Laws of the tables, each the contract of a function that does nothing.
+//! Lemmas on the tables, each stated as the contract of a function with an empty body.
 ghost use Rattle.std.specs.Prelude.{◌≡◌, ◌≢◌, ◌≤◌, ℕ, List, Some, None, length, option_and_then};
 ghost use Rattle.element.specs.declared.syntax.Syntax as element;
 ghost use Rattle.dictionary.specs.Classes.{class_of, class_uid};
@@ -11,18 +11,18 @@ ghost use Rattle.dictionary.specs.declared.transfer.Transfer.{Transfer};
 
 use crate::{APPLICATION_CONTEXT, IMPLEMENTATION_CLASS_UID, IMPLEMENTATION_VERSION_NAME};
 
-/// Each class and each transfer syntax is the one that its unique identifier names.
+/// The UID of each `Class` and of each native transfer syntax is read back as that class or syntax.
 pub fn identifiers_name_one()
     ensures classes { (c : class.Class) → class_of (class_uid c) ≡ Some c }
     ensures syntaxes { (s : element.Syntax) → syntax_of (syntax_uid s) ≡ Some s }
 {}
 
-/// The application context is the one of the definitions.
+/// `APPLICATION_CONTEXT` equals the application context name in the definitions.
 pub fn application_context_is_named()
     ensures { APPLICATION_CONTEXT.now ≡ application_context }
 {}
 
-/// What names this implementation is what the definitions name.
+/// The names of this implementation equal those in the definitions.
 pub fn implementation_is_named()
     ensures class { IMPLEMENTATION_CLASS_UID.now ≡ implementation_class_uid }
     ensures version { IMPLEMENTATION_VERSION_NAME.now ≡ implementation_version_name }
@@ -33,8 +33,8 @@ pub fn storage_classes_are_few()
     ensures { length storage_classes ≡ 177 }
 {}
 
-/// Each transfer syntax is the one that its unique identifier names, and no other text names one. Those in which Pixel Data is native are the two
-/// of `syntax_of`, under their identifiers and in their layout.
+/// The UID of each transfer syntax is read back as that syntax, and no other text is. The native
+/// ones are the two of `syntax_of`, with the same UIDs and layouts.
 pub fn transfers_name_one()
     ensures names { (t : Transfer) → transfer_of (transfer_uid t) ≡ Some t }
     ensures texts { (text : List ℕ) (t : Transfer) → transfer_named text ≡ Some t → text ≡ transfer_uid t }
@@ -44,7 +44,7 @@ pub fn transfers_name_one()
     ensures layouts { (s : element.Syntax) → syntax_in (native s) ≡ s }
 {}
 
-/// The table of transfer syntaxes has 26 rows, with identifiers of 23 bytes at most.
+/// The table of transfer syntaxes has 26 rows, with UIDs of at most 23 bytes.
 pub fn transfers_are_few()
     ensures rows { length all_transfers ≡ 26 }
     ensures short { (t : Transfer) → length (transfer_uid t) ≤ 23 }

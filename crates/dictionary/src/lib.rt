@@ -1,4 +1,4 @@
-//! The part of the standard's registry that this product knows: tags, service classes and transfer
+//! The part of the standard's registry that this product uses: tags, SOP classes and transfer
 //! syntaxes (PS3.6).
 #![tactic(auto)]
 

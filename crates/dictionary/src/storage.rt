@@ -6,33 +6,34 @@ ghost use Rattle.dictionary.specs.StorageTable as table;
 
 use crate::storage_table::table_parts;
 
-/// A storage class of the standard (PS3.4 table B.5-1), or one that is retired (PS3.6 annex A).
+/// A storage class of the standard (PS3.4 table B.5-1), or a retired one (PS3.6 annex A).
 #[derive(Clone, Copy)]
 pub struct StorageClass {
-    /// The text of its unique identifier.
+    /// The SOP Class UID.
     pub uid: &'static [u8],
-    /// Its keyword.
+    /// The keyword of the SOP class.
     pub keyword: &'static str,
-    /// Whether a directory has its instances in IMAGE records (PS3.3 section F.5).
+    /// Whether a DICOMDIR describes its instances by IMAGE records (PS3.3 section F.5).
     pub is_image: bool,
 }
 
-/// Returns the row of this place in parts of a table, which follow each other.
+/// Returns the row with index `place` in the concatenated `parts` of a table, or `None` past its
+/// end.
 fn class_in(parts: &[&'static [StorageClass]], place: usize) -> Option<StorageClass>
     ensures { option_map table.storage_row result ≡ slice_get (flat_map (λ rows. map table.storage_row rows.now) parts.now) place }
 {
-    let mut left = place;
+    let mut remaining = place;
     for rows in parts {
-        if left < rows.len() {
-            return Some(rows[left]);
+        if remaining < rows.len() {
+            return Some(rows[remaining]);
         }
-        left -= rows.len();
+        remaining -= rows.len();
     }
     None
 }
 
-/// Returns the storage class of this place in the standard's table, which is in the order of the numbers of
-/// the identifiers, or `None` past its end.
+/// Returns the storage class with index `place` in the standard's table, ordered by the numbers of
+/// the UIDs, or `None` past its end.
 pub fn storage_class(place: usize) -> Option<StorageClass>
     ensures { option_map table.storage_row result ≡ slice_get storage_classes place }
 {

@@ -6,7 +6,7 @@ ghost use Rattle.dictionary.specs.StorageTable.{storage_row};
 
 use crate::storage::StorageClass;
 
-/// The number of parts in which the table stands.
+/// The number of parts of the table.
 pub(crate) const PARTS: usize = 13;
 
 fn part_0() -> &'static [StorageClass]

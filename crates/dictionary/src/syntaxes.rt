@@ -1,14 +1,14 @@
-//! Transfer syntaxes and the application context.
+//! The native transfer syntaxes and the application context.
 ghost use Rattle.std.specs.Prelude.{◌≡◌};
 ghost use Rattle.std.specs.List.{find};
 ghost use Rattle.dictionary.specs.Syntaxes as table;
 
 use element::{Syntax, unpadded};
 
-/// The DICOM application context (PS3.7 annex A).
+/// The DICOM application context name (PS3.7 annex A).
 pub const APPLICATION_CONTEXT: &[u8] = b"1.2.840.10008.3.1.1.1";
 
-/// Returns the text of a transfer syntax's unique identifier (PS3.5 annex A).
+/// Returns the UID of a native transfer syntax (PS3.5 annex A).
 pub fn syntax_uid(syntax: Syntax) -> &'static [u8]
     ensures { result.now ≡ table.syntax_uid syntax }
 {
@@ -27,8 +27,8 @@ fn first_named(syntaxes: &[Syntax], text: &[u8]) -> Option<Syntax>
         .find(|syntax| syntax_uid(*syntax) == text)
 }
 
-/// Returns the transfer syntax whose unique identifier the bytes are, after the spaces and zero bytes
-/// at their end are dropped, or `None` if it is none of the two that the receiver supports.
+/// Returns the native transfer syntax with this UID, or `None` for any other UID. Ignores trailing
+/// spaces and zero bytes.
 #[tactic(auto, unfolding(crate::specs::Syntaxes::syntax_named))]
 pub fn syntax_of(bytes: &[u8]) -> Option<Syntax>
     ensures { result ≡ table.syntax_of bytes.now }

@@ -1,5 +1,5 @@
-//! The part of the registry of data elements (PS3.6 section 6) that this product knows: a match by
-//! group, then by element number, so that a look-up takes a few comparisons.
+//! The part of the registry of data elements (PS3.6 section 6) that this product uses: a match by
+//! group, then by element number, so that a look-up takes few comparisons.
 ghost use Rattle.std.specs.Prelude.{◌≡◌, Some};
 ghost use Rattle.std.specs.Option.{option_map};
 ghost use Rattle.dictionary.specs.Tags as table;
@@ -7,7 +7,7 @@ ghost use Rattle.dictionary.specs.machine.Attributes.{attribute_value, registere
 
 use element::{Tag, Vr};
 
-/// What the registry has for a tag.
+/// The registry's entry for a tag.
 #[derive(Clone, Copy)]
 struct Attribute {
     vr: Vr,
@@ -180,7 +180,8 @@ fn attribute_of(tag: Tag) -> Option<Attribute>
     }
 }
 
-/// Returns the VR of a tag, or `None` if the registry does not have it. PixelData has OW.
+/// Returns the VR of a tag, or `None` if this part of the registry does not have it. PixelData has
+/// OW.
 pub fn vr_of(tag: Tag) -> Option<Vr>
     ensures { result ≡ table.vr_of tag }
 {
@@ -190,7 +191,7 @@ pub fn vr_of(tag: Tag) -> Option<Vr>
     }
 }
 
-/// Returns the keyword of a tag, or `None` if the registry does not have it.
+/// Returns the keyword of a tag, or `None` if this part of the registry does not have it.
 pub fn name_of(tag: Tag) -> Option<&'static str>
     ensures { option_map (λ name. name.now) result ≡ table.name_of tag }
 {

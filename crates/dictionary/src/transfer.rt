@@ -5,8 +5,8 @@ ghost use Rattle.dictionary.specs.Transfers as table;
 
 use element::{Syntax, unpadded};
 
-/// A transfer syntax: one of the two in which Pixel Data is native, or one in which it may be encapsulated
-/// (PS3.5 section A.4).
+/// A transfer syntax: one of the two in which Pixel Data is native, or one in which it may be
+/// encapsulated (PS3.5 section A.4).
 #[derive(Clone, Copy, Debug, PartialEq, Eq)]
 pub enum Transfer {
     /// ImplicitVRLittleEndian.
@@ -64,7 +64,7 @@ pub enum Transfer {
 }
 
 impl Transfer {
-    /// Each transfer syntax, by the numbers of the identifiers.
+    /// All transfer syntaxes, by the numbers of their UIDs.
     pub const ALL: [Transfer; 26] = [
         Transfer::Implicit,
         Transfer::Explicit,
@@ -94,7 +94,7 @@ impl Transfer {
         Transfer::RleLossless,
     ];
 
-    /// Returns the text of its unique identifier.
+    /// Returns the UID of the transfer syntax.
     pub fn uid(self) -> &'static [u8]
         ensures { result.now ≡ table.transfer_uid self }
     {
@@ -128,7 +128,7 @@ impl Transfer {
         }
     }
 
-    /// Returns its keyword.
+    /// Returns the keyword of the transfer syntax.
     pub fn keyword(self) -> &'static str
         ensures { result.now ≡ table.transfer_keyword self }
     {
@@ -162,7 +162,8 @@ impl Transfer {
         }
     }
 
-    /// Returns how elements are laid out in it: with VRs, but for Implicit VR Little Endian.
+    /// Returns the layout of element headers: without VRs in Implicit VR Little Endian, with VRs in
+    /// all others.
     pub fn syntax(self) -> Syntax
         ensures { result ≡ table.syntax_in self }
     {
@@ -176,7 +177,7 @@ impl Transfer {
     pub fn is_encapsulated(self) -> bool
         ensures { result ≡ table.is_encapsulated self }
     {
-        // One arm for each line of the definition: the proof goes through them one by one.
+        // One arm for each line of the definition, as the proof needs.
         match self {
             Transfer::Implicit => false,
             Transfer::Explicit => false,
@@ -184,14 +185,14 @@ impl Transfer {
         }
     }
 
-    /// Returns each transfer syntax in which Pixel Data may be encapsulated.
+    /// Returns the transfer syntaxes in which Pixel Data may be encapsulated.
     pub fn encapsulated() -> &'static [Transfer]
         ensures { result.now ≡ table.encapsulated_transfers }
     {
         &Transfer::ALL[2..]
     }
 
-    /// Returns the transfer syntax in which elements are laid out so and Pixel Data is native.
+    /// Returns the native transfer syntax with this layout.
     pub fn native(syntax: Syntax) -> Transfer
         ensures { result ≡ table.native syntax }
     {
@@ -201,8 +202,8 @@ impl Transfer {
         }
     }
 
-    /// Returns the transfer syntax whose unique identifier the bytes are, after the spaces and zero bytes at their
-    /// end are dropped, or `None` if the table has none.
+    /// Returns the transfer syntax with this UID, or `None`. Ignores trailing spaces and zero
+    /// bytes.
     pub fn of(bytes: &[u8]) -> Option<Transfer>
         ensures { result ≡ table.transfer_of bytes.now }
     {
@@ -213,7 +214,7 @@ impl Transfer {
 impl Default for Transfer {
     ghost is_default = { λ transfer. transfer ≡ table.default_transfer };
 
-    /// The default transfer syntax (PS3.5 section 10.1).
+    /// Returns the default transfer syntax (PS3.5 section 10.1).
     fn default() -> Transfer {
         Transfer::Implicit
     }

@@ -114,7 +114,7 @@ bytes_take n b bytes i =
       | inr le ↦ rw (get_or_past (take n b) i 0 (omega (arith, length-take n b))) (omega arith)
     ]
 
--- what a reader took from the front
+-- what a reader consumed from the front
 pub record Takes (b : List ℕ) (x : CommandElement × List ℕ) : Type 0 where
   pub parts : b ≡ command_element_bytes x.0 ++ x.1
   pub element : IsCommandElement x.0

@@ -7,29 +7,29 @@ use Rattle.pdu.specs.Heads.{is_command, is_last}
 use Rattle.dimse.specs.declared.fault.DimseFault.{DimseFault}
 use Rattle.dimse.specs.Command.{CommandRecord}
 use Rattle.dimse.specs.Reading.{command_in}
-use Rattle.dimse.specs.Messages.{Pdv, Message, IsFragment, AreFragments, fragments_of, IsSet, IsMessage, Begun, NoMessage, InCommand, InSet, if_room, if_context, refusal, Brought, Goes, Ends, Refuses, with_command, brought, Messages, unless_refused, next, with_message, with_later, messages_from, messages}
+use Rattle.dimse.specs.Messages.{Pdv, Message, IsFragment, AreFragments, fragments_of, IsSet, IsMessage, Started, NoMessage, InCommand, InSet, if_room, if_context, refusal, Brought, Goes, Ends, Refuses, with_command, brought, Messages, unless_refused, next, with_message, with_later, messages_from, messages}
 use Rattle.dimse.specs.MessageLaws.{and_then}
 use Rattle.dimse.proofs.FragmentsBringMore.{in_command, in_set, command_row, set_row}
 
 -- ---- one list after another
 
-by_refused : (m : Message) (whole : List Message) (begun : Begun) (fault : Option DimseFault) (b : Messages)
-    → with_message m (and_then (record { whole = whole; begun = begun; fault = fault }) b) ≡ and_then (record { whole = m ∷ whole; begun = begun; fault = fault }) b
-by_refused m whole begun None b = refl
-by_refused m whole begun (Some fault) b = refl
+by_refused : (m : Message) (whole : List Message) (started : Started) (fault : Option DimseFault) (b : Messages)
+    → with_message m (and_then (record { whole = whole; started = started; fault = fault }) b) ≡ and_then (record { whole = m ∷ whole; started = started; fault = fault }) b
+by_refused m whole started None b = refl
+by_refused m whole started (Some fault) b = refl
 
 later_then : (m : Message) (a b : Messages) → with_message m (and_then a b) ≡ and_then (with_message m a) b
-later_then m a b = by_refused m a.whole a.begun a.fault b
+later_then m a b = by_refused m a.whole a.started a.fault b
 
-brings_then : (room : ℕ) (x : Brought) (ps qs : List Pdv) → ((b : Begun) → messages_from room b (ps ++ qs) ≡ and_then (messages_from room b ps) (messages_from room (messages_from room b ps).begun qs))
+brings_then : (room : ℕ) (x : Brought) (ps qs : List Pdv) → ((b : Started) → messages_from room b (ps ++ qs) ≡ and_then (messages_from room b ps) (messages_from room (messages_from room b ps).started qs))
     → with_later x (λ b. messages_from room b (ps ++ qs))
-    ≡ and_then (with_later x (λ b. messages_from room b ps)) (messages_from room (with_later x (λ b. messages_from room b ps)).begun qs)
+    ≡ and_then (with_later x (λ b. messages_from room b ps)) (messages_from room (with_later x (λ b. messages_from room b ps)).started qs)
 brings_then room (Goes b) ps qs again = again b
 brings_then room (Ends m) ps qs again =
-    ap (with_message m) (again NoMessage) ∙ later_then m (messages_from room NoMessage ps) (messages_from room (messages_from room NoMessage ps).begun qs)
+    ap (with_message m) (again NoMessage) ∙ later_then m (messages_from room NoMessage ps) (messages_from room (messages_from room NoMessage ps).started qs)
 brings_then room (Refuses fault) ps qs again = refl
 
-pub messages_then : (room : ℕ) (b : Begun) (ps qs : List Pdv) → messages_from room b (ps ++ qs) ≡ and_then (messages_from room b ps) (messages_from room (messages_from room b ps).begun qs)
+pub messages_then : (room : ℕ) (b : Started) (ps qs : List Pdv) → messages_from room b (ps ++ qs) ≡ and_then (messages_from room b ps) (messages_from room (messages_from room b ps).started qs)
 unfolding messages_from
 messages_then room b [] qs = refl
 messages_then room b (p ∷ ps) qs = brings_then room (next room b p) ps qs (λ more. messages_then room more ps qs)

@@ -9,7 +9,7 @@ pub mod BytesSpellTheElement
 pub mod TextSpellsOneCommand
 pub mod TextHasOneCut
 pub mod FragmentsMakeTheMessage
-pub mod FragmentsComeInOrder
+pub mod FragmentsAreInOrder
 pub mod ReadCommandsNameUids
 pub mod RepliesStayShort
 pub mod ReadBack

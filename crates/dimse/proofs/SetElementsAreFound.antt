@@ -1,5 +1,5 @@
--- Going along the elements of a command set finds the value of an element (`left_found`, `left_none`), and that all
--- rise and nothing is left over, or not (`ahead_none`, `ahead_order`). Stands on the definitions alone.
+-- Going along the elements of a command set finds the value of an element (`remaining_found`, `remaining_none`), and that all
+-- rise and nothing is remaining, or not (`ahead_none`, `ahead_order`). Stands on the definitions alone.
 use Rattle.std.proofs.Common.{◌≡◌, ℕ, zero, suc, ◌<◌, ◌≤◌, Bool, true, false, cond, ◌&&◌, ltb, eqb, List, [], ◌∷◌, length, drop, Option, Some, None, refl, sym, ap, ◌∙◌, arith}
 use Rattle.std.specs.Option.{is_some}
 use Rattle.std.proofs.Math.Dec.{eqb-suc-zero}
@@ -43,31 +43,31 @@ none_in (suc most) last [] more e h = cc
 none_in (suc most) last (c ∷ b) more e h = let g : None ≡ Some more = rw e at h in absurd cc
 
 -- what a search for an element's value still has before it
-pub record Left (n : ℕ) (es : List CommandElement) (b : List ℕ) : Type 0 where
+pub record Remaining (n : ℕ) (es : List CommandElement) (b : List ℕ) : Type 0 where
   pub most : ℕ
   pub last : ℕ
   pub more : List CommandElement
   pub here : elements_in most last b ≡ Some more
   pub same : command_value n more ≡ command_value n es
 
-pub left_all : (n : ℕ) (es : List CommandElement) (b : List ℕ) → elements_of b ≡ Some es → Left n es b
+pub remaining_all : (n : ℕ) (es : List CommandElement) (b : List ℕ) → elements_of b ≡ Some es → Remaining n es b
 unfolding elements_of
-left_all n es b h = record { most = length b; last = 0; more = es; here = h; same = refl }
+remaining_all n es b h = record { most = length b; last = 0; more = es; here = h; same = refl }
 
-pub left_next : (n : ℕ) (es : List CommandElement) (b : List ℕ) (x : CommandElement × List ℕ) → Left n es b → Some x ≡ element_at b → eqb x.0.number n ≡ false → Left n es x.1
-left_next n es b x l e other =
+pub remaining_next : (n : ℕ) (es : List CommandElement) (b : List ℕ) (x : CommandElement × List ℕ) → Remaining n es b → Some x ≡ element_at b → eqb x.0.number n ≡ false → Remaining n es x.1
+remaining_next n es b x l e other =
     let f = first_in l.most l.last b x l.more (sym e) l.here in
     let passed : command_value n (x.0 ∷ f.others) ≡ command_value n f.others = rw other refl in
     record { most = f.most; last = x.0.number; more = f.others; here = f.after; same = sym passed ∙ sym (ap (command_value n) f.whole) ∙ l.same }
 
-pub left_found : (n : ℕ) (es : List CommandElement) (b : List ℕ) (x : CommandElement × List ℕ) → Left n es b → Some x ≡ element_at b → eqb x.0.number n ≡ true → Some x.0.value ≡ command_value n es
-left_found n es b x l e this =
+pub remaining_found : (n : ℕ) (es : List CommandElement) (b : List ℕ) (x : CommandElement × List ℕ) → Remaining n es b → Some x ≡ element_at b → eqb x.0.number n ≡ true → Some x.0.value ≡ command_value n es
+remaining_found n es b x l e this =
     let f = first_in l.most l.last b x l.more (sym e) l.here in
     let found : command_value n (x.0 ∷ f.others) ≡ Some x.0.value = rw this refl in
     sym found ∙ sym (ap (command_value n) f.whole) ∙ l.same
 
-pub left_none : (n : ℕ) (es : List CommandElement) (b : List ℕ) → Left n es b → None ≡ element_at b → None ≡ command_value n es
-left_none n es b l e = ap (command_value n) (sym (none_in l.most l.last b l.more (sym e) l.here)) ∙ l.same
+pub remaining_none : (n : ℕ) (es : List CommandElement) (b : List ℕ) → Remaining n es b → None ≡ element_at b → None ≡ command_value n es
+remaining_none n es b l e = ap (command_value n) (sym (none_in l.most l.last b l.more (sym e) l.here)) ∙ l.same
 
 -- what a test of the order still has before it
 pub record Ahead (whole b : List ℕ) (last : ℕ) : Type 0 where
@@ -132,13 +132,13 @@ order_of (suc most) whole (c ∷ b) last x same e le =
 pub ahead_next : (whole b : List ℕ) (last : ℕ) (x : CommandElement × List ℕ) → Ahead whole b last → Some x ≡ element_at b → last < x.0.number → Ahead whole x.1 x.0.number
 ahead_next whole b last x a e lt = next_of a.most whole b last x a.room a.same e lt
 
-none_left : (most : ℕ) (whole b : List ℕ) (last : ℕ) → is_some (elements_in most last b) ≡ is_some (elements_of whole) → None ≡ element_at b → eqb (length b) 0 ≡ is_some (elements_of whole)
-none_left most whole [] last same e = end_of most whole [] last same refl
-none_left most whole (c ∷ b) last same e = eqb-suc-zero (length b) ∙ stop_of most whole (c ∷ b) last same (omega arith) e
+none_remaining : (most : ℕ) (whole b : List ℕ) (last : ℕ) → is_some (elements_in most last b) ≡ is_some (elements_of whole) → None ≡ element_at b → eqb (length b) 0 ≡ is_some (elements_of whole)
+none_remaining most whole [] last same e = end_of most whole [] last same refl
+none_remaining most whole (c ∷ b) last same e = eqb-suc-zero (length b) ∙ stop_of most whole (c ∷ b) last same (omega arith) e
 
 -- no element comes next: all is well where nothing is left
 pub ahead_none : (whole b : List ℕ) (last : ℕ) → Ahead whole b last → None ≡ element_at b → eqb (length b) 0 ≡ is_some (elements_of whole)
-ahead_none whole b last a e = none_left a.most whole b last a.same e
+ahead_none whole b last a e = none_remaining a.most whole b last a.same e
 
 -- one comes that is not above the last
 pub ahead_order : (whole b : List ℕ) (last : ℕ) (x : CommandElement × List ℕ) → Ahead whole b last → Some x ≡ element_at b → x.0.number ≤ last → false ≡ is_some (elements_of whole)

@@ -26,11 +26,11 @@ pub record Sending (old now : Line) (context size : ℕ) (whole rest : List ℕ)
   pub room : length rest ≤ more
   pub short : length rest + 6 < 2 ^ 32
   pub sent : now ≡ sent_all done old
-  pub left : whole ≡ done ++ command_pdus context (fragments_in more size rest)
+  pub remaining : whole ≡ done ++ command_pdus context (fragments_in more size rest)
 
 pub sending_all : (old : Line) (context size : ℕ) (text : List ℕ) → length text + 6 < 2 ^ 32 → Sending old old context size (command_pdus context (fragments size text)) text
 unfolding fragments
-sending_all old context size text short = record { done = []; more = length text; room = omega arith; short = short; sent = sym (all_nothing old); left = refl }
+sending_all old context size text short = record { done = []; more = length text; room = omega arith; short = short; sent = sym (all_nothing old); remaining = refl }
 
 -- while the rest is longer than a fragment
 cut : (context size more : ℕ) (rest : List ℕ) → size < length rest → length rest ≤ suc more
@@ -40,17 +40,17 @@ cut context size more rest lt le = rw (lt-leb (length rest) size lt) (pdus_next 
 pub record Ahead (context size : ℕ) (whole rest done : List ℕ) : Type 0 where
   pub more : ℕ
   pub room : length (drop size rest) ≤ more
-  pub left : whole ≡ done ++ (data_text context true false (take size rest) ++ command_pdus context (fragments_in more size (drop size rest)))
+  pub remaining : whole ≡ done ++ (data_text context true false (take size rest) ++ command_pdus context (fragments_in more size (drop size rest)))
 
 ahead : (context size more : ℕ) (whole rest done : List ℕ) → 1 ≤ size → size < length rest → length rest ≤ more → whole ≡ done ++ command_pdus context (fragments_in more size rest) → Ahead context size whole rest done
 ahead context size zero whole rest done some lt le e = absurd (omega arith)
 ahead context size (suc more) whole rest done some lt le e =
-    record { more = more; room = omega (arith, length-drop size rest); left = e ∙ ap (λ (t : List ℕ). done ++ t) (cut context size more rest lt le) }
+    record { more = more; room = omega (arith, length-drop size rest); remaining = e ∙ ap (λ (t : List ℕ). done ++ t) (cut context size more rest lt le) }
 
 pub sending_next : (old now new : Line) (context size : ℕ) (whole rest : List ℕ) → Sending old now context size whole rest
     → 1 ≤ size → size < length rest → Sends (data_text context true false (take size rest)) (Ok tt) now new → Sending old new context size whole (drop size rest)
 sending_next old now new context size whole rest s some lt e =
-    let a = ahead context size s.more whole rest s.done some lt s.room s.left in
+    let a = ahead context size s.more whole rest s.done some lt s.room s.remaining in
     let text = data_text context true false (take size rest) in
     record {
       done = s.done ++ text;
@@ -58,17 +58,17 @@ sending_next old now new context size whole rest s some lt e =
       room = a.room;
       short = omega (arith, s.short, length-drop size rest);
       sent = e ∙ ap (sent_all text) s.sent ∙ all_then s.done text old;
-      left = a.left ∙ sym (append_assoc s.done text (command_pdus context (fragments_in a.more size (drop size rest))));
+      remaining = a.remaining ∙ sym (append_assoc s.done text (command_pdus context (fragments_in a.more size (drop size rest))));
     }
 
 -- a failed send of a fragment
 pub sending_fails : (old now new : Line) (f : WireFailed) (context size : ℕ) (whole rest : List ℕ) → Sending old now context size whole rest
     → 1 ≤ size → size < length rest → Sends (data_text context true false (take size rest)) (Err f) now new → Sends whole (Err f) old new
 sending_fails old now new f context size whole rest s some lt e =
-    let a = ahead context size s.more whole rest s.done some lt s.room s.left in
+    let a = ahead context size s.more whole rest s.done some lt s.room s.remaining in
     let text = data_text context true false (take size rest) in
     let after = command_pdus context (fragments_in a.more size (drop size rest)) in
-    rw a.left (sends_then s.done (text ++ after) (Err f) old now new s.sent (sends_part text after f now new e))
+    rw a.remaining (sends_then s.done (text ++ after) (Err f) old now new s.sent (sends_part text after f now new e))
 
 pub last_of : (context size more : ℕ) (rest : List ℕ) → length rest ≤ size → command_pdus context (fragments_in more size rest) ≡ data_text context true true rest
 last_of context size zero rest le = refl
@@ -79,5 +79,5 @@ pub last_sent : (old now new : Line) (r : Result (Unit {0}) WireFailed) (context
     → length rest ≤ size → Sends (data_text context true true rest) r now new → Sends whole r old new
 last_sent old now new r context size whole rest s le e =
     let text = data_text context true true rest in
-    let all : whole ≡ s.done ++ text = s.left ∙ ap (λ (t : List ℕ). s.done ++ t) (last_of context size s.more rest le) in
+    let all : whole ≡ s.done ++ text = s.remaining ∙ ap (λ (t : List ℕ). s.done ++ t) (last_of context size s.more rest le) in
     rw all (sends_then s.done text r old now new s.sent e)

@@ -13,9 +13,13 @@ pub record CommandElement : Type 0 where
   pub value : List ℕ
 
 -- the bytes of an element: tag, length and value, in Implicit VR Little Endian
+-- e.g. command_element_bytes (record { number = 0x0900; value = 0 ∷ 0 ∷ [] }) ≡ 0 ∷ 0 ∷ 0 ∷ 9 ∷ 2 ∷ 0 ∷ 0 ∷ 0 ∷ 0 ∷ 0 ∷
+-- []
 unfoldable pub command_element_bytes : CommandElement → List ℕ
 command_element_bytes e = header_bytes (record { tag = record { 0 = 0; 1 = e.number }; vr = None; length = length e.value }) ++ e.value
 
+-- the bytes of the elements, one after the other
+-- e.g. command_elements_bytes [] ≡ []
 abbrev pub command_elements_bytes : List CommandElement → List ℕ
 command_elements_bytes [] = []
 command_elements_bytes (e ∷ es) = command_element_bytes e ++ command_elements_bytes es
@@ -33,6 +37,7 @@ AreRising last (e ∷ es) = IsCommandElement e × (last < e.number) × AreRising
 
 -- the bytes of a command set: Command Group Length (0000,0000), which is the number of bytes after it, and the other
 -- elements
+-- e.g. command_set_bytes [] ≡ 0 ∷ 0 ∷ 0 ∷ 0 ∷ 4 ∷ 0 ∷ 0 ∷ 0 ∷ 0 ∷ 0 ∷ 0 ∷ 0 ∷ []
 abbrev pub command_set_bytes : List CommandElement → List ℕ
 command_set_bytes es = command_element_bytes (record { number = 0; value = le (length (command_elements_bytes es)) 4 }) ++ command_elements_bytes es
 
@@ -43,11 +48,13 @@ pub record SpellsSet (text : List ℕ) (es : List CommandElement) : Type 0 where
   pub whole : text ≡ command_set_bytes es
 
 -- the value of the element with this element number
+-- e.g. command_value 5 (record { number = 5; value = 7 ∷ [] } ∷ []) ≡ Some (7 ∷ [])
 abbrev pub command_value : ℕ → List CommandElement → Option (List ℕ)
 command_value n [] = None
 command_value n (e ∷ es) = if nat_eq e.number n then Some e.value else command_value n es
 
 -- the number in a value of two bytes; none for a value of another length
+-- e.g. two_bytes (1 ∷ 1 ∷ []) ≡ Some 257; two_bytes (1 ∷ []) ≡ None
 abbrev pub two_bytes : List ℕ → Option ℕ
 two_bytes value = if nat_eq (length value) 2 then Some (little_number 2 value) else None
 
@@ -91,14 +98,15 @@ instance_element = 0x1000
 
 -- ---- commands
 
--- the Command Field of a C-STORE-RQ; that of a C-ECHO-RQ, and the Command Data Set Type of a message without a data
--- set follow
+-- the command field of a C-STORE-RQ (PS3.7 E.1)
 abbrev pub c_store : ℕ
 c_store = 0x0001
 
+-- the command field of a C-ECHO-RQ (PS3.7 E.1)
 abbrev pub c_echo : ℕ
 c_echo = 0x0030
 
+-- the Command Data Set Type of a message without a data set (PS3.7 E.1)
 abbrev pub no_data_set : ℕ
 no_data_set = 0x0101
 
@@ -124,6 +132,7 @@ pub record IsCommand (c : CommandRecord) : Type 0 where
   pub class : is_uid c.class ≡ true
   pub instance : is_uid_or_none c.instance ≡ true
 
+-- the next step, with the value of the step before; the first fault ends all steps
 infixl 10 ◌>>=◌
 abbrev pub ◌>>=◌ : {A B : Type 0} → Result A DimseFault → (A → Result B DimseFault) → Result B DimseFault
 (Ok x) >>= f = f x
@@ -133,12 +142,17 @@ abbrev pub ◌>>=◌ : {A B : Type 0} → Result A DimseFault → (A → Result 
 abbrev pub needed : {A : Type 0} → (List ℕ → Option A) → Option (List ℕ) → Result A DimseFault
 needed reads value = ok_or (option_and_then reads value) BadCommand
 
--- the C-STORE of these elements: its Affected SOP Instance UID (0000,1000) must be a valid UID
+-- the C-STORE of these elements: its Affected SOP Instance UID (0000,1000) must be a valid UID (law
+-- `dimse::worked_commands`)
 unfoldable pub store_command : List ℕ → ℕ → List CommandElement → Result CommandRecord DimseFault
 store_command class message es = do
   instance ← needed uid_of (command_value instance_element es)
   Ok (record { class = class; field = c_store; message = message; with_data = true; instance = Some instance })
 
+-- the request with this SOP class, Command Field, Message ID and Command Data Set Type, or its fault
+-- e.g. request_of (codes "1.2") 0x0030 7 0x0101 [] ≡ Ok (record { class = codes "1.2"; field = 0x0030; message = 7;
+-- with_data = false; instance = None })
+-- e.g. request_of (codes "1.2") 0x0020 7 0x0101 [] ≡ Err UnknownField
 abbrev pub request_of : List ℕ → ℕ → ℕ → ℕ → List CommandElement → Result CommandRecord DimseFault
 request_of class field message kind es =
     if nat_eq field c_echo then
@@ -149,6 +163,7 @@ request_of class field message kind es =
     else Err UnknownField)
 
 -- the command of the elements of a command set, or its fault
+-- e.g. command_of [] ≡ Err BadCommand
 unfoldable pub command_of : List CommandElement → Result CommandRecord DimseFault
 command_of es = do
   class ← needed uid_of (command_value class_element es)

@@ -6,12 +6,12 @@ use Rattle.dimse.specs.Reading.{command_in, set_of}
 use Rattle.dimse.specs.declared.detail.Detail.{Detail}
 use Rattle.dimse.specs.Reply.{IsMaximum, command_pdus, fragments, reply_bytes, reply_command, reply_elements, response}
 
--- to a peer whose maximum length is 0 or allows fragments of two bytes
+-- the bound of a response to a peer whose maximum length is 0 or allows fragments of two bytes
 abbrev pub RepliesAreShort : Type 0
 RepliesAreShort = (text : List ℕ) (command : CommandRecord) (status : ℕ) (detail : Option Detail) (context maximum : ℕ)
     → command_in text ≡ Ok command → IsMaximum maximum → length (reply_bytes command status detail context maximum) ≤ 1706
 
--- to any peer
+-- the bound of a response to any peer
 abbrev pub EachReplyHasABound : Type 0
 EachReplyHasABound = (text : List ℕ) (command : CommandRecord) (status : ℕ) (detail : Option Detail) (context maximum : ℕ)
     → command_in text ≡ Ok command → length (reply_bytes command status detail context maximum) ≤ 3158
@@ -26,7 +26,7 @@ abbrev pub LongerResponses : Type 0
 LongerResponses = (context size : ℕ) (text : List ℕ) → 1 ≤ size → size < length text
     → command_pdus context (fragments size text) ≡ data_text context true false (take size text) ++ command_pdus context (fragments size (drop size text))
 
--- the PDU of one that is not
+-- the PDU of a response that is not longer than a fragment
 abbrev pub LastResponses : Type 0
 LastResponses = (context size : ℕ) (text : List ℕ) → length text ≤ size → command_pdus context (fragments size text) ≡ data_text context true true text
 

@@ -1,6 +1,7 @@
 -- The values of Status (0000,0900) in responses (PS3.7 annex C, PS3.4 annex B.2.3).
 use Rattle.std.specs.Prelude.{ℕ}
 
+-- the status Success, 0000
 abbrev pub success : ℕ
 success = 0x0000
 

@@ -7,8 +7,8 @@ use crate::operation::Operation;
 use element::Uid;
 use std::marker::Model;
 
-/// A C-ECHO-RQ or C-STORE-RQ (PS3.7 sections 9.3.1 and 9.3.5). A C-STORE has an Affected SOP Instance
-/// UID and is followed by a data set; a C-ECHO has neither.
+/// A C-ECHO-RQ or C-STORE-RQ (PS3.7 sections 9.3.1 and 9.3.5). A C-STORE has an Affected SOP
+/// Instance UID and is followed by a data set; a C-ECHO has neither.
 #[derive(Debug, Drop)]
 pub struct Command {
     class: Uid,
@@ -85,7 +85,7 @@ impl Command {
         self.message
     }
 
-    /// Returns whether a data set follows the command set, by its Command Data Set Type (0000,0800).
+    /// Returns whether a data set follows the command set: true for a C-STORE.
     pub fn with_data(&self) -> bool
         ensures { result ≡ self.now.with_data }
     {

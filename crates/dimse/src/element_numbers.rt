@@ -1,4 +1,4 @@
-//! Element numbers of the elements of command sets, group 0000 (PS3.7 annex E).
+//! The element numbers in command sets, group 0000 (PS3.7 annex E).
 
 /// Command Group Length (0000,0000): the number of bytes that follow this element.
 pub const LENGTH: u16 = 0x0000;

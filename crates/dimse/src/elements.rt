@@ -26,8 +26,8 @@ pub fn element_at(bytes: &[u8]) -> Option<(u16, &[u8], &[u8])>
     Some((number, value, rest))
 }
 
-/// Returns whether the bytes are whole elements with strictly ascending element numbers above 0000, and
-/// nothing else.
+/// Returns whether the bytes are whole elements of group 0000 and nothing else, with strictly
+/// ascending element numbers above 0000.
 #[tactic(auto, unfolding(crate::specs::Reading::elements_of))]
 pub fn are_rising(bytes: &[u8]) -> bool
     ensures { result ≡ is_some (spelling.elements_of bytes.now) }

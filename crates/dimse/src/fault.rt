@@ -1,11 +1,11 @@
-//! Why a DIMSE message is rejected.
+//! The faults for which a DIMSE message is rejected.
 ghost use Rattle.std.specs.Prelude.{◌≡◌};
 ghost use Rattle.dimse.specs.Fault.{fault_name, number_of};
 
 use std::fmt;
 
-/// Why a DIMSE message is rejected. The local user aborts the association then. Each variant has a
-/// number that is logged.
+/// Why a DIMSE message is rejected, after which the local user aborts the association. The number
+/// of each variant is logged.
 #[derive(Clone, Copy, Debug, PartialEq, Eq)]
 pub enum DimseFault {
     /// 40: the command set has more bytes than the receiver's limit (1,024 in the program).
@@ -14,8 +14,8 @@ pub enum DimseFault {
     BadCommand,
     /// 42: the Command Field is neither that of C-ECHO-RQ nor that of C-STORE-RQ.
     UnknownField,
-    /// 43: a C-ECHO announces a data set, or a C-STORE announces none; or a fragment belongs to a data
-    /// set where a command set must follow, or the reverse.
+    /// 43: a C-ECHO announces a data set, or a C-STORE announces none; or a fragment is of a data
+    /// set where a command set is required, or the reverse.
     WrongKind,
     /// 44: a fragment has another presentation context ID than the first fragment of the message.
     OtherContext,
@@ -35,7 +35,7 @@ impl DimseFault {
         }
     }
 
-    /// Returns the name of the fault, that of the variant.
+    /// Returns the name of the fault, which is that of the variant.
     pub fn name(self) -> &'static str
         ensures { result.now ≡ fault_name self }
     {

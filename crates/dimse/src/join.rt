@@ -1,7 +1,7 @@
-//! Joins the fragments of a DIMSE message.
+//! Joins the fragments of DIMSE messages.
 ghost use Rattle.std.specs.Prelude.{◌≡◌, ◌-◌, ◌≤◌, ◌^◌, ◌++◌, [], List, ℕ, length, OnOk, OnErr};
 ghost use Rattle.pdu.specs.Heads.{pdv_head_of};
-ghost use Rattle.dimse.specs.Messages.{Begun, NoMessage, brought, head_refusal};
+ghost use Rattle.dimse.specs.Messages.{Started, NoMessage, brought, head_refusal};
 ghost use Rattle.dimse.specs.Joining.{ShowsMessage, InContext, Joins, ok_unless, pdv_of, without_set};
 ghost use Rattle.dimse.specs.machine.Fields.{ended_as};
 
@@ -15,17 +15,17 @@ use std::marker::Model;
 
 mod fields;
 
-/// Joins the fragments of DIMSE messages, one message at a time (PS3.7 section 6.3; PS3.8 annex E). It
-/// buffers the command set, of at most `C` bytes. Of the data set it keeps no byte.
+/// Joins the fragments of DIMSE messages, one message at a time (PS3.7 section 6.3; PS3.8 annex E).
+/// Buffers the command set, of at most `C` bytes, and no byte of the data set.
 ///
-/// For each presentation data value call `head`, then `take` with the bytes of the fragment as they
-/// come, then `end`.
+/// For each presentation data value call `head`, then `take` with the bytes of the fragment in
+/// chunks, then `end`.
 #[derive(Drop)]
 pub struct Join<const C: usize> {
     stage: Stage,
     context: u8,
     command: ArrayVec<u8, C>,
-    left: u32,
+    remaining: u32,
     last: bool,
 }
 
@@ -36,13 +36,13 @@ impl<const C: usize> Model for Join<C> {
 
     ghost Value = { Joining };
 
-    ghost view = { λ j. record { message = message_at j.stage j.context j.command.items; command = j.command.items; left = j.left; last = j.last } };
+    ghost view = { λ j. record { message = message_at j.stage j.context j.command.items; command = j.command.items; remaining = j.remaining; last = j.last } };
 
-    ghost invariant = { λ j. HasRoom C j.stage (array_vec_len j.command) j.left };
+    ghost invariant = { λ j. HasRoom C j.stage (array_vec_len j.command) j.remaining };
 }
 
 impl<const C: usize> Join<C> {
-    /// Creates a join before the first fragment.
+    /// Creates a `Join` before the first message.
     pub fn new() -> Join<C>
         requires { C ≤ 2 ^ 24 }
         ensures { ShowsMessage C result NoMessage [] }
@@ -51,13 +51,12 @@ impl<const C: usize> Join<C> {
             stage: Stage::Between,
             context: 0,
             command: ArrayVec::new(),
-            left: 0,
+            remaining: 0,
             last: false,
         }
     }
 
-    /// Returns why the head of a presentation data value is rejected after the fragments so far, or
-    /// `None` if it is accepted.
+    /// Returns why the next fragment, with this head, is rejected, or `None` if it is accepted.
     fn refusal(&self, head: &PdvHead) -> Option<DimseFault>
         ensures { result ≡ head_refusal C self.now.message head.now }
     {
@@ -77,16 +76,16 @@ impl<const C: usize> Join<C> {
         }
     }
 
-    /// Starts the fragment that follows this head of a presentation data value. An error leaves the
-    /// join unchanged. It is the first of these that applies: `OtherContext` if the message's first
-    /// fragment has another presentation context ID; `WrongKind` if the fragment is of a data set where
-    /// a command set must follow, or the reverse; `CommandTooLong` if the command set would have more
-    /// than `C` bytes.
+    /// Starts the fragment with this head of a presentation data value. An error leaves `self`
+    /// unchanged. It is the first of these that applies: `OtherContext` if the message's first
+    /// fragment has another presentation context ID; `WrongKind` if the fragment is of a data set
+    /// where a command set is required, or the reverse; `CommandTooLong` if the command set would
+    /// have more than `C` bytes.
     pub fn head(&mut self, head: &PdvHead) -> Result<(), DimseFault>
-        ensures judged { (message : Begun) → self.old.message ≡ without_set message → result ≡ ok_unless (head_refusal C message head.now) }
-        ensures begun { (message : Begun) (bytes : List ℕ) → self.old.message ≡ without_set message → length bytes ≡ 6 → head.now ≡ pdv_head_of bytes
+        ensures judged { (message : Started) → self.old.message ≡ without_set message → result ≡ ok_unless (head_refusal C message head.now) }
+        ensures started { (message : Started) (bytes : List ℕ) → self.old.message ≡ without_set message → length bytes ≡ 6 → head.now ≡ pdv_head_of bytes
             → OnOk result (ShowsMessage C self.new message bytes) }
-        ensures left { OnOk result (self.new.left ≡ head.now.length - 2) }
+        ensures remaining { OnOk result (self.new.remaining ≡ head.now.length - 2) }
         ensures refused { OnErr result (self.new ≡ self.old) }
     {
         if let Some(fault) = self.refusal(head) {
@@ -97,27 +96,27 @@ impl<const C: usize> Join<C> {
             self.context = head.context;
             self.stage = Stage::Command;
         }
-        self.left = head.length.saturating_sub(2);
+        self.remaining = head.length.saturating_sub(2);
         self.last = head.last;
         Ok(())
     }
 
-    /// Appends the next bytes of the fragment, at most as many as it still lacks. Bytes of a command
+    /// Consumes the next bytes of the fragment, at most as many as are missing. Bytes of a command
     /// set are buffered, those of a data set only counted.
     pub fn take(&mut self, part: &[u8])
-        requires { length part.now ≤ self.old.left }
-        ensures shows { (message : Begun) (begun : List ℕ) → ShowsMessage C self.old message begun → ShowsMessage C self.new message (begun ++ part.now) }
-        ensures left { self.new.left ≡ self.old.left - length part.now }
+        requires { length part.now ≤ self.old.remaining }
+        ensures shows { (message : Started) (started : List ℕ) → ShowsMessage C self.old message started → ShowsMessage C self.new message (started ++ part.now) }
+        ensures remaining { self.new.remaining ≡ self.old.remaining - length part.now }
     {
         if let Stage::Command = self.stage {
-            // It fits, as a head with a longer fragment is refused.
+            // This fits: `head` rejects longer fragments.
             let _taken = self.command.try_extend_from_slice(part);
         }
-        self.left -= part.len() as u32;
+        self.remaining -= part.len() as u32;
     }
 
-    /// Returns the state of the message after the end of the fragment. Fails if the fragment completes
-    /// an invalid command set.
+    /// Returns the state of the message after the end of the fragment. Fails if the fragment
+    /// completes an invalid command set.
     fn joined(&self) -> Result<Joined, DimseFault>
         ensures { result ≡ ended_as self.now.message self.now.last }
     {
@@ -135,12 +134,12 @@ impl<const C: usize> Join<C> {
         }
     }
 
-    /// Ends the fragment, at its last byte, and returns the state of the message. If it completes an
-    /// invalid command set, the error is the fault that [`read_command`](crate::read_command) returns
-    /// (`BadCommand`, `UnknownField` or `WrongKind`), and the join stays unchanged. After `Message`,
+    /// Ends the fragment after its last byte and returns the state of the message. If the fragment
+    /// completes an invalid command set, the error is that of [`read_command`](crate::read_command)
+    /// (`BadCommand`, `UnknownField` or `WrongKind`), and `self` is unchanged. After `Message`,
     /// `command` still returns the command set, until `clear` or the next message.
     pub fn end(&mut self) -> Result<Joined, DimseFault>
-        ensures { (message : Begun) (begun : List ℕ) → 6 ≤ length begun → ShowsMessage C self.old message begun → Joins C message (brought message (pdv_of begun)) self.old self.new result }
+        ensures { (message : Started) (started : List ℕ) → 6 ≤ length started → ShowsMessage C self.old message started → Joins C message (brought message (pdv_of started)) self.old self.new result }
     {
         let joined = self.joined()?;
         match joined {
@@ -148,7 +147,7 @@ impl<const C: usize> Join<C> {
             Joined::DataDue => self.stage = Stage::Set,
             Joined::Message => self.stage = Stage::Between,
         }
-        self.left = 0;
+        self.remaining = 0;
         self.last = false;
         Ok(joined)
     }
@@ -165,8 +164,8 @@ impl<const C: usize> Join<C> {
         }
     }
 
-    /// Returns the bytes of the command set so far. All of them are there from the end of its last
-    /// fragment until `clear` or the next message.
+    /// Returns the bytes of the command set so far: all of them from the end of its last fragment
+    /// until `clear` or the next message.
     pub fn command(&self) -> &[u8]
         ensures value { result.now ≡ self.now.command }
         ensures fits { length self.now.command ≤ C }
@@ -174,13 +173,13 @@ impl<const C: usize> Join<C> {
         self.command.as_slice()
     }
 
-    /// Discards the message: the next fragment must be the first of a command set.
+    /// Discards the message, so that the next fragment must be the first of a command set.
     pub fn clear(&mut self)
         ensures { ShowsMessage C self.new NoMessage [] }
     {
         self.stage = Stage::Between;
         self.command.clear();
-        self.left = 0;
+        self.remaining = 0;
         self.last = false;
     }
 }

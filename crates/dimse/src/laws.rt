@@ -1,9 +1,9 @@
-//! Lemmas on the definitions of this crate and worked examples, each stated as the contract of a
-//! function with an empty body.
+//! Lemmas on the definitions of this crate, and examples, each stated as the contract of a function
+//! with an empty body.
 ghost use Rattle.std.specs.Prelude.{◌≡◌, ◌≤◌, ◌∷◌, ◌++◌, [], ◌*◌, ◌-◌, ◌^◌, ℕ, true, false, List, Option, Some, None, Ok, Err, length, take, drop, codes};
 ghost use Rattle.dimse.specs.Command.{CommandRecord, CommandText, c_echo, c_store};
-ghost use Rattle.dimse.specs.Messages.{Begun, InCommand, IsMessage, Message, NoMessage, Pdv, messages, messages_from, with_message};
-ghost use Rattle.dimse.specs.MessageLaws.{BeginsWith, MessagesGoOn};
+ghost use Rattle.dimse.specs.Messages.{Started, InCommand, IsMessage, Message, NoMessage, Pdv, messages, messages_from, with_message};
+ghost use Rattle.dimse.specs.MessageLaws.{BeginsWith, MessagesContinue};
 ghost use Rattle.dimse.specs.declared.fault.DimseFault.TheVariants.{BadCommand, CommandTooLong, OtherContext, UnknownField, WrongKind};
 ghost use Rattle.dimse.specs.Reading.{command_in};
 ghost use Rattle.pdu.specs.Texts.{data_text};
@@ -20,29 +20,29 @@ use crate::status::{
     CANNOT_UNDERSTAND, CLASS_NOT_SUPPORTED, DATA_SET_MISMATCH, OUT_OF_RESOURCES, SUCCESS,
 };
 
-/// A byte string is the encoding of at most one command.
+/// A byte string encodes at most one command.
 pub fn one_command()
     ensures { (text : List ℕ) (a b : CommandRecord) → CommandText a text → CommandText b text → a ≡ b }
 {}
 
-/// There is exactly one way to divide a command set into fragments of a given size, the last of which
-/// may be shorter.
+/// There is exactly one way to divide a command set into fragments of a given size, of which the
+/// last may be shorter.
 pub fn one_cut()
     ensures cut { (size : ℕ) (text : List ℕ) → 1 ≤ size → IsFragmented size text (fragments size text) }
     ensures only { (size : ℕ) (text : List ℕ) (cut : List (List ℕ)) → 1 ≤ size → IsFragmented size text cut → cut ≡ fragments size text }
 {}
 
-/// Bounds of a response: its command set has at most 242 bytes. The P-DATA-TF PDUs that carry it have
-/// at most 1,706 bytes together if the peer's maximum length is 0 or allows fragments of two bytes, and
-/// at most 3,158 for any maximum length.
+/// Bounds of a response: its command set has at most 242 bytes. The P-DATA-TF PDUs that carry it
+/// have at most 1,706 bytes together if the peer's maximum length is 0 or allows fragments of two
+/// bytes, and at most 3,158 for any maximum length.
 pub fn replies_are_short()
     ensures command { (text : List ℕ) (command : CommandRecord) (status : ℕ) (detail : Option Detail) → command_in text ≡ Ok command → length (reply_command command status detail) ≤ 242 }
     ensures reply { RepliesAreShort }
     ensures any { EachReplyHasABound }
 {}
 
-/// A response is read back: its command set has the elements that it was made of, with its command field and
-/// its status; and its PDUs are those of the fragments of that, one after the other.
+/// A response can be read back: its command set has the elements of which it was made, with the
+/// command field and the status; its PDUs are those of the fragments of that set in order.
 pub fn responses_read_back()
     ensures elements { ResponsesReadBack }
     ensures field { ResponsesKeepTheField }
@@ -51,34 +51,35 @@ pub fn responses_read_back()
     ensures last { LastResponses }
 {}
 
-/// If a list of presentation data values begins with the fragments of a message, that message is the
-/// first that is joined; each message that is joined has its fragments at that place in the list; and
-/// the messages of a list stay the same when it is continued.
+/// A list of presentation data values that begins with the fragments of a message has that message
+/// as its first. The first message of a list has its fragments at the front, and the later messages
+/// are those of the rest. The messages of a list stay the same when more values follow.
 pub fn messages_are_joined()
     ensures message { (room : ℕ) (m : Message) (commands sets more : List Pdv) → IsMessage room m commands sets
         → messages room ((commands ++ sets) ++ more) ≡ with_message m (messages room more) }
     ensures only { (room : ℕ) (ps : List Pdv) (m : Message) (later : List Message) → (messages room ps).whole ≡ m ∷ later → BeginsWith room m later ps }
-    ensures continued { MessagesGoOn }
+    ensures continued { MessagesContinue }
 {}
 
 /// Examples of messages: a C-ECHO-RQ in two fragments; its second fragment in another presentation
-/// context; a fragment of a data set after the first one, in the same context and in another; a command
-/// set above the limit; a C-STORE-RQ with its data set in three fragments, and the first fragment of
-/// another message; a command set where a data set must follow; a truncated command set.
+/// context; a fragment of a data set after the first one, in the same context and in another; a
+/// command set above the limit; a C-STORE-RQ with its data set in three fragments, and the first
+/// fragment of another message; a command set where a data set is required; a truncated command
+/// set.
 pub fn worked_messages()
     ensures whole { messages 1024 (pdv 1 1 (take 10 echo) ∷ pdv 1 3 (drop 10 echo) ∷ [])
-        ≡ record { whole = record { context = 1; command = echo; set = [] } ∷ []; begun = NoMessage; fault = None } }
+        ≡ record { whole = record { context = 1; command = echo; set = [] } ∷ []; started = NoMessage; fault = None } }
     ensures other_context { (messages 1024 (pdv 1 1 (take 10 echo) ∷ pdv 3 3 (drop 10 echo) ∷ [])).fault ≡ Some OtherContext }
     ensures other_kind { (messages 1024 (pdv 1 1 (take 10 echo) ∷ pdv 1 2 (drop 10 echo) ∷ [])).fault ≡ Some WrongKind }
     ensures context_before_kind { (messages 1024 (pdv 1 1 (take 10 echo) ∷ pdv 3 2 (drop 10 echo) ∷ [])).fault ≡ Some OtherContext }
     ensures too_long { (messages 67 (pdv 1 1 (take 10 echo) ∷ pdv 1 3 (drop 10 echo) ∷ [])).fault ≡ Some CommandTooLong }
-    ensures with_set { messages 1024 store_in_parts ≡ record { whole = stored ∷ []; begun = InCommand 7 (0 ∷ []); fault = None } }
+    ensures with_set { messages 1024 store_in_parts ≡ record { whole = stored ∷ []; started = InCommand 7 (0 ∷ []); fault = None } }
     ensures command_in_set { (messages 1024 (pdv 5 3 store ∷ pdv 5 3 echo ∷ [])).fault ≡ Some WrongKind }
     ensures unreadable { (messages 1024 (pdv 1 3 (take 66 echo) ∷ [])).fault ≡ Some BadCommand }
 {}
 
-/// Examples of commands: a C-ECHO-RQ is read; with another Command Group Length, another Command Field,
-/// or a data set it is rejected.
+/// Examples of commands: a C-ECHO-RQ is read; with another Command Group Length, with another
+/// Command Field, or with a data set it is rejected.
 pub fn worked_commands()
     ensures read { command_in echo ≡ Ok echo_record }
     ensures other_count { command_in (take 8 echo ++ 54 ∷ drop 9 echo) ≡ Err BadCommand }
@@ -87,8 +88,8 @@ pub fn worked_commands()
 {}
 
 /// Examples of responses: to a C-ECHO in one PDU; in 39 PDUs of 14 bytes for a peer with a maximum
-/// length of 8 or 9; in one for a peer with the greatest maximum length; and to a C-STORE, with a
-/// Command Group Length of 88 bytes.
+/// length of 8 or 9; in one PDU for a peer with the greatest maximum length; and to a C-STORE, with
+/// a Command Group Length of 88.
 pub fn worked_responses()
     ensures one { reply_bytes echo_record 0x0000 None 1 0 ≡ echo_reply }
     ensures many { length (reply_bytes echo_record 0x0000 None 1 8) ≡ 39 * 14 }
@@ -100,7 +101,8 @@ pub fn worked_responses()
 {}
 
 /// Examples of causes in responses: a fault without a tag; a value of undefined length; another SOP
-/// instance; another SOP class. A response with another status has no cause, nor has one to a C-ECHO.
+/// instance; another SOP class. A response with another status reports no cause, nor does one to a
+/// C-ECHO.
 pub fn worked_causes()
     ensures overrun { after_status 0xc000 (cause 17 0 0) ≡ 0 ∷ 0 ∷ 2 ∷ 9 ∷ 16 ∷ 0 ∷ 0 ∷ 0 ∷ (codes "fault 17 Overrun" ++ instance_123) }
     ensures overrun_length { group_length 0xc000 (cause 17 0 0) ≡ 112 }
@@ -114,7 +116,8 @@ pub fn worked_causes()
     ensures echo { reply_bytes echo_record 0xc000 (cause 17 0 0) 1 0 ≡ reply_bytes echo_record 0xc000 None 1 0 }
 {}
 
-/// Returns the constants `C_STORE` and `C_ECHO` of [`Command`]: they equal those of the definitions.
+/// Returns the constants `C_STORE` and `C_ECHO` of [`Command`], which equal those of the
+/// definitions.
 pub fn command_fields() -> [u16; 2]
     ensures { result ≡ c_store ∷ c_echo ∷ [] }
 {

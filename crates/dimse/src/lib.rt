@@ -1,5 +1,5 @@
-//! DIMSE messages: joins the fragments of received ones, reads their command sets, and writes the
-//! responses (PS3.7 chapter 9).
+//! DIMSE messages: joins the fragments of received messages, reads their command sets, and sends
+//! the responses (PS3.7 chapter 9).
 #![tactic(auto)]
 
 mod command;

@@ -1,7 +1,7 @@
-//! The DIMSE operations that this product performs, with what each alone has.
+//! The DIMSE operations that this product performs.
 use element::Uid;
 
-/// The operation of a request (PS3.7 sections 9.1.1 and 9.1.5).
+/// The operation that a request asks for (PS3.7 sections 9.1.1 and 9.1.5).
 #[derive(Debug, Drop)]
 pub(crate) enum Operation {
     /// C-ECHO.

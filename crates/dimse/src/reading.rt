@@ -61,11 +61,11 @@ fn read_text(bytes: &[u8]) -> Result<Command, DimseFault>
 /// Reads a whole command set (PS3.7 sections 6.3.1, 9.3.1 and 9.3.5): Implicit VR Little Endian,
 /// strictly ascending tags of group 0000, even lengths.
 ///
-/// The error is the first of these that applies: `BadCommand` if the bytes are not a command set, or
-/// the Affected SOP Class UID, the Command Field, the Message ID or the Command Data Set Type is
+/// The error is the first of these that applies: `BadCommand` if the bytes are not a command set,
+/// or the Affected SOP Class UID, the Command Field, the Message ID or the Command Data Set Type is
 /// missing or invalid; `UnknownField` if the Command Field is neither that of C-ECHO-RQ nor that of
-/// C-STORE-RQ; `WrongKind` if a C-ECHO announces a data set or a C-STORE announces none; `BadCommand`
-/// if a C-STORE has no valid Affected SOP Instance UID.
+/// C-STORE-RQ; `WrongKind` if a C-ECHO announces a data set or a C-STORE announces none;
+/// `BadCommand` if a C-STORE has no valid Affected SOP Instance UID.
 pub fn read_command(bytes: &[u8]) -> Result<Command, DimseFault>
     ensures exact { result ≡ command_in bytes.now }
     ensures found { IfOk result (λ c. CommandText c bytes.now) }
@@ -75,8 +75,8 @@ pub fn read_command(bytes: &[u8]) -> Result<Command, DimseFault>
     read_text(bytes)
 }
 
-/// Returns the Command Field (0000,0100) of a command set, which need not be that of a valid command,
-/// or `None` if the bytes are no command set or have no such field.
+/// Returns the Command Field (0000,0100) of a command set, which need not be a valid command, or
+/// `None` if the bytes are not a command set or have no valid Command Field.
 #[tactic(auto, unfolding(crate::specs::Reading::field_in))]
 pub fn command_field(bytes: &[u8]) -> Option<u16>
     ensures { result ≡ field_in bytes.now }

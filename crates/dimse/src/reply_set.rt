@@ -1,4 +1,4 @@
-//! The command sets of responses.
+//! Builds the command sets of responses.
 ghost use Rattle.std.specs.Prelude.{◌≡◌, ◌+◌, ◌≤◌, ◌++◌, length, true, option_map};
 ghost use Rattle.arrayvec.specs.ArrayVec.{array_vec_len};
 ghost use Rattle.element.specs.Numbers.{le};
@@ -21,8 +21,8 @@ use element::{Header, Syntax, Tag, Uid, write_header};
 /// The highest bit of a Command Field, which is set in a response.
 const RESPONSE: u16 = 0x8000;
 
-/// The greatest size in bytes of a response's elements after Command Group Length: two UIDs of 72 each,
-/// four numbers of 10 each, a tag of 12, an Error Comment of 34.
+/// The greatest size in bytes of a response's elements after Command Group Length: two UIDs of 72
+/// bytes each, four numbers of 10 each, a tag of 12, an Error Comment of 34.
 const ELEMENTS: usize = 230;
 
 /// The greatest size in bytes of a response's command set.
@@ -43,7 +43,7 @@ fn put_element<const N: usize>(set: &mut ArrayVec<u8, N>, number: u16, value: &[
     };
     let mut room = [0u8; 12];
     let size = write_header(Syntax::Implicit, &header, &mut room);
-    // Both fit, by `room`.
+    // Both fit, by the precondition `room`.
     let _header = set.try_extend_from_slice(&room[..size]);
     let _value = set.try_extend_from_slice(value);
 }
@@ -58,7 +58,7 @@ fn put_number(set: &mut ArrayVec<u8, ELEMENTS>, number: u16, value: u16)
     put_element(set, number, &bytes);
 }
 
-/// Appends an element with a UID, padded to an even length.
+/// Appends an element with a UID, padded with a zero byte to an even length.
 fn put_uid(set: &mut ArrayVec<u8, ELEMENTS>, number: u16, uid: &Uid)
     requires room { array_vec_len set.old + 72 ≤ ELEMENTS }
     requires is_uid { is_uid uid.now ≡ true }
@@ -112,8 +112,8 @@ fn put_instance(set: &mut ArrayVec<u8, ELEMENTS>, instance: Option<&Uid>)
     }
 }
 
-/// Returns the cause that a response with this status reports: only that of a C-STORE does, with status
-/// C000 (cannot understand) or A900 (data set does not match SOP class).
+/// Returns the cause that a response reports: `detail` for a C-STORE with status C000 (cannot
+/// understand) or A900 (data set does not match SOP class), otherwise none.
 fn carried(field: u16, status: u16, detail: Option<Detail>) -> Option<Detail>
     ensures { result ≡ spelling.detail_carried field status detail }
 {

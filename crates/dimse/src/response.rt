@@ -9,8 +9,8 @@ use crate::detail::Detail;
 use crate::reply_set::reply_command_set;
 use pdu::{Wire, WireFailed, write_data};
 
-/// Returns the size of a fragment in bytes, for a peer with the maximum length `peer_max` and a command
-/// set of `all` bytes.
+/// Returns the size in bytes of each fragment of a command set of `all` bytes, for a peer with the
+/// maximum length `peer_max`.
 fn fragment_size(peer_max: u32, all: usize) -> usize
     requires maximum { IsMaximum peer_max }
     requires some { 1 ≤ all }
@@ -23,8 +23,8 @@ fn fragment_size(peer_max: u32, all: usize) -> usize
     (peer_max as usize - 6) / 2 * 2
 }
 
-/// Sends the bytes of a command set as fragments of this size, the last of which may be shorter, each
-/// in a P-DATA-TF PDU of its own.
+/// Sends the bytes of a command set as fragments of `size` bytes, of which the last may be shorter,
+/// each in a P-DATA-TF PDU of its own.
 fn write_fragments<W: Wire>(
     context: u8,
     size: usize,
@@ -38,7 +38,7 @@ fn write_fragments<W: Wire>(
     let mut rest = bytes;
     while rest.len() > size {
         let (fragment, more) = rest.split_at(size);
-        // In place of `?`, as the proof answers each arm for itself.
+        // Instead of `?`, as the proof treats each arm by itself.
         match write_data(context, true, false, fragment, wire) {
             Ok(()) => rest = more,
             Err(WireFailed) => return Err(WireFailed),
@@ -47,15 +47,15 @@ fn write_fragments<W: Wire>(
     write_data(context, true, true, rest, wire)
 }
 
-/// Sends the response to a command with this status (PS3.7 sections 9.3.1.2 and 9.3.5.2), in P-DATA-TF
-/// PDUs of one presentation data value each with this presentation context ID. A fragment has the
-/// greatest even number of bytes that fits the peer's maximum length, which counts 6 bytes more; with
-/// `peer_max` 0, no maximum, the response is one PDU. `peer_max` must be 0 or at least 8. After a
-/// failed send nothing more is sent.
+/// Sends the response to a command with this status (PS3.7 sections 9.3.1.2 and 9.3.5.2) in
+/// P-DATA-TF PDUs, each of one presentation data value with the presentation context ID `context`.
+/// A fragment has the greatest even size that, with 6 bytes more, is within the peer's maximum
+/// length `peer_max`, which must be 0 or at least 8; with 0, no maximum, the response is one PDU.
+/// After a failed send nothing more is sent.
 ///
-/// The response to a C-STORE with status C000 or A900 reports the cause: Offending Element is the tag
-/// of `detail`, unless that is (0000,0000), and Error Comment is `fault`, its number and its name. With
-/// any other status, or a number without a name, the response has neither element.
+/// The response to a C-STORE with status C000 or A900 reports the cause: Offending Element is the
+/// tag of `detail`, unless that is (0000,0000), and Error Comment is `fault`, its number and its
+/// name. With any other status, or a number without a name, the response has neither element.
 #[tactic(auto, unfolding(crate::specs::Reply::reply_bytes))]
 pub fn write_response<W: Wire>(
     command: &Command,

@@ -1,4 +1,4 @@
-//! Command sets, element by element.
+//! Reads command sets as lists of elements.
 ghost use Rattle.std.specs.Prelude.{◌≡◌, true, length, option_map, IfOk};
 ghost use Rattle.dimse.specs.Command.{needed, two_bytes, command_value};
 ghost use Rattle.dimse.specs.Reading as spelling;
@@ -11,8 +11,8 @@ use byteorder::{ByteOrder, LittleEndian};
 use element::Uid;
 use std::marker::Model;
 
-/// The elements of a valid command set after Command Group Length (0000,0000) (PS3.7 section 6.3.1). It
-/// borrows their bytes.
+/// The elements of a valid command set after Command Group Length (0000,0000) (PS3.7 section
+/// 6.3.1), which borrow from its bytes.
 #[derive(Drop)]
 pub struct CommandSet<'a> {
     elements: &'a [u8],
@@ -30,8 +30,8 @@ impl<'a> Model for CommandSet<'a> {
     ghost invariant = { λ s. elements_of s.elements.now ≡ Some (unwrap_or (elements_of s.elements.now) []) };
 }
 
-/// Returns whether the element is Command Group Length (0000,0000) and its value is the number of bytes
-/// after it.
+/// Returns whether an element with this `number` and value `count` is Command Group Length
+/// (0000,0000) and counts the bytes of `elements`, which follow it.
 fn counts(number: u16, count: &[u8], elements: &[u8]) -> bool
     ensures { result ≡ spelling.counts (record { number = number; value = count.now }) (length elements.now) }
 {
@@ -39,9 +39,9 @@ fn counts(number: u16, count: &[u8], elements: &[u8]) -> bool
 }
 
 impl<'a> CommandSet<'a> {
-    /// Returns the command set in these bytes, or `None` if they do not begin with a right Command
-    /// Group Length, or are not whole elements of group 0000 with even lengths and strictly ascending
-    /// tags.
+    /// Returns the command set in these bytes, or `None` if they do not begin with a correct
+    /// Command Group Length, or are not whole elements of group 0000 with even lengths and strictly
+    /// ascending tags.
     #[tactic(auto, unfolding(crate::specs::Reading::set_of))]
     pub fn read(bytes: &'a [u8]) -> Option<CommandSet<'a>>
         ensures { result ≡ set_of bytes.now }
@@ -62,8 +62,8 @@ impl<'a> CommandSet<'a> {
         value_in(self.elements, number)
     }
 
-    /// Returns the UID in the element with this element number, or `BadCommand` if it is missing or not
-    /// a valid UID.
+    /// Returns the UID in the element with this element number. Fails with `BadCommand` if it is
+    /// missing or not a valid UID.
     pub fn uid(&self, number: u16) -> Result<Uid, DimseFault>
         ensures value { result ≡ needed uid_of (command_value number self.now) }
         ensures is_uid { IfOk result (λ u. is_uid u ≡ true) }
@@ -72,8 +72,8 @@ impl<'a> CommandSet<'a> {
         Uid::read(value).ok_or(DimseFault::BadCommand)
     }
 
-    /// Returns the value of the element with this element number as a number of two bytes, or
-    /// `BadCommand` if it is missing or has not two bytes.
+    /// Returns the two-byte number in the element with this element number. Fails with `BadCommand`
+    /// if it is missing or does not have two bytes.
     pub fn number(&self, number: u16) -> Result<u16, DimseFault>
         ensures { result ≡ needed two_bytes (command_value number self.now) }
     {

@@ -1,11 +1,11 @@
-//! The stage of a DIMSE message.
+//! The part of a DIMSE message that is received next.
 
-/// Which part of a DIMSE message the next fragment belongs to.
+/// The part of a DIMSE message to which the next fragment belongs.
 #[derive(Clone, Copy, Debug, PartialEq, Eq)]
 pub enum Stage {
-    /// The start of a command set: no message is unfinished.
+    /// The start of a command set; no message is unfinished.
     Between,
-    /// The command set, of which at least one fragment has started.
+    /// The command set, of which at least one fragment was started.
     Command,
     /// The data set; the command set is complete.
     Set,

@@ -4,12 +4,12 @@ use Rattle.std.specs.Prelude.{ℕ, List, [], ◌∷◌, Bool, nat_eq, codes, if�
 use Rattle.std.specs.List.{list_any}
 use Rattle.std.specs.Cmp.Lexicographic.{pointwise}
 use Rattle.element.specs.declared.kinds.Kind.{Kind}
-use Rattle.element.specs.declared.kinds.Kind.TheVariants.{Words, Longs, Doubles, Title, Code, Date, Time, Age, Integer, Decimal, Identifier, Free}
+use Rattle.element.specs.declared.kinds.Kind.TheVariants.{Words, Longs, Duplicates, Title, Code, Date, Time, Age, Integer, Decimal, Identifier, Free}
 
 abbrev pub is_one_of : List (List ℕ) → List ℕ → Bool
 is_one_of names vr = list_any (pointwise nat_eq vr) names
 
--- the group of a VR that is none of the binary ones
+-- the group of a VR that is not binary
 abbrev pub kind_of_text : List ℕ → Kind
 kind_of_text vr =
     if pointwise nat_eq vr (codes "AE") then Title
@@ -29,8 +29,8 @@ is_words vr = is_one_of (codes "US" ∷ codes "SS" ∷ codes "OW" ∷ []) vr
 abbrev pub is_longs : List ℕ → Bool
 is_longs vr = is_one_of (codes "UL" ∷ codes "SL" ∷ codes "FL" ∷ codes "AT" ∷ codes "OL" ∷ codes "OF" ∷ []) vr
 
-abbrev pub is_doubles : List ℕ → Bool
-is_doubles vr = is_one_of (codes "FD" ∷ codes "SV" ∷ codes "UV" ∷ codes "OD" ∷ codes "OV" ∷ []) vr
+abbrev pub is_duplicates : List ℕ → Bool
+is_duplicates vr = is_one_of (codes "FD" ∷ codes "SV" ∷ codes "UV" ∷ codes "OD" ∷ codes "OV" ∷ []) vr
 
 abbrev pub kind_of : List ℕ → Kind
-kind_of vr = if is_words vr then Words else (if is_longs vr then Longs else (if is_doubles vr then Doubles else kind_of_text vr))
+kind_of vr = if is_words vr then Words else (if is_longs vr then Longs else (if is_duplicates vr then Duplicates else kind_of_text vr))

@@ -4,6 +4,7 @@ use Rattle.std.specs.List.{find}
 use Rattle.element.specs.declared.rule.Rule.{Rule}
 use Rattle.element.specs.declared.rule.Rule.TheVariants.{BadVr, OddLength, Order, BadGroup, UndefinedLength, UnexpectedTag, DelimiterLength, Overrun, TooDeep, TooLong, Truncated, KeptTooLong}
 
+-- the number of a rule
 abbrev pub rule_number : Rule → ℕ
 rule_number BadVr = 10
 rule_number OddLength = 11
@@ -18,6 +19,7 @@ rule_number TooLong = 19
 rule_number Truncated = 20
 rule_number KeptTooLong = 21
 
+-- the name of a rule
 abbrev pub text_of_rule : Rule → List ℕ
 text_of_rule BadVr = codes "BadVr"
 text_of_rule OddLength = codes "OddLength"
@@ -32,9 +34,11 @@ text_of_rule TooLong = codes "TooLong"
 text_of_rule Truncated = codes "Truncated"
 text_of_rule KeptTooLong = codes "KeptTooLong"
 
+-- the rules of a data set, in the order of their numbers
 abbrev pub all_rules : List Rule
 all_rules = BadVr ∷ OddLength ∷ Order ∷ BadGroup ∷ UndefinedLength ∷ UnexpectedTag ∷ DelimiterLength ∷ Overrun ∷ TooDeep ∷ TooLong ∷ Truncated ∷ KeptTooLong ∷ []
 
+-- whether a rule has this number
 abbrev pub has_number : ℕ → Rule → Bool
 has_number n rule = nat_eq (rule_number rule) n
 
@@ -42,7 +46,7 @@ has_number n rule = nat_eq (rule_number rule) n
 abbrev pub rule_of : ℕ → Option Rule
 rule_of n = find (has_number n) all_rules
 
--- the name of a rule, and `Unknown` where there is none
+-- the name of a rule, or `Unknown` if there is none
 abbrev pub text_or_unknown : Option Rule → List ℕ
 text_or_unknown None = codes "Unknown"
 text_or_unknown (Some rule) = text_of_rule rule

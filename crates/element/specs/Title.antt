@@ -5,6 +5,7 @@ use Rattle.element.specs.declared.title.AeTitle.{AeTitle}
 use Rattle.element.specs.Padding.{is_space, without_leading, without_trailing}
 
 -- the title without leading and trailing spaces, which are not significant
+-- e.g. title_text (codes " SCANNER1  ") ≡ codes "SCANNER1"
 abbrev pub title_text : List ℕ → List ℕ
 title_text bytes = without_trailing is_space (without_leading is_space bytes)
 

@@ -3,7 +3,7 @@
 use Rattle.std.specs.Prelude.{ℕ, ◌%◌, Bool, true, false, not, ◌&&◌, ◌||◌, List, [], ◌∷◌, length, Option, Some, None, nat_eq, nat_le, codes, if◌then◌else◌}
 use Rattle.std.specs.List.{list_all, slice_split}
 use Rattle.element.specs.declared.kinds.Kind.{Kind}
-use Rattle.element.specs.declared.kinds.Kind.TheVariants.{Words, Longs, Doubles, Title, Code, Date, Time, Age, Integer, Decimal, Identifier, Free}
+use Rattle.element.specs.declared.kinds.Kind.TheVariants.{Words, Longs, Duplicates, Title, Code, Date, Time, Age, Integer, Decimal, Identifier, Free}
 use Rattle.element.specs.declared.parts.PartRule.{PartRule}
 use Rattle.element.specs.declared.parts.PartRule.TheVariants.{Size, Longest, Characters, Form}
 use Rattle.element.specs.declared.values.ValueFault.{ValueFault}
@@ -12,7 +12,7 @@ use Rattle.element.specs.Padding.{is_empty}
 use Rattle.element.specs.Title.{title_text}
 use Rattle.element.specs.Kinds.{kind_of}
 
--- characters
+-- ---- characters
 
 abbrev pub is_digit : ℕ → Bool
 is_digit c = nat_le 48 c && nat_le c 57
@@ -43,7 +43,7 @@ abbrev pub is_age : List ℕ → Bool
 is_age (a ∷ b ∷ c ∷ unit ∷ []) = is_digit a && is_digit b && is_digit c && is_unit unit
 is_age _ = false
 
--- the rules for a part, a single value
+-- ---- the rules for a part, a single value
 
 abbrev pub has_size : Kind → List ℕ → Bool
 has_size Date part = nat_eq (length part) 8
@@ -83,7 +83,7 @@ obeys Longest kind part = is_empty part || is_short_enough kind part
 obeys Characters kind part = is_empty part || has_characters kind part
 obeys Form kind part = is_empty part || has_form kind part
 
--- a value field and its parts
+-- ---- a value field and its parts
 
 abbrev pub is_backslash : ℕ → Bool
 is_backslash c = nat_eq c 92
@@ -108,7 +108,7 @@ part_text _ part = title_text part
 abbrev pub parts_obey : PartRule → Kind → List ℕ → Bool
 parts_obey rule Words value = true
 parts_obey rule Longs value = true
-parts_obey rule Doubles value = true
+parts_obey rule Duplicates value = true
 parts_obey rule Free value = true
 parts_obey rule kind value = list_all (λ part. obeys rule kind (part_text kind part)) (slice_split is_backslash (content kind value))
 
@@ -116,7 +116,7 @@ parts_obey rule kind value = list_all (λ part. obeys rule kind (part_text kind 
 abbrev pub is_whole_words : Kind → List ℕ → Bool
 is_whole_words Words value = nat_eq (length value % 2) 0
 is_whole_words Longs value = nat_eq (length value % 4) 0
-is_whole_words Doubles value = nat_eq (length value % 8) 0
+is_whole_words Duplicates value = nat_eq (length value % 8) 0
 is_whole_words _ value = true
 
 -- the fault of a value field: the first rule that any of its parts breaks

@@ -2,6 +2,7 @@
 use Rattle.std.specs.Prelude.{◌≡◌, ℕ, Bool, true, false, not, ◌&&◌, ◌||◌, List, length, get_or, nat_eq, nat_le, Option, Some, None, if◌then◌else◌}
 
 -- a letter from A to Z
+-- e.g. is_capital 65 ≡ true; is_capital 97 ≡ false
 abbrev pub is_capital : ℕ → Bool
 is_capital c = nat_le 65 c && nat_le c 90
 
@@ -16,6 +17,7 @@ IsVrOrNone (Some letters) = IsVr letters × (length letters ≡ 2)
 
 -- the VRs with a length of two bytes in Explicit (PS3.5 section 7.1.2): AE AS AT, CS, DA DS DT, FL FD, IS,
 -- LO LT, PN, SH SL SS ST, TM, UI UL US; every other one has a length of four bytes
+-- e.g. is_short 85 73 ≡ true; is_short 79 66 ≡ false
 unfoldable pub is_short : ℕ → ℕ → Bool
 is_short a b =
     if nat_eq a 65 then (nat_eq b 69 || nat_eq b 83 || nat_eq b 84)
@@ -30,6 +32,8 @@ is_short a b =
     else (if nat_eq a 85 then (nat_eq b 73 || nat_eq b 76 || nat_eq b 83)
     else false)))))))))
 
+-- whether a VR of these two letters has a length field of two bytes in Explicit (PS3.5 7.1.2)
+-- e.g. is_short_vr (codes "UI") ≡ true; is_short_vr (codes "SQ") ≡ false
 abbrev pub is_short_vr : List ℕ → Bool
 is_short_vr letters = is_short (get_or letters 0 0) (get_or letters 1 0)
 

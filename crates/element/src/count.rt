@@ -1,11 +1,11 @@
-//! A counter for contracts alone; it has no size at run time.
+//! A ghost counter, for use in contracts only; it has no size at run time.
 ghost use Rattle.std.specs.Prelude.{◌≡◌, ℕ, ◌+◌, length};
 
 use crate::history::History;
 use std::marker::Model;
 
-/// A counter of events, an unbounded natural number. It is a ghost value: contracts can name it, the
-/// program cannot read it.
+/// An unbounded count of events. It is a ghost value: contracts can name it, the program cannot
+/// read it.
 #[derive(Drop)]
 pub struct Count {
     events: History<()>,

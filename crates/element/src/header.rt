@@ -5,7 +5,7 @@ use crate::{Tag, Vr};
 #[derive(Clone, Copy, Debug, PartialEq, Eq)]
 pub struct Header {
     pub tag: Tag,
-    /// The VR; `None` in Implicit VR Little Endian and for group FFFE.
+    /// The VR; `None` in Implicit VR Little Endian and in group FFFE.
     pub vr: Option<Vr>,
     /// The length of the value that follows, in bytes; FFFFFFFFH is undefined length.
     pub length: u32,

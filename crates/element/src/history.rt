@@ -1,11 +1,11 @@
-//! Lists of values for contracts alone; they have no size at run time.
+//! Ghost lists of values, for use in contracts only; they have no size at run time.
 ghost use Rattle.std.specs.Prelude.{◌≡◌, List, [], ◌∷◌, ◌++◌};
 ghost use Rattle.std.specs.Borrow.{ftrue};
 
 use std::marker::{Model, PhantomData};
 
-/// Values of type `T` so far, each as contracts saw it, an unbounded list. It is a ghost value: contracts
-/// can name it, the program cannot read it.
+/// An unbounded list of values of type `T`, each as contracts saw it when it was appended. It is a
+/// ghost value: contracts can name it, the program cannot read it.
 #[derive(Drop)]
 pub struct History<T> {
     marker: PhantomData<T>,

@@ -1,6 +1,6 @@
 //! Reads and writes that are repeated while a signal interrupts them.
 //!
-//! The contracts are those of std for the single call; in addition no error is `Interrupted`.
+//! Their contracts are those of std for a single call; in addition no error is `Interrupted`.
 ghost use Rattle.std.specs.Prelude.{◌≡◌, ◌≢◌, ◌<◌, ◌≤◌, ◌↔◌, length, take, IsTrue, IfOk, IfErr, OnErr, IsErrAnd};
 ghost use Rattle.std.specs.Io.KnownBytes.{Appends, Consumes, IsAtEnd, Keeps};
 ghost use Rattle.std.specs.IoError.{error_kind};
@@ -16,11 +16,11 @@ fn is_interrupted(call: &io::Result<usize>) -> bool
 }
 
 /// Calls `read` once to fill the front of the buffer `room`, and repeats the call while a signal
-/// interrupts it. Returns the number of bytes read: 0 only at the end of the input or for an empty
-/// buffer.
+/// interrupts it. Returns the number of bytes read, which is 0 only at the end of the input or for
+/// an empty buffer.
 ///
-/// Fails as the reader does, and with `Other` after 2^64 - 1 interruptions in a row, the bound of the
-/// loop. No byte is consumed by a call that fails.
+/// Fails as the reader does, and with `Other` after 2^64 - 1 interruptions in a row, the bound of
+/// the loop. A call that fails consumes no byte.
 pub fn read_retrying<R: Read>(reader: &mut R, room: &mut [u8]) -> io::Result<usize>
     ensures size { length room.new ≡ length room.old }
     ensures within { IfOk result (λ n. n ≤ length room.new) }
@@ -38,11 +38,11 @@ pub fn read_retrying<R: Read>(reader: &mut R, room: &mut [u8]) -> io::Result<usi
     Err(io::Error::from(ErrorKind::Other))
 }
 
-/// Calls `write` once, and repeats the call while a signal interrupts it. Returns the number of bytes
-/// written, which may be fewer than all.
+/// Calls `write` once, and repeats the call while a signal interrupts it. Returns the number of
+/// bytes written, which may be fewer than all.
 ///
-/// Fails as the writer does, and with `Other` after 2^64 - 1 interruptions in a row, the bound of the
-/// loop. No byte is written by a call that fails.
+/// Fails as the writer does, and with `Other` after 2^64 - 1 interruptions in a row, the bound of
+/// the loop. A call that fails writes no byte.
 pub fn write_retrying<W: Write>(writer: &mut W, bytes: &[u8]) -> io::Result<usize>
     ensures within { IfOk result (λ n. n ≤ length bytes.now) }
     ensures appends { IfOk result (λ n. Appends (W.contents writer.old) (W.contents writer.new) (take n bytes.now)) }

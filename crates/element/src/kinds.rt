@@ -1,4 +1,4 @@
-//! The VRs, grouped by the rules that their values are checked by.
+//! Groups the VRs by the rules for their values.
 ghost use Rattle.std.specs.Prelude.{◌≡◌, nat_eq};
 ghost use Rattle.std.specs.List.{list_any};
 ghost use Rattle.std.specs.Cmp.Lexicographic.{pointwise};
@@ -14,7 +14,7 @@ pub(crate) enum Kind {
     /// Binary values of four bytes each: UL, SL, FL, AT, OL, OF.
     Longs,
     /// Binary values of eight bytes each: FD, SV, UV, OD, OV.
-    Doubles,
+    Duplicates,
     Title,
     Code,
     Date,
@@ -23,7 +23,7 @@ pub(crate) enum Kind {
     Integer,
     Decimal,
     Identifier,
-    /// Every other VR: its values are not checked.
+    /// Every other VR. Its values are not checked.
     Free,
 }
 
@@ -33,7 +33,7 @@ fn is_one_of(vr: Vr, names: &[Vr]) -> bool
     names.iter().any(|name| vr == *name)
 }
 
-/// Returns the group of a VR that is none of the binary ones.
+/// Returns the group of a VR other than those of `Words`, `Longs` and `Duplicates`.
 fn kind_of_text(vr: Vr) -> Kind
     ensures { result ≡ rules.kind_of_text vr }
 {
@@ -73,8 +73,8 @@ fn is_longs(vr: Vr) -> bool
 }
 
 /// Returns whether a VR has binary values of eight bytes each.
-fn is_doubles(vr: Vr) -> bool
-    ensures { result ≡ rules.is_doubles vr }
+fn is_duplicates(vr: Vr) -> bool
+    ensures { result ≡ rules.is_duplicates vr }
 {
     is_one_of(vr, &[Vr::FD, Vr::SV, Vr::UV, Vr::OD, Vr::OV])
 }
@@ -87,8 +87,8 @@ pub(crate) fn kind_of(vr: Vr) -> Kind
         Kind::Words
     } else if is_longs(vr) {
         Kind::Longs
-    } else if is_doubles(vr) {
-        Kind::Doubles
+    } else if is_duplicates(vr) {
+        Kind::Duplicates
     } else {
         kind_of_text(vr)
     }

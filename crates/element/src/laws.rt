@@ -1,4 +1,5 @@
-//! Lemmas on the constants of `Tag` and `Vr`, each stated as the contract of a function without effect.
+//! Lemmas on the constants of `Tag` and `Vr`, each stated as the contract of a function without
+//! effect.
 ghost use Rattle.std.specs.Prelude.{◌≡◌, [], ◌∷◌, codes};
 ghost use Rattle.element.specs.Header.{item_end_tag, item_tag, sequence_end_tag};
 
@@ -25,8 +26,8 @@ pub fn date_vrs() -> [Vr; 5]
     [Vr::AS, Vr::DA, Vr::DS, Vr::IS, Vr::TM]
 }
 
-/// Returns the constants [`Vr::AT`], FD, FL, SL, SS, SV, UL, US and UV: each has the two letters of its
-/// name.
+/// Returns the constants [`Vr::AT`], FD, FL, SL, SS, SV, UL, US and UV: each has the two letters of
+/// its name.
 pub fn number_vrs() -> [Vr; 9]
     ensures { result ≡ codes "AT" ∷ codes "FD" ∷ codes "FL" ∷ codes "SL" ∷ codes "SS" ∷ codes "SV" ∷ codes "UL" ∷ codes "US" ∷ codes "UV" ∷ [] }
 {
@@ -43,7 +44,8 @@ pub fn number_vrs() -> [Vr; 9]
     ]
 }
 
-/// Returns the constants [`Vr::OB`], OD, OF, OL, OV, OW and SQ: each has the two letters of its name.
+/// Returns the constants [`Vr::OB`], OD, OF, OL, OV, OW and SQ: each has the two letters of its
+/// name.
 pub fn other_vrs() -> [Vr; 7]
     ensures { result ≡ codes "OB" ∷ codes "OD" ∷ codes "OF" ∷ codes "OL" ∷ codes "OV" ∷ codes "OW" ∷ codes "SQ" ∷ [] }
 {

@@ -9,7 +9,7 @@ fn is_padding(byte: u8) -> bool
     byte == b' ' || byte == 0
 }
 
-/// Returns the bytes without the spaces and zero bytes at their end (PS3.5 section 6.2).
+/// Returns the bytes without trailing spaces and zero bytes (PS3.5 section 6.2).
 #[tactic(auto, using(crate::proofs::Trimming::trailing_dropped, crate::proofs::Trimming::trailing_kept))]
 pub fn unpadded(bytes: &[u8]) -> &[u8]
     ensures { result.now ≡ spelling.without_trailing spelling.is_padding bytes.now }
@@ -21,8 +21,8 @@ pub fn unpadded(bytes: &[u8]) -> &[u8]
     &bytes[..end]
 }
 
-/// Returns the bytes without the spaces at their end. Zero bytes are kept: text is padded by spaces
-/// alone (PS3.5 section 6.2).
+/// Returns the bytes without trailing spaces. Zero bytes are kept: text is padded by spaces alone
+/// (PS3.5 section 6.2).
 #[tactic(auto, using(crate::proofs::Trimming::trailing_dropped, crate::proofs::Trimming::trailing_kept))]
 pub fn without_trailing_spaces(bytes: &[u8]) -> &[u8]
     ensures { result.now ≡ spelling.without_trailing spelling.is_space bytes.now }
@@ -45,7 +45,7 @@ fn without_leading_spaces(bytes: &[u8]) -> &[u8]
     &bytes[start..]
 }
 
-/// Returns the bytes without the spaces at both ends.
+/// Returns the bytes without leading and trailing spaces.
 pub(crate) fn trimmed(bytes: &[u8]) -> &[u8]
     ensures { result.now ≡ title_text bytes.now }
 {

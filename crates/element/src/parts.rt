@@ -1,12 +1,12 @@
-//! The rules for each single value of an element. The code calls it a part: the bytes between two
-//! backslashes of a value field (PS3.5 section 6.4).
+//! The rules for a single value of an element. The code calls a value between two backslashes of a
+//! value field a part (PS3.5 section 6.4).
 ghost use Rattle.std.specs.Prelude.{◌≡◌};
 ghost use Rattle.std.specs.List.{list_all, slice_split};
 ghost use Rattle.element.specs.Values as rules;
 
 use crate::kinds::Kind;
 
-/// A rule that each single value (part) of a value field is checked by.
+/// A rule for each single value (part) of a value field.
 #[derive(Clone, Copy)]
 pub(crate) enum PartRule {
     /// A date has 8 bytes, an age 4.
@@ -15,7 +15,7 @@ pub(crate) enum PartRule {
     Longest,
     /// The value has only characters that its VR allows.
     Characters,
-    /// Each component of a unique identifier is 0 or a number without leading zero.
+    /// Each component of a unique identifier is `0` or a number without leading zero.
     Form,
 }
 

@@ -29,7 +29,8 @@ pub fn read_tag(bytes: &[u8]) -> Tag
     )
 }
 
-/// Returns the size of the header that begins with these bytes, or that they are too few to know it.
+/// Returns the size of the header at the front of `bytes`; `Need::More` if they are too few to
+/// determine it, `Need::BadVr` if the VR is invalid.
 #[tactic(auto, unfolding(crate::specs::Header::need))]
 pub fn need(syntax: Syntax, bytes: &[u8]) -> Need
     ensures { result ≡ spelling.need syntax bytes.now }
@@ -66,7 +67,7 @@ fn plain_header(tag: Tag, bytes: &[u8]) -> Header
     }
 }
 
-/// Reads a length of two bytes, bytes 6 and 7, which follows the VR.
+/// Reads a length of two bytes, bytes 6 and 7, which follow the VR.
 fn short_length(bytes: &[u8]) -> u32
     requires { 8 ≤ length bytes.now }
     ensures { result ≡ spelling.number_at bytes.now 6 }
@@ -74,7 +75,7 @@ fn short_length(bytes: &[u8]) -> u32
     u32::from(LittleEndian::read_u16(&bytes[6..]))
 }
 
-/// Reads a length of four bytes, bytes 8 to 11, which follows the VR and two reserved bytes.
+/// Reads a length of four bytes, bytes 8 to 11, which follow the VR and two reserved bytes.
 fn long_length(bytes: &[u8]) -> u32
     requires { 12 ≤ length bytes.now }
     ensures { result ≡ spelling.long_number_at bytes.now 8 }
@@ -101,9 +102,9 @@ fn front_header(syntax: Syntax, bytes: &[u8]) -> Header
     Header { tag, vr, length }
 }
 
-/// Reads the header at the front of the bytes (PS3.5 sections 7.1.2, 7.1.3 and 7.5). The bytes have to
-/// contain all of it: `need` returns a size, and there are at least so many bytes. Reserved bytes are
-/// not checked.
+/// Reads the header at the front of `bytes` (PS3.5 sections 7.1.2, 7.1.3 and 7.5). Requires that
+/// `need` returns a size and that `bytes` has at least that many bytes. Reserved bytes are not
+/// checked.
 #[tactic(auto, using(crate::proofs::Headers::front_spells, crate::proofs::Headers::spelled_need, crate::proofs::Headers::spelled_header))]
 pub fn read_header(syntax: Syntax, bytes: &[u8]) -> Header
     requires { IsTrue (spelling.is_whole syntax bytes.now) }

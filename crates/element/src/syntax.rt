@@ -1,11 +1,11 @@
-//! The transfer syntaxes.
+//! The two native transfer syntaxes.
 
-/// A transfer syntax: how the elements of a data set are laid out (PS3.5 sections A.1 and A.2). Both
-/// are little endian.
+/// A native transfer syntax: the layout of the element headers of a data set (PS3.5 sections A.1
+/// and A.2). Both are little endian.
 #[derive(Clone, Copy, Debug, PartialEq, Eq)]
 pub enum Syntax {
-    /// Implicit VR Little Endian: a header has no VR.
+    /// Implicit VR Little Endian: headers have no VR.
     Implicit,
-    /// Explicit VR Little Endian: a header names its VR.
+    /// Explicit VR Little Endian: headers have a VR.
     Explicit,
 }

@@ -17,15 +17,16 @@ impl Tag {
     /// Sequence Delimitation.
     pub const SEQUENCE_DELIMITATION: Tag = Tag(0xfffe, 0xe0dd);
 
-    /// Returns the tag as one number, with the group in its upper 16 bits. Numbers have the order of
-    /// tags.
+    /// Returns the tag as a number with the group in its upper 16 bits. Numbers are ordered as tags
+    /// are.
     pub fn number(self) -> u32
         ensures { result ≡ spelling.number self }
     {
         u32::from(self.0) * 65536 + u32::from(self.1)
     }
 
-    /// Returns whether the tag is of group FFFE, whose headers have no VR in either syntax.
+    /// Returns whether the tag is in group FFFE (items and delimitations), whose headers never have
+    /// a VR.
     pub fn is_marker(self) -> bool
         ensures { result ≡ spelling.is_marker self }
     {

@@ -1,18 +1,18 @@
-//! Lists of bytes for contracts alone; they have no size at run time.
+//! Ghost lists of bytes, for use in contracts only; they have no size at run time.
 ghost use Rattle.std.specs.Prelude.{◌≡◌, [], ◌++◌};
 
 use crate::history::History;
 
-/// The bytes that went through a device so far, an unbounded list. It is a ghost value: contracts can
-/// name it, the program cannot read it. Only [`Traced`](crate::traced::Traced) and
-/// [`TracedStream`](crate::traced_stream::TracedStream) make one and add to it.
+/// An unbounded list of the bytes that were read from a device or written to it. It is a ghost
+/// value: contracts can name it, the program cannot read it. Only [`Traced`](crate::traced::Traced)
+/// and [`TracedStream`](crate::traced_stream::TracedStream) create traces and append to them.
 #[derive(Drop)]
 pub struct Trace {
     bytes: History<u8>,
 }
 
 impl Trace {
-    /// Creates a trace of no bytes.
+    /// Creates an empty trace.
     pub(crate) fn new() -> Trace
         ensures { result.bytes ≡ [] }
     {
@@ -21,7 +21,7 @@ impl Trace {
         }
     }
 
-    /// Appends these bytes.
+    /// Appends all of `bytes`.
     pub(crate) fn append(&mut self, bytes: &[u8])
         ensures { self.new.bytes ≡ self.old.bytes ++ bytes.now }
     {

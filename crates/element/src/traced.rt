@@ -1,10 +1,10 @@
 //! A wrapper of a writer that records, for contracts, the bytes that were written.
 //!
-//! A file or a socket of std has no contract that names its bytes; contracts name the trace instead, so
-//! it has to be right. Each method is generic over the writer and ensures two things of the same bytes:
-//! that the writer took them, as far as the writer's own contract shows its bytes, and that they were
-//! appended to the trace. A body that traces other bytes than it writes does not prove. No method
-//! returns a reference to the writer, so nothing is written past the trace.
+//! Files and sockets of std have no contract that names their bytes; contracts name the trace
+//! instead, so it must be right. Each method is generic over the writer and ensures two things of
+//! the same bytes: the writer accepted them, as far as the writer's own contract shows, and they
+//! were appended to the trace. A body that traces other bytes than it writes is not provable. No
+//! method returns a reference to the writer, so no write bypasses the trace.
 ghost use Rattle.std.specs.Prelude.{◌≡◌, [], ◌++◌, OnOk, OnErr};
 ghost use Rattle.std.specs.Io.KnownBytes.{Appends};
 
@@ -13,7 +13,7 @@ use std::fs::OpenFile;
 use std::io;
 use std::io::Write;
 
-/// A writer, with the trace of the bytes of all its calls that succeeded.
+/// A writer with a trace of the bytes written by its successful calls.
 #[derive(Drop)]
 pub struct Traced<D> {
     device: D,
@@ -41,8 +41,8 @@ impl<D> Traced<D> {
 }
 
 impl<W: Write> Traced<W> {
-    /// Writes all of the bytes and appends them to the trace. A call that fails leaves the trace as it
-    /// is, though some bytes may have been written. Fails as the writer does.
+    /// Writes all of `bytes` and appends them to the trace. Fails as the writer does; then the
+    /// trace is unchanged, though some bytes may have been written.
     pub fn write_all(&mut self, bytes: &[u8]) -> io::Result<()>
         ensures written { OnOk result (Appends (W.contents self.old.device) (W.contents self.new.device) bytes.now) }
         ensures traced { OnOk result (self.new.trace.bytes ≡ self.old.trace.bytes ++ bytes.now) }
@@ -55,7 +55,7 @@ impl<W: Write> Traced<W> {
 }
 
 impl<F: OpenFile> Traced<F> {
-    /// Flushes the file's data and metadata to the disk, as `File::sync_all` does. Fails as that does.
+    /// Flushes the file's data and metadata to the disk. Fails as `File::sync_all` does.
     pub fn sync_all(&self) -> io::Result<()> {
         self.device.sync_all()
     }

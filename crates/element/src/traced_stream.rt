@@ -1,5 +1,5 @@
-//! A wrapper of a device, such as a socket, that records for contracts the bytes read from it and the
-//! bytes written to it. See [`traced`](crate::traced) for why.
+//! A wrapper of a device, such as a socket, that records for contracts the bytes read from it and
+//! the bytes written to it. See [`traced`](crate::traced) for why.
 ghost use Rattle.std.specs.Prelude.{◌≡◌, ◌≢◌, [], ◌++◌, take, IfOk, IfErr, OnErr};
 ghost use Rattle.std.specs.Io.{ReadsAtMost, WritesAtMost};
 ghost use Rattle.std.specs.Io.KnownBytes.{ReadConsumes, WriteAppends};
@@ -10,8 +10,8 @@ use crate::trace::Trace;
 use std::io;
 use std::io::{ErrorKind, Read, Write};
 
-/// A device with two traces: the bytes read from it and the bytes written to it so far. No method
-/// returns a reference to the device, so no byte goes past the traces.
+/// A device with two traces: the bytes read from it and the bytes written to it. No method returns
+/// a reference to the device, so no byte bypasses the traces.
 #[derive(Drop)]
 pub struct TracedStream<D> {
     device: D,
@@ -45,8 +45,9 @@ impl<D: Drop> TracedStream<D> {
 }
 
 impl<W: Write> TracedStream<W> {
-    /// Writes some of the bytes and appends those to the trace. Returns their number. The call is
-    /// repeated while a signal interrupts it. Fails as the device does; nothing is traced then.
+    /// Writes some of `bytes`, appends those to the trace of written bytes and returns their
+    /// number. Repeats the call while a signal interrupts it. Fails as the device does; then the
+    /// traces are unchanged.
     pub fn write(&mut self, bytes: &[u8]) -> io::Result<usize>
         ensures bound { WritesAtMost result bytes.now }
         ensures written { WriteAppends (W.contents self.old.device) (W.contents self.new.device) result bytes.now }
@@ -62,9 +63,9 @@ impl<W: Write> TracedStream<W> {
 }
 
 impl<R: Read> TracedStream<R> {
-    /// Reads bytes into the front of `room` and appends them to the trace. Returns their number, 0 at
-    /// the end of the input. The call is repeated while a signal interrupts it. Fails as the device
-    /// does; nothing is traced then.
+    /// Reads bytes into the front of `room`, appends them to the trace of read bytes and returns
+    /// their number, 0 at the end of the input. Repeats the call while a signal interrupts it.
+    /// Fails as the device does; then the traces are unchanged.
     pub fn read(&mut self, room: &mut [u8]) -> io::Result<usize>
         ensures bound { ReadsAtMost result room.new }
         ensures consumed { ReadConsumes (R.remaining self.old.device) (R.remaining self.new.device) result room.new }

@@ -47,8 +47,8 @@ fn is_uid(text: &[u8]) -> bool
 }
 
 impl Uid {
-    /// Reads a unique identifier from a value or from a field of a PDU: drops the zero bytes and
-    /// spaces at its end, and returns `None` if the rest is not 1 to 64 digits and dots.
+    /// Reads a unique identifier from a value or from a field of a PDU. Drops the zero bytes and
+    /// spaces at its end; returns `None` if the rest is not 1 to 64 digits and dots.
     pub fn read(bytes: &[u8]) -> Option<Uid>
         ensures { result ≡ uid_of bytes.now }
     {
@@ -57,7 +57,7 @@ impl Uid {
             return None;
         }
         let mut text = ArrayVec::new();
-        // It fits, as an identifier has 64 characters at most.
+        // This succeeds: an identifier has at most 64 characters.
         let _ = text.try_extend_from_slice(rest);
         Some(Uid { text })
     }
@@ -69,7 +69,7 @@ impl Uid {
         self.text.as_slice()
     }
 
-    /// Returns the number of digits and dots, 1 to 64, padding not counted.
+    /// Returns the number of digits and dots without padding, 1 to 64.
     pub fn len(&self) -> usize
         ensures count { result ≡ length self.now }
         ensures known { spelling.is_uid self.now ≡ true }
@@ -83,7 +83,7 @@ impl Uid {
     {
         let own = &self.text;
         let mut text = ArrayVec::new();
-        // It fits, as both have the same capacity.
+        // This succeeds: both vectors have the same capacity.
         let _ = text.try_extend_from_slice(own.as_slice());
         Uid { text }
     }

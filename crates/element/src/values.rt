@@ -9,14 +9,14 @@ use crate::padding::trimmed;
 use crate::parts::{PartRule, obeys};
 use std::fmt;
 
-/// The rule of its VR that a value breaks. Of a value field with several values, separated by
-/// backslash, it is the fault of any one of them.
+/// The rule of its VR that a value breaks. In a value field of several values, separated by
+/// backslash, at least one value breaks the rule.
 #[derive(Clone, Copy, Debug, PartialEq, Eq)]
 pub enum ValueFault {
     /// 1: a value has a character that its VR does not allow.
     BadCharacter,
-    /// 2: the length of binary values is no multiple of the size of one, or a date (DA) has not 8
-    /// bytes, or an age (AS) not 4.
+    /// 2: the length of a binary value field is not a multiple of its value size, or a date (DA)
+    /// does not have 8 bytes, or an age (AS) 4.
     WrongSize,
     /// 3: a value is longer than its VR allows.
     TooLongValue,
@@ -37,7 +37,7 @@ impl ValueFault {
         }
     }
 
-    /// Returns the name of the fault, as it is printed: that of the variant.
+    /// Returns the printed name of the fault, which is that of the variant.
     pub fn name(self) -> &'static str
         ensures { result.now ≡ rules.fault_name self }
     {
@@ -96,7 +96,7 @@ fn parts_obey(rule: PartRule, kind: Kind, value: &[u8]) -> bool
     ensures { result ≡ rules.parts_obey rule kind value.now }
 {
     match kind {
-        Kind::Words | Kind::Longs | Kind::Doubles | Kind::Free => true,
+        Kind::Words | Kind::Longs | Kind::Duplicates | Kind::Free => true,
         _ => each_part_obeys(rule, kind, content(kind, value)),
     }
 }
@@ -107,16 +107,17 @@ fn is_whole_words(kind: Kind, value: &[u8]) -> bool
     match kind {
         Kind::Words => value.len() % 2 == 0,
         Kind::Longs => value.len() % 4 == 0,
-        Kind::Doubles => value.len() % 8 == 0,
+        Kind::Duplicates => value.len() % 8 == 0,
         _ => true,
     }
 }
 
 /// Checks the value field of an element against its VR (PS3.5 section 6.2).
 ///
-/// Text is split at backslash into single values. Spaces at both ends of each are ignored, except in a
-/// unique identifier, where one zero byte at the end of the field is ignored instead. An empty value is
-/// valid, and so is every value of a VR that has no rule here (LO, PN, OB and others).
+/// Text is split at each backslash into single values. Spaces at both ends of each value are
+/// ignored, except in a unique identifier, where one zero byte at the end of the field is ignored
+/// instead. An empty value is valid, as is every value of a VR without a rule here (LO, PN, OB and
+/// others).
 ///
 /// The error is the first of these that any of the values has: `WrongSize`, `TooLongValue`,
 /// `BadCharacter`, `BadUid`.

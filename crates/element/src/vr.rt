@@ -139,7 +139,7 @@ impl Vr {
         }
     }
 
-    /// Returns the two letters of the VR.
+    /// Returns the two letters of this VR.
     pub fn letters(self) -> [u8; 2]
         ensures same { result ≡ self }
         ensures capital { spelling.IsVr self }
@@ -148,8 +148,8 @@ impl Vr {
         letters
     }
 
-    /// Returns whether a header in Explicit VR Little Endian has two reserved bytes and a length of
-    /// four bytes (PS3.5 section 7.1.2).
+    /// Returns whether headers with this VR in Explicit VR Little Endian have two reserved bytes
+    /// and a length field of four bytes (PS3.5 section 7.1.2).
     pub fn is_long(self) -> bool
         ensures { result ≡ spelling.is_long self }
     {

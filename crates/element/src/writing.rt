@@ -10,8 +10,8 @@ use crate::{Header, Syntax, Tag, Vr};
 use byteorder::{ByteOrder, LittleEndian};
 
 /// Returns whether a header can be written in this syntax. It must have a VR in Explicit VR Little
-/// Endian outside group FFFE, and must not have one otherwise; its length is at most 65535 where the VR
-/// has a length field of two bytes.
+/// Endian outside group FFFE, and must not have a VR otherwise; its length is at most 65535 if its
+/// VR has a length field of two bytes.
 pub fn header_fits(syntax: Syntax, header: &Header) -> bool
     ensures { result ≡ spelling.header_fits syntax header.now }
 {
@@ -85,8 +85,7 @@ fn write_rest(header: &Header, room: &mut [u8]) -> usize
 }
 
 /// Writes a header to the front of the buffer `room` and returns its size, 8 or 12 bytes (PS3.5
-/// sections 7.1.2, 7.1.3 and 7.5). Reserved bytes are zero. The bytes of the buffer after the header
-/// stay as they are.
+/// sections 7.1.2, 7.1.3 and 7.5). Reserved bytes are zero. The rest of the buffer is unchanged.
 pub fn write_header(syntax: Syntax, header: &Header, room: &mut [u8; 12]) -> usize
     requires { IsTrue (spelling.header_fits syntax header.now) }
     ensures size { result ≡ length (spelling.header_bytes header.now) }

@@ -2,30 +2,30 @@
 -- dropped is this product's own profile).
 use Rattle.std.specs.Prelude.{◌≡◌, ℕ, Bool, true, false, List, [], ◌∷◌, Option, Some, None}
 use Rattle.engine.specs.Requested.{Requested, request_record}
-use Rattle.dimse.specs.Messages.{Begun}
+use Rattle.dimse.specs.Messages.{Started}
 use Rattle.part10.specs.Store.{Shelf, Store}
 use Rattle.engine.specs.Replies.{file_in}
 use Rattle.engine.specs.Fair.{InStore}
 
 -- The filing must have a draft: a C-STORE of the SOP class of its presentation context has started in the association
 -- of this request, `file` are the bytes of its file so far, and no call of the filing has failed in it.
-pub record IsDue (request : Requested) (message : Begun) (failed : Bool) (file : List ℕ) : Type 0 where
+pub record IsDue (request : Requested) (message : Started) (failed : Bool) (file : List ℕ) : Type 0 where
   pub store : InStore request message
   pub unfailed : failed ≡ false
   pub filed : file_in (request_record request) (Some store.context) store.asked store.set ≡ file ∷ []
 
 -- the draft has these bytes, if the contents of the filing are known
-abbrev pub TellsDraft : Option Shelf → List ℕ → Type 0
-TellsDraft None file = Unit {0}
-TellsDraft (Some shelf) file = shelf.draft ≡ file
+abbrev pub ReportsDraft : Option Shelf → List ℕ → Type 0
+ReportsDraft None file = Unit {0}
+ReportsDraft (Some shelf) file = shelf.draft ≡ file
 
 pub record HasDraft (store : Store) (file : List ℕ) : Type 0 where
   pub there : store.has_draft ≡ true
-  pub bytes : TellsDraft store.told file
+  pub bytes : ReportsDraft store.reported file
 
 -- if the filing must have a draft, the association has one (true), with the bytes of the file so far; else it has
 -- none (false)
-pub data IsDraft (request : Requested) (message : Begun) (failed : Bool) (store : Store) : Bool → Type 0 where
+pub data IsDraft (request : Requested) (message : Started) (failed : Bool) (store : Store) : Bool → Type 0 where
   draft_due : {file : List ℕ} → IsDue request message failed file → HasDraft store file → IsDraft request message failed store true
   none_due : ((file : List ℕ) → IsDue request message failed file → ⊥) → IsDraft request message failed store false
 

@@ -1,4 +1,4 @@
--- Example associations for the definitions, each beside one with another result.
+-- Example associations for the definitions, each with one that has another result.
 use Rattle.std.specs.Prelude.{◌≡◌, ℕ, ◌^◌, false, List, [], ◌∷◌, ◌++◌, take, drop, map, None, codes}
 use Rattle.acceptor.specs.declared.state.State.{State}
 use Rattle.acceptor.specs.declared.state.State.TheVariants.{Sta1, Sta2, Sta6, Sta13}
@@ -79,15 +79,15 @@ RecordedEcho =
 abbrev pub AnotherCalledTitle : Type 0
 AnotherCalledTitle = SentBy (entries [] (Bytes other_request ∷ [])) (3 ∷ 0 ∷ 0 ∷ 0 ∷ 0 ∷ 4 ∷ 0 ∷ 1 ∷ 1 ∷ 7 ∷ []) Sta13
 
--- after the first `came` bytes of the recording n bytes are held, data sets not counted
+-- after the first `received` bytes of the recording n bytes are held, data sets not counted
 abbrev pub HeldAfter : ℕ → ℕ → Type 0
-HeldAfter came n =
-    held_before_data (reached rooms settings (Bytes (take came recording) ∷ []) (calm (entries [] (Bytes (take came recording) ∷ []))) false) ≡ n
+HeldAfter received n =
+    held_before_data (reached rooms settings (Bytes (take received recording) ∷ []) (calm (entries [] (Bytes (take received recording) ∷ []))) false) ≡ n
 
 -- the number of held bytes: 24 of the accepted request; 3 more inside the next head; 10 of the command set after
 -- that; in the middle of the request its body so far; and none after the release
-abbrev pub HeldWhileTheEchoComes : Type 0
-HeldWhileTheEchoComes = HeldAfter 170 24 × HeldAfter 173 27 × HeldAfter 192 34 × HeldAfter 100 94 × HeldAfter 260 0
+abbrev pub HeldDuringTheEcho : Type 0
+HeldDuringTheEcho = HeldAfter 170 24 × HeldAfter 173 27 × HeldAfter 192 34 × HeldAfter 100 94 × HeldAfter 260 0
 
 -- A PDU with a C-ECHO and an invalid presentation data value after it: the C-ECHO is answered, and then the
 -- association aborted; the bytes before the invalid head cause no A-ABORT.

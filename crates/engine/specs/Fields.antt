@@ -20,13 +20,15 @@ fields_of a = record { position = position_of a.deframer; kept = kept_of a.provi
 abbrev pub held_in : Fields → ℕ
 held_in f = bytes_held f.position + held_by f.kept
 
+-- the state of the acceptor that an association is in
 abbrev pub state_of : {A C V D : ℕ} → Association A C V D → State
 state_of a = state_in a.provider.phase
 
+-- the settings of an association
 abbrev pub settings_in : {A C V D : ℕ} → Association A C V D → Settings
 settings_in a = settings_of a.provider.config.now
 
--- what the association has as decided last
+-- what the association decided last
 abbrev pub decided_in : {A C V D : ℕ} → Association A C V D → Decision
 decided_in a = a.provider.decided
 

@@ -5,7 +5,7 @@ use Rattle.pdu.specs.Marks.{Mark, frame_kind, frame_body}
 use Rattle.pdu.specs.Spot.{spot}
 use Rattle.pdu.specs.Deframing.{At, SkipsAt}
 use Rattle.engine.specs.Progress.{Progress}
-use Rattle.engine.specs.Reached.{begun_in}
+use Rattle.engine.specs.Reached.{started_in}
 use Rattle.engine.specs.Held.{is_ended}
 use Rattle.engine.specs.Kept.{Kept, Pends, body_in, takes_pdvs_in, takes_body_in}
 use Rattle.part10.specs.Store.{Store}
@@ -33,4 +33,4 @@ pub data StandsAt (q : Position) (kept : Kept) (r : List ℕ) (due : List Mark) 
 -- ended
 pub record ShowsFrame (f : Fields) (store : Store) (p : Progress) (r : List ℕ) : Type 0 where
   pub framed : is_ended p.state ≡ false → StandsAt f.position f.kept r []
-  pub pends : Pends f.kept store p (body_of r) (begun_in (spot r))
+  pub pends : Pends f.kept store p (body_of r) (started_in (spot r))

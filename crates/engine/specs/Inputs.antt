@@ -7,13 +7,16 @@ use Rattle.engine.specs.declared.source.Input.TheVariants as kind
 use Rattle.engine.specs.declared.list_source.ListedInput.{ListedInput}
 use Rattle.engine.specs.declared.list_source.ListedInput.TheVariants as listed
 
+-- an input: received bytes, the close of the transport connection, the expiry of the ARTIM timer, or an abort of the
+-- local user
 pub data Received : Type 0 where
   Bytes : (piece : List ℕ) → Received
   Close : Received
   Expiry : Received
   UserAbort : Received
 
--- the received bytes of all these inputs
+-- the received bytes of these inputs
+-- e.g. stream_of (Bytes (1 ∷ []) ∷ Close ∷ Bytes (2 ∷ []) ∷ []) ≡ 1 ∷ 2 ∷ []
 abbrev pub stream_of : List Received → List ℕ
 stream_of [] = []
 stream_of (Bytes piece ∷ inputs) = piece ++ stream_of inputs
@@ -22,15 +25,19 @@ stream_of (Expiry ∷ inputs) = stream_of inputs
 stream_of (UserAbort ∷ inputs) = stream_of inputs
 
 -- the first input; if there is none, the transport connection is closed
+-- e.g. first_of [] ≡ Close
 abbrev pub first_of : List Received → Received
 first_of [] = Close
 first_of (x ∷ xs) = x
 
+-- the inputs after the first
+-- e.g. others_of [] ≡ []
 abbrev pub others_of : List Received → List Received
 others_of [] = []
 others_of (x ∷ xs) = xs
 
 -- the first n inputs
+-- e.g. first_inputs 2 (Expiry ∷ []) ≡ Expiry ∷ Close ∷ []
 abbrev pub first_inputs : ℕ → List Received → List Received
 first_inputs zero xs = []
 first_inputs (suc n) xs = first_of xs ∷ first_inputs n (others_of xs)
@@ -46,28 +53,28 @@ input_of kind.LocalAbort bytes = UserAbort
 abbrev pub inputs_of : List (Input × List ℕ) → List Received
 inputs_of named = map (λ x. input_of x.0 x.1) named
 
--- the state of a source as contracts see it: the inputs that are still to come and those that it has returned, each
--- if the source can tell them
+-- the state of a source as contracts see it: the remaining inputs and those that it has returned, each if they are
+-- known
 pub record Supply : Type 0 where
-  pub to_come : Option (List Received)
+  pub expected : Option (List Received)
   pub given : Option (List Received)
 
 -- the inputs that a source has returned, with these appended, if they are known
 abbrev pub with_given : List Received → Option (List Received) → Option (List Received)
 with_given inputs known = option_map (λ xs. xs ++ inputs) known
 
--- the state with which `Source::next` was called last, if the source can tell it
+-- the state with which `Source::next` was called last, if it is known
 abbrev pub shown_after : State → Option State → Option State
 shown_after state known = option_map (λ _. state) known
 
--- if the inputs to come are known, the input is the first of them, and the others are still to come
+-- if the remaining inputs are known, the input is the first of them, and the others remain
 abbrev pub TakesFirst : Option (List Received) → Option (List Received) → Received → Type 0
 TakesFirst None new input = new ≡ None
 TakesFirst (Some inputs) new input = (input ≡ first_of inputs) × (new ≡ Some (others_of inputs))
 
--- a source returns this input: the first of those to come, appended to those returned
+-- a source returns this input: the first of the remaining ones, appended to those returned
 pub record Gives (old new : Supply) (last : List ℕ) (named : Input) : Type 0 where
-  pub first : TakesFirst old.to_come new.to_come (input_of named last)
+  pub first : TakesFirst old.expected new.expected (input_of named last)
   pub added : new.given ≡ with_given (input_of named last ∷ []) old.given
 
 -- the input of a list entry

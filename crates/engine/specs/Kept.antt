@@ -94,27 +94,27 @@ abbrev pub counted_body : Progress → List ℕ → List ℕ
 counted_body p body = if is_due p.state && not p.refused then body else []
 
 abbrev pub counted_pdv : Progress → List ℕ → List ℕ
-counted_pdv p begun = if takes_pdvs p then begun else []
+counted_pdv p started = if takes_pdvs p then started else []
 
 -- the bytes of the body of a PDU of this type that may be kept: those of an A-ASSOCIATE-RQ
 abbrev pub body_in : ℕ → List ℕ → List ℕ
 body_in kind body = if nat_eq kind associate_rq then body else []
 
 -- The fields and the draft are those of this state of the timeline and of the unfinished PDU, of which the bytes
--- `body` of a request's body and `begun` of a presentation data value were received. Bytes that are ignored are not
+-- `body` of a request's body and `started` of a presentation data value were received. Bytes that are ignored are not
 -- held. Of a request the values that are kept are there while it is accepted (Sta6), and only then. Once the
 -- association has ended, nothing is said of `refused`.
-pub record Pends (kept : Kept) (store : Store) (p : Progress) (body begun : List ℕ) : Type 0 where
+pub record Pends (kept : Kept) (store : Store) (p : Progress) (body started : List ℕ) : Type 0 where
   pub state_is : kept.state ≡ p.state
   pub refused_is : is_ended p.state ≡ false → kept.refused ≡ p.refused
   pub decided_is : kept.decided ≡ p.decided
   pub body_is : kept.body ≡ counted_body p body
-  pub join_is : ShowsMessage kept.room kept.join p.message (counted_pdv p begun)
+  pub join_is : ShowsMessage kept.room kept.join p.message (counted_pdv p started)
   pub agreed : p.state ≡ Sta6 → Agreed kept.caller kept.peer_max kept.table kept.additional (request_record p.request)
   pub unagreed : is_established p.state ≡ false → IsUnagreed kept.caller kept.peer_max kept.table
-  pub none_left : is_established p.state ≡ false → p.message ≡ NoMessage
-  pub walks : Walks kept.depth kept.most p.request (with_pdv (counted_pdv p begun) p.message) kept.storing
-  pub draft : IsDraft p.request (with_pdv (counted_pdv p begun) p.message) p.filing_failed store (drafting_in kept.storing)
+  pub none_remaining : is_established p.state ≡ false → p.message ≡ NoMessage
+  pub walks : Walks kept.depth kept.most p.request (with_pdv (counted_pdv p started) p.message) kept.storing
+  pub draft : IsDraft p.request (with_pdv (counted_pdv p started) p.message) p.filing_failed store (drafting_in kept.storing)
   -- a call of the filing can have failed only inside the data set of a C-STORE
   pub failed_in : is_ended p.state ≡ false → p.filing_failed ≡ true → InStore p.request p.message
 

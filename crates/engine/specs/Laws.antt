@@ -24,7 +24,7 @@ pub record IsIdle (p : Progress) (g : Advance) : Type 0 where
 abbrev pub NothingAfterTheEnd : Type 0
 NothingAfterTheEnd = (rooms : Rooms) (s : Settings) (p : Progress) → p.state ≡ Sta1 → (finding : Finding) (e : Entry) → IsIdle p (at_entry rooms s p finding e)
 
--- ---- how the stream is cut
+-- ---- how the stream is divided into pieces
 
 -- the inputs with adjacent pieces joined; `piece` are the joined bytes so far
 abbrev pub put_together : List ℕ → List Received → List Received

@@ -3,5 +3,5 @@ use Rattle.std.specs.Prelude.{List, drop, map}
 use Rattle.engine.specs.declared.list_source.ListSource.{ListSource}
 use Rattle.engine.specs.Inputs.{Received, received_of}
 
-abbrev pub inputs_left : ListSource → List Received
-inputs_left s = map received_of (drop s.at s.inputs.now)
+abbrev pub inputs_remaining : ListSource → List Received
+inputs_remaining s = map received_of (drop s.at s.inputs.now)

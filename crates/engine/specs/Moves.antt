@@ -12,7 +12,7 @@ use Rattle.engine.specs.Stands.{Stands, drafting}
 use Rattle.engine.specs.FrameFields.{Fields}
 
 -- A failure of the filing after the last entry before the input is counted at the next entry, and so with the C-STORE
--- whose data set had come; if the input causes no entry, it is still to be counted.
+-- whose data set had been received; if the input causes no entry, it is still to be counted.
 abbrev pub StaysCharged : Bool → List Happened → Bool → Type 0
 StaysCharged false more failed_then = Unit {0}
 StaysCharged true [] failed_then = failed_then ≡ true

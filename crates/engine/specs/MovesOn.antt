@@ -1,4 +1,5 @@
--- What an association does with one more input, and what it holds: relations of an association, whatever came before.
+-- What an association does with one more input, and what it holds: relations of an association, whatever was received
+-- before.
 use Rattle.std.specs.Prelude.{◌≡◌, ℕ, Bool, false, List}
 use Rattle.acceptor.specs.declared.state.State.TheVariants.{Sta1}
 use Rattle.part10.specs.Store.{Store}
@@ -24,7 +25,7 @@ MovesOn {A} {C} {V} {D} before after input old new = (inputs : List Received) (s
     → Stands (rooms_of A C V D) (settings_in before) inputs story failed (fields_of before) old.store
     → Moved (rooms_of A C V D) (settings_in before) inputs story failed input (fields_of before) (fields_of after) old new
 
--- if the association had ended, it and its devices are as they were
+-- if the association had ended, it and its devices are unchanged
 abbrev pub StaysOnceEnded : {A C V D : ℕ} → Association A C V D → Association A C V D → Devices → Devices → Type 0
 StaysOnceEnded before after old new = state_of before ≡ Sta1 → StaysEnded (fields_of before) (fields_of after) old new
 
@@ -46,19 +47,20 @@ HasCommand {A} {C} {V} {D} seen bytes = (inputs : List Received) (story : List H
     → Stands (rooms_of A C V D) (settings_in seen) inputs story failed (fields_of seen) store
     → bytes ≡ command_bytes (message_so_far (reached (rooms_of A C V D) (settings_in seen) inputs story failed))
 
--- few bytes are sent for a piece of at most so many
+-- few bytes are sent for a piece of at most so many bytes
 abbrev pub HasInputLimit : {A C V D : ℕ} → Association A C V D → ℕ → Type 0
 HasInputLimit {A} {C} {V} {D} seen most = (inputs : List Received) (story : List Happened) (failed : Bool) (store : Store)
     → Stands (rooms_of A C V D) (settings_in seen) inputs story failed (fields_of seen) store
     → SendsFew (rooms_of A C V D) (settings_in seen) inputs story most
 
--- fewer bytes decide nothing, and so many complete a part of a PDU, unless the association has ended
+-- a piece of fewer bytes decides nothing, and one of so many completes a part of a PDU, unless the association has
+-- ended
 abbrev pub EndsWithPart : {A C V D : ℕ} → Association A C V D → ℕ → Type 0
 EndsWithPart {A} {C} {V} {D} seen most = (inputs : List Received) (story : List Happened) (failed : Bool) (store : Store)
     → Stands (rooms_of A C V D) (settings_in seen) inputs story failed (fields_of seen) store
     → DecidesNothingBefore (rooms_of A C V D) (settings_in seen) inputs story most × (is_ended (state_of seen) ≡ false → CompletesPart inputs most)
 
--- the source gave an input, and that moved the association on
+-- the source returned an input, which moved the association on
 abbrev pub TakesNext : {A C V D : ℕ} → Association A C V D → Association A C V D → Supply → Supply → Devices → Devices → Type 0
 TakesNext {A} {C} {V} {D} before after given_old given_new old new =
     TookInput (rooms_of A C V D) (settings_in before) given_old given_new (fields_of before) (fields_of after) old new

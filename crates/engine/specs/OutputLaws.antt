@@ -25,13 +25,13 @@ FewMarks = (before piece : List ℕ) → length (new_marks before piece) ≤ 4 *
 abbrev pub answer_length : Settings → Progress → Finding → Entry → ℕ
 answer_length s p finding (At (End kind body)) = elim (request_fault body) [ None ↦ length (accept_text s (request_record body)) | Some fault ↦ 0 ]
 answer_length s p finding (At (Pdv context control fragment)) = elim (brought p.message (record { context = context; control = control; fragment = fragment })) [
-  | Goes begun ↦ 0
+  | Goes started ↦ 0
   | Ends m ↦ length (replied p finding m (command_in m.command)).sent
   | Refuses fault ↦ 0
 ]
 answer_length s p finding e = 0
 
--- the most bytes that an entry sends beside its answer, and an abort of the local user
+-- the most bytes that an entry sends in addition to its answer, and an abort of the local user
 abbrev pub most_beside_answers : ℕ
 most_beside_answers = 30
 
@@ -44,8 +44,8 @@ abbrev pub AnswersHave : Rooms → Settings → ℕ → Progress → List Happen
 AnswersHave rooms s most p [] = Unit {0}
 AnswersHave rooms s most p (h ∷ story) = (answer_length s (absorb h.1.filing p) h.1.finding h.0 ≤ most) × AnswersHave rooms s most (gives rooms s p h).next story
 
--- for each byte of a piece at most four times so many bytes and an answer are sent, where no answer has more than `most`
--- bytes
+-- for each byte of a piece at most four times so many bytes and an answer are sent, where no answer has more than
+-- `most` bytes
 abbrev pub BoundedOutput : Type 0
 BoundedOutput =
     (rooms : Rooms) (s : Settings) (p : Progress) (story : List Happened) (before piece : List ℕ) (most : ℕ)
@@ -61,7 +61,7 @@ IsOfBytes e = Unit {0}
 abbrev pub AnswersAreShort : Type 0
 AnswersAreShort = (s : Settings) (p : Progress) (finding : Finding) (e : Entry) → IsOfBytes e → answer_length s p finding e ≤ longest_accept
 
--- so is each answer along a trace
+-- each answer along a trace is not longer than the longest A-ASSOCIATE-AC
 abbrev pub StoriesAnswerShortly : Type 0
 StoriesAnswerShortly = (rooms : Rooms) (s : Settings) (p : Progress) (story : List Happened) → AllByRecursion IsOfBytes (entries_of story) → AnswersHave rooms s longest_accept p story
 

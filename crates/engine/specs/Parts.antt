@@ -23,11 +23,11 @@ DecidesNothingBefore rooms s inputs story most =
     (piece : List ℕ) (more : List Happened) → length piece < most → entries_of more ≡ entries (stream_of inputs) (Bytes piece ∷ [])
     → DecidesNothing rooms s (progress_of rooms s at_start story) more
 
--- after these inputs, a piece of `most` bytes completes a part: the timeline goes on with it
+-- after these inputs, a piece of `most` bytes completes a part: it continues the timeline
 abbrev pub CompletesPart : List Received → ℕ → Type 0
 CompletesPart inputs most = (piece : List ℕ) → length piece ≡ most → entries (stream_of inputs) (Bytes piece ∷ []) ≢ []
 
--- an association that is given fewer bytes keeps what it decided last
+-- an association that receives fewer bytes keeps what it decided last
 abbrev pub FewerKeepTheDecision : Type 0
 FewerKeepTheDecision =
     (rooms : Rooms) (s : Settings) (inputs : List Received) (story : List Happened) (failed : Bool) (piece : List ℕ) (most : ℕ) (seen seen_new : Fields) (old new : Devices)

@@ -47,8 +47,7 @@ abbrev pub stored_in : {A C V D : ℕ} → Phase A C V D → Stored
 stored_in (Established peer message) = stored_of message.storing
 stored_in phase = Nothing
 
--- how many bytes the body of a request takes of its limit, with 12 for the heads of a PDU and a presentation data
--- value
+-- how many bytes the body of a request uses of its limit, with 12 for the heads of a PDU and a presentation data value
 abbrev pub taken_in : {A C V D : ℕ} → Phase A C V D → ℕ
 taken_in (AwaitingRequest body) = array_vec_len body + heads_size
 taken_in (Established peer message) = heads_size + peer_size + row_size * array_vec_len peer.contexts

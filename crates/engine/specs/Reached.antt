@@ -4,7 +4,7 @@ use Rattle.std.specs.Prelude.{ℕ, Bool, not, ◌&&◌, List, [], if◌then◌el
 use Rattle.pdu.specs.Frames.{rest_of}
 use Rattle.pdu.specs.Spot.{Spot, Opening, Plain, InPdv, spot}
 use Rattle.negotiate.specs.Settings.{Settings}
-use Rattle.dimse.specs.Messages.{Begun}
+use Rattle.dimse.specs.Messages.{Started}
 use Rattle.dimse.specs.Joining.{with_pdv}
 use Rattle.engine.specs.Inputs.{Received, stream_of}
 use Rattle.engine.specs.Timeline.{Happened}
@@ -17,23 +17,27 @@ pub record Reached : Type 0 where
   pub rest : List ℕ
 
 -- the state after these inputs, with this story; `failed` says whether a call of the filing has failed after its last
--- entry
+-- entry (law `engine::held_during_the_echo`)
 abbrev pub reached : Rooms → Settings → List Received → List Happened → Bool → Reached
 reached rooms s inputs story failed = record { progress = absorb failed (progress_of rooms s at_start story); rest = rest_of (stream_of inputs) }
 
-abbrev pub begun_in : Spot → List ℕ
-begun_in Opening = []
-begun_in Plain = []
-begun_in (InPdv begun) = begun
+-- the bytes of the unfinished presentation data value, if there is one
+-- e.g. started_in (InPdv (1 ∷ [])) ≡ 1 ∷ []; started_in Plain ≡ []
+abbrev pub started_in : Spot → List ℕ
+started_in Opening = []
+started_in Plain = []
+started_in (InPdv started) = started
 
 -- whether the presentation data values of the unfinished PDU are handled
+-- e.g. takes_pdvs at_start ≡ false
 abbrev pub takes_pdvs : Progress → Bool
 takes_pdvs p = is_established p.state && not p.refused
 
--- the bytes of the unfinished presentation data value, with its head; none if they are not handled
-abbrev pub begun_pdv : Reached → List ℕ
-begun_pdv r = if takes_pdvs r.progress then begun_in (spot r.rest) else []
+-- the bytes of the unfinished presentation data value, with its head; none if they are not handled (law
+-- `engine::held_in_a_data_set`)
+abbrev pub started_pdv : Reached → List ℕ
+started_pdv r = if takes_pdvs r.progress then started_in (spot r.rest) else []
 
--- the unfinished message, with the bytes of the unfinished fragment
-abbrev pub message_so_far : Reached → Begun
-message_so_far r = with_pdv (begun_pdv r) r.progress.message
+-- the unfinished message, with the bytes of the unfinished fragment (law `engine::held_in_a_data_set`)
+abbrev pub message_so_far : Reached → Started
+message_so_far r = with_pdv (started_pdv r) r.progress.message

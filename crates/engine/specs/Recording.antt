@@ -1,4 +1,5 @@
--- The recorded echo: the bytes of its three PDUs, and of the three that answer them (PS3.8 section 9.3, PS3.7 section 9.3.5).
+-- The recorded echo: the bytes of its three PDUs, and of the three that answer them (PS3.8 section 9.3, PS3.7 section
+-- 9.3.5).
 use Rattle.std.specs.Prelude.{ℕ, List, [], ◌∷◌}
 use Rattle.dimse.specs.Worked.{echo_reply}
 

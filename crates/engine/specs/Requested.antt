@@ -11,6 +11,7 @@ pub record Requested : Type 0 where
   pub additional : Taken
   pub body : List ℕ
 
+-- there is no request
 abbrev pub no_request : Requested
 no_request = record { additional = nothing_additional; body = [] }
 

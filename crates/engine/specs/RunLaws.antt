@@ -47,7 +47,7 @@ pub record IsUnfailed (story : List Happened) (failed : Bool) : Type 0 where
   pub filing : filing_failures story failed ≡ 0
 
 -- The inputs determine the run in which no device fails: two lists that differ only in how bytes are divided into
--- pieces give the same bytes sent, the same files and the same state.
+-- pieces have the same sent bytes, the same files and the same state.
 abbrev pub OneRun : Type 0
 OneRun =
     (rooms : Rooms) (s : Settings) (a b : List Received) (story story2 : List Happened) (failed failed2 : Bool) (sent sent2 : List ℕ) (files files2 : List (List ℕ)) (state state2 : State)

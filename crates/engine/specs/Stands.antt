@@ -30,9 +30,9 @@ IsDraftAt r store drafting = IsDraft r.progress.request (message_so_far r) r.pro
 abbrev pub drafting : Fields → Bool
 drafting f = drafting_in f.kept.storing
 
--- ---- both
+-- ---- the association and the filing
 
--- After these inputs, with this story, the association and the filing are in the state that the timeline gives.
+-- After these inputs, with this story, the association and the filing are in the state that the timeline determines.
 pub record Stands (rooms : Rooms) (s : Settings) (inputs : List Received) (story : List Happened) (failed : Bool) (fields : Fields) (store : Store) : Type 0 where
   pub story_is : IsStory rooms s inputs story failed
   pub shows : Shows fields store (reached rooms s inputs story failed)

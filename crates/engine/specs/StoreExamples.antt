@@ -46,26 +46,26 @@ accepted = record { state = Sta6; request = record { additional = nothing_additi
 
 -- an entry with its outcome: whether a call of the filing failed before it, the finding on the C-STORE that ends with
 -- it, and after how many bytes a send failed
-abbrev pub told : Entry → Bool → Finding → Option ℕ → Happened
-told e failed finding wire = (e, record { wire = wire; filing = failed; finding = finding })
+abbrev pub reported : Entry → Bool → Finding → Option ℕ → Happened
+reported e failed finding wire = (e, record { wire = wire; filing = failed; finding = finding })
 
 abbrev pub the_command : Happened
-the_command = told (At (Pdv 1 3 command)) false good None
+the_command = reported (At (Pdv 1 3 command)) false good None
 
 abbrev pub the_set : Bool → Finding → Option ℕ → Happened
-the_set failed finding wire = told (At (Pdv 1 2 data_set)) failed finding wire
+the_set failed finding wire = reported (At (Pdv 1 2 data_set)) failed finding wire
 
 abbrev pub a_store : Happened → List Happened
 a_store set = the_command ∷ set ∷ []
 
 -- the trace stores files of these lengths, sends so many bytes, and leads to this state
-abbrev pub Comes : List Happened → List ℕ → ℕ → State → Type 0
-Comes story files sent state =
+abbrev pub Arrives : List Happened → List ℕ → ℕ → State → Type 0
+Arrives story files sent state =
     (map length (files_of rooms settings accepted story) ≡ files) × (length (sent_of rooms settings accepted story) ≡ sent) × ((progress_of rooms settings accepted story).state ≡ state)
 
 -- a C-STORE is stored as a file of 336 bytes, and answered with 112
 abbrev pub AStoreIsFiled : Type 0
-AStoreIsFiled = Comes (a_store (the_set false good None)) (336 ∷ []) 112 Sta6
+AStoreIsFiled = Arrives (a_store (the_set false good None)) (336 ∷ []) 112 Sta6
 
 abbrev pub unfiled : Finding
 unfiled = record { status = out_of_resources; detail = None }
@@ -74,20 +74,20 @@ unfiled = record { status = out_of_resources; detail = None }
 -- stored, and one failure is counted.
 abbrev pub AFilingFailsOnce : Type 0
 AFilingFailsOnce = let story = a_store (the_set true unfiled None) ++ a_store (the_set false good None) in
-    Comes story (336 ∷ []) 224 Sta6 × (filing_failures story false ≡ 1)
+    Arrives story (336 ∷ []) 224 Sta6 × (filing_failures story false ≡ 1)
 
 -- a send that fails in the response: the file stays, and the association ends
 abbrev pub ACutReply : Type 0
-ACutReply = let story = a_store (the_set false good (Some 5)) in Comes story (336 ∷ []) 5 Sta1 × (wire_failures story ≡ 1)
+ACutReply = let story = a_store (the_set false good (Some 5)) in Arrives story (336 ∷ []) 5 Sta1 × (wire_failures story ≡ 1)
 
 -- the transport connection is closed inside the data set: no file is stored
 abbrev pub ACloseInADataSet : Type 0
-ACloseInADataSet = Comes (the_command ∷ told Shut false good None ∷ []) [] 0 Sta1
+ACloseInADataSet = Arrives (the_command ∷ reported Shut false good None ∷ []) [] 0 Sta1
 
 -- the state inside the P-DATA-TF of the data set, after both heads and 39 bytes of the data set
 abbrev pub in_the_set : Reached
 in_the_set = record { progress = progress_of rooms settings accepted (the_command ∷ []); rest = 4 ∷ 0 ∷ 0 ∷ 0 ∷ 0 ∷ 54 ∷ 0 ∷ 0 ∷ 0 ∷ 50 ∷ 1 ∷ 2 ∷ take 39 data_set }
 
--- there 24 bytes of the request and 100 of the command set are held; with the 31 of the walker, 155
+-- in that state 24 bytes of the request and 100 of the command set are held; with the 31 of the walker, 155
 abbrev pub HeldInADataSet : Type 0
 HeldInADataSet = (message_so_far in_the_set ≡ InSet 1 command (take 39 data_set)) × (held_before_data in_the_set ≡ 124)

@@ -15,16 +15,16 @@ use Rattle.engine.specs.VerdictExamples.{ct_in}
 abbrev pub store_of : List ℕ → CommandRecord
 store_of instance = record { class = codes "1.2.840.10008.5.1.4.1.1.2"; field = 1; message = 7; with_data = true; instance = Some instance }
 
-abbrev pub Comes : List ℕ → Bool → Finding → Type 0
-Comes instance failed finding = Verdict 64 (2 ^ 40) (ct_in Explicit) (store_of instance) data_set failed finding
+abbrev pub Arrives : List ℕ → Bool → Finding → Type 0
+Arrives instance failed finding = Verdict 64 (2 ^ 40) (ct_in Explicit) (store_of instance) data_set failed finding
 
 -- The data set is of the instance 1.2.3. If the command has the same, the answer is success, or A700 if a call of the
 -- filing failed; if it has another one, A900.
 abbrev pub VerdictsOnOneImage : Type 0
 VerdictsOnOneImage =
-    Comes (codes "1.2.3") false good
-    × Comes (codes "1.2.3") true unfiled
-    × ((failed : Bool) → Comes (codes "1.2.9") failed (cause data_set_mismatch instance_mismatch instance_tag))
+    Arrives (codes "1.2.3") false good
+    × Arrives (codes "1.2.3") true unfiled
+    × ((failed : Bool) → Arrives (codes "1.2.9") failed (cause data_set_mismatch instance_mismatch instance_tag))
 
 -- an element of group 0002 with a short VR
 abbrev pub meta : ℕ → List ℕ → List ℕ → List ℕ

@@ -4,8 +4,8 @@ use Rattle.sequence.specs.Transfer.{coding_in}
 use Rattle.sequence.specs.declared.coding.Coding.{Coding}
 use Rattle.sequence.specs.declared.walker.Walker.{Walker}
 use Rattle.sequence.specs.Rules.{Limits}
-use Rattle.sequence.specs.Taken.{StandsAt, walker_syntax, limits_of, told_by}
-use Rattle.dimse.specs.Messages.{Begun}
+use Rattle.sequence.specs.Taken.{StandsAt, walker_syntax, limits_of, reported_by}
+use Rattle.dimse.specs.Messages.{Started}
 use Rattle.engine.specs.declared.stores.Storing.{Storing}
 use Rattle.engine.specs.declared.stores.Storing.TheVariants as storing
 use Rattle.engine.specs.Requested.{Requested}
@@ -28,7 +28,7 @@ drafting_in (Walking walker drafting) = drafting
 -- how many bytes are held of the data set
 abbrev pub held_in : Stored → ℕ
 held_in Nothing = 0
-held_in (Walking walker drafting) = (told_by walker).held
+held_in (Walking walker drafting) = (reported_by walker).held
 
 -- the walker of a data set of this encoding, with these limits, has read these bytes of it
 pub record HasWalked {V D : ℕ} (walker : Walker V D) (syntax : Coding) (lim : Limits) (set : List ℕ) : Type 0 where
@@ -38,7 +38,7 @@ pub record HasWalked {V D : ℕ} (walker : Walker V D) (syntax : Coding) (lim : 
 
 -- The state of the data set of a message, in the association of this request: that of a C-STORE of the SOP class of
 -- its presentation context is walked, any other is dropped.
-pub data Walks (depth most : ℕ) (request : Requested) (message : Begun) : Stored → Type 0 where
+pub data Walks (depth most : ℕ) (request : Requested) (message : Started) : Stored → Type 0 where
   not_walked : (InStore request message → ⊥) → Walks depth most request message Nothing
   walked : {V D : ℕ} {walker : Walker V D} {drafting : Bool} → (store : InStore request message)
       → HasWalked walker (coding_in store.context.syntax) (limits depth most) store.set → Walks depth most request message (Walking walker drafting)

@@ -23,22 +23,28 @@ use Rattle.sequence.specs.FirstFault.{IsUnbroken}
 use Rattle.sequence.specs.Ending.{Fails}
 use Rattle.engine.specs.Timeline.{Finding, good}
 
--- SOP Class UID (0008,0016); SOP Instance UID (0008,0018) follows
+-- the tag of SOP Class UID, (0008,0016)
+-- e.g. number class_tag ≡ 0x00080016
 abbrev pub class_tag : Tag
 class_tag = record { 0 = 0x0008; 1 = 0x0016 }
 
+-- the tag of SOP Instance UID, (0008,0018)
+-- e.g. number instance_tag ≡ 0x00080018
 abbrev pub instance_tag : Tag
 instance_tag = record { 0 = 0x0008; 1 = 0x0018 }
 
 -- the greatest length of a UID (PS3.5 section 9.1)
+-- e.g. uid_most ≡ 64
 abbrev pub uid_most : ℕ
 uid_most = 64
 
--- the values that a receiver keeps of a data set: both UIDs, each of at most 64 bytes
+-- the values that a receiver keeps of a data set: SOP Class UID and SOP Instance UID, each of at most 64 bytes
+-- e.g. length wanted ≡ 2
 abbrev pub wanted : List Want
 wanted = record { tag = class_tag; room = uid_most } ∷ record { tag = instance_tag; room = uid_most } ∷ []
 
 -- the limits of a data set: the greatest number of open levels and of bytes
+-- e.g. (limits 64 1024).depth ≡ 64
 abbrev pub limits : ℕ → ℕ → Limits
 limits depth bytes = record { wanted = wanted; depth = depth; bytes = bytes }
 
@@ -54,11 +60,14 @@ pub record Submitted : Type 0 where
   pub elements : Elements
   pub failed : Bool
 
+-- whether the service is a storage class
+-- e.g. is_storage_service (Additional (codes "1.2.3")) ≡ true
 abbrev pub is_storage_service : Service → Bool
 is_storage_service (Known class) = is_storage class
 is_storage_service (Additional uid) = true
 
--- the SOP class of the command is a storage class, and that of the presentation context
+-- the SOP class of the command is a storage class, and that of the presentation context (law
+-- `engine::verdicts_on_stores`)
 pub record IsOfContext (context : Context) (command : CommandRecord) : Type 0 where
   pub named : service_of command.class ≡ Some context.class
   pub storage : is_storage_service context.class ≡ true
@@ -67,7 +76,7 @@ pub record IsOfContext (context : Context) (command : CommandRecord) : Type 0 wh
 abbrev pub NamesUid : Values → Tag → List ℕ → Type 0
 NamesUid values tag uid = (value : List ℕ) × (value_of values (number tag) ≡ Some value) × (uid_of value ≡ Some uid)
 
--- the SOP Instance UID of the data set is that of the command
+-- the SOP Instance UID of the data set is that of the command (law `engine::verdicts_on_one_image`)
 abbrev pub NamesInstance : Values → CommandRecord → Type 0
 NamesInstance values command = (uid : List ℕ) × (command.instance ≡ Some uid) × NamesUid values instance_tag uid
 
@@ -82,10 +91,11 @@ pub data Check : Type 0 where
   OfContext WholeSet OwnClass OwnInstance Filed : Check
 
 -- the checks, in the order in which they are made
+-- e.g. length checks ≡ 5
 abbrev pub checks : List Check
 checks = OfContext ∷ WholeSet ∷ OwnClass ∷ OwnInstance ∷ Filed ∷ []
 
--- a C-STORE passes a check
+-- a C-STORE passes a check (law `engine::verdicts_on_one_image`)
 abbrev pub Passes : Submitted → Check → Type 0
 Passes x OfContext = IsOfContext x.context x.command
 Passes x WholeSet = HasNoFault (coding_in x.context.syntax) x.limits x.data_set x.elements
@@ -96,19 +106,23 @@ Passes x Filed = x.failed ≡ false
 -- ---- the findings
 
 -- a finding with this status of failure, without a cause
+-- e.g. (failure 0xa700).status ≡ 0xa700
 abbrev pub failure : ℕ → Finding
 failure status = record { status = status; detail = None }
 
 -- a finding with this status of failure and its cause: a fault of the data set, or its mismatch with the command
+-- e.g. (cause 0xc000 11 class_tag).status ≡ 0xc000
 abbrev pub cause : ℕ → ℕ → Tag → Finding
 cause status number tag = record { status = status; detail = Some (record { number = number; tag = tag }) }
 
--- the finding for a fault of the data set: A700 (out of resources) for too many open levels or bytes, else C000 with
--- the fault as its cause
+-- the finding for a fault of the data set: A700 (out of resources) for too many open levels or bytes, else C000 (cannot
+-- understand) with the fault as its cause (law `engine::verdicts_on_faults`)
+-- e.g. (of_fault (record { number = 20; place = 3; tag = class_tag })).status ≡ 0xc000
+-- e.g. (of_fault (record { number = 18; place = 3; tag = class_tag })).status ≡ 0xa700
 abbrev pub of_fault : Fault → Finding
 of_fault fault = if nat_eq fault.number too_deep || nat_eq fault.number too_long then failure out_of_resources else cause cannot_understand fault.number fault.tag
 
--- a C-STORE fails this check, with this finding
+-- a C-STORE fails this check, with this finding (law `engine::verdicts_on_stores`)
 abbrev pub FailsWith : Submitted → Check → Finding → Type 0
 FailsWith x OfContext finding = (Passes x OfContext → ⊥) × (finding ≡ failure class_not_supported)
 FailsWith x WholeSet finding = (fault : Fault) × Fails (coding_in x.context.syntax) x.limits x.data_set fault × (finding ≡ of_fault fault)
@@ -116,12 +130,14 @@ FailsWith x OwnClass finding = (Passes x OwnClass → ⊥) × (finding ≡ cause
 FailsWith x OwnInstance finding = (Passes x OwnInstance → ⊥) × (finding ≡ cause data_set_mismatch instance_mismatch instance_tag)
 FailsWith x Filed finding = (Passes x Filed → ⊥) × (finding ≡ failure out_of_resources)
 
--- the finding of the first check that a C-STORE fails; success if it passes all
+-- the finding of the first of these checks that a C-STORE fails; success if it passes all (law
+-- `engine::verdicts_on_one_image`)
 abbrev pub FirstFinding : Submitted → List Check → Finding → Type 0
 FirstFinding x [] finding = finding ≡ good
 FirstFinding x (check ∷ later) finding = FailsWith x check finding ⊎ (Passes x check × FirstFinding x later finding)
 
--- the finding on a C-STORE: the status of its response, and the cause of a failure
+-- the finding on a C-STORE (the status of its response, and the cause of a failure): that of the first check that
+-- fails, in their order; success if none does (law `engine::verdicts_on_one_image`)
 pub record Verdict (depth bytes : ℕ) (context : Context) (command : CommandRecord) (data_set : List ℕ) (failed : Bool) (finding : Finding) : Type 0 where
   pub elements : Elements
   pub first : FirstFinding (record { context = context; command = command; data_set = data_set; limits = limits depth bytes; elements = elements; failed = failed }) checks finding

@@ -1,5 +1,5 @@
--- A run turn by turn: the state between two turns, and the effect of one turn. A turn takes one input of the source
--- and handles it.
+-- A run turn by turn: the state between two turns, and the effect of one turn. A turn reads one input of the source and
+-- handles it.
 use Rattle.std.specs.Prelude.{◌≡◌, ℕ, ◌+◌, ◌*◌, ◌≤◌, Bool, false, List, length, Option, Some, None}
 use Rattle.acceptor.specs.declared.state.State.TheVariants.{Sta6}
 use Rattle.sequence.specs.Wanted.{level_size}
@@ -20,14 +20,14 @@ use Rattle.engine.specs.Stands.{Stands}
 use Rattle.engine.specs.FrameFields.{Fields}
 use Rattle.engine.specs.Timeline.{Happened}
 
--- if the inputs to come are known, the source has returned these of them, and the others are still to come
+-- if the remaining inputs are known, the source has returned these of them, and the others remain
 abbrev pub TakesFront : Option (List Received) → Option (List Received) → List Received → Type 0
 TakesFront None now taken = now ≡ None
 TakesFront (Some all) now taken = (taken ≡ first_inputs (length taken) all) × (now ≡ Some (inputs_after (length taken) all))
 
 -- a source has returned these inputs
 pub record Follows (old now : Supply) (taken : List Received) : Type 0 where
-  pub front : TakesFront old.to_come now.to_come taken
+  pub front : TakesFront old.expected now.expected taken
   pub given : now.given ≡ with_given taken old.given
 
 -- after these inputs the association has these fields, it had not ended before the last of them, and the devices have

@@ -19,14 +19,14 @@ abbrev pub ct_store : CommandRecord
 ct_store = record { class = codes "1.2.840.10008.5.1.4.1.1.2"; field = 1; message = 7; with_data = true; instance = Some (codes "1.2.3") }
 
 -- with at most `depth` levels, this is the verdict on the data set, whether or not the filing failed
-abbrev pub Comes : ℕ → Transfer → List ℕ → Finding → Type 0
-Comes depth syntax set finding = (failed : Bool) → Verdict depth (2 ^ 40) (ct_in syntax) ct_store set failed finding
+abbrev pub Arrives : ℕ → Transfer → List ℕ → Finding → Type 0
+Arrives depth syntax set finding = (failed : Bool) → Verdict depth (2 ^ 40) (ct_in syntax) ct_store set failed finding
 
--- An item in which no further header fits; a sequence of undefined length that fills its item; a third level where two may be open;
--- pixel data of undefined length.
+-- An item in which no further header fits; a sequence of undefined length that fills its item; a third level where two
+-- may be open; pixel data of undefined length.
 abbrev pub VerdictsOnFaults : Type 0
 VerdictsOnFaults =
-    Comes 64 Implicit past_item (cause cannot_understand 17 no_tag)
-    × Comes 64 Implicit level_past_item (cause cannot_understand 17 no_tag)
-    × Comes 2 Implicit third_level (record { status = out_of_resources; detail = None })
-    × Comes 64 Explicit pixels (cause cannot_understand 14 (record { 0 = 0x7fe0; 1 = 0x0010 }))
+    Arrives 64 Implicit past_item (cause cannot_understand 17 no_tag)
+    × Arrives 64 Implicit level_past_item (cause cannot_understand 17 no_tag)
+    × Arrives 2 Implicit third_level (record { status = out_of_resources; detail = None })
+    × Arrives 64 Explicit pixels (cause cannot_understand 14 (record { 0 = 0x7fe0; 1 = 0x0010 }))

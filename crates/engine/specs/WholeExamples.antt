@@ -1,5 +1,5 @@
--- Example associations: a run, the number of held bytes, the state, and verdicts on C-STOREs, each beside one that is
--- not so.
+-- Example associations: a run, the number of held bytes, the state, and verdicts on C-STOREs, each with one that is not
+-- so.
 use Rattle.std.specs.Prelude.{◌≡◌, ℕ, ◌^◌, Bool, true, false, List, [], ◌∷◌, ◌++◌, drop, Some, None, codes}
 use Rattle.acceptor.specs.declared.state.State.{State}
 use Rattle.acceptor.specs.declared.state.State.TheVariants.{Sta1, Sta6}

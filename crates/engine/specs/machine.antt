@@ -1,4 +1,4 @@
--- What the code is proved against, beside the definitions.
+-- What the code is proved against, in addition to the definitions.
 pub mod Lent
 pub mod HeadEvents
 pub mod Answers

@@ -19,16 +19,17 @@ use negotiate::Config;
 use part10::Filing;
 use pdu::{Deframer, Wire};
 
-/// An association with one peer, from the opening of the transport connection to its end (PS3.8 section
-/// 9.2). It does no input of its own: each method handles one input, and sends and stores through the
-/// `wire` and the `filing` that it is given, which must be the same at every call.
+/// An association with one peer, from the opening of the transport connection to its end (PS3.8
+/// section 9.2). It reads no socket itself: each method handles one input, and sends and stores
+/// through the `wire` and the `filing` that it is given. These must be the same at every call.
 ///
-/// The const parameters are limits, each at most 2^24: `A`, at least 256, the bytes of the body of an
-/// A-ASSOCIATE-RQ, plus 12; `C` the bytes of a command set; `V`, at least 140, the bytes of the values
-/// kept of a data set, with one header; `D`, at least 2, the open sequences and items of a data set.
+/// The const parameters are limits, each at most 2^24: `A`, at least 256, is the bytes of the body
+/// of an A-ASSOCIATE-RQ, plus 12; `C` the bytes of a command set; `V`, at least 140, the bytes of
+/// kept values of a data set and of one header; `D`, at least 2, the open sequences and items of a
+/// data set.
 #[derive(Drop)]
 pub struct Association<'c, const A: usize, const C: usize, const V: usize, const D: usize> {
-    /// Divides the stream of the peer into events.
+    /// Divides the received bytes into events.
     deframer: Deframer,
     provider: Provider<'c, A, C, V, D>,
     ghost body_fits: { BodyFits (A - 12) (kept_of provider) (body_kind (position_of deframer)) (body_due (position_of deframer)) },
@@ -107,10 +108,10 @@ impl<'c, const A: usize, const C: usize, const V: usize, const D: usize> Associa
         self.provider.drafting()
     }
 
-    /// Returns what the association decided last, since the head of the last PDU that it received before
-    /// its end.
+    /// Returns what the association decided last, since the head of the last PDU that it received
+    /// before its end.
     ///
-    /// `decided`: it is what the timeline of its inputs gives.
+    /// `decided`: the result is what the timeline of the association's inputs determines.
     pub fn decision(&self) -> Decision
         ensures kept { result ≡ decided_in self.now }
         ensures decided { HasDecided self.now result }
@@ -118,20 +119,21 @@ impl<'c, const A: usize, const C: usize, const V: usize, const D: usize> Associa
         self.provider.decided
     }
 
-    /// Returns the bytes of the command set of the unfinished message, as far as they were received; all
-    /// of them from the decision that its data set is due until the message is answered.
+    /// Returns the bytes of the command set of the unfinished message that were received so far:
+    /// all of them from the decision that its data set must follow until the message is answered.
     ///
-    /// `command`: they are those of the unfinished message in the timeline of its inputs.
+    /// `command`: they are those of the unfinished message in the timeline of the inputs.
     pub fn command(&self) -> &[u8]
         ensures command { HasCommand self.now result.now }
     {
         self.provider.command()
     }
 
-    /// Returns how many received bytes the association holds in memory: those of an unfinished head and
-    /// of the body of an A-ASSOCIATE-RQ; 20, and 4 for each presentation context, of an accepted one;
-    /// those of an unfinished command set; and what [`Walker::held`](sequence::Walker::held) counts of
-    /// a data set. No field holds other received bytes.
+    /// Returns how many received bytes the association holds in memory: those of an unfinished head
+    /// and of the body of an A-ASSOCIATE-RQ; 20, and 4 for each presentation context, of an
+    /// accepted one; those of an unfinished command set; and what
+    /// [`Walker::held`](sequence::Walker::held) counts of a data set. No field holds other received
+    /// bytes.
     pub fn held(&self) -> usize
         ensures held { HoldsBytes self.now result }
         ensures sum { result ≡ held_in (fields_of self.now) }
@@ -141,11 +143,12 @@ impl<'c, const A: usize, const C: usize, const V: usize, const D: usize> Associa
         self.deframer.held() + self.provider.held()
     }
 
-    /// Returns how many bytes may be passed to `feed` at once so that it sends at most 18,600: those
-    /// that are missing from the unfinished part of a PDU (its head, its body, the head of a
-    /// presentation data value, a fragment, or a PDU that is skipped), and at least one.
+    /// Returns how many bytes may be passed to `feed` at once so that it sends at most 18,600:
+    /// those that are missing from the unfinished part of a PDU (its head, its body, the head of a
+    /// presentation data value, a fragment, or the rest of a PDU that is skipped), and at least
+    /// one.
     ///
-    /// `ends`: so many bytes complete the part, unless the association has ended, and fewer decide
+    /// `ends`: this many bytes complete the part, unless the association has ended; fewer decide
     /// nothing.
     pub fn input_limit(&self) -> usize
         ensures some { 0 < result }
@@ -159,10 +162,10 @@ impl<'c, const A: usize, const C: usize, const V: usize, const D: usize> Associa
         due
     }
 
-    /// Handles the next bytes received from the peer, any number of them.
+    /// Handles the next bytes received from the peer, however many.
     ///
-    /// `filing` must be that of the earlier calls: if a C-STORE has its draft in it, the draft must
-    /// still be there.
+    /// `filing` must be the same as at earlier calls: the draft of an unfinished C-STORE must still
+    /// be in it.
     pub fn feed<W: Wire, F: Filing>(&mut self, piece: &[u8], wire: &mut W, filing: &mut F)
         requires draft { IsThere (drafting_of self.old) (F.store filing.old) }
         ensures draft { IsThere (drafting_of self.new) (F.store filing.new) }
@@ -177,8 +180,8 @@ impl<'c, const A: usize, const C: usize, const V: usize, const D: usize> Associa
         self.drop_heads();
     }
 
-    /// Handles the close of the transport connection by the peer. The filing has to be the one of every call
-    /// ([`feed`](Association::feed)).
+    /// Handles the close of the transport connection by the peer. `filing` must be the same as at
+    /// every call ([`feed`](Association::feed)).
     pub fn closed<W: Wire, F: Filing>(&mut self, wire: &mut W, filing: &mut F)
         requires draft { IsThere (drafting_of self.old) (F.store filing.old) }
         ensures draft { IsThere (drafting_of self.new) (F.store filing.new) }
@@ -189,7 +192,7 @@ impl<'c, const A: usize, const C: usize, const V: usize, const D: usize> Associa
         self.perform(Event::Closed, Devices { wire, filing });
     }
 
-    /// Handles the expiry of the ARTIM timer. The filing has to be the one of every call
+    /// Handles the expiry of the ARTIM timer. `filing` must be the same as at every call
     /// ([`feed`](Association::feed)).
     pub fn expired<W: Wire, F: Filing>(&mut self, wire: &mut W, filing: &mut F)
         requires draft { IsThere (drafting_of self.old) (F.store filing.old) }
@@ -201,8 +204,8 @@ impl<'c, const A: usize, const C: usize, const V: usize, const D: usize> Associa
         self.perform(Event::Expired, Devices { wire, filing });
     }
 
-    /// Aborts the association as its local user (A-ABORT request primitive). The filing has to be the one of every call
-    /// ([`feed`](Association::feed)).
+    /// Aborts the association as its local user (A-ABORT request primitive). `filing` must be the
+    /// same as at every call ([`feed`](Association::feed)).
     pub fn local_abort<W: Wire, F: Filing>(&mut self, wire: &mut W, filing: &mut F)
         requires draft { IsThere (drafting_of self.old) (F.store filing.old) }
         ensures draft { IsThere (drafting_of self.new) (F.store filing.new) }
@@ -213,8 +216,8 @@ impl<'c, const A: usize, const C: usize, const V: usize, const D: usize> Associa
         self.perform(Event::UserAborts, Devices { wire, filing });
     }
 
-    /// Returns whether the association has ended, by a close or a failed send. It handles no input
-    /// then.
+    /// Returns whether the association has ended, by a close or a failed send. After its end it
+    /// ignores every input.
     pub fn is_ended(&self) -> bool
         ensures ended { result ≡ holding.is_ended (state_of self.now) }
         ensures no_draft { result ≡ true → drafting_of self.now ≡ false }
@@ -222,8 +225,8 @@ impl<'c, const A: usize, const C: usize, const V: usize, const D: usize> Associa
         matches!(self.provider.phase, Phase::Ended)
     }
 
-    /// Performs an event that does not come from the stream: a close, the timer's expiry or a local
-    /// abort.
+    /// Performs an event that the received bytes do not cause: a close, the timer's expiry or a
+    /// local abort.
     fn perform<W: Wire, F: Filing>(&mut self, event: Event, devices: Devices<'_, W, F>)
         requires draft { IsThere (drafting_of self.old) (F.store devices.filing.now) }
         requires stays { Stays (state_of self.old) event }

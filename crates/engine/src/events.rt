@@ -1,4 +1,4 @@
-//! Handles the events of the stream.
+//! Handles the events of the received bytes.
 ghost use Rattle.std.specs.Prelude.{◌≡◌, ◌-◌};
 
 use crate::devices::Devices;
@@ -13,8 +13,8 @@ impl<'c, const A: usize, const C: usize, const V: usize, const D: usize> Provide
     ghost use Rattle.engine.specs.Kept.{kept_of, settings_in};
     ghost use Rattle.engine.specs.Run.{rooms_of};
 
-    /// Handles an event of the stream. `kind` is the type of the PDU whose body is reported, if the
-    /// event is `Event::Body`.
+    /// Handles an event of the received bytes. `kind` is the type of the PDU whose body
+    /// `Event::Body` reports.
     pub(crate) fn on_event<W: Wire, F: Filing>(
         &mut self,
         event: Event<'_>,
@@ -46,7 +46,7 @@ impl<'c, const A: usize, const C: usize, const V: usize, const D: usize> Provide
                 self.perform(due, devices);
             }
             Event::Leftover => {
-                let due = self.on_invalid(Decision::BytesLeft(self.decided.value_end()));
+                let due = self.on_invalid(Decision::BytesRemaining(self.decided.value_end()));
                 self.perform(due, devices);
             }
             Event::PduEnd(kind) => {

@@ -1,10 +1,10 @@
-//! The list of a source's inputs, for contracts alone; it has no size at run time.
+//! The list of the inputs of a source, for contracts only; it has no size at run time.
 ghost use Rattle.std.specs.Prelude.{◌≡◌, [], ◌∷◌, ◌++◌};
 
 use crate::source::Input;
 use element::history::History;
 
-/// The inputs that a [`Source`](crate::Source) has returned, in their order, each with the bytes of its
+/// The inputs that a [`Source`](crate::Source) has returned, in order, each with the bytes of its
 /// piece. It is a ghost value: contracts can name it, the program cannot read it.
 #[derive(Drop)]
 pub struct Given {

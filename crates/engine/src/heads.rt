@@ -25,16 +25,17 @@ const BEFORE_ITEMS: u32 = 68;
 /// The size in bytes of the head of a presentation data value.
 const PDV_HEAD: u32 = 6;
 
-/// The size in bytes of the heads of a PDU and a presentation data value together. The body of an
-/// A-ASSOCIATE-RQ may have at most the limit `A` less this.
+/// The size in bytes of the heads of a PDU and of a presentation data value together. The body of
+/// an A-ASSOCIATE-RQ may have at most `A` less this size.
 const HEADS: usize = 12;
 
-/// The event that the head of a PDU causes, if any.
+/// The event that the head of a PDU causes.
 #[derive(Clone, Copy)]
 pub(crate) enum HeadEvent {
-    /// No event: the PDU is read on.
+    /// No event: the rest of the PDU is read.
     Nothing,
-    /// This event, before the body is received, with the reason of the A-ABORT if the action sends one.
+    /// This event, before the body is received, with the reason of the A-ABORT if the action sends
+    /// one.
     AtOnce(Event, u8),
     /// The rejection of an A-ASSOCIATE-RQ whose body is longer than the limit.
     TooLong,
@@ -63,8 +64,8 @@ fn is_abort(action: Action) -> bool
     matches!(action, Action::Aa1 | Action::Aa7 | Action::Aa8)
 }
 
-/// Returns the event of a PDU of this type if it leads to an A-ABORT in this state, whatever its body
-/// is.
+/// Returns the event of a PDU of this type if the PDU causes an A-ABORT in this state, whatever its
+/// body is.
 fn out_of_place(state: State, kind: u8) -> HeadEvent
     ensures { brings result ≡ spelling.out_of_place state kind }
 {
@@ -77,8 +78,8 @@ fn out_of_place(state: State, kind: u8) -> HeadEvent
     }
 }
 
-/// Returns the event that the length of an A-ASSOCIATE-RQ causes. Its body may have at most `room`
-/// bytes.
+/// Returns the event that the length of an A-ASSOCIATE-RQ causes. `room` is the greatest length of
+/// its body.
 fn request_length(room: usize, length: u32) -> HeadEvent
     ensures { brings result ≡ spelling.request_length room length }
 {
@@ -111,8 +112,8 @@ fn is_short(kind: u8) -> bool
     kind == pdu_type::A_ASSOCIATE_RJ || pdu_type::A_RELEASE_RQ <= kind
 }
 
-/// Returns the event that the head of a PDU of this type and length causes in this state. `room` is the
-/// greatest body of an A-ASSOCIATE-RQ, `most` the greatest length of a P-DATA-TF, in bytes.
+/// Returns the event that the head of a PDU of this type and length causes in this state. `room` is
+/// the greatest length of the body of an A-ASSOCIATE-RQ, `most` that of a P-DATA-TF, in bytes.
 pub(crate) fn head_event(room: usize, most: u32, state: State, kind: u8, length: u32) -> HeadEvent
     ensures brings { brings result ≡ spelling.head_event room most state kind length }
     ensures stays { (event : Event) (reason : ℕ) → result ≡ HeadEvent.AtOnce event reason → Stays state event }
@@ -142,8 +143,8 @@ impl<'c, const A: usize, const C: usize, const V: usize, const D: usize> Provide
     ghost use Rattle.pdu.specs.Marks.{Head};
     ghost use Rattle.engine.specs.Run.{rooms_of};
 
-    /// Handles the head of a PDU: judges it by its type, its length and the state. Once the association
-    /// has ended, nothing is decided any more.
+    /// Handles the head of a PDU: judges it by its type, its length and the state. After the
+    /// association has ended, it decides nothing.
     pub(crate) fn on_head(&mut self, kind: u8, length: u32) -> Reaction
         ensures fits { BodyFits (A - 12) (kept_of self.new) kind length }
         ensures settings { settings_in self.new ≡ settings_in self.old }

@@ -1,8 +1,9 @@
-//! Lemmas on the definitions of this crate and example associations, each stated as the contract of a
-//! function with an empty body.
+//! Lemmas on the definitions of this crate, and examples, each stated as the contract of a function
+//! with an empty body.
 //!
-//! The timeline of an association is the list of entries that its inputs cause: what each sends, does
-//! to the filing and to the state. A story is such a list with the outcome of each call of a device.
+//! The timeline of an association is the list of entries that its inputs cause: what each entry
+//! sends, and does to the filing and to the state. A story is such a list with the outcome of each
+//! call of a device.
 ghost use Rattle.engine.specs.WholeExamples.{TheEchoRuns, TheRequestIsHeld, ItStandsEstablished, VerdictsOnStores};
 ghost use Rattle.engine.specs.StoreExamples.{AStoreIsFiled, AFilingFailsOnce, ACutReply, ACloseInADataSet, HeldInADataSet};
 ghost use Rattle.engine.specs.StoreVerdicts.{VerdictsOnOneImage, TheFileOfAStore};
@@ -14,7 +15,7 @@ ghost use Rattle.engine.specs.OutputLaws.{AbortsShortly, AnswersAreShort, Bounde
 ghost use Rattle.engine.specs.Parts.{FewerKeepTheDecision};
 ghost use Rattle.engine.specs.Laws.{EntriesAppend, CutsDoNotShow, NothingAfterTheEnd};
 ghost use Rattle.engine.specs.HeldLaws.{HeldIsOne, HeldIsWithinRooms};
-ghost use Rattle.engine.specs.Examples.{ARequestAboveTheRoom, BytesThatAreNoPdu, DataAboveTheMaximum, AfterTheEnd, AnotherCalledTitle, RecordedEcho, HeldWhileTheEchoComes, AGoodPdvBeforeABadOne};
+ghost use Rattle.engine.specs.Examples.{ARequestAboveTheRoom, BytesThatAreNoPdu, DataAboveTheMaximum, AfterTheEnd, AnotherCalledTitle, RecordedEcho, HeldDuringTheEcho, AGoodPdvBeforeABadOne};
 
 /// Further inputs append entries to the timeline and change none of the earlier ones.
 pub fn timeline_only_grows()
@@ -26,15 +27,15 @@ pub fn cuts_do_not_show()
     ensures { CutsDoNotShow }
 {}
 
-/// The inputs determine the run in which no device fails, however the received bytes are divided into
-/// pieces.
+/// The inputs determine the run in which no device fails, however the received bytes are divided
+/// into pieces.
 pub fn a_run_without_failures_is_one()
     ensures { OneRun }
 {}
 
 /// Two runs in which no device fails, over the same bytes, divided in any way, and the same other
-/// inputs, send the same bytes, store the same files, end in the same state and hold the same number of
-/// bytes.
+/// inputs, send the same bytes, store the same files, end in the same state and hold the same
+/// number of bytes.
 pub fn cuts_give_the_same()
     ensures { CutsGiveTheSame }
 {}
@@ -44,20 +45,21 @@ pub fn nothing_after_the_end()
     ensures { NothingAfterTheEnd }
 {}
 
-/// An association that was just opened satisfies the invariant of calls of
-/// [`Association::take_next`](crate::Association::take_next), for zero calls.
+/// The invariant of calls of [`Association::take_next`](crate::Association::take_next) holds, for
+/// zero calls, of an association that was just opened.
 pub fn turns_begin()
     ensures { TurnsBegin }
 {}
 
-/// One more call of [`Association::take_next`](crate::Association::take_next) on an association that has not ended
-/// preserves the invariant of these calls.
+/// One more call of [`Association::take_next`](crate::Association::take_next), on an association
+/// that has not ended, preserves the invariant of these calls.
 pub fn one_turn_more()
     ensures { OneTurnMore }
 {}
 
-/// Calls of [`Association::take_next`](crate::Association::take_next), a given number or fewer if the association ends
-/// before, have the effect that the contract of [`run`](crate::run) states.
+/// A given number of calls of [`Association::take_next`](crate::Association::take_next), or fewer
+/// if the association ends earlier, have the effect that the contract of [`run`](crate::run)
+/// states.
 pub fn turns_are_a_run()
     ensures { TurnsAreARun }
 {}
@@ -67,13 +69,13 @@ pub fn ended_has_no_draft()
     ensures { EndedHasNoDraft }
 {}
 
-/// A byte completes at most four marks: heads and ends of PDUs and presentation data values.
+/// One received byte completes at most four heads and ends of PDUs and presentation data values.
 pub fn few_marks()
     ensures { FewMarks }
 {}
 
-/// For each received byte an association sends at most four times 30 bytes, and one answer to a request
-/// or a command.
+/// For each received byte an association sends at most four times 30 bytes, and one answer to a
+/// request or a command.
 pub fn bounded_output()
     ensures { BoundedOutput }
 {}
@@ -84,45 +86,47 @@ pub fn few_bytes_but_answers()
     ensures { FewBytesButAnswers }
 {}
 
-/// An A-ASSOCIATE-AC has at most 4,620 bytes, and so have the PDUs of a response, at each entry of the
-/// timeline and in each story. So an association sends at most 18,600 bytes for each received byte.
+/// An A-ASSOCIATE-AC, and the PDUs of a response together, have at most 4,620 bytes, at each entry
+/// of the timeline and in each story. So an association sends at most 18,600 bytes for each
+/// received byte.
 pub fn answers_are_short()
     ensures entry { AnswersAreShort }
     ensures story { StoriesAnswerShortly }
     ensures piece { OutputOfAPiece }
 {}
 
-/// The entries that one more input appends depend on it and on the bytes of the inputs before it.
+/// The entries that one more input appends depend only on it and on the received bytes before it.
 pub fn entries_of_one_more()
     ensures { EntriesOfMore }
 {}
 
-/// An association that takes fewer bytes than
-/// [`Association::input_limit`](crate::Association::input_limit) keeps what it decided last.
+/// An association that receives fewer bytes than
+/// [`Association::input_limit`](crate::Association::input_limit) keeps its last decision.
 pub fn fewer_bytes_keep_the_decision()
     ensures { FewerKeepTheDecision }
 {}
 
-/// The close of the transport connection and the expiry of the ARTIM timer send nothing, and an abort
+/// The close of the transport connection and the expiry of the ARTIM timer send nothing; an abort
 /// of the local user sends at most 30 bytes.
 pub fn other_inputs_send_little()
     ensures silent { SilentSendsNothing }
     ensures abort { AbortsShortly }
 {}
 
-/// The definition determines the number of held bytes, so it is what
+/// The definitions determine the number of held bytes, so it is the one that
 /// [`Association::held`](crate::Association::held) returns and [`run`](crate::run) reports.
 pub fn the_number_of_held_bytes_is_one()
     ensures { HeldIsOne }
 {}
 
-/// Whatever is received, an association holds at most `A + C + V + 16 * D` bytes, its limits; and an
-/// established one at most 544 and those of a message.
+/// Whatever is received, an association holds at most `A + C + V + 16 * D` bytes; an established
+/// one holds at most 544 and those of one message.
 pub fn held_is_within_the_rooms()
     ensures { HeldIsWithinRooms }
 {}
 
-/// Every C-STORE has a verdict: the status and cause of its response, and whether it is stored.
+/// Every C-STORE has a verdict: the status and cause of its response, and whether its data set is
+/// stored.
 pub fn a_verdict_is_there()
     ensures { AVerdictIsThere }
 {}
@@ -132,19 +136,22 @@ pub fn a_verdict_is_one()
     ensures { AVerdictIsOne }
 {}
 
-/// A whole data set within the limits, sent under its own SOP class and instance UIDs in an accepted
-/// presentation context of that class, is stored and answered with Success, if no device fails.
+/// A data set that is complete and within the limits, sent under its own SOP class and instance
+/// UIDs in an accepted presentation context of that class, is stored and answered with Success if
+/// no device fails.
 pub fn no_good_image_is_refused()
     ensures { NoGoodImageIsRefused }
 {}
 
-/// For every such data set that a run has received whole, with no device failing during its message,
-/// there is a file and a response with Success, in order among all others.
+/// Every data set as in [`no_good_image_is_refused`] that a run has received completely, with no
+/// device failing during its message, has a file and a response with Success, in order among all
+/// others.
 pub fn every_good_image_is_filed()
     ensures { EveryGoodImageIsFiled }
 {}
 
-/// The file of a C-STORE depends only on the bytes of its own message and on the sender's AE title.
+/// The file of a C-STORE depends only on the bytes of its message, the transfer syntax of its
+/// presentation context and the sender's AE title.
 pub fn a_store_is_filed_by_itself()
     ensures { FiledByItself }
 {}
@@ -154,7 +161,8 @@ pub fn verdicts_on_faults()
     ensures { VerdictsOnFaults }
 {}
 
-/// Examples: a CT image is stored; its filing fails; it is not the instance that the command names.
+/// Examples: a CT image is stored; storing it fails; its instance is not the one that the command
+/// names.
 pub fn verdicts_on_one_image()
     ensures { VerdictsOnOneImage }
 {}
@@ -179,8 +187,8 @@ pub fn data_above_the_maximum()
     ensures { DataAboveTheMaximum }
 {}
 
-/// Example: after the end of the association a P-DATA-TF is dropped, and an A-ASSOCIATE-RQ is answered
-/// with an A-ABORT.
+/// Examples: in Sta13 a P-DATA-TF is dropped, an A-ASSOCIATE-RQ is answered with an A-ABORT, and
+/// the expiry of the ARTIM timer ends the association.
 pub fn after_the_end()
     ensures { AfterTheEnd }
 {}
@@ -196,17 +204,17 @@ pub fn recorded_echo()
 {}
 
 /// Example: the number of held bytes while the recorded C-ECHO is received.
-pub fn held_while_the_echo_comes()
-    ensures { HeldWhileTheEchoComes }
+pub fn held_during_the_echo()
+    ensures { HeldDuringTheEcho }
 {}
 
-/// Example: a message in a valid presentation data value is answered, although an invalid one follows
-/// in the same PDU.
+/// Example: a message in a valid presentation data value is answered, although an invalid one
+/// follows in the same PDU.
 pub fn a_good_pdv_before_a_bad_one()
     ensures { AGoodPdvBeforeABadOne }
 {}
 
-/// Example: the recorded C-ECHO, as a run.
+/// Example: the recorded C-ECHO as a run.
 pub fn the_echo_runs()
     ensures { TheEchoRuns }
 {}

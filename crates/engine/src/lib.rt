@@ -1,6 +1,6 @@
-//! One association of the acceptor: takes inputs (received bytes, the close of the connection, the
-//! ARTIM timer's expiry, an abort of the local user), sends the answers and stores the files (PS3.8
-//! section 9.2).
+//! One association of the acceptor: handles inputs (received bytes, the close of the connection,
+//! the ARTIM timer's expiry, an abort of the local user), sends the answers and stores the files
+//! (PS3.8 section 9.2).
 #![tactic(auto)]
 
 mod association;

@@ -5,7 +5,7 @@ ghost use Rattle.engine.specs.Inputs.{received_of};
 use crate::source::{Input, Source};
 use acceptor::State;
 
-/// An input of a [`ListSource`], as [`Input`] but with the bytes of a piece.
+/// An input of a [`ListSource`]: an [`Input`] with the bytes of its piece.
 #[derive(Clone, Copy)]
 pub enum ListedInput<'a> {
     Piece(&'a [u8]),
@@ -14,7 +14,7 @@ pub enum ListedInput<'a> {
     LocalAbort,
 }
 
-/// A [`Source`] that returns the inputs of a list one after the other, whatever the state is, and then
+/// A [`Source`] that returns the inputs of a list in order, whatever the state is, and then
 /// `Input::Closed`.
 #[derive(Drop)]
 pub struct ListSource<'a> {
@@ -25,11 +25,11 @@ pub struct ListSource<'a> {
 }
 
 impl<'a> ListSource<'a> {
-    ghost use Rattle.engine.specs.ListSource.{inputs_left};
+    ghost use Rattle.engine.specs.ListSource.{inputs_remaining};
 
     /// Creates a source of these inputs.
     pub fn new(inputs: &'a [ListedInput<'a>]) -> ListSource<'a>
-        ensures { inputs_left result ≡ map received_of inputs.entry.now }
+        ensures { inputs_remaining result ≡ map received_of inputs.entry.now }
     {
         ListSource {
             inputs,
@@ -41,9 +41,9 @@ impl<'a> ListSource<'a> {
 
 impl Source for ListSource<'_> {
     ghost use Rattle.std.specs.Prelude.{Some, None};
-    ghost use Rattle.engine.specs.ListSource.{inputs_left};
+    ghost use Rattle.engine.specs.ListSource.{inputs_remaining};
 
-    ghost supply = { λ s. record { to_come = Some (inputs_left s); given = None } };
+    ghost supply = { λ s. record { expected = Some (inputs_remaining s); given = None } };
 
     ghost last = { λ s. s.piece.now };
 

@@ -18,8 +18,8 @@ use negotiate::Config;
 use part10::Filing;
 use pdu::{PdvHead, Wire, WireFailed};
 
-/// The peer and the presentation context ID of a message, with the configuration that the context is
-/// looked up in.
+/// The peer and the presentation context ID of a message, with the settings in which the context is
+/// looked up.
 #[derive(Clone, Copy)]
 struct Origin<'a, 'c> {
     peer: &'a Peer,
@@ -33,9 +33,9 @@ impl<const C: usize, const V: usize, const D: usize> Message<C, V, D> {
     ghost use Rattle.engine.specs.machine.Lent.{before, after};
     ghost use Rattle.engine.specs.machine.Messages.{BeginsData, EndsMessage};
 
-    /// Starts the data set of a message after a whole command set that announces one. If the command is
-    /// a C-STORE of the SOP class of its presentation context, the data set is walked and goes to a
-    /// draft; else its bytes are dropped.
+    /// Starts the data set of a message whose complete command set announces one. If the command is
+    /// a C-STORE of the SOP class of its presentation context, the data set is walked and written
+    /// to a draft; else its bytes are dropped.
     fn begin<F: Filing>(&mut self, origin: Origin, filing: &mut F)
         requires draft { IsThere (drafting_in (stored_of self.old.storing)) (F.store filing.old) }
         requires least_kept { 140 ≤ V }
@@ -62,8 +62,8 @@ impl<const C: usize, const V: usize, const D: usize> Message<C, V, D> {
         }
     }
 
-    /// Ends a whole message: judges its data set, and sends the response to its command. Returns what
-    /// was decided, and whether the send succeeded.
+    /// Ends a complete message: judges its data set, and sends the response to its command. Returns
+    /// what was decided, and whether the send succeeded.
     fn reply<W: Wire, F: Filing>(
         &mut self,
         origin: Origin,
@@ -109,8 +109,8 @@ impl<'c, const A: usize, const C: usize, const V: usize, const D: usize> Provide
     ghost use Rattle.engine.specs.Run.{rooms_of};
 
     /// Handles the head of a presentation data value. A presentation context that was not accepted
-    /// leads to an A-ABORT of the service provider; a fragment that does not continue the message to an
-    /// abort of the local user.
+    /// leads to an A-ABORT of the service provider; a fragment that does not continue the message
+    /// to an abort of the local user.
     pub(crate) fn on_pdv_head(&mut self, head: PdvHead) -> Reaction
         requires two { 2 ≤ head.length }
         ensures settings { settings_in self.new ≡ settings_in self.old }
@@ -162,8 +162,8 @@ impl<'c, const A: usize, const C: usize, const V: usize, const D: usize> Provide
         }
     }
 
-    /// Handles the end of a presentation data value. An invalid command set leads to an abort of the
-    /// local user.
+    /// Handles the end of a presentation data value. An invalid command set leads to an abort of
+    /// the local user.
     pub(crate) fn on_pdv<W: Wire, F: Filing>(&mut self, devices: Devices<'_, W, F>)
         requires draft { DraftIsThere (kept_of self.old) (F.store devices.filing.now) }
         ensures settings { settings_in self.new ≡ settings_in self.old }
@@ -186,11 +186,11 @@ impl<'c, const A: usize, const C: usize, const V: usize, const D: usize> Provide
                     let Devices { wire, filing } = devices;
                     let (decided, sent) = message.reply(origin, Devices { wire, filing });
                     message.join.clear();
-                    // (the reply to a C-STORE has left its draft; that no other message has one is known of the
-                    // timeline only)
+                    // `reply` has ended the draft of a C-STORE; only the timeline shows that no
+                    // other message has a draft.
                     message.storing.leave(filing);
                     self.decided = decided;
-                    self.settle(State::Sta6, sent, filing);
+                    self.finish(State::Sta6, sent, filing);
                 }
                 Ok(Joined::DataDue) => {
                     self.decided = Decision::DataDue;

@@ -8,10 +8,10 @@ use arrayvec::ArrayVec;
 use dimse::Join;
 use negotiate::{Config, Context, ContextRow, context_of};
 
-/// The phase of an association, with its data, which are dropped when it is left.
+/// The phase of an association, with its data, which are dropped when the phase ends.
 #[derive(Drop)]
 pub(crate) enum Phase<const A: usize, const C: usize, const V: usize, const D: usize> {
-    /// Awaiting an A-ASSOCIATE-RQ, of whose body these bytes were received (Sta2).
+    /// Awaiting an A-ASSOCIATE-RQ (Sta2): the bytes of its body that were received so far.
     AwaitingRequest {
         body: ArrayVec<u8, A>,
     },
@@ -26,12 +26,12 @@ pub(crate) enum Phase<const A: usize, const C: usize, const V: usize, const D: u
     Ended,
 }
 
-/// The data of an accepted A-ASSOCIATE-RQ that are needed afterwards.
+/// The data of an accepted A-ASSOCIATE-RQ that are needed after it.
 #[derive(Drop)]
 pub(crate) struct Peer {
     /// The calling AE title.
     pub(crate) caller: [u8; 16],
-    /// The greatest length of a P-DATA-TF that the peer receives, in bytes: at least 8, or 0 for no
+    /// The maximum length in bytes of a P-DATA-TF that the peer accepts: at least 8, or 0 for no
     /// limit.
     pub(crate) max_length: u32,
     /// The accepted presentation contexts.
@@ -39,12 +39,12 @@ pub(crate) struct Peer {
     ghost answerable: { max_length < 8 → max_length ≡ 0 },
 }
 
-/// The data of the unfinished message.
+/// The unfinished message.
 #[derive(Drop)]
 pub(crate) struct Message<const C: usize, const V: usize, const D: usize> {
-    /// Its command set, and which fragment must follow.
+    /// The command set, and which fragment must follow.
     pub(crate) join: Join<C>,
-    /// Its data set, if it is a C-STORE.
+    /// The data set, if the message is a C-STORE.
     pub(crate) storing: Storing<V, D>,
 }
 
@@ -76,7 +76,7 @@ impl Peer {
         context_of(config, self.contexts.as_slice(), id)
     }
 
-    /// Returns how many bytes count as held of the request: 20, and 4 for each accepted presentation
+    /// Returns how many held bytes the request counts as: 20, and 4 for each accepted presentation
     /// context.
     pub(crate) fn held(&self) -> usize
         ensures value { result ≡ peer_size + row_size * length self.now.contexts.items }
@@ -87,8 +87,8 @@ impl Peer {
 }
 
 impl<const C: usize, const V: usize, const D: usize> Message<C, V, D> {
-    /// Returns how many bytes of the message are held: its command set, and what the walker holds of
-    /// its data set.
+    /// Returns how many bytes of the message are held: its command set, and what the walker holds
+    /// of its data set.
     pub(crate) fn held(&self) -> usize
         ensures value { result ≡ length self.now.join.command + held_in (stored_of self.now.storing) }
         ensures bound { result ≤ C + V + 16 * D }

@@ -1,5 +1,5 @@
-//! An association without the division of its stream into PDUs: what the service provider and the local
-//! user do.
+//! The service provider and the local user of an association, without the division of the received
+//! bytes into PDUs.
 ghost use Rattle.std.specs.Prelude.{◌≡◌, ◌≤◌, ◌+◌, ◌*◌, ◌-◌, ◌^◌, [], false};
 ghost use Rattle.acceptor.specs.declared.state.State.TheVariants.{Sta6};
 ghost use Rattle.engine.specs.Phases.{taken_in};
@@ -16,12 +16,12 @@ use negotiate::Config;
 use part10::Filing;
 use pdu::{Deframer, Wire, WireFailed};
 
-/// An association without the division of its stream into PDUs: its phase, and the reaction of the
-/// service provider and of the local user to each event of the stream.
+/// An association without the division of the received bytes into PDUs: its phase, and the reaction
+/// of the service provider and of the local user to each event.
 #[derive(Drop)]
 pub(crate) struct Provider<'c, const A: usize, const C: usize, const V: usize, const D: usize> {
     pub(crate) config: &'c Config,
-    /// Whether the rest of the unfinished PDU is ignored, as it was already answered.
+    /// Whether the rest of the unfinished PDU is ignored, because the PDU was already answered.
     pub(crate) refused: bool,
     /// What was decided last, since the head of the last PDU.
     pub(crate) decided: Decision,
@@ -48,7 +48,7 @@ impl<'c, const A: usize, const C: usize, const V: usize, const D: usize> Provide
     ghost use Rattle.pdu.specs.Deframed.{position_of};
     ghost use Rattle.pdu.specs.Steps.{events_due};
     ghost use Rattle.engine.specs.machine.Skips.{passed};
-    ghost use Rattle.engine.specs.machine.PerformsReaction.{ComesTo, is_left};
+    ghost use Rattle.engine.specs.machine.PerformsReaction.{Reaches, is_remaining};
     ghost use Rattle.engine.specs.machine.Judged.{StaysThen, JudgesInvalid};
     ghost use Rattle.engine.specs.Run.{rooms_of};
     ghost use Rattle.engine.specs.machine.Tries.{TriesDue};
@@ -101,8 +101,8 @@ impl<'c, const A: usize, const C: usize, const V: usize, const D: usize> Provide
         }
     }
 
-    /// Makes the deframer skip the rest of the unfinished PDU if neither its body nor its presentation
-    /// data values are handled.
+    /// Makes the deframer skip the rest of the unfinished PDU if neither its body nor its
+    /// presentation data values are handled.
     pub(crate) fn skip_uncounted(&self, deframer: &mut Deframer)
         ensures passes { position_of deframer.new ≡ passed (kept_of self.now) (position_of deframer.old) }
         ensures fewer { events_due (position_of deframer.new) ≤ events_due (position_of deframer.old) }
@@ -123,9 +123,9 @@ impl<'c, const A: usize, const C: usize, const V: usize, const D: usize> Provide
         }
     }
 
-    /// Returns how many received bytes are held: of the body of an A-ASSOCIATE-RQ; 20, and 4 for each
-    /// presentation context, of an accepted one; of the command set of a message, and what the walker
-    /// holds of its data set.
+    /// Returns how many received bytes are held: of the body of an A-ASSOCIATE-RQ; 20, and 4 for
+    /// each presentation context, of an accepted one; of the command set of a message, and what the
+    /// walker holds of its data set.
     pub(crate) fn held(&self) -> usize
         ensures value { result ≡ held_by (kept_of self.now) }
         ensures room { result + 12 ≤ A + C + V + 16 * D }
@@ -160,18 +160,18 @@ impl<'c, const A: usize, const C: usize, const V: usize, const D: usize> Provide
         }
     }
 
-    /// Enters the state `next`, or Sta1 if the send before failed. Entering Sta1 or Sta13 drops the
-    /// draft and all data of the phase; any other `next` must be the state of the phase.
-    pub(crate) fn settle<F: Filing>(
+    /// Enters the state `next`, or Sta1 if the send before it failed. Entering Sta1 or Sta13 drops
+    /// the draft and all data of the phase; any other `next` must be the current state.
+    pub(crate) fn finish<F: Filing>(
         &mut self,
         next: State,
         sent: Result<(), WireFailed>,
         filing: &mut F,
     )
         requires draft { DraftIsThere (kept_of self.old) (F.store filing.old) }
-        requires stays { is_left next ≡ false → next ≡ (kept_of self.old).state }
+        requires stays { is_remaining next ≡ false → next ≡ (kept_of self.old).state }
         ensures settings { settings_in self.new ≡ settings_in self.old }
-        ensures settles { ComesTo next sent (kept_of self.old) (kept_of self.new) (F.store filing.old) (F.store filing.new) }
+        ensures settles { Reaches next sent (kept_of self.old) (kept_of self.new) (F.store filing.old) (F.store filing.new) }
         ensures drafts { KeepsDraft (kept_of self.old) (kept_of self.new) (F.store filing.old) (F.store filing.new) }
     {
         let next = state_after(next, sent);
@@ -194,26 +194,27 @@ impl<'c, const A: usize, const C: usize, const V: usize, const D: usize> Provide
         requires stays { StaysThen (kept_of self.old).state due }
         ensures drafts { KeepsDraft (kept_of self.old) (kept_of self.new) (F.store devices.entry.filing.now) (after W.line F.store devices.exit).store }
         ensures settings { settings_in self.new ≡ settings_in self.old }
-        ensures same { is_left (kept_of self.new).state ≡ false → kept_of self.new ≡ kept_of self.old }
+        ensures same { is_remaining (kept_of self.new).state ≡ false → kept_of self.new ≡ kept_of self.old }
         ensures tries { TriesDue (due_at due) (kept_of self.old) (kept_of self.new) (before W.line F.store devices.entry) (after W.line F.store devices.exit) }
     {
         match due {
             Reaction::Nothing => {}
             Reaction::Perform(event, answering) => {
                 let (next, sent) = step(self.phase.state(), event, answering, devices.wire);
-                self.settle(next, sent, devices.filing);
+                self.finish(next, sent, devices.filing);
             }
             Reaction::Release => {
                 let (_, asked) = act(State::Sta6, Event::ReleaseRq);
                 let answering = Answering::Nothing;
                 let (next, sent) = step(asked, Event::UserReleases, answering, devices.wire);
-                self.settle(next, sent, devices.filing);
+                self.finish(next, sent, devices.filing);
             }
         }
     }
 
-    /// Returns the reaction to an invalid head of a presentation data value, or to bytes left over
-    /// after one: an A-ABORT, if presentation data values are handled; then this is decided.
+    /// Returns the reaction to an invalid head of a presentation data value, or to remaining bytes
+    /// that are none: an A-ABORT and the decision `decided`, if presentation data values are
+    /// handled, else nothing.
     pub(crate) fn on_invalid(&mut self, decided: Decision) -> Reaction
         ensures settings { settings_in self.new ≡ settings_in self.old }
         ensures storing { (kept_of self.new).storing ≡ (kept_of self.old).storing }

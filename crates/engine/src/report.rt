@@ -5,7 +5,7 @@ ghost use Rattle.engine.specs.Ran.{standing_of};
 use acceptor::State;
 use std::fmt;
 
-/// The state of an association, for users: a summary of the acceptor's states.
+/// The state of an association, for users: it summarizes the acceptor's states.
 #[derive(Clone, Copy, Debug, PartialEq, Eq)]
 pub enum Standing {
     /// Awaiting an A-ASSOCIATE-RQ, or established.
@@ -16,8 +16,8 @@ pub enum Standing {
     Ended,
 }
 
-/// The state of an association after a run, and how many received bytes it holds (see
-/// [`Association::held`](crate::Association::held)).
+/// The state of an association after a run, and how many received bytes it holds (as
+/// [`Association::held`](crate::Association::held) counts them).
 #[derive(Clone, Copy, Debug, PartialEq, Eq)]
 pub struct Report {
     pub standing: Standing,

@@ -7,7 +7,7 @@ ghost use Rattle.pdu.specs.Sent.{Sends};
 ghost use Rattle.negotiate.specs.Contexts.{offered};
 ghost use Rattle.negotiate.specs.Settings.{settings_of};
 ghost use Rattle.negotiate.specs.Accept.{answer_bytes};
-ghost use Rattle.engine.specs.machine.PerformsReaction.{rejected_state, rejected_text, is_left};
+ghost use Rattle.engine.specs.machine.PerformsReaction.{rejected_state, rejected_text, is_remaining};
 ghost use Rattle.engine.specs.machine.Accepted.{IsPeerOf};
 ghost use Rattle.engine.specs.Progress.{at_start};
 ghost use Rattle.engine.specs.Requests.{at_request};
@@ -26,7 +26,7 @@ use negotiate::{Answer, Config, compact, judge, rejection};
 use part10::Filing;
 use pdu::{Request, Wire, WireFailed, pdu_type, read_request};
 
-/// Sends the A-ASSOCIATE-RJ to a request, as the service provider (ACSE) or as the local user, by
+/// Sends an A-ASSOCIATE-RJ, as the service provider (ACSE) or as the local user, according to
 /// `source`. Returns the next state and whether the send succeeded.
 fn reject<W: Wire>(
     config: &Config,
@@ -47,7 +47,7 @@ fn reject<W: Wire>(
     }
 }
 
-/// Returns the data of an accepted request that are needed afterwards.
+/// Returns the data of an accepted request that are needed after it.
 fn peer_of(config: &Config, request: &Request) -> Peer
     requires answerable { request.now.maximum < 8 → request.now.maximum ≡ 0 }
     ensures { IsPeerOf result (settings_of config.now).additional (offered (settings_of config.now).additional request.now) }
@@ -64,8 +64,8 @@ fn peer_of(config: &Config, request: &Request) -> Peer
 }
 
 /// Reads the body of an A-ASSOCIATE-RQ, judges it, and sends the answer: A-ASSOCIATE-AC,
-/// A-ASSOCIATE-RJ, or A-ABORT if it is invalid. Returns the peer if it is accepted, the next state,
-/// whether the send succeeded, and what was decided.
+/// A-ASSOCIATE-RJ, or A-ABORT if it is invalid. Returns the peer if the request is accepted, the
+/// next state, whether the send succeeded, and what was decided.
 fn answer_request<W: Wire>(
     config: &Config,
     body: &[u8],
@@ -77,7 +77,7 @@ fn answer_request<W: Wire>(
     ensures accepted { IfSome result.0 (λ peer. (result.1 ≡ Sta6) × IsPeerOf peer (settings_of config.now).additional (offered (settings_of config.now).additional (request_record body.now))) }
     ensures decided { result.3 ≡ (at_request (settings_of config.now) at_start body.now).next.decided }
     ensures room { IfSome result.0 (λ peer. 20 + 4 * array_vec_len peer.contexts ≤ length body.now) }
-    ensures rejected { IfNone result.0 (is_left result.1 ≡ true) }
+    ensures rejected { IfNone result.0 (is_remaining result.1 ≡ true) }
 {
     match read_request(body) {
         Err(fault) => {
@@ -113,8 +113,8 @@ impl<'c, const A: usize, const C: usize, const V: usize, const D: usize> Provide
     ghost use Rattle.engine.specs.machine.Tries.{TriesRequest};
     ghost use Rattle.engine.specs.machine.Judged.{StaysThen, JudgesEnd};
 
-    /// Returns whether the body of a PDU of this type is buffered: that of an A-ASSOCIATE-RQ while one
-    /// is awaited, unless it was already rejected.
+    /// Returns whether the body of a PDU of this type is buffered: only that of an awaited
+    /// A-ASSOCIATE-RQ, unless it was already answered.
     pub(crate) fn takes_body(&self, kind: u8) -> bool
         ensures { result ≡ takes_body_in (kept_of self.now) kind }
     {
@@ -124,8 +124,8 @@ impl<'c, const A: usize, const C: usize, const V: usize, const D: usize> Provide
         }
     }
 
-    /// Handles bytes of the body of a PDU of this type: appends those of an awaited A-ASSOCIATE-RQ to
-    /// its buffer, and drops others.
+    /// Handles bytes of the body of a PDU of this type: buffers those of an awaited A-ASSOCIATE-RQ,
+    /// and drops others.
     pub(crate) fn on_body(&mut self, kind: u8, part: &[u8])
         requires fits { BodyFits (A - 12) (kept_of self.old) kind (length part.now) }
         ensures settings { settings_in self.new ≡ settings_in self.old }
@@ -141,7 +141,8 @@ impl<'c, const A: usize, const C: usize, const V: usize, const D: usize> Provide
         }
     }
 
-    /// Handles the end of an awaited A-ASSOCIATE-RQ: reads, judges and answers it, and drops its body.
+    /// Handles the end of an awaited A-ASSOCIATE-RQ: reads, judges and answers it, and drops its
+    /// body.
     pub(crate) fn on_request<W: Wire, F: Filing>(&mut self, devices: Devices<'_, W, F>)
         requires draft { DraftIsThere (kept_of self.old) (F.store devices.filing.now) }
         ensures settings { settings_in self.new ≡ settings_in self.old }
@@ -164,15 +165,15 @@ impl<'c, const A: usize, const C: usize, const V: usize, const D: usize> Provide
                     storing: Storing::Nothing,
                 };
                 self.phase = Phase::Established { peer, message };
-                self.settle(next, sent, devices.filing);
+                self.finish(next, sent, devices.filing);
             }
-            None => self.settle(next, sent, devices.filing),
+            None => self.finish(next, sent, devices.filing),
         }
     }
 
-    /// Returns the reaction to the end of a PDU of this type whose body is not buffered: that to an
-    /// A-ABORT, or to an A-RELEASE-RQ of an established association. Other PDUs have none, nor has one
-    /// that was already answered.
+    /// Returns the reaction to the end of a PDU of this type whose body is not buffered. Only an
+    /// A-ABORT, and an A-RELEASE-RQ of an established association, cause a reaction, unless the PDU
+    /// was already answered.
     pub(crate) fn on_end(&mut self, kind: u8) -> Reaction
         requires unkept { takes_body_in (kept_of self.old) kind ≡ false }
         ensures settings { settings_in self.new ≡ settings_in self.old }

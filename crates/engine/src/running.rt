@@ -25,8 +25,8 @@ impl<'c, const A: usize, const C: usize, const V: usize, const D: usize> Associa
     ghost use Rattle.engine.specs.MovesOn.{MovesOn, StaysOnceEnded, TakesNext};
     ghost use Rattle.engine.specs.Turns.{Reports};
 
-    /// Handles an input, as the method for its kind does ([`feed`](Association::feed), ..). `piece` has the received
-    /// bytes of `Input::Piece`, and is ignored for the others.
+    /// Handles an input like the method for its kind ([`feed`](Association::feed), ..). `piece` has
+    /// the received bytes of `Input::Piece`, and is ignored for other inputs.
     pub fn take<W: Wire, F: Filing>(
         &mut self,
         input: Input,
@@ -50,7 +50,7 @@ impl<'c, const A: usize, const C: usize, const V: usize, const D: usize> Associa
         }
     }
 
-    /// Takes the next input of the source, which is given the state of the association, and handles it.
+    /// Handles the next input of the source, which is given the state of the association.
     pub fn take_next<S: Source, W: Wire, F: Filing>(
         &mut self,
         source: &mut S,
@@ -80,15 +80,16 @@ impl<'c, const A: usize, const C: usize, const V: usize, const D: usize> Associa
     }
 }
 
-/// Opens an association and handles inputs of the source until it has ended or `turns` inputs were
-/// handled; then drops the draft, if there is one. Returns the state of the association, and how many
-/// received bytes it holds. The const parameters are the limits of [`Association`].
+/// Opens an association and handles inputs of the source until the association has ended or `turns`
+/// inputs were handled; then drops the draft, if there is one. Returns the state of the
+/// association, and how many received bytes it holds. The const parameters are the limits of
+/// [`Association`].
 ///
-/// The clause `ran` states: the source has returned exactly the inputs that were handled, the others
-/// are still to come, and only the last one handled may have ended the association. What was sent, the
-/// files, the state and the number of held bytes are what the acceptor's state table and the rules of
-/// DIMSE give for these inputs, up to a send that failed; and every failed call of a device is counted.
-/// It holds for every number of turns, and so after every input.
+/// The clause `ran` states: the source has returned exactly the inputs that were handled, and only
+/// the last of them may have ended the association. What was sent, the files, the state and the
+/// number of held bytes are what the acceptor's state table and the rules of DIMSE determine for
+/// these inputs, up to a failed send; and every failed call of a device is counted. The clause
+/// holds for every number of turns, and so after every input.
 pub fn run<
     const A: usize,
     const C: usize,

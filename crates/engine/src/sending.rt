@@ -1,5 +1,5 @@
-//! Performs the action that the acceptor's state table gives for an event: sends a PDU, and returns the
-//! next state.
+//! Performs the action that the acceptor's state table has for an event: sends a PDU, and returns
+//! the next state.
 ghost use Rattle.std.specs.Prelude.{◌≡◌, ◌<◌, length, OnErr};
 ghost use Rattle.acceptor.specs.Table.{table};
 ghost use Rattle.pdu.specs.Sent.{Sends};
@@ -13,14 +13,14 @@ use acceptor::{Event, Sending, State, act};
 use negotiate::{Config, rejection, write_answer};
 use pdu::{Request, Wire, WireFailed, write_abort, write_reject, write_release};
 
-/// What the action of an event needs to send its PDU, beyond the state table.
+/// What the action of an event needs to send its PDU, besides the state table.
 #[derive(Clone, Copy)]
 pub(crate) enum Answering<'a> {
     /// Nothing.
     Nothing,
     /// The reason of an A-ABORT of the service provider (PS3.8 section 9.3.8).
     Abort(u8),
-    /// The A-ASSOCIATE-RJ to a request that is longer than the limit.
+    /// The A-ASSOCIATE-RJ to a request whose body is longer than the limit.
     TooLong,
     /// The A-ASSOCIATE-AC or A-ASSOCIATE-RJ to this request, with this configuration.
     Request(&'a Config, &'a Request<'a>),
@@ -32,10 +32,10 @@ pub(crate) enum Answering<'a> {
 pub(crate) enum Reaction {
     /// No reaction.
     Nothing,
-    /// This event of the acceptor's state table, with what its action needs to send.
+    /// This event of the acceptor's state table, with what its action needs to send a PDU.
     Perform(Event, Answering<'static>),
-    /// The release of an established association: an A-RELEASE-RQ, to which the local user agrees at
-    /// once.
+    /// The release of an established association after an A-RELEASE-RQ, to which the local user
+    /// agrees at once.
     Release,
 }
 
@@ -79,7 +79,7 @@ fn send<W: Wire>(sending: Sending, answering: Answering, wire: &mut W) -> Result
     }
 }
 
-/// Performs the action that the state table gives for the event. Returns the next state, and whether
+/// Performs the action that the state table has for the event. Returns the next state, and whether
 /// the send succeeded.
 pub(crate) fn step<W: Wire>(
     state: State,
@@ -96,8 +96,8 @@ pub(crate) fn step<W: Wire>(
     (next, sent)
 }
 
-/// Returns the state after a send: `next`, or Sta1 if the send failed, which ends the association like
-/// a closed transport connection (PS3.8 section 9.2.2).
+/// Returns the state after a send: `next`, or Sta1 if the send failed, which ends the association
+/// like a closed transport connection (PS3.8 section 9.2.2).
 pub(crate) fn state_after(next: State, sent: Result<(), WireFailed>) -> State
     ensures { result ≡ machine.state_after sent next }
 {

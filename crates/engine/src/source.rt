@@ -20,19 +20,19 @@ pub enum Input {
 
 /// The source of the inputs of an association: a socket with a timer, or a list.
 pub trait Source {
-    /// For contracts: the inputs that are still to come, and those that the source has returned, as far
-    /// as the implementation can tell them.
+    /// For contracts: the inputs that remain, and those that the source has returned, as far as the
+    /// implementation knows them.
     ghost supply: { Self → Supply };
 
     /// For contracts: the bytes of the last piece.
     ghost last: { Self → List ℕ };
 
-    /// For contracts: the state with which `next` was called last, if the implementation can tell it.
+    /// For contracts: the state that `next` was given last, if the implementation knows it.
     ghost shown: { Self → Option State } = { λ _. None };
 
-    /// Returns the next input of an association that is in this state. If the ARTIM timer runs in the
-    /// state, it has to be started anew exactly if the state is another one than at the call before
-    /// (`acceptor::laws::starts_are_seen`).
+    /// Returns the next input of an association that is in this state. If the ARTIM timer runs in
+    /// this state, the source must restart it exactly if the state differs from that of the
+    /// previous call (`acceptor::laws::starts_are_seen`).
     fn next(&mut self, state: State) -> Input
         ensures gives { Gives (supply self.old) (supply self.new) (last self.new) result }
         ensures shown { shown self.new ≡ shown_after state (shown self.old) };

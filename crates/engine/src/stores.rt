@@ -1,8 +1,9 @@
-//! Handles the data set of a C-STORE: walks it as it is received, and writes it to the draft of a file.
+//! Handles the data set of a C-STORE: walks it as it is received, and writes it to the draft of a
+//! file.
 ghost use Rattle.std.specs.Prelude.{◌≡◌, ◌≤◌, ◌+◌, ◌*◌, ◌^◌, ◌++◌, List, ℕ, true, false, Some, None};
 ghost use Rattle.sequence.specs.declared.coding.Coding.{Coding};
 ghost use Rattle.sequence.specs.Rules.{Limits};
-ghost use Rattle.sequence.specs.Taken.{told_by};
+ghost use Rattle.sequence.specs.Taken.{reported_by};
 ghost use Rattle.sequence.specs.Stored.{wanted_tags};
 ghost use Rattle.engine.specs.Drafts.{IsThere, Drafts};
 ghost use Rattle.negotiate.specs.declared.proposals.Service.TheVariants as services;
@@ -31,11 +32,11 @@ const UID_ROOM: u32 = 64;
 /// The state of a message's data set.
 #[derive(Drop)]
 pub(crate) enum Storing<const V: usize, const D: usize> {
-    /// There is no data set, or it is dropped: the C-STORE has another SOP class than its presentation
-    /// context.
+    /// There is no data set, or it is dropped because the SOP class of the C-STORE is not that of
+    /// its presentation context.
     Nothing,
-    /// A data set is being received. `drafting` says whether the filing still has its draft, which a
-    /// failed call drops.
+    /// A data set is being received. `drafting` is whether the filing still has its draft: a failed
+    /// call of the filing drops it.
     DataSet {
         drafting: bool,
         walker: Walker<V, D>,
@@ -60,7 +61,7 @@ impl StoreStatus {
         }
     }
 
-    /// Returns a status of failure with its cause: the number of a fault, and a tag.
+    /// Returns a failure status with its cause: the number of a fault, and a tag.
     fn caused(status: u16, number: u8, tag: Tag) -> StoreStatus
         ensures { result ≡ record { status = status; detail = Some (record { number = number; tag = tag }) } }
     {
@@ -82,7 +83,7 @@ fn is_known(service: &Service, class: Class) -> bool
     }
 }
 
-/// Returns whether the service is a class that the configuration adds to the dictionary, with this UID.
+/// Returns whether the service is the additional class with this UID.
 fn is_additional(service: &Service, uid: &Uid) -> bool
     ensures yes { result ≡ true → service.now ≡ services.Additional uid.now }
     ensures no { result ≡ false → service.now ≡ services.Additional uid.now → ⊥ }
@@ -93,8 +94,8 @@ fn is_additional(service: &Service, uid: &Uid) -> bool
     }
 }
 
-/// Returns whether the SOP class of a C-STORE is that of its presentation context, and a storage class:
-/// one of the dictionary, or one that the configuration adds.
+/// Returns whether the SOP class of a C-STORE is a storage class and that of its presentation
+/// context: one of the dictionary, or an additional one of the settings.
 pub(crate) fn is_of_context(context: &Context, command: &Command) -> bool
     ensures yes { result ≡ true → IsOfContext context.now command.now }
     ensures no { result ≡ false → IsOfContext context.now command.now → ⊥ }
@@ -109,7 +110,7 @@ pub(crate) fn is_of_context(context: &Context, command: &Command) -> bool
     }
 }
 
-/// Returns the tags whose values are kept of a data set: SOP Class UID and SOP Instance UID.
+/// Returns the tags whose values of a data set are kept: SOP Class UID and SOP Instance UID.
 fn wanted() -> Wanted
     ensures { wanted_tags result ≡ spelling.wanted }
 {
@@ -129,8 +130,8 @@ fn wanted() -> Wanted
     }
 }
 
-/// Starts a draft with this file header. Returns whether the draft is there: false if a call of the
-/// filing failed.
+/// Starts a draft with this file header. Returns whether the filing has the draft: `false` if a
+/// call of the filing failed.
 fn begin_draft<F: Filing>(header: &[u8], filing: &mut F) -> bool
     ensures { Begins header.now result (F.store filing.old) (F.store filing.new) }
 {
@@ -140,8 +141,8 @@ fn begin_draft<F: Filing>(header: &[u8], filing: &mut F) -> bool
     }
 }
 
-/// Starts a C-STORE in this presentation context: its draft, with the file header, and the walker of
-/// its data set, of at most `max_data` bytes. Returns `Storing::Nothing` for any other command.
+/// Starts a C-STORE in this presentation context: its draft, with the file header, and the walker
+/// of its data set, of at most `max_data` bytes. Returns `Storing::Nothing` for any other command.
 pub(crate) fn begin_store<const V: usize, const D: usize, F: Filing>(
     context: &Context,
     command: &Command,
@@ -177,7 +178,7 @@ pub(crate) fn begin_store<const V: usize, const D: usize, F: Filing>(
     }
 }
 
-/// Walks the bytes to their end, or to the first fault. Only after a fault does a step take no byte.
+/// Walks the bytes to their end, or to the first fault: only a step after a fault reads no byte.
 fn walk<const V: usize, const D: usize>(walker: &mut Walker<V, D>, part: &[u8])
     ensures { (syntax : Coding) (lim : Limits) (set : List ℕ) → HasWalked walker.old syntax lim set → HasWalked walker.new syntax lim (set ++ part.now) }
 {
@@ -192,8 +193,8 @@ fn walk<const V: usize, const D: usize>(walker: &mut Walker<V, D>, part: &[u8])
     }
 }
 
-/// Appends bytes of the data set to the draft, if there is one. Returns whether the draft is still
-/// there: false if the filing failed.
+/// Appends bytes of the data set to the draft, if there is one. Returns whether the filing still
+/// has the draft: `false` if it failed.
 fn extend_draft<F: Filing>(part: &[u8], drafting: bool, filing: &mut F) -> bool
     requires there { IsThere drafting (F.store filing.old) }
     ensures { Grows part.now drafting result (F.store filing.old) (F.store filing.new) }
@@ -207,8 +208,8 @@ fn extend_draft<F: Filing>(part: &[u8], drafting: bool, filing: &mut F) -> bool
 
 /// Returns whether the data set has this UID as the value of this tag.
 fn names<const V: usize, const D: usize>(walker: &Walker<V, D>, tag: Tag, uid: &Uid) -> bool
-    ensures yes { result ≡ true → NamesUid (told_by walker.now).kept tag uid.now }
-    ensures no { result ≡ false → NamesUid (told_by walker.now).kept tag uid.now → ⊥ }
+    ensures yes { result ≡ true → NamesUid (reported_by walker.now).kept tag uid.now }
+    ensures no { result ≡ false → NamesUid (reported_by walker.now).kept tag uid.now → ⊥ }
 {
     match walker.kept(tag) {
         Some(value) => match Uid::read(value) {
@@ -219,8 +220,8 @@ fn names<const V: usize, const D: usize>(walker: &Walker<V, D>, tag: Tag, uid: &
     }
 }
 
-/// Returns the status for a data set with this fault: A700 (out of resources) if it is a limit of the
-/// receiver, else C000 (cannot understand) with the fault as its cause.
+/// Returns the status for a data set with this fault: A700 (out of resources) if it exceeds a limit
+/// of the receiver, else C000 (cannot understand) with the fault as its cause.
 fn failure_of(fault: Fault) -> StoreStatus
     ensures { finding_of result ≡ of_fault fault }
 {
@@ -233,8 +234,8 @@ fn failure_of(fault: Fault) -> StoreStatus
 /// Returns whether the SOP Instance UID of the data set is the Affected SOP Instance UID of the
 /// command.
 fn names_instance<const V: usize, const D: usize>(walker: &Walker<V, D>, command: &Command) -> bool
-    ensures yes { result ≡ true → NamesInstance (told_by walker.now).kept command.now }
-    ensures no { result ≡ false → NamesInstance (told_by walker.now).kept command.now → ⊥ }
+    ensures yes { result ≡ true → NamesInstance (reported_by walker.now).kept command.now }
+    ensures no { result ≡ false → NamesInstance (reported_by walker.now).kept command.now → ⊥ }
 {
     match command.instance() {
         Some(instance) => names(walker, INSTANCE, instance),
@@ -248,7 +249,7 @@ fn compare<const V: usize, const D: usize>(
     walker: &Walker<V, D>,
     command: &Command,
 ) -> Result<(), StoreStatus>
-    ensures { Compared (told_by walker.now).kept command.now result }
+    ensures { Compared (reported_by walker.now).kept command.now result }
 {
     if !names(walker, CLASS, command.class()) {
         return Err(StoreStatus::caused(status::DATA_SET_MISMATCH, CLASS_MISMATCH, CLASS));
@@ -259,8 +260,8 @@ fn compare<const V: usize, const D: usize>(
     Ok(())
 }
 
-/// Judges a data set at its end. Fails with the status for its first fault, for a truncated data set,
-/// or for UIDs other than the command's.
+/// Judges a complete data set. Fails with the status for its first fault (truncation is one), or
+/// for UIDs other than the command's.
 fn verdict_of<const V: usize, const D: usize>(
     walker: &Walker<V, D>,
     command: &Command,
@@ -273,7 +274,8 @@ fn verdict_of<const V: usize, const D: usize>(
     }
 }
 
-/// Commits the draft, and returns the status: Success, or A700 (out of resources) if the filing failed.
+/// Commits the draft, and returns the status: Success, or A700 (out of resources) if the filing
+/// failed.
 fn commit<F: Filing>(filing: &mut F) -> StoreStatus
     requires there { (F.store filing.old).has_draft ≡ true }
     ensures { Commits (finding_of result) (F.store filing.old) (F.store filing.new) }
@@ -289,7 +291,7 @@ impl<const V: usize, const D: usize> Storing<V, D> {
     ghost use Rattle.dimse.specs.Status.{class_not_supported};
     ghost use Rattle.engine.specs.machine.Verdicts.{EndsAs, HasVerdict};
     ghost use Rattle.engine.specs.StoredData.{Nothing, stored_of, drafting_in};
-    ghost use Rattle.engine.specs.machine.Storing.{GoesOn, Drops, finding_of};
+    ghost use Rattle.engine.specs.machine.Storing.{Continues, Drops, finding_of};
 
     /// Returns whether the filing has the draft of this data set.
     pub(crate) fn drafting(&self) -> bool
@@ -315,7 +317,7 @@ impl<const V: usize, const D: usize> Storing<V, D> {
     /// Handles bytes of the data set: walks them, and appends them to the draft.
     pub(crate) fn take<F: Filing>(&mut self, part: &[u8], filing: &mut F)
         requires there { IsThere (drafting_in (stored_of self.old)) (F.store filing.old) }
-        ensures goes_on { GoesOn part.now (stored_of self.old) (stored_of self.new) (F.store filing.old) (F.store filing.new) }
+        ensures continues { Continues part.now (stored_of self.old) (stored_of self.new) (F.store filing.old) (F.store filing.new) }
     {
         match self {
             Storing::Nothing => {}
@@ -326,8 +328,7 @@ impl<const V: usize, const D: usize> Storing<V, D> {
         }
     }
 
-    /// Judges the data set at its end. Fails with the status of the response, unless the data set is
-    /// valid.
+    /// Judges a complete data set. Fails with the failure status of the response.
     fn verdict(&self, command: &Command) -> Result<(), StoreStatus>
         ensures { HasVerdict command.now (stored_of self.now) result }
     {
@@ -337,8 +338,8 @@ impl<const V: usize, const D: usize> Storing<V, D> {
         }
     }
 
-    /// Ends the data set: checks it as a whole, and commits or drops its draft. Returns the status of
-    /// the response.
+    /// Ends the data set: judges it as a whole, and commits or drops its draft. Returns the status
+    /// of the response.
     pub(crate) fn end<F: Filing>(&mut self, command: &Command, filing: &mut F) -> StoreStatus
         requires there { IsThere (drafting_in (stored_of self.old)) (F.store filing.old) }
         ensures nothing { stored_of self.new ≡ Nothing }
@@ -363,8 +364,8 @@ impl<const V: usize, const D: usize> Storing<V, D> {
         }
     }
 
-    /// Drops the draft, if there is one, and the state of the data set: for a C-STORE that fails, or is
-    /// abandoned.
+    /// Drops the draft, if there is one, and the state of the data set: used for a C-STORE that
+    /// fails or is abandoned.
     pub(crate) fn leave<F: Filing>(&mut self, filing: &mut F)
         requires there { IsThere (drafting_in (stored_of self.old)) (F.store filing.old) }
         ensures nothing { stored_of self.new ≡ Nothing }

@@ -9,9 +9,9 @@ use thiserror::Error;
 /// The number of the system error `EBADF`, for a write to a closed file descriptor.
 const BAD_DESCRIPTOR: i32 = 9;
 
-/// An error that ends the program early. Its text says what failed and what to do about it. Except for
-/// help, the version and invalid arguments the program prints it and exits with status 3; it is not
-/// printed if the output is closed.
+/// An error that ends the program early. Its text says what failed and what to do about it. The
+/// program prints the text and exits with status 3, except for help, the version and invalid
+/// arguments. It is not printed if the output is closed.
 #[derive(Drop, Error)]
 pub enum ProgramError {
     #[error("{what}: {1}; {advice}", what = .0.what(), advice = .0.advice())]
@@ -36,8 +36,7 @@ impl fmt::Debug for ProgramError {
 }
 
 impl ProgramError {
-    /// Returns the error for a failed system call. If it failed because memory ran out, that is the
-    /// error.
+    /// Returns the error for a failed system call: `Memory` if memory ran out.
     pub fn of(failure: Failure, error: io::Error) -> ProgramError {
         match error.kind() {
             ErrorKind::OutOfMemory => ProgramError::Memory(AllocError),
@@ -45,13 +44,13 @@ impl ProgramError {
         }
     }
 
-    /// Returns the error for an output that cannot be written. If memory ran out, that is the error.
+    /// Returns the error for an output that cannot be written: `Memory` if memory ran out.
     pub fn of_output(error: io::Error) -> ProgramError {
         ProgramError::of(Failure::Write, error)
     }
 
-    /// Returns the error for a folder that could not be opened or listed: missing, locked by another
-    /// program, or any other. If memory ran out, that is the error.
+    /// Returns the error for a folder that could not be opened or listed: it is missing, locked by
+    /// another program, or unusable for another reason; `Memory` if memory ran out.
     pub fn of_folder(error: io::Error) -> ProgramError {
         let failure = match error.kind() {
             ErrorKind::NotFound => Failure::MissingFolder,
@@ -61,9 +60,9 @@ impl ProgramError {
         ProgramError::of(failure, error)
     }
 
-    /// Returns the error for an address and port that could not be listened on: an address that this
-    /// machine does not have, or a text that is no IP address; a port that needs more rights; or any
-    /// other.
+    /// Returns the error for an address and port that could not be listened on: the machine does
+    /// not have the address, the text is no IP address, the port needs more rights, or another
+    /// reason.
     pub fn of_listening(error: io::Error) -> ProgramError {
         let failure = match error.kind() {
             ErrorKind::AddrNotAvailable | ErrorKind::Unsupported => Failure::Address,
@@ -74,7 +73,7 @@ impl ProgramError {
     }
 
     /// Returns whether the error is that the standard output is closed, by its reader or from the
-    /// start, so that no text need be printed.
+    /// start, so that its text need not be printed.
     pub fn is_of_closed_output(&self) -> bool {
         match self {
             ProgramError::System(Failure::Write, error) => {
@@ -85,7 +84,7 @@ impl ProgramError {
         }
     }
 
-    /// Returns what failed, if the error is that of a system call.
+    /// Returns which operation failed, if the error is that of a system call.
     pub fn failure(&self) -> Option<Failure> {
         match self {
             ProgramError::System(failure, _) => Some(*failure),

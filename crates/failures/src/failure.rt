@@ -1,7 +1,7 @@
 //! The operations of the program that can fail with a system error.
 
-/// The operation that failed with a system error. Each has a text that says what failed, and one with
-/// advice.
+/// The operation that failed with a system error. Each variant has a text that says what failed,
+/// and one that advises the user.
 #[derive(Clone, Copy, PartialEq, Eq)]
 pub enum Failure {
     /// The arguments of the program cannot be read.
@@ -22,7 +22,8 @@ pub enum Failure {
     Numbers,
     /// The file of titles (option `--callers`) cannot be read.
     Callers,
-    /// The quarantine (option `--quarantine`) cannot be created or opened, or no file can be moved there.
+    /// The quarantine (option `--quarantine`) cannot be created or opened, or no file can be moved
+    /// there.
     Quarantine,
     /// The DICOMDIR of a folder cannot be read.
     NoDirectory,

@@ -1,4 +1,4 @@
-//! Flushes an output at its end.
+//! Flushes an output when the program ends.
 use crate::error::ProgramError;
 use std::io::Write;
 

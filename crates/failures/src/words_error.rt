@@ -2,13 +2,13 @@
 use std::alloc::AllocError;
 use thiserror::Error;
 
-/// Why the command line names no command to run.
+/// Why the command line has no command to run.
 #[derive(Debug, Drop, Error)]
 pub enum WordsError {
-    /// It asks for help or the version, which is this text.
+    /// The command line asks for help or the version, which this text is.
     #[error("{0}")]
     Shown(String),
-    /// Its arguments are invalid, as this text says.
+    /// The arguments are invalid, as this text says.
     #[error("{0}")]
     Refused(String),
     #[error("out of memory")]

@@ -1,5 +1,5 @@
-//! `dcmbox show` and `dcmbox check`: which files are inspected, and what is printed of each; of a file that
-//! `dcmbox checkdir` reads, too.
+//! `dcmbox show` and `dcmbox check`: inspect files and print the findings. Also prints those of
+//! `dcmbox checkdir`.
 #![tactic(auto)]
 
 mod several;

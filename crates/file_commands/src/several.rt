@@ -1,29 +1,41 @@
-//! Several files that are inspected, one after the other, and the folders that they are in.
-use crate::single::{Inspection, inspect, inspect_opened, open_input, tell_unjudged};
+//! Inspects several files and folders, one after the other.
+use crate::single::{Inspection, inspect, inspect_opened, open_input, report_unjudged};
 use crate::tally::Tally;
 use failures::{Failure, ProgramError, flushed};
-use inspection::{Outcome, OutputForm, Printable};
+use inspection::{FileFront, Outcome, OutputForm, Printable, Syntaxes, bare_form};
 use keyed_files::{Counter, NO_FILE, Visits, has_vanished, is_dicom, open_file};
 use std::fs;
 use std::io::{self, BufWriter, Error, ErrorKind, Write};
 
-/// Which files are inspected.
+/// The files to inspect, and how they are found.
 #[derive(Clone, Copy)]
 pub struct Files<'a> {
-    /// Their paths; `-` is standard input.
+    /// The paths of files and folders; `-` is standard input.
     pub paths: &'a [&'a str],
-    /// Whether the files in folders are inspected, too.
+    /// Whether the files in folders are inspected.
     pub recursive: bool,
-    /// Whether files that are no DICOM files are passed by, where there are several.
+    /// Whether files that are no DICOM files are ignored if several files are inspected.
     pub ignore_others: bool,
 }
 
-/// Returns whether a path is that of a file which can be opened and is no DICOM file.
-fn is_other(rt: &HostRuntime, path: &str) -> bool {
-    path != "-" && open_file(rt, path).is_ok() && !is_dicom(rt, path)
+/// Returns whether a file is a data set without header; `false` if it can't be read.
+fn is_bare(rt: &HostRuntime, path: &str) -> bool {
+    match open_file(rt, path) {
+        Ok(mut file) => bare_form(FileFront::new(&mut file).look_ahead()).is_some(),
+        Err(_) => false,
+    }
 }
 
-/// Inspects files, and counts them.
+/// Returns whether a path is that of a file that can be opened and is no DICOM file, and no data
+/// set without header if such files are accepted.
+fn is_other(rt: &HostRuntime, path: &str, syntaxes: Syntaxes) -> bool {
+    path != "-"
+        && open_file(rt, path).is_ok()
+        && !is_dicom(rt, path)
+        && !(syntaxes == Syntaxes::Any && is_bare(rt, path))
+}
+
+/// Inspects files and counts them.
 #[derive(Drop)]
 struct Inspector<'a, O: Write + Drop> {
     rt: &'a HostRuntime,
@@ -35,8 +47,9 @@ struct Inspector<'a, O: Write + Drop> {
 }
 
 impl<O: Write + Drop> Inspector<'_, O> {
-    /// Counts what can't be read, and tells of it on standard error; any other error is returned.
-    fn tell_unread(&mut self, path: &str, error: ProgramError) -> Result<(), ProgramError> {
+    /// Counts a file or folder that can't be read, and reports it on standard error. Returns any
+    /// other error.
+    fn report_unread(&mut self, path: &str, error: ProgramError) -> Result<(), ProgramError> {
         if !error.failure().is_some_and(Failure::is_of_input) {
             return Err(error);
         }
@@ -46,8 +59,8 @@ impl<O: Write + Drop> Inspector<'_, O> {
         Ok(())
     }
 
-    /// Writes the line with the name of a file; its JSON has it.
-    fn tell_name(&mut self, file: &str) -> Result<(), ProgramError> {
+    /// Writes the line with the name of a file. In JSON the file's object has the name.
+    fn report_name(&mut self, file: &str) -> Result<(), ProgramError> {
         if self.inspection.form() == OutputForm::Json {
             return Ok(());
         }
@@ -55,11 +68,11 @@ impl<O: Write + Drop> Inspector<'_, O> {
         writeln!(self.out, "file {name}").map_err(ProgramError::of_output)
     }
 
-    /// Writes the name of a file and what is asked for of it. One that was found in a folder and has vanished is only
-    /// counted.
+    /// Writes the name of a file and its findings. A file that was found in a folder and has
+    /// vanished is only counted.
     fn inspect(&mut self, file: &str, is_found: bool) -> Result<(), ProgramError> {
         self.counter.show(&mut self.rt.stderr());
-        if self.ignores_others && is_other(self.rt, file) {
+        if self.ignores_others && is_other(self.rt, file, self.inspection.syntaxes()) {
             self.tally.add_ignored();
             return Ok(());
         }
@@ -70,47 +83,49 @@ impl<O: Write + Drop> Inspector<'_, O> {
                 return Ok(());
             }
         }
-        self.tell_name(file)?;
+        self.report_name(file)?;
         match inspect_opened(self.rt, self.inspection, (file, opened), &mut self.out) {
             Ok(inspected) => {
                 self.tally.add(&inspected);
                 Ok(())
             }
-            Err(error) => self.tell_unread(file, error),
+            Err(error) => self.report_unread(file, error),
         }
     }
 
-    /// Counts and tells of what can't be opened, since its name is not UTF-8.
-    fn tell_unnamed(&mut self, paths: &[String]) -> Result<(), ProgramError> {
+    /// Counts and reports paths that can't be opened because the name is not UTF-8.
+    fn report_unnamed(&mut self, paths: &[String]) -> Result<(), ProgramError> {
         for path in paths {
             let error = Error::from(ErrorKind::InvalidFilename);
-            self.tell_unread(path.as_str(), ProgramError::System(Failure::Open, error))?;
+            self.report_unread(path.as_str(), ProgramError::System(Failure::Open, error))?;
         }
         Ok(())
     }
 
-    /// Counts what was found in a folder and can't be read; what has not vanished is told of, too.
-    fn tell_lost(&mut self, path: &str, error: ProgramError) -> Result<(), ProgramError> {
+    /// Counts a path that was found in a folder and can't be read, and reports it unless it has
+    /// vanished.
+    fn report_lost(&mut self, path: &str, error: ProgramError) -> Result<(), ProgramError> {
         if has_vanished(self.rt, path, &error) {
             self.tally.add_vanished();
             return Ok(());
         }
-        self.tell_unread(path, error)
+        self.report_unread(path, error)
     }
 
-    /// Adds what is in a folder to what is still to be visited.
+    /// Adds the entries of a folder to those to visit.
     fn open_folder(
         &mut self,
         dir: &str,
         visits: &mut Visits<HostRuntime>,
     ) -> Result<(), ProgramError> {
         match visits.add_folder(self.rt, dir) {
-            Ok(unnamed) => self.tell_unnamed(unnamed.as_slice()),
-            Err(error) => self.tell_lost(dir, error),
+            Ok(unnamed) => self.report_unnamed(unnamed.as_slice()),
+            Err(error) => self.report_lost(dir, error),
         }
     }
 
-    /// Visits a path that was found in a folder: a file, or a folder. Symbolic links are not followed.
+    /// Visits a path that was found in a folder: a file or a folder. Symbolic links are not
+    /// followed.
     fn visit(&mut self, path: &str, visits: &mut Visits<HostRuntime>) -> Result<(), ProgramError> {
         match fs::symlink_metadata(self.rt, path) {
             Ok(found) if found.is_dir() => self.open_folder(path, visits),
@@ -121,11 +136,11 @@ impl<O: Write + Drop> Inspector<'_, O> {
                 let _ = eprintln!(self.rt; "dcmbox: {path}: {NO_FILE}");
                 Ok(())
             }
-            Err(error) => self.tell_lost(path, ProgramError::System(Failure::Open, error)),
+            Err(error) => self.report_lost(path, ProgramError::System(Failure::Open, error)),
         }
     }
 
-    /// Inspects the files below a folder, by name.
+    /// Inspects the files below a folder in the order of their names.
     fn inspect_folder(&mut self, dir: &str) -> Result<(), ProgramError> {
         let mut visits = Visits::new(self.rt);
         self.open_folder(dir, &mut visits)?;
@@ -138,7 +153,7 @@ impl<O: Write + Drop> Inspector<'_, O> {
         Ok(())
     }
 
-    /// Inspects each file; and those below each folder, where that is asked for.
+    /// Inspects each file, and the files below each folder if the options ask for it.
     fn inspect_all(&mut self, files: Files<'_>) -> Result<(), ProgramError> {
         for path in files.paths {
             let is_folder = files.recursive
@@ -152,12 +167,12 @@ impl<O: Write + Drop> Inspector<'_, O> {
         Ok(())
     }
 
-    /// Inspects the files, and writes how many there were where values are checked.
+    /// Inspects the files, and writes the counts if values are checked.
     fn run(&mut self, files: Files<'_>) -> Result<(), ProgramError> {
         let ran = self.inspect_all(files);
         self.counter.clear(&mut self.rt.stderr());
-        tell_unjudged(self.rt, self.tally.unjudged());
-        self.tally.tell_passed_by(&mut self.rt.stderr());
+        report_unjudged(self.rt, self.tally.unjudged());
+        self.tally.report_passed_by(&mut self.rt.stderr());
         ran?;
         if !self.inspection.is_counted() {
             return Ok(());
@@ -167,7 +182,7 @@ impl<O: Write + Drop> Inspector<'_, O> {
     }
 }
 
-/// Prints what is asked for of each file, after a line with its name.
+/// Prints the findings of each file, after a line with its name.
 fn inspect_several<'a>(
     rt: &'a HostRuntime,
     files: Files<'_>,
@@ -190,9 +205,11 @@ fn inspect_several<'a>(
     }
 }
 
-/// Prints what is asked for of these files: of one as it is, of several each after a line with its name.
+/// Prints the findings of these files. With several files, a line with its name precedes those of
+/// each.
 ///
-/// Of several, those that can't be read are told of on standard error, and the others inspected.
+/// With several files, a file that can't be read is reported on standard error, and the others are
+/// inspected.
 pub fn inspect_files(
     rt: &HostRuntime,
     files: Files<'_>,

@@ -1,11 +1,12 @@
-//! The commands that read files and print what is in them.
+//! Inspects one file and prints the findings.
 use checkdir_command::checkdir_named;
+use dictionary::Transfer;
 use element::Uid;
 use failures::{Failure, ProgramError, flushed};
 use inspection::{
     CheckOptions, FileFront, Inspected, InspectionError, JsonPath, MetaRule, Outcome, OutputForm,
-    Printable, ShowOptions, Syntaxes, broken_rule_of, check_with, class_of, other_syntax_of,
-    show_with,
+    Printable, ShowOptions, Syntaxes, bare_form, broken_rule_of, check_with, class_of,
+    other_syntax_of, show_with,
 };
 use keyed_files::open_file;
 use keywords::{class_keyword, syntax_keyword};
@@ -13,7 +14,7 @@ use std::fs::File;
 use std::io;
 use std::io::{BufWriter, Error, ErrorKind, Read, Write};
 
-/// The SOP class of a DICOMDIR, Media Storage Directory Storage.
+/// The SOP Class UID of a DICOMDIR: Media Storage Directory Storage.
 const DIRECTORY_CLASS: &[u8] = b"1.2.840.10008.1.3.10";
 
 /// What is printed of a file.
@@ -25,7 +26,7 @@ pub enum Inspection<'a> {
 }
 
 impl Inspection<'_> {
-    /// Returns how what is found is written.
+    /// Returns the format of the output.
     pub fn form(&self) -> OutputForm {
         match self {
             Inspection::Show(options) => options.form,
@@ -34,8 +35,8 @@ impl Inspection<'_> {
         }
     }
 
-    /// Returns in which transfer syntaxes files may be.
-    fn syntaxes(&self) -> Syntaxes {
+    /// Returns the transfer syntaxes that are accepted.
+    pub fn syntaxes(&self) -> Syntaxes {
         match self {
             Inspection::Show(options) => options.syntaxes,
             Inspection::Check(options) => options.syntaxes,
@@ -43,7 +44,7 @@ impl Inspection<'_> {
         }
     }
 
-    /// Returns whether a line tells how many files there were.
+    /// Returns whether a final line has the numbers of files.
     pub fn is_counted(&self) -> bool {
         match self {
             Inspection::Check(options) => options.form == OutputForm::Lines,
@@ -51,7 +52,7 @@ impl Inspection<'_> {
         }
     }
 
-    /// Returns whether a note ends the program with status 1.
+    /// Returns whether a note makes the program exit with status 1.
     pub fn is_strict(&self) -> bool {
         match self {
             Inspection::Check(options) => options.strict,
@@ -59,7 +60,7 @@ impl Inspection<'_> {
         }
     }
 
-    /// Returns what an inspection comes to.
+    /// Returns the outcome of an inspection.
     fn outcome(&self, inspected: &Inspected) -> Outcome {
         if self.is_strict() && inspected.notes > 0 {
             Outcome::Faulty
@@ -69,7 +70,7 @@ impl Inspection<'_> {
     }
 }
 
-/// Returns the error of an inspection that did not come to its end.
+/// Returns the program's error for an inspection that failed.
 fn failed(error: InspectionError) -> ProgramError {
     match error {
         InspectionError::Read(error) => ProgramError::System(Failure::Read, error),
@@ -77,7 +78,7 @@ fn failed(error: InspectionError) -> ProgramError {
     }
 }
 
-/// Writes what is asked for of a file of this name that the reader gives.
+/// Writes the findings of the file with this name that the reader yields.
 fn inspect_over<R: Read, O: Write>(
     rt: &HostRuntime,
     inspection: Inspection<'_>,
@@ -95,8 +96,9 @@ fn inspect_over<R: Read, O: Write>(
     }
 }
 
-/// Tells of the transfer syntax of a file that is in one which is not taken, and with which option it is.
-fn tell_syntax(rt: &HostRuntime, file: &str, syntax: &Uid, needs_all: bool) {
+/// Reports the transfer syntax of a file that is not accepted, and whether an option would accept
+/// it.
+fn report_syntax(rt: &HostRuntime, file: &str, syntax: &Uid, needs_all: bool) {
     let (file, uid) = (Printable(file.as_bytes()), syntax.as_bytes());
     let keyword = syntax_keyword(uid).unwrap_or("unknown");
     let (uid, option) = (
@@ -112,14 +114,23 @@ fn tell_syntax(rt: &HostRuntime, file: &str, syntax: &Uid, needs_all: bool) {
     );
 }
 
-/// Tells which rule of the file meta information a file breaks.
-fn tell_rule(rt: &HostRuntime, file: &str, rule: MetaRule) {
+/// Reports the rule of the File Meta Information that a file breaks.
+fn report_rule(rt: &HostRuntime, file: &str, rule: MetaRule) {
     let file = Printable(file.as_bytes());
     let _ = eprintln!(rt; "dcmbox: {file}: its file meta information is wrong: {rule}");
 }
 
-/// Tells of a file that is no directory, but a file of another class.
-fn tell_class(rt: &HostRuntime, file: &str, beginning: &[u8]) {
+/// Reports the form in which a file without header was read, if the file is such.
+fn report_form(rt: &HostRuntime, file: &str, beginning: &[u8]) {
+    let Some(form) = bare_form(beginning) else {
+        return;
+    };
+    let (file, syntax) = (Printable(file.as_bytes()), Transfer::native(form).keyword());
+    let _ = eprintln!(rt; "dcmbox: {file}: no file meta information: read as {syntax}");
+}
+
+/// Reports the SOP Class of a file that is not a DICOMDIR.
+fn report_class(rt: &HostRuntime, file: &str, beginning: &[u8]) {
     let Some(class) = class_of(beginning) else {
         return;
     };
@@ -130,25 +141,26 @@ fn tell_class(rt: &HostRuntime, file: &str, beginning: &[u8]) {
     }
 }
 
-/// Tells what is wrong with the header of a file that has a fault, where that is it.
-fn tell_header(rt: &HostRuntime, file: &str, beginning: &[u8], syntaxes: Syntaxes) {
+/// Reports a transfer syntax that is not accepted, or the broken rule of the File Meta Information,
+/// if either is the fault.
+fn report_header(rt: &HostRuntime, file: &str, beginning: &[u8], syntaxes: Syntaxes) {
     if let Some(syntax) = other_syntax_of(beginning, syntaxes) {
         let needs_all = other_syntax_of(beginning, Syntaxes::All).is_none();
-        tell_syntax(rt, file, &syntax, needs_all);
+        report_syntax(rt, file, &syntax, needs_all);
     }
     if let Some(rule) = broken_rule_of(beginning) {
-        tell_rule(rt, file, rule);
+        report_rule(rt, file, rule);
     }
 }
 
-/// Writes the brace that opens a file's object, and its name. A comma follows.
+/// Writes the opening brace of a file's object, its name and a comma.
 fn write_file_name<O: Write>(file: &str, out: &mut O) -> Result<(), ProgramError> {
     let name = JsonPath(file);
     write!(out, "{{\"file\":{name},").map_err(ProgramError::of_output)
 }
 
-/// Writes what is asked for of a file of this name that the reader gives, and tells of a transfer syntax that
-/// is not taken, and of a rule of the file meta information that is broken.
+/// Writes the findings of the file with this name that the reader yields, and reports the cause of
+/// a fault in the file's header.
 fn inspect_named<R: Read, O: Write>(
     rt: &HostRuntime,
     inspection: Inspection<'_>,
@@ -160,16 +172,19 @@ fn inspect_named<R: Read, O: Write>(
     }
     let mut front = FileFront::new(input);
     let inspected = inspect_over(rt, inspection, (file, &mut front), out)?;
+    if inspection.syntaxes() == Syntaxes::Any {
+        report_form(rt, file, front.kept());
+    }
     if inspected.outcome == Outcome::Faulty {
         match inspection {
-            Inspection::Directory(_) => tell_class(rt, file, front.kept()),
-            _ => tell_header(rt, file, front.kept(), inspection.syntaxes()),
+            Inspection::Directory(_) => report_class(rt, file, front.kept()),
+            _ => report_header(rt, file, front.kept(), inspection.syntaxes()),
         }
     }
     Ok(inspected)
 }
 
-/// Writes that a file can't be opened, where JSON is written, and returns the error of that.
+/// Writes in JSON that a file can't be opened, and returns the error.
 fn unopened<O: Write>(
     inspection: Inspection<'_>,
     (file, error): (&str, ProgramError),
@@ -186,8 +201,12 @@ fn unopened<O: Write>(
     error
 }
 
-/// Tells of a file that is shown or checked and can't be read since it is a folder.
-fn tell_folder(rt: &HostRuntime, inspection: Inspection<'_>, (file, error): (&str, &ProgramError)) {
+/// Reports that a file can't be shown or checked because it is a folder.
+fn report_folder(
+    rt: &HostRuntime,
+    inspection: Inspection<'_>,
+    (file, error): (&str, &ProgramError),
+) {
     let is_of_files = !matches!(inspection, Inspection::Directory(_));
     if let ProgramError::System(Failure::Read, error) = error {
         if is_of_files && error.kind() == ErrorKind::IsADirectory {
@@ -197,7 +216,8 @@ fn tell_folder(rt: &HostRuntime, inspection: Inspection<'_>, (file, error): (&st
     }
 }
 
-/// Opens a file; standard input, for which `-` stands, is `None`. A name with a zero byte stands for one that is not UTF-8.
+/// Opens a file; returns `None` for `-`, standard input. A name with a zero byte stands for a name
+/// that is not UTF-8.
 pub fn open_input(rt: &HostRuntime, file: &str) -> Result<Option<File>, ProgramError> {
     if file == "-" {
         return Ok(None);
@@ -212,7 +232,7 @@ pub fn open_input(rt: &HostRuntime, file: &str) -> Result<Option<File>, ProgramE
     }
 }
 
-/// Writes what is asked for of a file of this name, which was opened, or that it can't be.
+/// Writes the findings of the opened file with this name, or that it can't be opened.
 pub fn inspect_opened<O: Write>(
     rt: &HostRuntime,
     inspection: Inspection<'_>,
@@ -224,7 +244,7 @@ pub fn inspect_opened<O: Write>(
         Ok(Some(mut input)) => match inspect_named(rt, inspection, (file, &mut input), out) {
             Ok(inspected) => Ok(inspected),
             Err(error) => {
-                tell_folder(rt, inspection, (file, &error));
+                report_folder(rt, inspection, (file, &error));
                 Err(error)
             }
         },
@@ -232,14 +252,14 @@ pub fn inspect_opened<O: Write>(
     }
 }
 
-/// Tells how many values were not judged, if any were not.
-pub fn tell_unjudged(rt: &HostRuntime, count: u64) {
+/// Reports how many values were not judged, if any.
+pub fn report_unjudged(rt: &HostRuntime, count: u64) {
     if count > 0 {
         let _ = eprintln!(rt; "dcmbox: not judged {count}");
     }
 }
 
-/// Prints what is asked for of a file. What was written before an error is printed, too.
+/// Prints the findings of a file. Output written before an error is printed as well.
 pub fn inspect(
     rt: &HostRuntime,
     file: &str,
@@ -249,7 +269,7 @@ pub fn inspect(
     let opened = open_input(rt, file);
     let outcome = match inspect_opened(rt, inspection, (file, opened), &mut out) {
         Ok(inspected) => {
-            tell_unjudged(rt, inspected.unjudged);
+            report_unjudged(rt, inspected.unjudged);
             Ok(inspection.outcome(&inspected))
         }
         Err(error) => Err(error),

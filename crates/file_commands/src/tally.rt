@@ -1,10 +1,10 @@
-//! What has come of the files that were inspected.
+//! Counts the results of inspected files.
 use inspection::{Inspected, Outcome};
-use keyed_files::tell_passed_by;
+use keyed_files::report_passed_by;
 use std::fmt;
 use std::io::Write;
 
-/// Counts files, by what was found in them, notes, and values that were not judged.
+/// The numbers of files by result, of notes, and of values that were not judged.
 #[derive(Clone, Copy)]
 pub struct Tally {
     good: u64,
@@ -17,7 +17,7 @@ pub struct Tally {
 }
 
 impl Tally {
-    /// Returns a count of no files.
+    /// Returns counts of zero.
     pub fn new() -> Tally {
         Tally {
             good: 0,
@@ -30,7 +30,7 @@ impl Tally {
         }
     }
 
-    /// Counts a file.
+    /// Counts an inspected file.
     pub fn add(&mut self, inspected: &Inspected) {
         let count = match inspected.outcome {
             Outcome::Good => &mut self.good,
@@ -46,7 +46,7 @@ impl Tally {
         self.unjudged
     }
 
-    /// Counts a file that is passed by.
+    /// Counts a file that is ignored.
     pub fn add_ignored(&mut self) {
         self.ignored = self.ignored.saturating_add(1);
     }
@@ -56,9 +56,9 @@ impl Tally {
         self.vanished = self.vanished.saturating_add(1);
     }
 
-    /// Tells how many files were passed by.
-    pub fn tell_passed_by<E: Write>(&self, err: &mut E) {
-        tell_passed_by(self.ignored, self.vanished, err);
+    /// Reports how many files were ignored and how many have vanished.
+    pub fn report_passed_by<E: Write>(&self, err: &mut E) {
+        report_passed_by(self.ignored, self.vanished, err);
     }
 
     /// Counts a file or a folder that can't be read.
@@ -66,12 +66,12 @@ impl Tally {
         self.unread = self.unread.saturating_add(1);
     }
 
-    /// Returns whether a file or a folder can't be read.
+    /// Returns whether any file or folder can't be read.
     pub fn has_unread(&self) -> bool {
         self.unread > 0
     }
 
-    /// Returns whether a file has a fault, or a note where notes count.
+    /// Returns `Faulty` if a file has a fault, or, with `is_strict`, a note.
     pub fn outcome(&self, is_strict: bool) -> Outcome {
         if self.faulty > 0 || is_strict && self.notes > 0 {
             Outcome::Faulty

@@ -1,5 +1,5 @@
--- The names of a filing stay orderly from call to call (`goes_on`, `names_one`, `tries_one`), and along a search for a
--- free name (`search_begins`, `search_goes_on`, `search_ends`, `search_fails`); places that rise differ (`are_apart`).
+-- The names of a filing stay orderly from call to call (`continues`, `names_one`, `tries_one`), and along a search for a
+-- free name (`search_begins`, `search_continues`, `search_ends`, `search_fails`); places that rise differ (`are_apart`).
 -- Stands on the definitions alone.
 use Rattle.std.proofs.Common.{◌≢◌, inl, inr, Result, Ok, Err, ◌^◌, ◌∙◌, ◌≡◌, ℕ, ◌+◌, ◌<◌, ◌≤◌, Bool, true, List, [], ◌∷◌, Option, Some, None, refl, sym, ap, subst, arith, nat_lt, false}
 use Rattle.std.specs.Result.{OnOk, OnErr}
@@ -54,10 +54,10 @@ pub keeps_same : (kept : Option Numbers) → KeepsAll kept kept
 keeps_same None = tt
 keeps_same (Some kept) = (omega arith, omega arith)
 
--- A filing goes on: its last place is no earlier, no kept number is missing, and the calls name no file and lose none.
-pub goes_on : (old new : Naming) → new.layout ≡ old.layout → order old.last ≤ order new.last → KeepsAll old.kept new.kept
+-- A filing continues: its last place is no earlier, no kept number is missing, and the calls name no file and lose none.
+pub continues : (old new : Naming) → new.layout ≡ old.layout → order old.last ≤ order new.last → KeepsAll old.kept new.kept
     → standing new.calls ≡ standing old.calls → (LosesNone old.has_sync old.own old.calls → LosesNone new.has_sync new.own new.calls) → IsOrderly old → IsOrderly new
-goes_on old new layout last kept same loses was =
+continues old new layout last kept same loses was =
     record {
       loses = loses was.loses;
       rises = rw same was.rises;
@@ -91,15 +91,15 @@ names_one old new place layout kept after behind is more loses was =
           rw more (one, all);
     }
 
--- A try at a place after the last one, whose number is kept, goes on, whatever came of it.
+-- A try at a place after the last one, whose number is kept, continues, whatever its result.
 pub tries_one : {E : Type 0} (result : Result Attempt E) (old new : Naming) (place : Location) → order old.last < order place → IsKept old.layout old.kept place
     → PlaceLeaves place result old new → SameTerms old new → (LosesNone old.has_sync old.own old.calls → LosesNone new.has_sync new.own new.calls) → IsOrderly old → IsOrderly new
-tries_one (Ok (Named how)) old new place after is left same loses was =
-    names_one old new place same.0 same.1 after (rw left.2 (omega arith)) is left.0 loses was
-tries_one (Ok (Met obstacle)) old new place after is left same loses was =
-    goes_on old new same.0 (rw left.2 (omega arith)) (rw same.1 (keeps_same old.kept)) left.0 loses was
-tries_one (Err error) old new place after is left same loses was = elim left.0 [
-  | inl stays ↦ goes_on old new same.0 (rw stays.1 (omega arith)) (rw same.1 (keeps_same old.kept)) stays.0 loses was
+tries_one (Ok (Named how)) old new place after is remaining same loses was =
+    names_one old new place same.0 same.1 after (rw remaining.2 (omega arith)) is remaining.0 loses was
+tries_one (Ok (Met obstacle)) old new place after is remaining same loses was =
+    continues old new same.0 (rw remaining.2 (omega arith)) (rw same.1 (keeps_same old.kept)) remaining.0 loses was
+tries_one (Err error) old new place after is remaining same loses was = elim remaining.0 [
+  | inl stays ↦ continues old new same.0 (rw stays.1 (omega arith)) (rw same.1 (keeps_same old.kept)) stays.0 loses was
   | inr more ↦ names_one old new place same.0 same.1 after (rw more.1 (omega arith)) is more.0 loses was
 ]
 
@@ -126,7 +126,7 @@ search_begins old now terms calls last written =
       refused = ap refusals calls;
       sync = terms.2;
       own = terms.3;
-      orderly = goes_on old now terms.0 last (rw terms.1 (keeps_same old.kept)) (ap standing calls) (λ h. rw (calls, terms.2, terms.3) h);
+      orderly = continues old now terms.0 last (rw terms.1 (keeps_same old.kept)) (ap standing calls) (λ h. rw (calls, terms.2, terms.3) h);
       written = rw (calls, terms.2) written;
       far = omega arith;
     }
@@ -141,16 +141,16 @@ pub record Reaches (now next : Naming) (place : Location) : Type 0 where
   pub kept : IsKept next.layout next.kept place
   pub orderly : IsOrderly now → IsOrderly next
 
--- what the try at this place leaves, whatever came of it
+-- what the try at this place leaves, whatever its result
 pub record Tries {E : Type 0} (result : Result Attempt E) (place : Location) (next tried : Naming) : Type 0 where
-  pub left : PlaceLeaves place result next tried
+  pub remaining : PlaceLeaves place result next tried
   pub same : SameTerms next tried
   pub loses : LosesNone next.has_sync next.own next.calls → LosesNone tried.has_sync tried.own tried.calls
 
 orderly_then : {E : Type 0} (result : Result Attempt E) (old now next tried : Naming) (place : Location) (met : ℕ)
     → Searches old now met → Reaches now next place → Tries result place next tried → IsOrderly old → IsOrderly tried
 orderly_then result old now next tried place met was reaches tries h =
-    tries_one result next tried place reaches.behind reaches.kept tries.left tries.same tries.loses (reaches.orderly (was.orderly h))
+    tries_one result next tried place reaches.behind reaches.kept tries.remaining tries.same tries.loses (reaches.orderly (was.orderly h))
 
 same_calls : (old now next : Naming) (place : Location) (met : ℕ) → Searches old now met → Reaches now next place
     → (standing next.calls ≡ standing old.calls) × (refusals next.calls ≡ refusals old.calls)
@@ -162,7 +162,7 @@ pub search_ends : (old now next tried : Naming) (place : Location) (met : ℕ) (
     → (standing tried.calls ≡ place ∷ standing old.calls) × (refusals tried.calls ≡ refusals old.calls) × (IsOrderly old → IsOrderly tried)
 search_ends old now next tried place met (Named how) _ is was reaches tries =
     let same = same_calls old now next place met was reaches in
-    (tries.left.0 ∙ ap (λ z. place ∷ z) same.0, tries.left.1 ∙ same.1, orderly_then (Ok (Named how)) old now next tried place met was reaches tries)
+    (tries.remaining.0 ∙ ap (λ z. place ∷ z) same.0, tries.remaining.1 ∙ same.1, orderly_then (Ok (Named how)) old now next tried place met was reaches tries)
 search_ends old now next tried place met (Met obstacle) file is was reaches tries = absurd cc
 
 -- its name was synced
@@ -171,22 +171,22 @@ pub search_syncs : (old now next : Naming) (calls : List Call) (place : Location
 search_syncs old now next calls place met attempt file is was reaches syncs has =
     subst (λ z. SyncsName {E = Error} (Ok z) calls) is (syncs (reaches.sync ∙ was.sync ∙ has))
 
--- an obstacle was met, and the search goes on behind the place
-pub search_goes_on : (old now next tried over : Naming) (place : Location) (met : ℕ) (attempt : Attempt) (obstacle : Obstacle) → attempt ≡ Met obstacle
+-- an obstacle was met, and the search continues after the place
+pub search_continues : (old now next tried over : Naming) (place : Location) (met : ℕ) (attempt : Attempt) (obstacle : Obstacle) → attempt ≡ Met obstacle
     → Searches old now met → Reaches now next place → Tries {E = Error} (Ok attempt) place next tried
     → over.calls ≡ tried.calls → SameTerms tried over → order place ≤ order over.last → Searches old over (met + 1)
-search_goes_on old now next tried over place met (Named how) _ is was reaches tries calls terms behind = absurd cc
-search_goes_on old now next tried over place met (Met obstacle) _ is was reaches tries calls terms behind =
+search_continues old now next tried over place met (Named how) _ is was reaches tries calls terms behind = absurd cc
+search_continues old now next tried over place met (Met obstacle) _ is was reaches tries calls terms behind =
     let same = same_calls old now next place met was reaches in
-    let last : order tried.last ≤ order over.last = rw tries.left.2 (omega (arith, reaches.behind, behind)) in
+    let last : order tried.last ≤ order over.last = rw tries.remaining.2 (omega (arith, reaches.behind, behind)) in
     record {
-      same = ap standing calls ∙ tries.left.0 ∙ same.0;
-      refused = ap refusals calls ∙ tries.left.1 ∙ same.1;
+      same = ap standing calls ∙ tries.remaining.0 ∙ same.0;
+      refused = ap refusals calls ∙ tries.remaining.1 ∙ same.1;
       sync = terms.2 ∙ tries.same.2 ∙ reaches.sync ∙ was.sync;
       own = terms.3 ∙ tries.same.3 ∙ reaches.own ∙ was.own;
-      orderly = λ h. goes_on tried over terms.0 last (rw terms.1 (keeps_same tried.kept)) (ap standing calls) (λ l. rw (calls, terms.2, terms.3) l)
+      orderly = λ h. continues tried over terms.0 last (rw terms.1 (keeps_same tried.kept)) (ap standing calls) (λ l. rw (calls, terms.2, terms.3) l)
           (orderly_then (Ok (Met obstacle)) old now next tried place met was reaches tries h);
-      written = rw (calls, terms.2, tries.same.2, tries.left.3, reaches.sync, reaches.calls) was.written;
+      written = rw (calls, terms.2, tries.same.2, tries.remaining.3, reaches.sync, reaches.calls) was.written;
       far = omega (arith, was.far, reaches.rises, reaches.behind, behind);
     }
 
@@ -196,12 +196,12 @@ pub search_fails : {E : Type 0} (old now next tried : Naming) (place : Location)
     → LeavesNames (standing old.calls) (standing tried.calls) × WasRefused old tried × (IsOrderly old → IsOrderly tried)
 search_fails old now next tried place met error was reaches tries =
     let same = same_calls old now next place met was reaches in
-    let left : LeavesNames (standing old.calls) (standing tried.calls) = elim tries.left.0 [
+    let remaining : LeavesNames (standing old.calls) (standing tried.calls) = elim tries.remaining.0 [
       | inl stays ↦ inl (stays.0 ∙ same.0)
       | inr more ↦ inr (place, more.0 ∙ ap (λ z. place ∷ z) same.0)
     ] in
-    let refused : refusals old.calls < refusals tried.calls = rw (← same.1) tries.left.1 in
-    (left, inl refused, orderly_then (Err error) old now next tried place met was reaches tries)
+    let refused : refusals old.calls < refusals tried.calls = rw (← same.1) tries.remaining.1 in
+    (remaining, inl refused, orderly_then (Err error) old now next tried place met was reaches tries)
 
 -- no place was reached
 pub search_is_refused : (old now next : Naming) (met : ℕ) → Searches old now met → standing next.calls ≡ standing now.calls → WasRefused now next → (IsOrderly now → IsOrderly next)

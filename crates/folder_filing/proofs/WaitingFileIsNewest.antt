@@ -18,7 +18,7 @@ use Rattle.folder_filing.specs.declared.pending.Pending.TheVariants.{Settled, Un
 use Rattle.folder_filing.specs.Settling.{IsNamedLast, is_waiting}
 use Rattle.folder_filing.specs.Synced.{one_if}
 use Rattle.folder_filing.specs.machine.Naming.{SameTerms}
-use Rattle.folder_filing.proofs.NamesStayOrderly.{goes_on, keeps_same}
+use Rattle.folder_filing.proofs.NamesStayOrderly.{continues, keeps_same}
 
 -- The file that waits is the one that was named last, as the same files have names.
 pub same_last : (pending : Pending) (old new : List Location) → new ≡ old → ∥ IsNamedLast pending old ∥₁ → ∥ IsNamedLast pending new ∥₁
@@ -69,7 +69,7 @@ takes_back_or_fails (Ok value) old new place before terms last same removed refu
     takes_back old new place terms last (removed ∙ ap (λ z. Removed place ∷ z) same) newest was
 takes_back_or_fails (Err error) old new place before terms last same removed refused newest was =
     let calls : new.calls ≡ Refused ∷ old.calls = refused ∙ ap (λ z. Refused ∷ z) same in
-    goes_on old new terms.0 (rw last (omega arith)) (rw terms.1 (keeps_same old.kept)) (rw calls refl) (λ l. rw (terms.2, terms.3, calls) l) was
+    continues old new terms.0 (rw last (omega arith)) (rw terms.1 (keeps_same old.kept)) (rw calls refl) (λ l. rw (terms.2, terms.3, calls) l) was
 
 -- The folder of the file that was named last.
 pub in_its_folder : (place : Location) (places : List Location) → ∥ IsNewest place places ∥₁ → IsNewestIn place.folder places
@@ -80,9 +80,9 @@ in_its_folder place (other ∷ places) newest = ∥∥₁_elim newest (Coded-set
 pub one_reported : (files : ℕ) (pending : Pending) (place : Location) (old new : List Location) → pending ≡ Named place → files ≡ length old + one_if (is_waiting pending)
     → new ≡ place ∷ old → files ≡ length new + 0
 one_reported files pending place old new is counted more =
-    let waits : files ≡ length old + 1 = subst (λ z. files ≡ length old + one_if (is_waiting z)) is counted in
+    let has_pending : files ≡ length old + 1 = subst (λ z. files ≡ length old + one_if (is_waiting z)) is counted in
     let longer : length new ≡ length old + 1 = ap length more ∙ (let next : suc (length old) ≡ length old + 1 = omega arith in next) in
-    omega (arith, waits, longer)
+    omega (arith, has_pending, longer)
 
 -- The same commits are reported.
 pub still_reported : (files waiting : ℕ) (old new : Own) → new ≡ old → files ≡ length old.reported + waiting → files ≡ length new.reported + waiting

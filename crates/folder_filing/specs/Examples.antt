@@ -5,7 +5,7 @@ use Rattle.folder_filing.specs.declared.call.Call.{Call}
 use Rattle.folder_filing.specs.declared.call.Call.TheVariants.{Created, Written, Linked, SeenFree, Renamed, Removed, Synced, Reported, Refused}
 use Rattle.folder_filing.specs.declared.location.Location.{Location}
 
--- a place in a folder without subfolders
+-- a location in a folder without subfolders
 abbrev pub flat : ℕ → Location
 flat number = record { folder = 0; file = number }
 
@@ -22,9 +22,9 @@ worked_calls =
 -- After these calls two files have names, one call failed, and no file was lost. A file could be lost by a name that it
 -- gets before its bytes are synced, by a rename without the check right before it, by the removal of a file that is not
 -- the last one, and by a filing that names the draft of another. A draft may be named again once the link that named it
--- was removed, as where its folder was moved; not beside that, and not after a rename, which leaves no draft. A commit is
--- reported after its folder was synced: not without that, nor where it was synced before the file had its name, or
--- another folder was. Places with the same number twice are not strictly ascending.
+-- was removed, as when its folder was moved; not while it has another name, and not after a rename, after which there
+-- is no draft. A commit is reported after its folder was synced: not without that, nor where it was synced before the
+-- file had its name, or another folder was. Locations with the same number twice are not strictly ascending.
 pub record WorkedNames : Type 0 where
   pub names : standing worked_calls ≡ flat 2 ∷ flat 1 ∷ []
   pub count : refusals worked_calls ≡ 1

@@ -8,7 +8,7 @@ use Rattle.folder_filing.specs.declared.location.Location.{Location}
 abbrev pub greatest : ℕ
 greatest = 9999999
 
--- the place after this one, while there are numbers: the next number; with subfolders of `per` files, after the last
+-- the location after this one, while there are numbers: the next number; with subfolders of `per` files, after the last
 -- file of one the first of the next
 abbrev pub next_location : Layout → Location → Option Location
 next_location Flat place =
@@ -18,6 +18,6 @@ next_location (Levels per) place =
     else (if nat_lt place.folder greatest then Some (record { folder = place.folder + 1; file = 1 })
     else None)
 
--- a place as one number, by which places are ordered: by the number of the folder, then by that of the file
+-- a location as one number, by which locations are ordered: by the number of the folder, then by that of the file
 abbrev pub order : Location → ℕ
 order place = place.folder * 4294967296 + place.file

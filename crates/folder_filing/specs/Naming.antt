@@ -10,7 +10,7 @@ use Rattle.folder_filing.specs.declared.location.Location.{Location}
 use Rattle.folder_filing.specs.Numbers.{Keeps, is_covered}
 use Rattle.folder_filing.specs.Locations.{next_location, order}
 
--- the places of the files that a filing has named, newest first: those that it has linked or renamed, without those
+-- the locations of the files that a filing has named, newest first: those that it has linked or renamed, without those
 -- that it has removed again
 abbrev pub standing : List Call → List Location
 standing [] = []
@@ -39,7 +39,7 @@ refusals (Reported place ∷ before) = refusals before
 refusals (Refused ∷ before) = refusals before + 1
 refusals (Replaced ∷ before) = refusals before + 1
 
--- the last call found the name of this place free
+-- the last call found the name of this location free
 abbrev pub FoundFree : Location → List Call → Type 0
 FoundFree place [] = ⊥
 FoundFree place (SeenFree free ∷ before) = free ≡ place
@@ -53,7 +53,7 @@ FoundFree place (Reported other ∷ before) = ⊥
 FoundFree place (Refused ∷ before) = ⊥
 FoundFree place (Replaced ∷ before) = ⊥
 
--- the file that was named last has this place
+-- the file that was named last has this location
 abbrev pub IsNewest : Location → List Location → Type 0
 IsNewest place [] = ⊥
 IsNewest place (newest ∷ before) = newest ≡ place
@@ -74,6 +74,7 @@ abbrev mutual
   is_written (Refused ∷ before) = is_written before
   is_written (Replaced ∷ before) = is_written before
 
+  -- the draft was synced before it was linked, by the last call
   pub was_written : List Call → Bool
   was_written [] = false
   was_written (Created draft ∷ before) = false
@@ -110,14 +111,16 @@ IsNameSynced (Reported place ∷ before) = IsNameSynced before
 IsNameSynced (Refused ∷ before) = ⊥
 IsNameSynced (Replaced ∷ before) = ⊥
 
--- what is a filing's own: the number of its draft, and the places of the files whose commits were reported, newest first
+-- what is a filing's own: the number of its draft, and the locations of the files whose commits were reported, newest
+-- first
 pub record Own : Type 0 where
   pub draft : ℕ
   pub reported : List Location
 
 -- No file is overwritten or lost: with syncs, a file gets its name only after its bytes were synced, and its commit is
--- reported only after its folder was synced, with that name; a file is renamed only to a name that the call before found
--- free; no file is removed but the one that was named last; and no draft is created or named but the filing's own.
+-- reported only after its folder was synced, with that name; a file is renamed only to a name that the call before
+-- found free; no file is removed but the one that was named last; and no draft is created or named but the filing's
+-- own.
 abbrev pub LosesNone : Bool → Own → List Call → Type 0
 LosesNone has_sync own [] = own.reported ≡ []
 LosesNone has_sync own (Created draft ∷ before) = (draft ≡ own.draft) × LosesNone has_sync own before
@@ -134,17 +137,17 @@ LosesNone has_sync own (Reported place ∷ before) =
 LosesNone has_sync own (Refused ∷ before) = LosesNone has_sync own before
 LosesNone has_sync own (Replaced ∷ before) = LosesNone has_sync own before
 
--- each place in this list, the newest first, comes after all older ones in the order of places
+-- each location in this list, newest first, is after all older ones in the order of locations
 abbrev pub Rises : List Location → Type 0
 Rises [] = ⊤
 Rises (place ∷ before) = AllByRecursion (λ other. order other < order place) before × Rises before
 
--- no place occurs twice in this list
+-- no location occurs twice in this list
 abbrev pub AreApart : List Location → Type 0
 AreApart [] = ⊤
 AreApart (place ∷ before) = AllByRecursion (λ other. other ≢ place) before × AreApart before
 
--- the file of numbers, if one is in use, covers the number of this place
+-- the file of numbers, if one is in use, covers the number of this location
 abbrev pub IsKept : Layout → Option Numbers → Location → Type 0
 IsKept layout None place = ⊤
 IsKept layout (Some kept) place = is_covered layout kept place ≡ true
@@ -156,8 +159,8 @@ KeepsAll None (Some more) = ⊥
 KeepsAll (Some kept) None = ⊥
 KeepsAll (Some kept) (Some more) = Keeps kept more
 
--- the state of a filing's numbering, as contracts see it: what is its own; the layout of the folder; the place
--- after which the next file comes; the contents of the file of numbers, if one is in use; whether files and names are
+-- the state of a filing's numbering, as contracts see it: what is its own; the layout of the folder; the location after
+-- which the next file is numbered; the contents of the file of numbers, if one is in use; whether files and names are
 -- synced; and the system calls so far, newest first
 pub record Naming : Type 0 where
   pub own : Own
@@ -174,11 +177,11 @@ pub record IsOrderly (naming : Naming) : Type 0 where
   pub behind : AllByRecursion (λ place. order place ≤ order naming.last) (standing naming.calls)
   pub kept : AllByRecursion (IsKept naming.layout naming.kept) (standing naming.calls)
 
--- no place comes after the last one: all numbers are in use
-abbrev pub NoneIsLeft : Naming → Type 0
-NoneIsLeft naming = next_location naming.layout naming.last ≡ None
+-- no location follows the last one: all numbers are in use
+abbrev pub NoneIsRemaining : Naming → Type 0
+NoneIsRemaining naming = next_location naming.layout naming.last ≡ None
 
--- after the calls `new`, which extend the calls `old`, the files have these places, `refused` calls have failed, and
+-- after the calls `new`, which extend the calls `old`, the files have these locations, `refused` calls have failed, and
 -- no file is lost
 pub record Asks (names : List Location) (refused : ℕ) (old new : List Call) : Type 0 where
   pub standing : standing new ≡ names
@@ -187,13 +190,13 @@ pub record Asks (names : List Location) (refused : ℕ) (old new : List Call) : 
 
 -- why a name was not given: a call failed or found another folder, or all numbers are in use
 abbrev pub WasRefused : Naming → Naming → Type 0
-WasRefused old new = (refusals old.calls < refusals new.calls) ⊎ NoneIsLeft new
+WasRefused old new = (refusals old.calls < refusals new.calls) ⊎ NoneIsRemaining new
 
--- the second list is the first with one place more
+-- the second list is the first with one more location
 abbrev pub IsOneMore : List Location → List Location → Type 0
 IsOneMore old new = (place : Location) × (new ≡ place ∷ old)
 
--- a commit was reported: one place more has a name, and is the last one that was reported
+-- a commit was reported: one more location has a name, and is the last one that was reported
 abbrev pub IsCommitted : Naming → Naming → Type 0
 IsCommitted old new = (place : Location) × (standing new.calls ≡ place ∷ standing old.calls) × (new.own ≡ record old.own { reported = place ∷ old.own.reported })
 

@@ -23,7 +23,7 @@ numbers_of line =
     then both_numbers (entry_number File (take 8 line)) (entry_number Folder (take 8 (drop 9 line)))
     else None
 
--- whether these numbers cover that of this place: that of its file or, with subfolders, that of its subfolder
+-- whether these numbers cover that of this location: that of its file or, with subfolders, that of its subfolder
 abbrev pub is_covered : Layout → Numbers → Location → Bool
 is_covered Flat kept place = nat_le place.file kept.file
 is_covered (Levels per) kept place = nat_le place.folder kept.folder
@@ -32,7 +32,7 @@ is_covered (Levels per) kept place = nat_le place.folder kept.folder
 abbrev pub Keeps : Numbers → Numbers → Type 0
 Keeps kept more = (kept.file ≤ more.file) × (kept.folder ≤ more.folder)
 
--- `last` is where numbering continues: not before the place that was found, and with no number after it that these
+-- `last` is where numbering continues: not before the location that was found, and with no number after it that these
 -- numbers cover
 abbrev pub Continues : Layout → Numbers → Location → Location → Type 0
 Continues Flat kept found last = (kept.file ≤ last.file) × (found.file ≤ last.file) × (last.folder ≡ found.folder)

@@ -15,7 +15,7 @@ is_waiting Unnamed = true
 is_waiting (Named place) = true
 is_waiting Lost = true
 
--- each of so many files that were committed was reported, but for the last one while it waits, or as it was lost
+-- each of so many committed files was reported, except the last one while it waits or if it was lost
 abbrev pub AreReported : ℕ → Pending → Naming → Type 0
 AreReported files pending names = files ≡ length names.own.reported + one_if (is_waiting pending)
 
@@ -43,8 +43,8 @@ IsWrittenOut (Named place) old new =
     (standing new.calls ≡ place ∷ standing old.calls) × (refusals new.calls ≡ refusals old.calls) × (new.has_sync ≡ old.has_sync) × (new.own ≡ old.own)
 IsWrittenOut Lost old new = LeavesNames (standing old.calls) (standing new.calls) × WasRefused old new × (new.has_sync ≡ old.has_sync) × (new.own ≡ old.own)
 
--- the effect of writing out the last commit, which was in the first state and is in the second one: nothing, but for a
--- file that has no name yet
+-- the effect of writing out the last commit, which was in the first state and is in the second one: nothing, except for
+-- a file that has no name yet
 abbrev pub WritesOut : Pending → Pending → Naming → Naming → Type 0
 WritesOut Settled pending old new = (pending ≡ Settled) × (new ≡ old)
 WritesOut Unnamed pending old new = IsWrittenOut pending old new
@@ -72,12 +72,13 @@ TakesBack old new =
     ((standing new.calls ≡ drop 1 (standing old.calls)) × (refusals new.calls ≡ refusals old.calls))
     ⊎ ((standing new.calls ≡ standing old.calls) × (refusals old.calls < refusals new.calls))
 
--- a commit was reported, after the sync of the folder in which its file has this place
+-- a commit was reported, after the sync of the folder in which its file has this location
 abbrev pub reported : Location → Naming → Naming
 reported place names =
     record names { own = record names.own { reported = place ∷ names.own.reported }; calls = Reported place ∷ Synced place.folder ∷ names.calls }
 
--- the effect of settling the last commit on the names: it is reported, or a file whose name could not be synced loses it
+-- the effect of settling the last commit on the names: it is reported, or a file whose name could not be synced loses
+-- it
 abbrev pub SettlesNames : Bool → Pending → Naming → Naming → Type 0
 SettlesNames are_named Settled old new = new ≡ old
 SettlesNames are_named Unnamed old new = new ≡ old

@@ -27,24 +27,24 @@ was_synced folder (Reported place ∷ before) = was_synced folder before
 was_synced folder (Refused ∷ before) = was_synced folder before
 was_synced folder (Replaced ∷ before) = was_synced folder before
 
--- a file has this place
+-- a file has this location
 abbrev pub is_at : Location → NamedFile → Bool
 is_at place file = nat_eq file.place.folder place.folder && nat_eq file.place.file place.file
 
--- the file of this place is one of these, and the system has synced its folder after it was named
+-- the file of this location is one of these, and the system has synced its folder after it was named
 abbrev pub is_synced_in : Location → FolderNames → Bool
 is_synced_in place names =
     nat_eq names.folder place.folder && list_any (is_at place) names.files && was_synced place.folder names.calls
 
--- the file of this place is one of those whose folders the system has synced after they were named
+-- the file of this location is one of those whose folders the system has synced after they were named
 abbrev pub is_synced : Location → List FolderNames → Bool
 is_synced place synced = list_any (is_synced_in place) synced
 
--- two places are the same
+-- two locations are the same
 abbrev pub is_same : Location → Location → Bool
 is_same place other = nat_eq place.folder other.folder && nat_eq place.file other.file
 
--- the file of this place got its name after its bytes were synced
+-- the file of this location got its name after its bytes were synced
 abbrev pub was_named : Location → List Call → Bool
 was_named place [] = false
 was_named place (Created draft ∷ before) = was_named place before
@@ -58,7 +58,8 @@ was_named place (Reported other ∷ before) = was_named place before
 was_named place (Refused ∷ before) = was_named place before
 was_named place (Replaced ∷ before) = was_named place before
 
--- the file of this place is on the disk: its folder was synced after it got its name, and that after its bytes were synced
+-- the file of this location is on the disk: its folder was synced after it got its name, and that after its bytes were
+-- synced
 abbrev pub is_durable : Location → List Call → Bool
 is_durable place [] = false
 is_durable place (Created draft ∷ before) = is_durable place before
@@ -72,7 +73,7 @@ is_durable place (Reported other ∷ before) = is_durable place before
 is_durable place (Refused ∷ before) = is_durable place before
 is_durable place (Replaced ∷ before) = is_durable place before
 
--- one, if so
+-- 1 for yes, 0 for no
 abbrev pub one_if : Bool → ℕ
 one_if true = 1
 one_if false = 0

@@ -1,32 +1,32 @@
-//! The system calls that contracts see.
+//! The system calls that contracts can name.
 
 use crate::location::Location;
 
-/// A system call of a [`FolderFiling`](crate::FolderFiling), as contracts see it: each that created,
-/// named or removed a file, each check of a name that found it free, each sync of a draft or of names, and
-/// each call that failed; and among them each commit that was reported.
+/// A recorded system call of a [`FolderFiling`](crate::FolderFiling): each that created, named or
+/// removed a file, each check that found a name free, each sync of a draft or of names, and each
+/// call that failed; between them each reported commit.
 #[derive(Clone, Copy)]
 pub enum Call {
     /// The file of the draft with this number was created, under a name that was free.
     Created(u32),
-    /// The draft's file was synced, with all bytes that were written to it.
+    /// The file of the draft was synced, with all bytes that were written to it.
     Written,
-    /// The file of the draft with this number got the name of this place in addition to its own, by a
+    /// The file of the draft with this number got the name of this location besides its own, by a
     /// hard link, which fails if the name is in use.
     Linked { draft: u32, place: Location },
-    /// The name of this place was checked and is free.
+    /// The name of this location was checked and is free.
     SeenFree(Location),
-    /// The file of the draft with this number was renamed to the name of this place, which replaces a
-    /// file that has it.
+    /// The file of the draft with this number was renamed to the name of this location, which
+    /// replaces a file that has the name.
     Renamed { draft: u32, place: Location },
-    /// The name of this place was removed from the file that has it, or had gone with its folder.
+    /// The name of this location was removed from its file, or was gone with its folder.
     Removed(Location),
-    /// The subfolder with this number was synced, or for 0 the folder itself.
+    /// The subfolder with this number was synced, or with 0 the folder itself.
     Synced(u32),
-    /// The commit of the file of this place was reported as a success.
+    /// The commit of the file at this location was reported as a success.
     Reported(Location),
     /// A system call failed, or memory ran out.
     Refused,
-    /// The path of the folder led to another folder than the one that is locked.
+    /// The path of the folder led to another folder than the locked one.
     Replaced,
 }

@@ -1,12 +1,12 @@
 //! The size of a draft.
 ghost use Rattle.std.specs.Prelude.{◌≡◌, ◌<◌, ◌+◌, ◌^◌, ℕ, None, Some};
 
-/// How many bytes were appended to a draft: first its head, then its data set.
+/// The number of bytes that were appended to a draft: first its head, then its data set.
 #[derive(Clone, Copy, Debug, PartialEq, Eq)]
 pub(crate) struct DraftSize {
     /// The bytes of the first append, if there was one: the head of the file.
     head: Option<u64>,
-    /// The bytes of all further ones: those of the data set.
+    /// The bytes of all later appends: those of the data set.
     of_set: u64,
 }
 
@@ -17,7 +17,7 @@ impl DraftSize {
         of_set: 0,
     };
 
-    /// Returns the size after bytes were appended.
+    /// Returns the size after an append of this many bytes.
     pub(crate) fn with(self, count: usize) -> DraftSize
         ensures first { self.head ≡ None → result ≡ record { head = Some count; of_set = self.of_set } }
         ensures additional { (head : ℕ) → self.head ≡ Some head → self.of_set + count < 2 ^ 64 → result ≡ record { head = Some head; of_set = self.of_set + count } }

@@ -1,8 +1,8 @@
-//! The file names and the paths of drafts, the files that are being received.
+//! The names and the paths of drafts, the files that are being received.
 ghost use Rattle.std.specs.Prelude.{◌≡◌, IfOk};
 ghost use Rattle.folder_filing.specs.EntryNames as entry_names;
 
-use crate::folder_calls::remove_left;
+use crate::folder_calls::remove_remaining;
 use std::alloc::{AllocError, Allocator};
 use std::marker::Model;
 use std::rt::Files;
@@ -25,8 +25,8 @@ impl fmt::Display for DraftName {
     }
 }
 
-/// The path of a draft. Only a draft is removed by it, and no file that was committed. Contracts see the
-/// number of the draft.
+/// The path of a draft. Removing it never costs a committed file its name. Its value in contracts
+/// is the number of the draft.
 #[derive(Drop)]
 pub(crate) struct DraftPath<A: Allocator> {
     number: u32,
@@ -42,7 +42,7 @@ impl<A: Allocator> Model for DraftPath<A> {
 }
 
 impl<A: Allocator> DraftPath<A> {
-    /// Returns the path of the draft with this number in a folder; 0 is that of no filing.
+    /// Returns the path of the draft with this number in a folder; no filing has number 0.
     pub(crate) fn of(alloc: A, dir: &str, number: u32) -> Result<DraftPath<A>, AllocError>
         ensures { IfOk result (λ path. path ≡ number) }
     {
@@ -68,9 +68,9 @@ impl<A: Allocator> DraftPath<A> {
         self.number
     }
 
-    /// Removes the draft. It is no error if there is none.
+    /// Removes the draft; does nothing if there is none.
     pub(crate) fn remove<R: Files>(&self, rt: &R) -> io::Result<()> {
-        remove_left(rt, self.as_str())
+        remove_remaining(rt, self.as_str())
     }
 }
 
@@ -81,8 +81,8 @@ fn are_digits(bytes: &[u8]) -> bool
     bytes.iter().all(|byte| byte.is_ascii_digit())
 }
 
-/// Returns whether a name is `DRAFT` followed by at least one decimal digit: that of a draft of any
-/// filing but the first.
+/// Returns whether a name is that of a draft of any filing but the first: `DRAFT` and at least one
+/// decimal digit.
 pub(crate) fn is_further_draft(name: &str) -> bool
     ensures { result ≡ entry_names.is_further_draft name.now }
 {

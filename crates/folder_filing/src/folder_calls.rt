@@ -1,9 +1,9 @@
 //! The system calls of a filing over a folder, recorded for contracts.
 //!
-//! Only this module creates, names and removes the files of a folder, except for drafts that are
-//! discarded. Each method makes its system
-//! calls and records their outcome, so that contracts can require, for example, that a name is checked
-//! before a rename, or that a failure has a failed call as its cause.
+//! Only this module names files in a folder and removes named ones; other modules remove drafts or
+//! move them to a quarantine. Each method makes its system calls and records their outcome, so that
+//! contracts can require, for example, that a name is checked before a rename, or that each failure
+//! is due to a failed call.
 ghost use Rattle.std.specs.Prelude.{◌≡◌, ◌+◌, List, [], ◌∷◌, ◌++◌, OnOk, OnErr, reverse, true, false};
 ghost use Rattle.folder_filing.specs.declared.call.Call.{Call as SeenCall};
 ghost use Rattle.folder_filing.specs.declared.call.Call.TheVariants as seen;
@@ -25,11 +25,11 @@ use std::marker::Model;
 use std::rt::Files;
 use std::{fs, io};
 
-/// The list of system calls so far, the newest first. It is a ghost value: contracts can name it, the
-/// program cannot read it.
+/// The list of system calls so far, the newest first. It is a ghost value: contracts can name it,
+/// the program cannot read it.
 #[derive(Drop)]
 pub struct FolderCalls {
-    /// The oldest first.
+    /// The calls, the oldest first.
     history: History<Call>,
 }
 
@@ -39,26 +39,26 @@ impl Model for FolderCalls {
     ghost view = { λ c. reverse c.history };
 }
 
-/// Removes a file. It is no error if there is none.
-pub(crate) fn remove_left<R: Files>(rt: &R, path: &str) -> io::Result<()> {
+/// Removes a file; does nothing if there is none.
+pub(crate) fn remove_remaining<R: Files>(rt: &R, path: &str) -> io::Result<()> {
     match fs::remove_file(rt, path) {
         Err(error) if error.kind() == ErrorKind::NotFound => Ok(()),
         result => result,
     }
 }
 
-/// Creates the file of a draft. A file that an earlier draft left under this name is removed first.
+/// Creates the file of a draft, after removing a file that an earlier draft left under its name.
 pub(crate) fn create_draft<R: Files>(rt: &R, path: &str) -> io::Result<R::File> {
     match File::create_new(rt, path) {
         Err(error) if error.kind() == ErrorKind::AlreadyExists => {
-            remove_left(rt, path)?;
+            remove_remaining(rt, path)?;
             File::create_new(rt, path)
         }
         result => result,
     }
 }
 
-/// Creates a folder. It is no error if something with this path exists already.
+/// Creates a folder; does nothing if something has its path.
 fn create_folder<R: Files>(rt: &R, path: &str) -> io::Result<()> {
     match fs::create_dir(rt, path) {
         Err(error) if error.kind() == ErrorKind::AlreadyExists => Ok(()),
@@ -81,7 +81,7 @@ impl FolderCalls {
         }
     }
 
-    /// Adds a call as the newest.
+    /// Appends a call as the newest.
     fn push(&mut self, call: &Call)
         ensures { self.new ≡ call.now ∷ self.old }
     {
@@ -100,9 +100,9 @@ impl FolderCalls {
         given
     }
 
-    /// Returns the outcome of an attempt to name a file, from the result `given` of its system call:
-    /// `None` if it succeeded, which records `call`, or the [`Obstacle`]. Any other error is recorded
-    /// as a failed call and returned.
+    /// Returns the outcome of an attempt to name a file from the result `given` of its system call:
+    /// `None` if it succeeded, which records `call`, or the [`Obstacle`]. Records any other error
+    /// as a failed call and returns it.
     fn tried(
         &mut self,
         call: Call,
@@ -126,7 +126,7 @@ impl FolderCalls {
         }
     }
 
-    /// Returns the text, or the error of memory that ran out, which is recorded as a failed call.
+    /// Returns the text, or the error that memory ran out, which is recorded as a failed call.
     pub(crate) fn text<A: Allocator>(
         &mut self,
         text: Result<String<A>, AllocError>,
@@ -140,8 +140,8 @@ impl FolderCalls {
         }
     }
 
-    /// Fails if the path leads to another folder than the one with this identity, or if its metadata
-    /// cannot be read. Either is recorded.
+    /// Fails if the path leads to another folder than the one with this identity, or if its
+    /// metadata cannot be read. Either failure is recorded.
     pub(crate) fn check_at<R: Files>(
         &mut self,
         rt: &R,
@@ -159,7 +159,8 @@ impl FolderCalls {
         Err(FolderIdentity::replaced())
     }
 
-    /// Creates the file of a draft. A file that an earlier draft left under this name is removed first.
+    /// Creates the file of a draft, after removing a file that an earlier draft left under its
+    /// name.
     pub(crate) fn create_draft<R: Files + Alloc>(
         &mut self,
         rt: &R,
@@ -173,7 +174,7 @@ impl FolderCalls {
         Ok(file)
     }
 
-    /// Writes all of the bytes to the file of a draft, and records a failure.
+    /// Writes all of the bytes to the file of a draft, or records the failure.
     pub(crate) fn write_all<W: Write>(
         &mut self,
         draft: &mut Traced<W>,
@@ -187,7 +188,7 @@ impl FolderCalls {
         self.passed(draft.write_all(bytes))
     }
 
-    /// Syncs the file of a draft to the disk, and records that, or the failure.
+    /// Syncs the file of a draft to the disk, and records the sync, or the failure.
     pub(crate) fn sync_draft<F: OpenFile>(&mut self, draft: &Traced<F>) -> io::Result<()>
         ensures written { OnOk result (self.new ≡ seen.Written ∷ self.old) }
         ensures refused { OnErr result (self.new ≡ seen.Refused ∷ self.old) }
@@ -197,7 +198,8 @@ impl FolderCalls {
         Ok(())
     }
 
-    /// Syncs an open folder to the disk, after files in it were named, and records that, or the failure.
+    /// Syncs an open folder, in which files were named, to the disk, and records the sync, or the
+    /// failure.
     pub(crate) fn sync_names<F: OpenFile + Drop>(
         &mut self,
         folder: &OpenFolder<F>,
@@ -210,7 +212,8 @@ impl FolderCalls {
         Ok(())
     }
 
-    /// Records the sync of the folder of this place, if this sync of names has its file. Returns whether it has.
+    /// Returns whether this sync of names has the file at this location, and if so records the sync
+    /// of its folder.
     pub(crate) fn has_synced<A: Allocator>(
         &mut self,
         synced: &NamesSynced<A>,
@@ -227,14 +230,14 @@ impl FolderCalls {
         has
     }
 
-    /// Records that the commit of the file of this place is reported.
+    /// Records that the commit of the file at this location is reported.
     pub(crate) fn report(&mut self, place: Location)
         ensures { self.new ≡ seen.Reported place ∷ self.old }
     {
         self.push(&Call::Reported(place));
     }
 
-    /// Creates a folder for files, unless something with this path exists already, and records a failure.
+    /// Creates a folder for files, unless something has its path. Records a failure.
     pub(crate) fn create_folder<R: Files>(&mut self, rt: &R, path: &str) -> io::Result<()>
         ensures taken { OnOk result (self.new ≡ self.old) }
         ensures refused { OnErr result (self.new ≡ seen.Refused ∷ self.old) }
@@ -242,8 +245,8 @@ impl FolderCalls {
         self.passed(create_folder(rt, path))
     }
 
-    /// Makes sure that the file of numbers covers the number of this place, as [`NumbersFile::keep`]
-    /// does, and records a failure.
+    /// Makes sure that the file of numbers covers the number of this location, as
+    /// [`NumbersFile::keep`] does, and records a failure.
     pub(crate) fn keep<R: Files + Alloc>(
         &mut self,
         rt: &R,
@@ -259,8 +262,9 @@ impl FolderCalls {
         self.passed(file.keep(rt, layout, place))
     }
 
-    /// Gives the file of a draft a second name, the target, by a hard link. Returns `None`, or the
-    /// obstacle: `NoLinks` on a file system without hard links. Other errors are recorded and returned.
+    /// Gives the file of a draft the target name as a second name, by a hard link. Returns `None`,
+    /// or the obstacle: `NoLinks` on a file system without hard links. Other errors are recorded
+    /// and returned.
     pub(crate) fn link<R: Files + Alloc>(
         &mut self,
         rt: &R,
@@ -279,8 +283,8 @@ impl FolderCalls {
         }
     }
 
-    /// Checks that the target name is free. Returns `None`, or the obstacle. Other errors are recorded
-    /// and returned.
+    /// Checks that the target name is free. Returns `None`, or the obstacle. Other errors are
+    /// recorded and returned.
     pub(crate) fn look<R: Files>(
         &mut self,
         rt: &R,
@@ -295,8 +299,8 @@ impl FolderCalls {
         )
     }
 
-    /// Renames the file of a draft to the target name. Returns `None`, or the obstacle. Other errors
-    /// are recorded and returned.
+    /// Renames the file of a draft to the target name. Returns `None`, or the obstacle. Other
+    /// errors are recorded and returned.
     pub(crate) fn rename<R: Files + Alloc>(
         &mut self,
         rt: &R,
@@ -313,9 +317,9 @@ impl FolderCalls {
         self.tried(call, given, target)
     }
 
-    /// Takes the target name back from a file that has its draft name, too. Where another program moved
-    /// its folder away the name has gone with that: another file that is there now stays. Either is
-    /// recorded as a removal, or the failure.
+    /// Removes the target name from a file that also has its draft name. If another program moved
+    /// the target's folder away, the name is gone with it, and another file at the target's path
+    /// stays. Records a removal in both cases, or the failure.
     pub(crate) fn remove_link<R: Files>(
         &mut self,
         rt: &R,
@@ -335,7 +339,7 @@ impl FolderCalls {
         Ok(())
     }
 
-    /// Removes the file with the target name, and records that, or the failure.
+    /// Removes the file with the target name, and records the removal, or the failure.
     pub(crate) fn remove<R: Files>(&mut self, rt: &R, target: Target<'_>) -> io::Result<()>
         ensures removed { OnOk result (self.new ≡ seen.Removed target.entry.place ∷ self.old) }
         ensures refused { OnErr result (self.new ≡ seen.Refused ∷ self.old) }

@@ -31,32 +31,33 @@ use std::rt::Files;
 
 mod groups;
 
-/// The error message of a call while the last commit waits to be settled.
+/// The error message of a call while the last commit is not settled.
 const WAITS: &str = "the last file is not settled";
 
 /// A [`Filing`] that stores each committed draft as a file of a folder, named `I` and seven digits.
 ///
-/// The draft is a file of the same folder: `DRAFT` for the first filing of a [`FolderWriter`], `DRAFT2`
-/// for the second and so on. The folder stays locked against other writers until this value, its
-/// `FolderWriter` and all other filings of that are dropped. No file is ever overwritten.
+/// The draft is a file of the same folder: `DRAFT` for the first filing of a [`FolderWriter`],
+/// `DRAFT2` for the second and so on. The folder stays locked against other writers until this
+/// value, its `FolderWriter` and all other filings of that writer are dropped. No file is ever
+/// overwritten.
 ///
 /// If the folder is renamed and another one gets its path, which may have a writer of its own, each
-/// `begin` and `commit` fails, and neither they nor `discard` change anything there. Each checks the
-/// path first; a folder that is replaced after that check is noticed by the next call.
+/// `begin` and `commit` fails, and neither they nor `discard` change anything there. Each call
+/// checks the path first; if the folder is replaced after that check, the next call detects it.
 ///
-/// A commit syncs the draft to the disk (`sync_all`) before it gives it its name, and the folder after
-/// that, so that a committed file survives a loss of power. The name is made by a hard link, which
-/// fails if the name is in use. On a file system without hard links the draft is renamed, after a check
-/// that the name is free.
+/// A commit syncs the draft to the disk (`sync_all`), then names it, then syncs the folder, so that
+/// a committed file survives a loss of power. The name is made by a hard link, which fails if the
+/// name is in use. On a file system without hard links the draft is renamed, after a check that the
+/// name is free.
 ///
-/// With [`FolderWriter::in_groups`] a commit hands the draft over without a name, to be settled later
-/// (see [`Settling`](part10::Settling)). Until it is settled each `begin` and `commit` fails.
+/// With [`FolderWriter::in_groups`] a commit only hands the draft over, without a name, to be
+/// settled later (see [`Settling`](part10::Settling)). Until it is settled each `begin` and
+/// `commit` fails.
 ///
-/// Contracts see the bytes that were written to each committed file and to the
-/// draft; whether there is a draft; the number of failed calls; the names given, with the system calls
-/// that gave them; and what has become of the last commit. How a
-/// [`Location`](crate::Location) is spelled as a file name, and that files survive a loss of power, is
-/// tested.
+/// Its value in contracts: the bytes that were written to each committed file and to the draft;
+/// whether there is a draft; the number of failed calls; the names given, with the system calls
+/// that gave them; and the state of the last commit. Tests, not contracts, check how a
+/// [`Location`](crate::Location) is spelled as a file name, and that files survive a loss of power.
 #[derive(Drop)]
 pub struct FolderFiling<R: Files + Alloc + Clone + Drop>
 where
@@ -64,20 +65,20 @@ where
 {
     folder: Rc<LockedFolder<R>, R::A>,
     draft: Option<Traced<R::File>>,
-    /// The file of the last commit, while it has no name.
+    /// The file of the last commit, while the file has no name.
     handed: Option<Traced<R::File>>,
     pending: Pending,
     /// The writeback of the draft.
     writeback: Writeback,
-    /// For contracts: the bytes that were written to each file that this filing has committed, oldest
-    /// first.
+    /// For contracts: the bytes that were written to each file that this filing has committed,
+    /// oldest first.
     kept: History<Trace>,
     committed: u32,
     dropped: u32,
     failures: Count,
     names: GivenNames<R::A>,
     notes: Rc<DraftNotes<R>, R::A>,
-    /// Where discarded drafts are moved to, if anywhere.
+    /// The quarantine to which discarded drafts are moved, if any.
     quarantine: Option<Rc<Quarantine<R>, R::A>>,
     size: DraftSize,
 }
@@ -108,7 +109,7 @@ where
 {
     /// Opens an existing folder for a single filing, which stores all files in the folder itself.
     ///
-    /// Fails with `WouldBlock` if another writer has locked the folder, and as the system does.
+    /// Fails with `WouldBlock` if another writer has locked the folder, and if a system call fails.
     pub fn open(rt: R, dir: &str) -> io::Result<FolderFiling<R>>
         ensures empty { IfOk result (λ filing. filing.contents ≡ nothing_filed) }
         ensures settled { IfOk result (λ filing. filing.pending ≡ pending.Settled) }
@@ -119,7 +120,7 @@ where
     /// Opens an existing folder for a single filing, which stores the files in subfolders of `per`
     /// files each, 1 to 9,999, named `S` and seven digits.
     ///
-    /// Fails with `WouldBlock` if another writer has locked the folder, and as the system does.
+    /// Fails with `WouldBlock` if another writer has locked the folder, and if a system call fails.
     pub fn open_levels(rt: R, dir: &str, per: u32) -> io::Result<FolderFiling<R>>
         requires some { 1 ≤ per }
         requires most { per ≤ 9999 }
@@ -129,8 +130,8 @@ where
         FolderWriter::open_levels(rt, dir, per)?.filing()
     }
 
-    /// Creates a filing over this folder. `names` is the state of its numbering, with its draft, and
-    /// `quarantine` where discarded drafts are moved to, if there is one.
+    /// Creates a filing over this folder. `names` is the state of its numbering, with its draft,
+    /// and `quarantine` receives discarded drafts, if there is one.
     pub(crate) fn over(
         folder: Rc<LockedFolder<R>, R::A>,
         names: GivenNames<R::A>,
@@ -160,7 +161,8 @@ where
         })
     }
 
-    /// Turns off syncing to the disk: commits are faster, and a loss of power may lose committed files.
+    /// Turns off syncing to the disk: commits are faster, but a loss of power may lose committed
+    /// files.
     pub fn without_sync(mut self) -> FolderFiling<R>
         ensures same { result ≡ record self { names = record self.names { has_sync = false } } }
     {
@@ -168,30 +170,31 @@ where
         self
     }
 
-    /// Returns how many drafts this filing has committed, at most `u32::MAX`. In groups a commit counts
-    /// once it is settled.
+    /// Returns how many drafts this filing has committed, at most `u32::MAX`. In groups a commit is
+    /// counted when it is settled.
     pub fn committed(&self) -> u32
         ensures orderly { ∥ IsOrderly self.now.names ∥₁ }
     {
         self.committed
     }
 
-    /// Returns how many drafts of this filing ended without a commit, at most `u32::MAX`: discarded,
+    /// Returns how many drafts of this filing were not committed, at most `u32::MAX`: discarded,
     /// replaced by `begin`, dropped by a failed call, or lost before they were settled.
     pub fn dropped(&self) -> u32 {
         self.dropped
     }
 
-    /// Returns the notes that this filing writes for the log: the place of the last committed file and
-    /// the error of the last failed call. They are shared: later calls of the filing change them.
+    /// Returns the notes that this filing makes for the log, such as the location of the last
+    /// committed file and the error of the last failed call. They are shared: later calls of the
+    /// filing change them.
     ///
     /// Fails if the reference count of the notes would overflow.
     pub fn notes(&self) -> Result<Rc<DraftNotes<R>, R::A>, AllocError> {
         self.notes.clone()
     }
 
-    /// Moves the file of the draft to the quarantine, if there is one that has room, and notes that, or
-    /// why it could not be moved. A draft without bytes is left.
+    /// Moves the file of the draft to the quarantine, if there is one that is not full, and notes
+    /// the move, or why it failed. Does nothing if nothing was appended to the draft.
     fn set_aside(&self) {
         let (Some(quarantine), Some(_), Some(data)) = (
             &self.quarantine,
@@ -249,7 +252,7 @@ where
         Ok(())
     }
 
-    /// Syncs the draft to the disk, unless that is turned off.
+    /// Syncs the draft to the disk, unless syncing is turned off.
     fn sync_draft(&mut self) -> io::Result<()>
         requires draft { is_some self.old.contents.draft ≡ true }
         ensures same { self.new.contents ≡ self.old.contents }
@@ -267,7 +270,7 @@ where
         }
     }
 
-    /// Notes the place of a file that was committed.
+    /// Notes the location of a file that was committed.
     fn note(&self, place: Location) {
         self.notes.committed(place);
         if self.folder.runs_low(place) {
@@ -275,7 +278,8 @@ where
         }
     }
 
-    /// Gives the draft its name, and reports its commit: for contracts it is a file from now on. Returns its place.
+    /// Names the draft and reports its commit: for contracts it is a file from now on. Returns its
+    /// location.
     fn name_draft(&mut self) -> io::Result<Location>
         requires draft { is_some self.old.contents.draft ≡ true }
         requires none_waits { self.old.pending ≡ pending.Settled }
@@ -283,7 +287,7 @@ where
         ensures same_pending { self.new.pending ≡ self.old.pending }
         ensures next { OnOk result (IsCommitted self.old.names self.new.names) }
         ensures settled { OnOk result (refusals self.new.names.calls ≡ refusals self.old.names.calls) }
-        ensures left { OnErr result (LeavesNames (standing self.old.names.calls) (standing self.new.names.calls)) }
+        ensures remaining { OnErr result (LeavesNames (standing self.old.names.calls) (standing self.new.names.calls)) }
         ensures refused { OnErr result (WasRefused self.old.names self.new.names) }
         ensures sync { self.new.names.has_sync ≡ self.old.names.has_sync }
         ensures own { OnErr result (self.new.names.own ≡ self.old.names.own) }
@@ -300,8 +304,8 @@ where
         Ok(place)
     }
 
-    /// Removes the draft name of a file that was just committed, if it still has it after a hard link,
-    /// so that nothing is written to a committed file under that name.
+    /// Removes the draft name of a file that was just committed, which it still has after a hard
+    /// link, so that nothing is written to a committed file under that name.
     fn remove_old_name(&self) {
         let _ = self.names.draft.remove(self.folder.runtime());
     }
@@ -312,7 +316,7 @@ where
         ensures same_pending { self.new.pending ≡ self.old.pending }
         ensures next { OnOk result (IsCommitted self.old.names self.new.names) }
         ensures settled { OnOk result (refusals self.new.names.calls ≡ refusals self.old.names.calls) }
-        ensures left { OnErr result (LeavesNames (standing self.old.names.calls) (standing self.new.names.calls)) }
+        ensures remaining { OnErr result (LeavesNames (standing self.old.names.calls) (standing self.new.names.calls)) }
         ensures refused { OnErr result (WasRefused self.old.names self.new.names) }
         ensures sync { self.new.names.has_sync ≡ self.old.names.has_sync }
         ensures own { OnErr result (self.new.names.own ≡ self.old.names.own) }
@@ -351,13 +355,13 @@ where
 {
     ghost store = { λ f. store_of f.contents };
 
-    /// Starts an empty draft, as a new file. Fails only if a system call failed, memory ran out, the
-    /// path of the folder leads to another folder, or the last commit waits to be settled.
+    /// Starts an empty draft, as a new file. Fails only if a system call failed, memory ran out,
+    /// the path of the folder leads to another folder, or the last commit is not settled.
     fn begin(&mut self) -> Result<(), FilingFailed>
         ensures leaves { LeavesStore without_draft true result (store_of self.old.contents) (store_of self.new.contents) }
         ensures created { OnOk result (self.new.names.calls ≡ seen.Created self.old.names.own.draft ∷ self.old.names.calls) }
         ensures refused { is_waiting self.old.pending ≡ false → OnErr result (refusals self.old.names.calls < refusals self.new.names.calls) }
-        ensures waits { is_waiting self.old.pending ≡ true → is_err result ≡ true }
+        ensures has_pending { is_waiting self.old.pending ≡ true → is_err result ≡ true }
         ensures sync { self.new.names.has_sync ≡ self.old.names.has_sync }
         ensures own { self.new.names.own ≡ self.old.names.own }
         ensures same_names { standing self.new.names.calls ≡ standing self.old.names.calls }
@@ -398,11 +402,11 @@ where
         Ok(())
     }
 
-    /// Gives the draft a name that no file of this filing had before and that no other file has. Fails
-    /// only if a system call failed, memory ran out, the path of the folder leads to another folder, or
-    /// all numbers are in use.
+    /// Gives the draft a name that no file of this filing had before and that no other file has.
+    /// Fails only if a system call failed, memory ran out, the path of the folder leads to another
+    /// folder, or all numbers are in use.
     ///
-    /// In groups it hands the draft over without a name, and fails only if the last commit waits to be
+    /// In groups it hands the draft over without a name, and fails only if the last commit is not
     /// settled.
     fn commit(&mut self) -> Result<(), FilingFailed>
         requires { (store_of self.old.contents).has_draft ≡ true }
@@ -412,9 +416,9 @@ where
         ensures own { OnErr result (self.new.names.own ≡ self.old.names.own) }
         ensures synced { self.old.names.has_sync ≡ true → self.new.pending ≡ pending.Settled → OnOk result (IsNameSynced self.new.names.calls) }
         ensures settled { OnOk result (refusals self.new.names.calls ≡ refusals self.old.names.calls) }
-        ensures left { OnErr result (LeavesNames (standing self.old.names.calls) (standing self.new.names.calls)) }
+        ensures remaining { OnErr result (LeavesNames (standing self.old.names.calls) (standing self.new.names.calls)) }
         ensures refused { is_waiting self.old.pending ≡ false → OnErr result (WasRefused self.old.names self.new.names) }
-        ensures waits { is_waiting self.old.pending ≡ true → is_err result ≡ true }
+        ensures has_pending { is_waiting self.old.pending ≡ true → is_err result ≡ true }
         ensures handed { is_waiting self.new.pending ≡ true → (self.new.names ≡ self.old.names) }
         ensures pending { OnOk result ((self.new.pending ≡ pending.Settled) ⊎ (self.new.pending ≡ pending.Unnamed)) }
         ensures same_pending { OnErr result (self.new.pending ≡ self.old.pending) }
@@ -434,8 +438,8 @@ where
         Ok(())
     }
 
-    /// Drops the draft, if there is one. With a quarantine its file is moved there, in place of being
-    /// removed; nothing else depends on that.
+    /// Drops the draft, if there is one. With a quarantine its file is moved there instead of being
+    /// removed; nothing else depends on the move.
     fn discard(&mut self)
         ensures leaves { store_of self.new.contents ≡ stepped without_draft false (store_of self.old.contents) }
         ensures same_names { self.new.names ≡ self.old.names }

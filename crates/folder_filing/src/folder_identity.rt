@@ -1,4 +1,4 @@
-//! Tells whether a path still leads to the same folder.
+//! Checks whether a path still leads to the same folder.
 
 use std::fs::Metadata;
 use std::io::Error;
@@ -6,8 +6,8 @@ use std::os::unix::fs::MetadataExt;
 use std::rt::Files;
 use std::{fs, io};
 
-/// The device and inode numbers of a folder, or of a file that has two names. While it is open, no other
-/// has the same.
+/// The device and inode numbers of a folder, or of a file that has two names. While the folder is
+/// open, no other has the same numbers.
 #[derive(Clone, Copy, PartialEq, Eq)]
 pub(crate) struct FolderIdentity {
     device: u64,
@@ -22,7 +22,7 @@ impl FolderIdentity {
         }
     }
 
-    /// Returns the identity of what is at a path. Fails if its metadata cannot be read.
+    /// Returns the identity of the folder or file at a path. Fails if its metadata cannot be read.
     pub(crate) fn at<R: Files>(rt: &R, path: &str) -> io::Result<FolderIdentity> {
         Ok(FolderIdentity::of(&fs::metadata(rt, path)?))
     }

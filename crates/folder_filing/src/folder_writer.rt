@@ -1,4 +1,4 @@
-//! The writer of a folder, from which its filings are made.
+//! The writer of a folder, which makes its filings.
 ghost use Rattle.std.specs.Prelude.{◌≡◌, ◌≤◌, ◌+◌, IfOk, OnOk, OnErr, true, false};
 ghost use Rattle.part10.specs.Store.{nothing_filed};
 ghost use Rattle.folder_filing.specs.declared.pending.Pending.TheVariants as pending;
@@ -16,35 +16,36 @@ use std::marker::Model;
 use std::rc::Rc;
 use std::rt::Files;
 
-/// The only writer of a folder. It makes the [`FolderFiling`]s that store files there. Each has a draft
-/// of its own, `DRAFT`, `DRAFT2`, `DRAFT3` and so on, so that several files can be received at a time.
-/// Contracts see how many filings it has made, and whether those that it makes sync.
+/// The only writer of a folder. It makes the [`FolderFiling`]s that store files there. Each has its
+/// own draft, `DRAFT`, `DRAFT2`, `DRAFT3` and so on, so that several files can be received at a
+/// time. Its value in contracts is the number of filings it has made, and whether new filings sync.
 ///
-/// The files of all filings are numbered in the order of their commits. The folder stays locked until
-/// this value and all of its filings are dropped. Opening the folder removes the drafts that a killed
-/// writer has left: `DRAFT`, and each name of `DRAFT` and decimal digits.
+/// The files of all filings are numbered in the order of their commits. The folder stays locked
+/// until this value and all of its filings are dropped. Opening the folder removes the drafts of a
+/// killed writer: `DRAFT`, and each name of `DRAFT` and decimal digits.
 #[derive(Drop)]
 pub struct FolderWriter<R: Files + Alloc + Clone + Drop>
 where
     R::File: StoredFile,
 {
     folder: Rc<LockedFolder<R>, R::A>,
-    /// The file that has the greatest numbers given so far, if one is in use (see
+    /// The file that has the greatest numbers given so far, if one is used (see
     /// [`FolderWriter::with_numbers`]).
     numbers: Option<NumbersFile<R::A>>,
-    /// Where discarded drafts are moved to, if anywhere (see [`FolderWriter::with_quarantine`]).
+    /// The quarantine to which discarded drafts are moved, if any (see
+    /// [`FolderWriter::with_quarantine`]).
     quarantine: Option<Rc<Quarantine<R>, R::A>>,
     filings: u32,
-    /// Whether the filings that it makes sync to the disk.
+    /// Whether new filings sync to the disk.
     has_sync: bool,
 }
 
 /// What a quarantine had when it was opened.
 #[derive(Clone, Copy, Debug, PartialEq, Eq)]
 pub struct QuarantineFound {
-    /// How many drafts were removed that a killed program had left.
+    /// How many drafts of a killed program were removed.
     pub removed: u32,
-    /// Whether it has as many data sets as it may have.
+    /// Whether the quarantine has as many data sets as it may have.
     pub is_full: bool,
 }
 
@@ -65,17 +66,17 @@ where
 {
     /// Opens an existing folder. All files are stored in the folder itself.
     ///
-    /// Fails with `WouldBlock` if another writer has locked the folder, and as the system does.
+    /// Fails with `WouldBlock` if another writer has locked the folder, and if a system call fails.
     pub fn open(rt: R, dir: &str) -> io::Result<FolderWriter<R>>
         ensures none { IfOk result (λ writer. writer ≡ record { filings = 0; has_sync = true }) }
     {
         FolderWriter::with_layout(rt, dir, Layout::Flat)
     }
 
-    /// Opens an existing folder. The files are stored in subfolders of `per` files each, 1 to 9,999,
-    /// named `S` and seven digits.
+    /// Opens an existing folder. The files are stored in subfolders of `per` files each, 1 to
+    /// 9,999, named `S` and seven digits.
     ///
-    /// Fails with `WouldBlock` if another writer has locked the folder, and as the system does.
+    /// Fails with `WouldBlock` if another writer has locked the folder, and if a system call fails.
     pub fn open_levels(rt: R, dir: &str, per: u32) -> io::Result<FolderWriter<R>>
         requires some { 1 ≤ per }
         requires most { per ≤ 9999 }
@@ -98,8 +99,8 @@ where
         })
     }
 
-    /// Turns off syncing to the disk, for the filings that are made from now on: commits are faster, and a
-    /// loss of power may lose committed files.
+    /// Turns off syncing to the disk for filings that are made after this call: commits are faster,
+    /// but a loss of power may lose committed files.
     pub fn without_sync(self) -> FolderWriter<R>
         ensures same { result ≡ record self { has_sync = false } }
     {
@@ -110,9 +111,9 @@ where
         }
     }
 
-    /// Settles commits in groups, for all filings of the folder: each commit waits until it is settled (see
-    /// [`Settling`](part10::Settling)), so that one sync of the folder settles several. Without syncs
-    /// nothing changes.
+    /// Settles commits in groups, for all filings of the folder: each commit waits until it is
+    /// settled (see [`Settling`](part10::Settling)), so that one sync of the folder settles
+    /// several. Does nothing without syncs.
     pub fn in_groups(self) -> FolderWriter<R>
         ensures same { result ≡ self }
     {
@@ -120,39 +121,41 @@ where
         self
     }
 
-    /// Syncs the names that files were given since the last call to the disk. Returns which files have their
-    /// names on the disk, and as the failure why others have not: a folder could not be synced.
+    /// Syncs the names of the files that were named since the last call. Returns which files have
+    /// their names on the disk, and why others have not: the error of a folder that could not be
+    /// synced.
     pub fn sync_names(&self) -> NamesSynced<R::A> {
         self.folder.sync_names()
     }
 
-    /// Keeps the greatest numbers that files and subfolders were given in a file at this path, which is
-    /// created if it does not exist, and gives only greater ones. So no number is given twice, even if
-    /// the files are moved away and the folder is opened again. With subfolders, the next file goes to
-    /// a new one.
+    /// Keeps the greatest numbers that files and subfolders were given in a file at this path,
+    /// which is created if it does not exist, and gives only greater ones. So no number is given
+    /// twice, even if the files are moved away and the folder is opened again. With subfolders, the
+    /// next file is stored in a new one.
     ///
-    /// The file is written and synced before a number is given that it does not cover: for every
+    /// The file is written and synced before a number that it does not cover is given: for every
     /// hundredth file of a folder without subfolders, else for each new subfolder.
     ///
-    /// Fails with `InvalidData` if the file is anything but one line of two numbers, as `I0000100
-    /// S0000007`, and if it cannot be read or created.
+    /// Fails with `InvalidData` if the file has anything other than one line of two numbers, such
+    /// as `I0000100 S0000007`, and if it cannot be read or created.
     pub fn with_numbers(self, path: &str) -> io::Result<FolderWriter<R>>
         ensures same { IfOk result (λ writer. writer ≡ self) }
     {
         let file = NumbersFile::open(self.folder.runtime(), path)?;
-        self.folder.go_on_behind(file.kept());
+        self.folder.continue_behind(file.kept());
         Ok(FolderWriter {
             numbers: Some(file),
             ..self
         })
     }
 
-    /// Moves discarded drafts to the folder at this path, until it has `most` data sets, in place of
-    /// removing them: see [`DraftNotes::take_aside`](crate::DraftNotes::take_aside). Says what is there,
-    /// too. The folder is created if it is missing, with the mode 0770 less the umask.
+    /// Moves discarded drafts to the folder at this path instead of removing them, until it has
+    /// `most` data sets: see [`DraftNotes::take_aside`](crate::DraftNotes::take_aside). Returns
+    /// what the folder had, too. The folder is created if it is missing, with the mode 0770 less
+    /// the umask.
     ///
-    /// Fails if it is the folder of the files, or on another file system; with `WouldBlock` if another
-    /// program has locked it; and as the system does.
+    /// Fails if the path is that of the folder of the files, or is on another file system; with
+    /// `WouldBlock` if another program has locked it; and if a system call fails.
     pub fn with_quarantine(
         self,
         dir: &str,
@@ -175,8 +178,8 @@ where
         Ok((writer, found))
     }
 
-    /// Makes a new filing over the folder. The filings are numbered from 1, and the number names the
-    /// draft.
+    /// Makes a new filing over the folder. Filings are numbered from 1, and the number is part of
+    /// the draft's name.
     ///
     /// Fails if memory runs out, and with `StorageFull` after 4,294,967,295 filings.
     pub fn filing(&mut self) -> io::Result<FolderFiling<R>>

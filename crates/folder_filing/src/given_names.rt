@@ -1,4 +1,4 @@
-//! The state of a filing's numbering of files.
+//! The state of the numbering of a filing's files.
 ghost use Rattle.std.specs.Prelude.{◌≡◌, ◌≤◌, OnOk, OnErr, ◌∷◌, [], None, true};
 ghost use Rattle.folder_filing.specs.declared.call.Call.TheVariants as seen;
 
@@ -10,20 +10,20 @@ use element::history::History;
 use std::alloc::Allocator;
 use std::marker::Model;
 
-/// The state of a filing's numbering: its draft, the place after which its next file comes, the file of
-/// numbers, if one is in use, and for contracts the system calls that gave names.
+/// The state of a filing's numbering: its draft, the location of the last file, the file of
+/// numbers, if one is used, and for contracts the system calls that gave names.
 #[derive(Drop)]
 pub(crate) struct GivenNames<A: Allocator> {
     /// The path of the filing's draft.
     pub(crate) draft: DraftPath<A>,
     pub(crate) layout: Layout,
-    /// The place of the last file of the folder, by any filing, when this filing last looked.
+    /// The location of the folder's last file, of any filing, when this filing last checked.
     pub(crate) last: Location,
     pub(crate) numbers: Option<NumbersFile<A>>,
     /// Whether files and their names are synced to the disk.
     pub(crate) has_sync: bool,
     pub(crate) calls: FolderCalls,
-    /// For contracts: the places of the files whose commits were reported, oldest first.
+    /// For contracts: the locations of the files whose commits were reported, oldest first.
     reported: History<Location>,
 }
 
@@ -46,7 +46,7 @@ impl<A: Allocator> Model for GivenNames<A> {
 impl<A: Allocator> GivenNames<A> {
     ghost use Rattle.folder_filing.specs.Naming.{IsNameSynced, IsNewest, IsOrderly, standing};
 
-    /// Creates the state before the first commit. The next file comes after `last`.
+    /// Creates the state before the first commit. The next file is numbered after `last`.
     pub(crate) fn new(
         draft: DraftPath<A>,
         layout: Layout,
@@ -72,7 +72,7 @@ impl<A: Allocator> GivenNames<A> {
         }
     }
 
-    /// Records that the commit of the file of this place, the one that was named last, is reported.
+    /// Records that the commit of the file at this location, the last one named, is reported.
     pub(crate) fn report(&mut self, place: Location)
         requires newest { ∥ IsNewest place (standing self.old.calls) ∥₁ }
         requires synced { self.old.has_sync ≡ true → IsNameSynced self.old.calls }

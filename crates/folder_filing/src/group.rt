@@ -1,4 +1,4 @@
-//! What is left to do for the files that were named since the last sync of names.
+//! The files that were named since the last sync of names.
 
 use crate::named_file::NamedFile;
 use crate::open_folder::OpenFolder;
@@ -6,10 +6,10 @@ use std::alloc::Allocator;
 use std::cell::Cell;
 use std::io;
 
-/// A folder with names that are not synced, and the files that have them.
+/// A folder in which files have names that are not synced, and these files.
 #[derive(Drop)]
 pub(crate) struct NamedFolder<F: Drop, A: Allocator> {
-    /// The subfolder, open; `None` for the folder that is locked.
+    /// The open subfolder, or `None` for the locked folder.
     pub(crate) open: Option<OpenFolder<F>>,
     pub(crate) files: Vec<NamedFile, A>,
 }
@@ -17,20 +17,21 @@ pub(crate) struct NamedFolder<F: Drop, A: Allocator> {
 /// The folders of a group.
 pub(crate) type NamedFolders<F, A> = Vec<NamedFolder<F, A>, A>;
 
-/// A group of commits: the files that were named since the names were last synced.
+/// A group of commits: the files that were named since the last sync of names.
 #[derive(Drop)]
 pub(crate) struct Group<F: Drop, A: Allocator> {
     /// Whether commits are settled in groups.
     is_used: Cell<bool>,
     /// Whether the path of the folder was checked for this group.
     is_checked: Cell<bool>,
-    /// Whether a draft was renamed, out of the folder that is locked.
-    has_left: Cell<bool>,
+    /// Whether a draft was renamed from the locked folder to a subfolder.
+    has_remaining: Cell<bool>,
     folders: Cell<NamedFolders<F, A>>,
 }
 
 impl<F: Drop, A: Allocator> NamedFolder<F, A> {
-    /// Returns the folder of a file that was named: that which is locked, or this subfolder.
+    /// Returns the folder in which a file was named, with that file. `open` is the subfolder, or
+    /// `None` for the locked folder.
     pub(crate) fn of(
         alloc: A,
         open: Option<OpenFolder<F>>,
@@ -41,7 +42,7 @@ impl<F: Drop, A: Allocator> NamedFolder<F, A> {
         Ok(NamedFolder { open, files })
     }
 
-    /// Returns whether the other is the same folder.
+    /// Returns whether both are the same folder.
     fn is(&self, other: &NamedFolder<F, A>) -> bool {
         match (&self.open, &other.open) {
             (None, None) => true,
@@ -55,7 +56,7 @@ impl<F: Drop, A: Allocator> NamedFolder<F, A> {
     }
 }
 
-/// Adds a folder to these, or its files to the same one.
+/// Appends a folder to the list, or its files to that of the same folder.
 fn add<F: Drop, A: Allocator>(
     folders: &mut NamedFolders<F, A>,
     named: NamedFolder<F, A>,
@@ -76,7 +77,7 @@ impl<F: Drop, A: Allocator> Group<F, A> {
         Group {
             is_used: Cell::new(false),
             is_checked: Cell::new(false),
-            has_left: Cell::new(false),
+            has_remaining: Cell::new(false),
             folders: Cell::new(Vec::new(alloc)),
         }
     }
@@ -103,7 +104,7 @@ impl<F: Drop, A: Allocator> Group<F, A> {
 
     /// Records that a draft was renamed to a subfolder.
     pub(crate) fn leave(&self) {
-        self.has_left.set(true);
+        self.has_remaining.set(true);
     }
 
     /// Records a folder with a name that is not synced. Fails if memory runs out.
@@ -114,12 +115,12 @@ impl<F: Drop, A: Allocator> Group<F, A> {
         added
     }
 
-    /// Ends the group. Returns whether a draft was renamed to a subfolder, and the folders whose names are
-    /// to be synced.
+    /// Ends the group. Returns whether a draft was renamed to a subfolder, and the folders that
+    /// must be synced.
     pub(crate) fn end(&self, alloc: A) -> (bool, NamedFolders<F, A>) {
         self.is_checked.set(false);
         (
-            self.has_left.replace(false),
+            self.has_remaining.replace(false),
             self.folders.replace(Vec::new(alloc)),
         )
     }

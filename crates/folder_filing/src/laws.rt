@@ -1,11 +1,12 @@
-//! Lemmas on the definitions of this crate and examples, each stated as the contract of a function with
-//! an empty body.
+//! Lemmas on the definitions of this crate, and examples, each stated as the contract of a function
+//! with an empty body.
 ghost use Rattle.std.specs.Prelude.{List};
 ghost use Rattle.folder_filing.specs.declared.location.Location as place;
 ghost use Rattle.folder_filing.specs.Naming.{AreApart, Rises};
 ghost use Rattle.folder_filing.specs.Examples.{WorkedNames};
 
-/// In a list of places in strictly ascending order no place occurs twice: no number is given twice.
+/// In a list of locations in strictly ascending order no location occurs twice: no number is given
+/// twice.
 pub fn places_that_rise_differ()
     ensures { (places : List place.Location) → Rises places → AreApart places }
 {}

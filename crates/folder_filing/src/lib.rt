@@ -1,5 +1,5 @@
-//! The storage of received files in a folder: [`FolderFiling`] is a `part10::Filing` whose files stand in a
-//! folder, each under a name of its own, and [`FolderWriter`] makes several of them for one folder.
+//! Stores received files in a folder: [`FolderFiling`] is a `part10::Filing` that gives each file a
+//! name of its own in the folder, and [`FolderWriter`] makes several filings for one folder.
 #![tactic(auto)]
 
 mod aside;

@@ -8,17 +8,17 @@ use std::io::ErrorKind;
 use std::rt::Files;
 use std::{fs, io};
 
-/// The result of listing a folder.
+/// The numbers and drafts found in a folder.
 #[derive(Drop)]
 struct Entries<A: Allocator> {
-    /// The greatest number among the names of the kind looked for, if there is one.
+    /// The greatest number in names of the kind that is looked for, if there is one.
     highest: Option<u32>,
     /// The drafts of all filings but the first: `DRAFT2` and so on.
     drafts: Vec<DraftPath<A>, A>,
 }
 
-/// Lists a folder for the greatest number in a name of this kind and for drafts. Other names are
-/// ignored.
+/// Lists a folder for the greatest number in names of this kind and for drafts. Ignores other
+/// names.
 ///
 /// Fails if the folder cannot be listed to its end, or memory runs out.
 fn entries_of<R: Files + Alloc + Clone + Drop>(
@@ -70,24 +70,24 @@ pub(crate) fn file_path<A: Allocator>(
     format!(in alloc; "{dir}/{name}")
 }
 
-/// What a folder of received files contains, as far as its writer needs it.
+/// What a folder of received files has, as far as its writer needs it.
 #[derive(Drop)]
 pub(crate) struct FolderContents<A: Allocator> {
-    /// The place of the last file; file number 0 if there is none.
+    /// The location of the last file; its file number is 0 if there is none.
     pub(crate) last: Location,
-    /// The drafts that were left there, except that of the first filing.
+    /// The drafts of a killed writer, except that of its first filing.
     pub(crate) drafts: Vec<DraftPath<A>, A>,
 }
 
-/// Returns the place of the last file of a folder with subfolders of `per` files. `highest` is the
-/// greatest number of a subfolder.
+/// Returns the location of the last file of a folder with subfolders of `per` files. `highest` is
+/// the greatest number of a subfolder.
 fn last_in_levels<R: Files + Alloc + Clone + Drop>(
     rt: &R,
     dir: &str,
     per: u32,
     highest: Option<u32>,
 ) -> io::Result<Location> {
-    // Without a subfolder, as if one before the first were full: the next file opens the first.
+    // Without a subfolder, a subfolder 0 counts as full: the next file opens subfolder 1.
     let Some(folder) = highest else {
         return Ok(Location {
             folder: 0,

@@ -1,4 +1,4 @@
-//! The places of files in a folder.
+//! The locations of files in a folder.
 ghost use Rattle.std.specs.Prelude.{◌≡◌, ◌≤◌};
 ghost use Rattle.folder_filing.specs.Locations.{next_location, order};
 
@@ -17,8 +17,8 @@ pub enum Layout {
     Levels { per: u32 },
 }
 
-/// The place of a file in a folder of received files: the numbers in its path. Places are in the order
-/// of their folders, then of their files.
+/// The location of a file in a folder of received files: the numbers in its path. Locations are
+/// ordered by folder, then by file.
 #[derive(Clone, Copy)]
 pub struct Location {
     /// The number of the file's subfolder; 0 in a layout without subfolders.
@@ -28,7 +28,7 @@ pub struct Location {
 }
 
 impl Location {
-    /// Returns the later of two places.
+    /// Returns the later of two locations.
     pub(crate) fn later(self, other: Location) -> Location
         ensures own { order self ≤ order result }
         ensures other { order other ≤ order result }
@@ -40,8 +40,8 @@ impl Location {
         }
     }
 
-    /// Returns the place after this one in the layout, or `None` if all numbers are in use. After the
-    /// last file of a subfolder comes the first of the next.
+    /// Returns the location after this one in the layout, or `None` if all numbers are in use. The
+    /// last file of a subfolder is followed by the first of the next subfolder.
     pub(crate) fn next(self, layout: Layout) -> Option<Location>
         ensures { result ≡ next_location layout self }
     {

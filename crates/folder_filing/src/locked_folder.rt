@@ -1,4 +1,4 @@
-//! A locked folder, in which the filings of its writer create drafts and give them their names.
+//! A locked folder, in which the filings of one writer create drafts and name them.
 ghost use Rattle.std.specs.Prelude.{◌≡◌, ◌+◌, [], ◌∷◌, IfOk, OnOk, OnErr};
 ghost use Rattle.folder_filing.specs.Naming.{Asks, IsOrderly, refusals, standing};
 ghost use Rattle.folder_filing.specs.declared.call.Call.TheVariants as seen;
@@ -24,13 +24,13 @@ mod groups;
 mod places;
 mod subfolders;
 
-/// A folder that stays locked until this value is dropped. All filings over it share it, so that each
-/// number is given once, in the order of the commits.
+/// A folder that stays locked until this value is dropped. All filings over it share it, so that
+/// each number is given once, in the order of the commits.
 ///
-/// The lock belongs to the folder that was opened, but its files are reached by its path. So the path
-/// is checked before a draft is created, named or discarded: if it leads to another folder, as after a
-/// rename, the call fails and changes nothing. A folder that is replaced after that check is noticed by
-/// the next one.
+/// The lock belongs to the folder that was opened, but its files are reached by its path. So the
+/// path is checked before a draft is created, named or discarded: if it leads to another folder, as
+/// after a rename, the call fails and changes nothing. If the folder is replaced after that check,
+/// the next check detects it.
 #[derive(Drop)]
 pub(crate) struct LockedFolder<R: Files + Alloc + Clone + Drop>
 where
@@ -41,19 +41,20 @@ where
     /// The open folder, which has the lock.
     folder: OpenFolder<R::File>,
     layout: Layout,
-    /// The place of the last file that was found or committed, by any filing.
+    /// The location of the last file that was found or committed, by any filing.
     last: Cell<Location>,
-    /// The numbers that any filing last wrote to the file of numbers; `NONE` without such a file.
+    /// The numbers that some filing last wrote to the file of numbers; `NONE` without such a file.
     kept: Cell<Numbers>,
-    /// The subfolder that was last synced into the folder.
+    /// The last subfolder whose entry in the folder was synced.
     entered: Cell<Option<FolderIdentity>>,
     group: Group<R::File, R::A>,
-    /// Whether the warning that few numbers are left was given.
+    /// Whether the warning that few numbers remain was returned.
     has_run_low: Cell<bool>,
     ghost own: { folder ≡ 0 },
 }
 
-/// Removes a draft that a killed writer has left. Fails with words of its own where that is a folder.
+/// Removes a draft of a killed writer. Fails with a message of its own if a folder has the draft's
+/// name.
 fn remove_draft<R: Files, A: Allocator>(rt: &R, draft: &DraftPath<A>) -> io::Result<()> {
     match draft.remove(rt) {
         Err(error) if error.kind() == ErrorKind::IsADirectory => Err(Error::new(
@@ -64,7 +65,7 @@ fn remove_draft<R: Files, A: Allocator>(rt: &R, draft: &DraftPath<A>) -> io::Res
     }
 }
 
-/// Removes the drafts that a killed writer has left: that of its first filing, and these.
+/// Removes the drafts of a killed writer: that of its first filing, and the `additional` ones.
 fn remove_drafts<R: Files + Alloc>(
     rt: &R,
     dir: &str,
@@ -81,7 +82,7 @@ impl<R: Files + Alloc + Clone + Drop> LockedFolder<R>
 where
     R::File: StoredFile,
 {
-    /// Opens and locks an existing folder, and removes the drafts that were left in it.
+    /// Opens and locks an existing folder, and removes the drafts of a killed writer.
     ///
     /// Fails with `WouldBlock` if another writer has locked it, and if the folder was replaced by
     /// another one before it was locked.
@@ -113,8 +114,8 @@ where
         self.folder.identity()
     }
 
-    /// Creates a file in the folder, as a draft of no filing, and renames it to this path. Fails as the
-    /// system does; then there is no such file.
+    /// Creates a file in the folder, as a draft of no filing, and renames it to this path. Fails if
+    /// a system call fails; then there is no such file.
     pub(crate) fn try_rename(&self, path: &str) -> io::Result<()> {
         let draft = self.draft_path(0)?;
         drop(create_draft(&self.rt, draft.as_str())?);
@@ -125,8 +126,8 @@ where
         Ok(())
     }
 
-    /// Continues the numbering after the numbers that a file of numbers has.
-    pub(crate) fn go_on_behind(&self, kept: Numbers) {
+    /// Continues the numbering after the numbers of a file of numbers.
+    pub(crate) fn continue_behind(&self, kept: Numbers) {
         self.last.set(kept.last(self.layout, self.last.get()));
         self.kept.set(kept);
     }
@@ -154,7 +155,7 @@ where
         DraftPath::of(self.rt.alloc(), self.dir.as_str(), number)
     }
 
-    /// Fails if the path leads to another folder than the one that is locked.
+    /// Fails if the path leads to another folder than the locked one.
     fn check_path(&self, calls: &mut FolderCalls) -> io::Result<()>
         ensures taken { OnOk result (calls.new ≡ calls.old) }
         ensures refused { OnErr result (Asks (standing calls.old) (refusals calls.old + 1) calls.old calls.new) }
@@ -162,15 +163,15 @@ where
         calls.check_at(&self.rt, self.identity(), self.dir.as_str())
     }
 
-    /// Returns whether the path is known to lead to the folder that is locked.
+    /// Returns whether the path leads to the locked folder.
     fn is_there(&self) -> bool {
         self.identity()
             .check_at(&self.rt, self.dir.as_str())
             .is_ok()
     }
 
-    /// Creates the file of a draft. A file that an earlier draft left under this name is removed first.
-    /// Fails if the path leads to another folder, or a system call fails.
+    /// Creates the file of a draft, after removing a file that an earlier draft left under its
+    /// name. Fails if the path leads to another folder, or a system call fails.
     pub(crate) fn create_draft(
         &self,
         draft: &DraftPath<R::A>,
@@ -183,7 +184,7 @@ where
         calls.create_draft(&self.rt, draft)
     }
 
-    /// Removes the file of a draft that is not committed, if the path still leads to this folder.
+    /// Removes the file of an uncommitted draft, if the path still leads to the locked folder.
     pub(crate) fn discard_draft(&self, draft: &DraftPath<R::A>) {
         if self.is_there() {
             // A file that cannot be removed is removed when the next draft is created.
@@ -191,9 +192,9 @@ where
         }
     }
 
-    /// Moves the file of a draft that is not committed to the quarantine. Returns its number there, or
-    /// `None` if there is no room. Fails if the path leads to another folder, or a system call fails:
-    /// then the file has its name as before.
+    /// Moves the file of an uncommitted draft to the quarantine. Returns its number there, or
+    /// `None` if the quarantine is full. Fails if the path leads to another folder, or a system
+    /// call fails: then the file keeps its name.
     pub(crate) fn set_aside(
         &self,
         draft: &DraftPath<R::A>,

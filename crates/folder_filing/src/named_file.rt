@@ -1,4 +1,4 @@
-//! A file that was just named.
+//! Files that were just named.
 ghost use Rattle.std.specs.Prelude.{◌≡◌};
 ghost use Rattle.folder_filing.specs.Naming.{IsNewest, standing};
 ghost use Rattle.folder_filing.specs.Synced.{is_at};
@@ -13,12 +13,12 @@ use crate::naming::{Named, Target};
 pub(crate) struct NamedFile {
     place: Location,
     how: Named,
-    /// The subfolder that had its number right before.
+    /// The subfolder that had this number right before the file was named.
     folder: Option<FolderIdentity>,
 }
 
 impl NamedFile {
-    /// Returns the file that was named last, by the name of this target.
+    /// Returns the file that was named last, with the name of this target.
     pub(crate) fn newest(target: Target<'_>, how: Named, _calls: &FolderCalls) -> NamedFile
         requires { ∥ IsNewest target.place (standing _calls.now) ∥₁ }
         ensures place { result.place ≡ target.entry.place }
@@ -47,15 +47,15 @@ impl NamedFile {
         self.folder
     }
 
-    /// Returns whether it has this place.
+    /// Returns whether the file is at this location.
     pub(crate) fn is_at(self, place: Location) -> bool
         ensures { result ≡ is_at place self }
     {
         self.place.folder == place.folder && self.place.file == place.file
     }
 
-    /// Returns whether its draft was renamed from another folder.
-    pub(crate) fn has_left(self) -> bool {
+    /// Returns whether the draft of the file was renamed from another folder.
+    pub(crate) fn has_remaining(self) -> bool {
         self.place.folder != 0 && self.how == Named::Renamed
     }
 }

@@ -43,8 +43,8 @@ impl EntryKind {
         }
     }
 
-    /// Returns the number in a name of this kind, at most 9,999,999, or `None` if the name has another
-    /// form.
+    /// Returns the number in a name of this kind, at most 9,999,999, or `None` if the name has
+    /// another form.
     pub fn number_in(self, name: &str) -> Option<u32>
         ensures number { result ≡ entry_number self name.now }
         ensures most { IfSome result (λ n. n ≤ 9999999) }
@@ -52,7 +52,7 @@ impl EntryKind {
         self.number_in_bytes(name.as_bytes())
     }
 
-    /// Returns the number in a name of this kind, as `number_in` does, from its bytes.
+    /// Returns the number in a name of this kind, as `number_in` does, from bytes.
     pub(crate) fn number_in_bytes(self, name: &[u8]) -> Option<u32>
         ensures number { result ≡ entry_number self name.now }
         ensures most { IfSome result (λ n. n ≤ 9999999) }
@@ -64,8 +64,8 @@ impl EntryKind {
         number_of(digits)
     }
 
-    /// Returns the number of a directory entry of this kind, or `None` if its name has another form or,
-    /// for a subfolder, the entry is no directory.
+    /// Returns the number in the name of a directory entry, or `None` if the name is not of this
+    /// kind or, for a subfolder, the entry is no directory.
     ///
     /// Fails if the file type of the entry cannot be read.
     pub fn number_of<R: Files + Drop, A: Allocator>(

@@ -1,4 +1,4 @@
-//! Which names of files are on the disk.
+//! Reports which names of files are on the disk.
 ghost use Rattle.std.specs.Prelude.{◌≡◌, [], IfOk, ◌++◌, ◌∷◌};
 
 use crate::folder_calls::FolderCalls;
@@ -16,7 +16,7 @@ use std::marker::Model;
 struct SyncedFolder<A: Allocator> {
     number: u32,
     files: Vec<NamedFile, A>,
-    /// The sync of the folder.
+    /// The recorded sync of the folder.
     calls: FolderCalls,
 }
 
@@ -36,7 +36,7 @@ impl<A: Allocator> Model for SyncedFolder<A> {
 impl<A: Allocator> SyncedFolder<A> {
     ghost use Rattle.folder_filing.specs.Synced.{is_synced_in};
 
-    /// Syncs a folder, which is open, after these of its files were named. Fails as the system does.
+    /// Syncs an open folder, in which these files were named. Fails if a system call fails.
     fn by_sync<F: OpenFile + Drop>(
         folder: &OpenFolder<F>,
         files: Vec<NamedFile, A>,
@@ -53,7 +53,7 @@ impl<A: Allocator> SyncedFolder<A> {
         })
     }
 
-    /// Returns whether it has the file of this place.
+    /// Returns whether the file at this location is among the files.
     fn has(&self, place: Location) -> bool
         ensures { result ≡ is_synced_in place self.now }
     {
@@ -69,10 +69,10 @@ impl<A: Allocator> SyncedFolder<A> {
     }
 }
 
-/// Which of the files that were named between two syncs of names have their names on the disk, and why the
-/// others have not.
+/// Which of the files that were named between two syncs of names have their names on the disk, and
+/// why the others have not.
 ///
-/// A folder's files are among them only where the system has synced that folder, which was open, after they
+/// It has a folder's files only if the system has synced that folder, while it was open, after they
 /// were named.
 #[derive(Drop)]
 pub struct NamesSynced<A: Allocator> {
@@ -92,7 +92,7 @@ impl<A: Allocator> Model for NamesSynced<A> {
 impl<A: Allocator> NamesSynced<A> {
     ghost use Rattle.folder_filing.specs.Synced.{is_synced};
 
-    /// Returns that of no sync, which has no file.
+    /// Returns the value without any sync, which has no file.
     pub fn none(alloc: A) -> NamesSynced<A>
         ensures { result ≡ [] }
     {
@@ -102,7 +102,7 @@ impl<A: Allocator> NamesSynced<A> {
         }
     }
 
-    /// Returns why names of files are not on the disk, if any are not.
+    /// Returns why names of files are not on the disk, or `None` if all are.
     pub fn failure(&self) -> Option<&Error> {
         self.failure.as_ref()
     }
@@ -114,7 +114,7 @@ impl<A: Allocator> NamesSynced<A> {
         self.failure = Some(error);
     }
 
-    /// Syncs a folder, which is open, after these of its files were named.
+    /// Syncs an open folder, in which these files were named, and records them, or the failure.
     pub(crate) fn sync<F: OpenFile + Drop>(
         &mut self,
         folder: &OpenFolder<F>,
@@ -133,7 +133,7 @@ impl<A: Allocator> NamesSynced<A> {
         Ok(self.folders.push(folder)?)
     }
 
-    /// Returns whether the file of this place has its name on the disk.
+    /// Returns whether the file at this location has its name on the disk.
     pub(crate) fn has(&self, place: Location) -> bool
         ensures { result ≡ is_synced place self.now }
     {

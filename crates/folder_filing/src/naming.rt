@@ -1,4 +1,4 @@
-//! Gives a committed file its name.
+//! Names committed files.
 ghost use Rattle.folder_filing.specs.machine.Naming.{NameLeaves};
 
 use crate::drafts::DraftPath;
@@ -10,15 +10,15 @@ use std::io::{Error, ErrorKind};
 use std::rt::Files;
 use std::{fs, io};
 
-/// The number of the system error `EPERM`, with which Linux rejects hard links on vfat and exFAT.
+/// The number of the system error `EPERM`, with which Linux refuses hard links on vfat and exFAT.
 const NOT_PERMITTED: i32 = 1;
 
 /// How a file got its new name.
 #[derive(Clone, Copy, PartialEq, Eq)]
 pub(crate) enum Named {
-    /// By a hard link: it has the old name, too.
+    /// By a hard link: the file also keeps its old name.
     Linked,
-    /// By a rename: it has the new name alone.
+    /// By a rename: the file has only the new name.
     Renamed,
 }
 
@@ -27,7 +27,7 @@ pub(crate) enum Named {
 pub(crate) enum Obstacle {
     /// The name is in use.
     Taken,
-    /// The subfolder in the path does not exist, or was moved away as the file got the name.
+    /// The subfolder in the path does not exist, or was moved away while the file was named.
     Missing,
     /// The subfolder in the path is no directory.
     Blocked,
@@ -42,7 +42,7 @@ pub(crate) enum Attempt {
     Met(Obstacle),
 }
 
-/// The name that a file is to get: its place, and the path of that.
+/// The name that a file is to get: its location, and the path of that location.
 #[derive(Clone, Copy)]
 pub(crate) struct Target<'a> {
     pub(crate) place: Location,
@@ -50,21 +50,21 @@ pub(crate) struct Target<'a> {
     pub(crate) layout: Layout,
     /// Whether the file and its name are synced to the disk.
     pub(crate) has_sync: bool,
-    /// The subfolder in the path; `None` if there is none.
+    /// The subfolder in the path, or `None` if there is none.
     pub(crate) folder: Option<FolderIdentity>,
-    /// Whether a missing subfolder is an obstacle, after which it is created and another attempt made,
-    /// rather than an error.
+    /// Whether a missing subfolder is an obstacle, which leads to another attempt, rather than an
+    /// error.
     pub(crate) may_miss: bool,
 }
 
 /// Returns whether an error of `hard_link` means that the file system has no hard links: `EPERM`,
-/// `EOPNOTSUPP` or `ENOSYS`. `EPERM` is compared by its number, as its `ErrorKind` is also that of
-/// `EACCES`, which does not mean that.
+/// `EOPNOTSUPP` or `ENOSYS`. `EPERM` is compared by its number, since its `ErrorKind` is also that
+/// of `EACCES`, which does not mean that.
 pub(crate) fn is_without_links(error: &Error) -> bool {
     error.kind() == ErrorKind::Unsupported || error.raw_os_error() == Some(NOT_PERMITTED)
 }
 
-/// Returns the obstacle that an error stands for, or `None` if another name or attempt would not help.
+/// Returns the obstacle that an error means, or `None` if another name or attempt would not help.
 pub(crate) fn obstacle_of(error: &Error, target: Target<'_>) -> Option<Obstacle> {
     let in_levels = matches!(target.layout, Layout::Levels { .. });
     match error.kind() {
@@ -85,17 +85,18 @@ pub(crate) fn check_free<R: Files>(rt: &R, path: &str) -> io::Result<()> {
     }
 }
 
-/// Gives the file of a draft the target name: by a hard link or, on a file system without them, by a rename after a
-/// check that the name is free, which overwrites nothing while the folder has no other writer.
+/// Gives the file of a draft the target name by a hard link or, on a file system without hard
+/// links, by a rename after a check that the name is free, which overwrites nothing while the
+/// folder has no other writer.
 ///
-/// After an error or an obstacle the file has its old name alone.
+/// After an error or an obstacle the file has only its old name.
 pub(crate) fn name_file<R: Files + Alloc>(
     rt: &R,
     draft: &DraftPath<R::A>,
     target: Target<'_>,
     calls: &mut FolderCalls,
 ) -> io::Result<Attempt>
-    ensures left { NameLeaves target.entry.has_sync draft.now target.entry.place result calls.old calls.new }
+    ensures remaining { NameLeaves target.entry.has_sync draft.now target.entry.place result calls.old calls.new }
 {
     match calls.link(rt, draft, target)? {
         None => {

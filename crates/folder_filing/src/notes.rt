@@ -1,4 +1,4 @@
-//! What a filing tells its log about its drafts.
+//! What a filing reports to its log about its drafts.
 
 use crate::aside::SetAside;
 use crate::location::Location;
@@ -7,9 +7,10 @@ use std::cell::Cell;
 use std::io::Error;
 use std::rt::Files;
 
-/// Notes of a [`FolderFiling`](crate::FolderFiling) for its log: the place of the last committed file,
-/// the error of the last failed call, a warning that few numbers are left, the last draft that was moved
-/// to a quarantine, and why one could not be. Each is returned once.
+/// The notes of a [`FolderFiling`](crate::FolderFiling) for its log: the location of the last
+/// committed file, the error of the last failed call, a warning that few numbers remain, the last
+/// draft that was moved to a quarantine, and why a draft could not be moved. Each note is returned
+/// once.
 #[derive(Drop)]
 pub struct DraftNotes<R: Files + Alloc + Clone + Drop>
 where
@@ -37,7 +38,7 @@ where
         }
     }
 
-    /// Records that a draft was committed as the file at this place.
+    /// Records that a draft was committed as the file at this location.
     pub(crate) fn committed(&self, place: Location) {
         self.place.set(Some(place));
     }
@@ -47,12 +48,13 @@ where
         self.error.set(Some(error));
     }
 
-    /// Records the warning that few numbers are left after this place.
+    /// Records the warning that few numbers remain after this location.
     pub(crate) fn ran_low(&self, place: Location) {
         self.low.set(Some(place));
     }
 
-    /// Records a draft that was moved to a quarantine. One that was not taken before is removed.
+    /// Records a draft that was moved to a quarantine. Removes the draft recorded before, if it was
+    /// not returned.
     pub(crate) fn set_aside(&self, aside: SetAside<R>) {
         if let Some(before) = self.aside.replace(Some(aside)) {
             let _ = before.remove();
@@ -64,32 +66,32 @@ where
         self.not_aside.set(Some(error));
     }
 
-    /// Takes the last draft that was moved to a quarantine, or returns `None` if none was since the last
-    /// call.
+    /// Returns the last draft that was moved to a quarantine, or `None` if none was moved since the
+    /// last call.
     pub fn take_aside(&self) -> Option<SetAside<R>> {
         self.aside.take()
     }
 
-    /// Takes the error for which a draft could not be moved to a quarantine, or returns `None` if there
-    /// was none since the last call.
+    /// Returns why a draft could not be moved to a quarantine, or `None` if no move failed since
+    /// the last call.
     pub fn take_aside_error(&self) -> Option<Error> {
         self.not_aside.take()
     }
 
-    /// Takes the warning that few numbers are left after a place, or returns `None` if there is none.
-    /// It is given once for a folder.
+    /// Returns the warning that few numbers remain after a location, or `None` if there is none. A
+    /// folder has only one.
     pub fn take_low(&self) -> Option<Location> {
         self.low.take()
     }
 
-    /// Takes the place of the last committed file, or returns `None` if none was committed since the
+    /// Returns the location of the last committed file, or `None` if none was committed since the
     /// last call.
     pub fn take_place(&self) -> Option<Location> {
         self.place.take()
     }
 
-    /// Takes the error of the last failed call of the filing, or returns `None` if none failed since it
-    /// was last taken.
+    /// Returns the error of the last failed call of the filing, or `None` if none failed since the
+    /// last call of this method.
     pub fn take_error(&self) -> Option<Error> {
         self.error.take()
     }

@@ -1,5 +1,5 @@
-//! The file of numbers: the greatest numbers that the files and subfolders of a folder were given, so
-//! that no number is given again after its file was moved away.
+//! The file of numbers: the greatest numbers that the files and subfolders of a folder were given,
+//! so that no number is given again after its file was moved away.
 ghost use Rattle.std.specs.Prelude.{◌≡◌, IfOk, OnOk, OnErr, true, false};
 
 use crate::location::{GREATEST, Layout, Location};
@@ -10,14 +10,14 @@ use std::io::{Error, ErrorKind, Read, Write};
 use std::rt::Files;
 use std::{fmt, fs, io};
 
-/// How many numbers of files are reserved with one write of the file of numbers.
+/// How many numbers of files each write of the file of numbers reserves.
 const AHEAD: u32 = 100;
 
 /// The size in bytes of the line in the file: two names, a space between them, and a line feed.
 const LINE: usize = 18;
 
-/// The greatest numbers that may have been given: to a file of a folder without subfolders, and to a
-/// subfolder.
+/// The greatest numbers that may have been given: to a file of a folder without subfolders, and to
+/// a subfolder.
 #[derive(Clone, Copy, Debug, PartialEq, Eq)]
 pub(crate) struct Numbers {
     file: u32,
@@ -42,10 +42,10 @@ impl fmt::Display for Numbers {
 impl Numbers {
     ghost use Rattle.folder_filing.specs.Numbers.{Continues, Keeps, is_covered, numbers_of};
 
-    /// Before any number is given.
+    /// The numbers before any is given.
     pub(crate) const NONE: Numbers = Numbers { file: 0, folder: 0 };
 
-    /// Reads the line of the file of numbers. Returns `None` if it has any other form.
+    /// Reads the line of the file of numbers. Returns `None` if the line has another form.
     fn of_line(line: &[u8]) -> Option<Numbers>
         ensures { result ≡ numbers_of line.now }
     {
@@ -57,8 +57,8 @@ impl Numbers {
         Some(Numbers { file, folder })
     }
 
-    /// Returns whether these numbers cover that of this place: that of its file or, with subfolders,
-    /// that of its subfolder. Only covered numbers are given.
+    /// Returns whether these numbers cover this location: the number of its file or, with
+    /// subfolders, that of its subfolder. Only covered numbers are given.
     fn covers(self, layout: Layout, place: Location) -> bool
         ensures { result ≡ is_covered layout self place }
     {
@@ -68,8 +68,8 @@ impl Numbers {
         }
     }
 
-    /// Returns the numbers to write before the number of this place, which these do not cover, is
-    /// given. Without subfolders they reserve 100 numbers from it on.
+    /// Returns the numbers to write before a number that these do not cover is given, that of this
+    /// location. Without subfolders they reserve 100 numbers, starting with it.
     fn with(self, layout: Layout, place: Location) -> Numbers
         requires uncovered { is_covered layout self place ≡ false }
         ensures covers { is_covered layout result place ≡ true }
@@ -100,9 +100,9 @@ impl Numbers {
         }
     }
 
-    /// Returns the place after which the next file comes, given the place of the last file that was
-    /// found: not before any number that may have been given. With subfolders, it is the end of one, so
-    /// that a new one is opened.
+    /// Returns the location after which the next file is numbered, given the location of the last
+    /// file that was found: not before any number that may have been given. With subfolders, it is
+    /// the last of a subfolder, so that a new subfolder is used.
     pub(crate) fn last(self, layout: Layout, found: Location) -> Location
         ensures { Continues layout self found result }
     {
@@ -126,7 +126,7 @@ pub(crate) struct NumbersFile<A: Allocator> {
     kept: Numbers,
 }
 
-/// Returns the folder part of a path: `.` if it has none.
+/// Returns the folder part of a path, or `.` if it has none.
 fn folder_of(path: &str) -> &str {
     match path.rsplit_once('/') {
         Some(("", _)) => "/",
@@ -135,9 +135,9 @@ fn folder_of(path: &str) -> &str {
     }
 }
 
-/// Replaces the file by one with these numbers, and syncs it and its folder. It is written beside it,
-/// with `.new` appended to its name, and renamed. What has that name is removed first, and is not written to,
-/// since it may be a link.
+/// Replaces the file by one with these numbers, and syncs it and its folder. The new file is
+/// written next to it, with `.new` appended to its name, and renamed. Whatever has that name is
+/// removed first and not written to, since it may be a link.
 fn replace<R: Files + Alloc>(rt: &R, path: &str, numbers: Numbers) -> io::Result<()> {
     let draft = format!(in rt.alloc(); "{path}.new")?;
     let line = format!(in rt.alloc(); "{numbers}")?;
@@ -151,7 +151,7 @@ fn replace<R: Files + Alloc>(rt: &R, path: &str, numbers: Numbers) -> io::Result
 
 /// Reads the file, or returns `None` if it does not exist.
 ///
-/// Fails with `InvalidData` if it is anything but one line of two numbers.
+/// Fails with `InvalidData` if the file has anything other than one line of two numbers.
 fn read<R: Files + Alloc>(rt: &R, path: &str) -> io::Result<Option<Numbers>> {
     let file = match fs::open(rt, path) {
         Ok(file) => file,
@@ -169,10 +169,10 @@ fn read<R: Files + Alloc>(rt: &R, path: &str) -> io::Result<Option<Numbers>> {
 impl<A: Allocator> NumbersFile<A> {
     ghost use Rattle.folder_filing.specs.Numbers.{Keeps, is_covered};
 
-    /// Reads the file of numbers, which is created if it does not exist.
+    /// Reads the file of numbers, or creates it if it does not exist.
     ///
-    /// Fails with `InvalidData` if it is anything but one line of two numbers, and if it cannot be read
-    /// or created.
+    /// Fails with `InvalidData` if the file has anything other than one line of two numbers, and if
+    /// it cannot be read or created.
     pub(crate) fn open<R: Files + Alloc<A = A>>(rt: &R, path: &str) -> io::Result<NumbersFile<A>> {
         let kept = match read(rt, path)? {
             Some(numbers) => numbers,
@@ -196,7 +196,7 @@ impl<A: Allocator> NumbersFile<A> {
         })
     }
 
-    /// Takes over the numbers that another filing of the folder has written to the file.
+    /// Records the numbers that another filing of the folder has written to the file.
     pub(crate) fn take_over(&mut self, kept: Numbers)
         ensures keeps { Keeps self.old.kept self.new.kept }
         ensures taken { Keeps kept self.new.kept }
@@ -211,9 +211,10 @@ impl<A: Allocator> NumbersFile<A> {
         self.kept
     }
 
-    /// Makes sure that the file covers the number of this place: writes and syncs it if it does not.
+    /// Makes sure that the file covers the number of this location: writes and syncs it if it does
+    /// not.
     ///
-    /// Fails if the file cannot be written; the numbers stay as they were.
+    /// Fails if the file cannot be written; then the numbers are unchanged.
     pub(crate) fn keep<R: Files + Alloc<A = A>>(
         &mut self,
         rt: &R,

@@ -1,4 +1,4 @@
-//! How many data sets a quarantine has, and the numbers that they get.
+//! Counts and numbers the data sets of a quarantine.
 ghost use Rattle.std.specs.Prelude.{◌≡◌, ◌≤◌, ◌<◌, ◌+◌, ◌-◌, ◌↔◌, IfSome, IsSome, IsTrue};
 
 /// The greatest number of a data set in a quarantine.
@@ -7,19 +7,19 @@ const GREATEST: u32 = 999_999;
 /// How many data sets a quarantine has, how many it may have, and the last number given.
 #[derive(Clone, Copy, Debug, PartialEq, Eq)]
 pub(crate) struct Occupancy {
-    /// How many data sets there may be.
+    /// The greatest number of data sets.
     pub(crate) most: u32,
     /// How many data sets are kept.
     pub(crate) kept: u32,
-    /// How many drafts were moved there that are neither kept nor removed yet.
+    /// How many drafts were moved there and are neither kept nor removed yet.
     pub(crate) pending: u32,
     /// The greatest number that was found or given.
     pub(crate) last: u32,
 }
 
 impl Occupancy {
-    /// Takes up room for one more draft, under the next number. Returns `None` if there is no room, or
-    /// all numbers are in use.
+    /// Counts one more pending draft, under the next number. Returns `None` if the quarantine is
+    /// full or all numbers are in use.
     pub(crate) fn with_pending(self) -> Option<Occupancy>
         ensures next { IfSome result (λ new. new ≡ record self { pending = self.pending + 1; last = self.last + 1 }) }
         ensures most { IfSome result (λ new. new.kept + new.pending ≤ self.most) }
@@ -37,7 +37,7 @@ impl Occupancy {
         })
     }
 
-    /// Counts a pending draft as one that is kept.
+    /// Counts a pending draft as kept.
     pub(crate) fn with_kept(self) -> Occupancy
         ensures { 0 < self.pending → self.kept + self.pending ≤ self.most → result ≡ record self { kept = self.kept + 1; pending = self.pending - 1 } }
     {
@@ -48,7 +48,7 @@ impl Occupancy {
         }
     }
 
-    /// Gives back the room of a pending draft.
+    /// Removes a pending draft from the count.
     pub(crate) fn without_pending(self) -> Occupancy
         ensures { result ≡ record self { pending = self.pending - 1 } }
     {
@@ -56,8 +56,8 @@ impl Occupancy {
         Occupancy { pending, ..self }
     }
 
-    /// Returns the state once so many data sets were found, of which the last has this number. No
-    /// number is given again.
+    /// Returns the state after this many data sets were found, with this greatest number. No number
+    /// is given again.
     pub(crate) fn counted(self, kept: u32, last: u32) -> Occupancy
         ensures kept { result.kept ≡ kept }
         ensures same { (result.most ≡ self.most) × (result.pending ≡ self.pending) }
@@ -71,7 +71,7 @@ impl Occupancy {
         }
     }
 
-    /// Returns whether as many data sets are kept as there may be.
+    /// Returns whether as many data sets are kept as allowed.
     pub(crate) fn is_full(self) -> bool
         ensures { IsTrue result ↔ (self.most ≤ self.kept) }
     {

@@ -1,4 +1,4 @@
-//! A folder that is open, with the number in its path.
+//! An open folder, with the number in its path.
 ghost use Rattle.std.specs.Prelude.{◌≡◌, IfOk};
 
 use crate::folder_identity::FolderIdentity;
@@ -10,10 +10,10 @@ use std::marker::Model;
 use std::rt::Files;
 use std::{fs, io};
 
-/// The folder that files go to, or a subfolder of it, open. Contracts see its number.
+/// The open folder of the files, or a subfolder of it. Its value in contracts is its number.
 #[derive(Drop)]
 pub(crate) struct OpenFolder<F: Drop> {
-    /// The number in the path by which it was opened; 0 for the folder that files go to.
+    /// The number in the path by which it was opened; 0 for the folder of the files itself.
     number: u32,
     identity: FolderIdentity,
     file: F,
@@ -39,10 +39,10 @@ fn open<R: Files>(rt: &R, path: &str, number: u32) -> io::Result<OpenFolder<R::F
     })
 }
 
-/// Opens a folder that is no subfolder, and locks it.
+/// Opens the folder of the files or a quarantine, and locks it.
 ///
-/// Fails with `WouldBlock` if another writer has locked it, and if it was replaced by another one before
-/// it was locked.
+/// Fails with `WouldBlock` if another writer has locked it, and if it was replaced by another
+/// folder before it was locked.
 pub(crate) fn lock<R: Files>(rt: &R, dir: &str) -> io::Result<OpenFolder<R::File>>
 where
     R::File: StoredFile,
@@ -86,8 +86,8 @@ impl<F: Drop> OpenFolder<F> {
         self.identity
     }
 
-    /// Returns whether the other is the same folder. A subfolder that took the place of one that was moved
-    /// away has its number, and is another one.
+    /// Returns whether both are the same folder. A subfolder that replaced one that was moved away
+    /// has the same number, but is another folder.
     pub(crate) fn is(&self, other: &OpenFolder<F>) -> bool {
         self.number == other.number && self.identity == other.identity
     }

@@ -1,19 +1,19 @@
-//! What has become of the last commit of a filing whose commits are settled in groups.
+//! The state of a filing's last commit, if commits are settled in groups.
 ghost use Rattle.std.specs.Prelude.{◌≡◌};
 ghost use Rattle.folder_filing.specs.Settling.{is_waiting};
 
 use crate::location::Location;
 
-/// What has become of the last commit of a [`FolderFiling`](crate::FolderFiling).
+/// The state of the last commit of a [`FolderFiling`](crate::FolderFiling).
 #[derive(Clone, Copy)]
 pub enum Pending {
-    /// It is settled, or there was none.
+    /// The commit is settled, or there was none.
     Settled,
-    /// Its file has no name yet, and its bytes may not be on the disk.
+    /// The file has no name yet, and its bytes may not be on the disk.
     Unnamed,
-    /// Its file has the name of this place, and its bytes are on the disk. The name may not be.
+    /// The file has the name of this location, and its bytes are on the disk. The name may not be.
     Named(Location),
-    /// Its file is lost.
+    /// The file is lost.
     Lost,
 }
 

@@ -1,6 +1,6 @@
-//! A quarantine: a folder that keeps the data sets of stores that were refused.
+//! The quarantine: a folder that keeps the data sets of refused stores.
 
-use crate::folder_calls::remove_left;
+use crate::folder_calls::remove_remaining;
 use crate::folder_identity::FolderIdentity;
 use crate::locked_folder::LockedFolder;
 use crate::naming::check_free;
@@ -19,11 +19,11 @@ use std::{fs, io};
 /// The number of the system error `EXDEV`: a file cannot be renamed to another file system.
 const OTHER_FILE_SYSTEM: i32 = 18;
 
-/// A folder to which drafts that were not committed are moved, and which stays locked until this value
-/// is dropped. All filings of a writer share it.
+/// A folder to which uncommitted drafts are moved, and which stays locked until this value is
+/// dropped. All filings of a writer share it.
 ///
-/// A draft is moved there by a rename, as `000001.part`; then it is kept as `000001.dcm` with a text
-/// `000001.txt`, or removed. No file is overwritten, and no symbolic link is followed.
+/// A draft is moved there by a rename, as `000001.part`; then it is kept as `000001.dcm` with a
+/// text `000001.txt`, or removed. No file is overwritten, and no symbolic link is followed.
 #[derive(Drop)]
 pub(crate) struct Quarantine<R: Files + Alloc + Clone + Drop>
 where
@@ -34,7 +34,8 @@ where
     /// The open folder, which has the lock.
     folder: OpenFolder<R::File>,
     occupancy: Cell<Occupancy>,
-    /// In which second the folder was last counted, by the clock that gives files their times; 0 before.
+    /// The second in which the folder was last counted, by the clock that sets the times of files;
+    /// 0 before.
     counted: Cell<i64>,
 }
 
@@ -50,7 +51,7 @@ struct QuarantineContents<A: Allocator> {
 }
 
 impl<A: Allocator> QuarantineContents<A> {
-    /// Takes note of a file with this name.
+    /// Records a file with this name.
     fn note(&mut self, name: QuarantineName) -> Result<(), AllocError> {
         self.last = self.last.max(name.number);
         match name.kind {
@@ -62,7 +63,7 @@ impl<A: Allocator> QuarantineContents<A> {
     }
 }
 
-/// Lists a quarantine. Other names are ignored. Fails if it cannot be listed to its end.
+/// Lists a quarantine. Ignores other names. Fails if it cannot be listed to its end.
 fn contents_of<R: Files + Alloc + Clone + Drop>(
     rt: &R,
     dir: &str,
@@ -96,28 +97,29 @@ fn path_of<A: Allocator>(
     QuarantineName { number, kind }.path(alloc, dir)
 }
 
-/// Removes the drafts that a killed program has left. Returns how many there were.
+/// Removes the drafts of a killed program. Returns how many there were.
 fn remove_pending<R: Files + Alloc>(rt: &R, dir: &str, numbers: &[u32]) -> io::Result<u32> {
     let mut count: u32 = 0;
     for number in numbers {
         let path = path_of(rt.alloc(), dir, *number, QuarantineKind::Pending)?;
-        remove_left(rt, path.as_str())?;
+        remove_remaining(rt, path.as_str())?;
         count = count.saturating_add(1);
     }
     Ok(count)
 }
 
-/// Creates a file with this text. Fails if something has its name. After an error there is no such file.
+/// Creates a file with this text. Fails if something has its name. After a failed write there is no
+/// such file.
 fn create_text<R: Files>(rt: &R, path: &str, text: &str) -> io::Result<()> {
     let mut file = File::create_new(rt, path)?;
     if let Err(error) = file.write_all(text.as_bytes()) {
-        let _ = remove_left(rt, path);
+        let _ = remove_remaining(rt, path);
         return Err(error);
     }
     Ok(())
 }
 
-/// Creates a folder for its owner and the group, unless something with this path exists already.
+/// Creates a folder for its owner and the group, unless something has its path.
 fn create<R: Files>(rt: &R, dir: &str) -> io::Result<()> {
     match DirBuilder::new().mode(0o770).create(rt, dir) {
         Err(error) if error.kind() == ErrorKind::AlreadyExists => Ok(()),
@@ -125,7 +127,7 @@ fn create<R: Files>(rt: &R, dir: &str) -> io::Result<()> {
     }
 }
 
-/// Fails if the path leads to the folder that files are stored in.
+/// Fails if the path leads to the folder in which files are stored.
 fn check_other<R: Files>(rt: &R, dir: &str, folder: FolderIdentity) -> io::Result<()> {
     if FolderIdentity::at(rt, dir)? == folder {
         return Err(Error::new(ErrorKind::InvalidInput, "it is the folder that files go to"));
@@ -133,7 +135,7 @@ fn check_other<R: Files>(rt: &R, dir: &str, folder: FolderIdentity) -> io::Resul
     Ok(())
 }
 
-/// Returns the error of a trial, with words for that of another file system.
+/// Returns the error of a trial rename, with its own message for another file system.
 fn explained(error: Error) -> Error {
     if error.raw_os_error() == Some(OTHER_FILE_SYSTEM) {
         return Error::new(
@@ -148,12 +150,13 @@ impl<R: Files + Alloc + Clone + Drop> Quarantine<R>
 where
     R::File: StoredFile,
 {
-    /// Opens and locks a folder that keeps at most so many data sets of those that are stored in `folder`,
-    /// and removes the drafts that a killed program has left there. Returns how many those were, too. A
-    /// folder that is missing is created.
+    /// Opens and locks a quarantine of at most `most` data sets for the drafts of `folder`, and
+    /// removes the drafts of a killed program. Returns how many those were, too. Creates the
+    /// quarantine if it is missing.
     ///
-    /// Fails if it is that folder, if the one that it is to be in is missing, if a file cannot be renamed
-    /// from there, and with `WouldBlock` if another program has locked it.
+    /// Fails if the path leads to `folder` itself, if the quarantine's parent folder is missing, if
+    /// a file cannot be renamed to it from `folder`, and with `WouldBlock` if another program has
+    /// locked it.
     pub(crate) fn open(
         rt: R,
         dir: &str,
@@ -167,7 +170,7 @@ where
         let removed = remove_pending(&rt, dir, contents.pending.as_slice())?;
         let trial = path_of(rt.alloc(), dir, 0, QuarantineKind::Pending)?;
         folder.try_rename(trial.as_str()).map_err(explained)?;
-        remove_left(&rt, trial.as_str())?;
+        remove_remaining(&rt, trial.as_str())?;
         let dir = String::from_str(rt.alloc(), dir)?;
         let quarantine = Quarantine {
             rt,
@@ -184,7 +187,7 @@ where
         Ok((quarantine, removed))
     }
 
-    /// Returns whether as many data sets are kept as there may be.
+    /// Returns whether as many data sets are kept as allowed.
     pub(crate) fn is_full(&self) -> bool {
         self.occupancy.get().is_full()
     }
@@ -193,13 +196,13 @@ where
         path_of(self.rt.alloc(), self.dir.as_str(), number, kind)
     }
 
-    /// Fails if the path leads to another folder than the one that is locked.
+    /// Fails if the path leads to another folder than the locked one.
     fn check_path(&self) -> io::Result<()> {
         self.folder.identity().check_at(&self.rt, self.dir.as_str())
     }
 
-    /// Counts what the folder keeps, unless it was not changed since that was counted: in an earlier second. The
-    /// time of the count is that of this draft, which was written last.
+    /// Counts the kept data sets again, unless the folder was last changed in a second before that
+    /// of the last count. The second of the count is that in which this draft was last written.
     fn count_anew(&self, draft: &str) -> io::Result<()> {
         if fs::metadata(&self.rt, self.dir.as_str())?.mtime() < self.counted.get() {
             return Ok(());
@@ -212,8 +215,8 @@ where
         Ok(())
     }
 
-    /// Takes up room for this draft, and returns its number, or `None` if there is no room. Files that
-    /// were moved away from a full quarantine are noticed.
+    /// Counts this draft as pending, and returns its number, or `None` if the quarantine is full. A
+    /// full quarantine is counted again first, since files may have been moved away.
     fn take_number(&self, draft: &str) -> io::Result<Option<u32>> {
         if self.is_full() {
             self.count_anew(draft)?;
@@ -227,7 +230,7 @@ where
         }
     }
 
-    /// Gives back the room of a draft.
+    /// Removes a draft from the count.
     fn leave(&self) {
         self.occupancy.set(self.occupancy.get().without_pending());
     }
@@ -239,8 +242,8 @@ where
         fs::rename(&self.rt, draft, path.as_str())
     }
 
-    /// Moves the file of a draft here, and returns its number, or `None` if there is no room. After an
-    /// error the file has its name as before.
+    /// Moves the file of a draft to the quarantine, and returns its number, or `None` if the
+    /// quarantine is full. After an error the file keeps its name.
     pub(crate) fn take_in(&self, draft: &str) -> io::Result<Option<u32>> {
         self.check_path()?;
         let Some(number) = self.take_number(draft)? else {
@@ -253,8 +256,8 @@ where
         Ok(Some(number))
     }
 
-    /// Gives the draft with this number its name, with this text beside it. After an error there is
-    /// neither.
+    /// Gives the draft with this number its final name, and writes this text next to it. After an
+    /// error neither file exists.
     fn name(&self, number: u32, text: &str) -> io::Result<()> {
         let data = self.path(number, QuarantineKind::Data)?;
         check_free(&self.rt, data.as_str())?;
@@ -262,14 +265,14 @@ where
         let about = self.path(number, QuarantineKind::Text)?;
         create_text(&self.rt, about.as_str(), text)?;
         if let Err(error) = fs::rename(&self.rt, pending.as_str(), data.as_str()) {
-            let _ = remove_left(&self.rt, about.as_str());
+            let _ = remove_remaining(&self.rt, about.as_str());
             return Err(error);
         }
         Ok(())
     }
 
-    /// Keeps the draft with this number, with this text beside it. Returns whether there is no more room
-    /// after that. After an error the draft is removed, unless the path leads to another folder.
+    /// Keeps the draft with this number, with this text next to it. Returns whether the quarantine
+    /// is full then. After an error the draft is removed, unless the path leads to another folder.
     pub(crate) fn keep(&self, number: u32, text: &str) -> io::Result<bool> {
         let kept = match self.check_path() {
             Ok(()) => self.name(number, text),
@@ -283,11 +286,11 @@ where
         Ok(self.is_full())
     }
 
-    /// Removes the draft with this number, if the path still leads to this folder.
+    /// Removes the draft with this number, if the path still leads to the locked folder.
     pub(crate) fn remove(&self, number: u32) -> io::Result<()> {
         self.leave();
         self.check_path()?;
         let path = self.path(number, QuarantineKind::Pending)?;
-        remove_left(&self.rt, path.as_str())
+        remove_remaining(&self.rt, path.as_str())
     }
 }

@@ -1,21 +1,21 @@
-//! The names of files in a quarantine: six digits, and what they are.
+//! The names of files in a quarantine: six digits and a suffix.
 
 use std::alloc::{AllocError, Allocator};
 use std::fmt;
 
-/// What a file of a quarantine is.
+/// The kind of a file in a quarantine.
 #[derive(Clone, Copy, Debug, PartialEq, Eq)]
 pub(crate) enum QuarantineKind {
     /// A draft that was moved there, and is neither kept nor removed yet: `.part`.
     Pending,
     /// A data set that is kept, with the head of its file: `.dcm`.
     Data,
-    /// The text about it: `.txt`.
+    /// The text about a data set: `.txt`.
     Text,
 }
 
 impl QuarantineKind {
-    /// Returns what stands in a name after its digits.
+    /// Returns what follows the digits in a name of this kind.
     fn suffix(self) -> &'static str {
         match self {
             QuarantineKind::Pending => ".part",
@@ -37,13 +37,13 @@ impl QuarantineKind {
 /// The name of a file in a quarantine.
 #[derive(Clone, Copy, Debug, PartialEq, Eq)]
 pub(crate) struct QuarantineName {
-    /// At most 999,999.
+    /// The number in the name, at most 999,999.
     pub(crate) number: u32,
     pub(crate) kind: QuarantineKind,
 }
 
 impl QuarantineName {
-    /// Reads a name. Returns `None` if it has another form.
+    /// Reads a name. Returns `None` if the name has another form.
     pub(crate) fn read(name: &str) -> Option<QuarantineName> {
         for kind in [
             QuarantineKind::Pending,
@@ -63,7 +63,7 @@ impl QuarantineName {
     }
 }
 
-/// Prints the six digits and what follows them, as `000001.dcm`.
+/// Prints the six digits and the suffix, as `000001.dcm`.
 impl fmt::Display for QuarantineName {
     fn fmt<W: fmt::Write>(&self, f: &mut fmt::Formatter<W>) -> fmt::Result {
         write!(f, "{:06}{}", self.number, self.kind.suffix())

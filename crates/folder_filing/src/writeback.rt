@@ -1,33 +1,33 @@
-//! Writeback of a draft that starts while the draft is received.
+//! Starts the writeback of a draft while it is received.
 ghost use Rattle.std.specs.Prelude.{◌≡◌, ◌≤◌, ◌<◌, ◌+◌, ◌^◌, IfNone, IfSome, IsSome};
 
 use libc::POSIX_FADV_DONTNEED;
 use std::os::fd::RawFd;
 
-/// The least number of bytes whose writeback is started at once: 4 MiB.
+/// The least number of bytes for which writeback is started: 4 MiB.
 const STEP: u64 = 4_194_304;
 
 /// A range of bytes of a file.
 #[derive(Clone, Copy)]
 struct Extent {
-    /// The position of its first byte in the file, from 0.
+    /// The offset of its first byte in the file.
     from: u64,
     /// The number of its bytes.
     count: u64,
 }
 
-/// How far the writeback of a draft has been started.
+/// The part of a draft whose writeback was started.
 ///
 /// The sync of a commit waits until the disk has every byte of the draft. So the system is advised
-/// to start to write what was appended, each time that it is 4 MiB: then the sync of a large draft
-/// finds little left to write.
+/// to start writing the appended bytes each time they reach 4 MiB: then the sync of a large draft
+/// has little to write.
 #[derive(Drop)]
 pub(crate) struct Writeback {
     /// The descriptor of the draft's file, if it is a file of the system.
     descriptor: Option<RawFd>,
-    /// The position up to which writeback was started.
+    /// The offset up to which writeback was started.
     from: u64,
-    /// The number of bytes that were appended from there on.
+    /// The number of bytes that were appended from that offset on.
     waiting: u64,
 }
 
@@ -44,9 +44,8 @@ impl Writeback {
         }
     }
 
-    /// Counts bytes that were appended, and returns the range whose writeback is to be started now:
-    /// all that was appended after the range before, once it is 4 MiB. Each byte is in one range at
-    /// most.
+    /// Counts appended bytes, and returns the range whose writeback is to be started now: all bytes
+    /// after the last range, if they reach 4 MiB. Each byte is in at most one range.
     fn add(&mut self, count: usize) -> Option<Extent>
         ensures from { IfSome result (λ range. range.from ≡ self.old.from) }
         ensures until { IfSome result (λ range. range.from + range.count ≡ self.new.from) }
@@ -73,7 +72,7 @@ impl Writeback {
         }
     }
 
-    /// Returns the range that was appended after the last one whose writeback was started.
+    /// Returns the range of the bytes whose writeback was not started.
     fn rest(&self) -> Extent
         ensures from { result.from ≡ self.now.from }
         ensures count { result.count ≡ self.now.waiting }
@@ -87,9 +86,9 @@ impl Writeback {
     /// Advises the system to start the writeback of a range.
     ///
     /// `POSIX_FADV_DONTNEED` is that advice: Linux starts to write the dirty pages of the range and
-    /// does not wait for them. A failed advice is ignored, as nothing rests on it: the sync of the
-    /// commit writes each byte that is not on the disk yet, or fails. It fails, too, if writeback that
-    /// was started before has failed.
+    /// does not wait for them. A failed advice is ignored, since nothing depends on it: the sync of
+    /// the commit writes each byte that is not on the disk yet, or fails. It also fails if earlier
+    /// writeback has failed.
     fn advise(&self, range: Extent) {
         let Some(descriptor) = self.descriptor else {
             return;
@@ -99,15 +98,16 @@ impl Writeback {
         }
     }
 
-    /// Counts bytes that were appended to the draft's file, and starts the writeback of the next range
-    /// if it is due.
+    /// Counts bytes that were appended to the draft's file, and starts the writeback of the next
+    /// range if it is due.
     pub(crate) fn appended(&mut self, count: usize) {
         if let Some(range) = self.add(count) {
             self.advise(range);
         }
     }
 
-    /// Starts the writeback of what is left, as the file gets no more bytes. It has to be open still.
+    /// Starts the writeback of the remaining bytes of a file that gets no more. The file must still
+    /// be open.
     pub(crate) fn start_rest(&self) {
         let rest = self.rest();
         if rest.count > 0 {

@@ -1,5 +1,5 @@
 //! Opens the folder that received files go to.
-use arguments::{Layout, QuarantineOption};
+use arguments::{FolderLayout, QuarantineOption};
 use failures::{Failure, ProgramError};
 use folder_filing::{FolderFiling, FolderWriter, QuarantineFound};
 use part10::Filing;
@@ -7,19 +7,19 @@ use std::fs::File;
 use std::io::{Error, ErrorKind};
 use std::rt::Files;
 
-/// Opens an existing folder for several filings, in this layout. With `sync`, a file is on the disk
+/// Opens an existing folder in this layout, for several filings. With `sync`, a file is on the disk
 /// before its C-STORE is answered.
 ///
 /// Fails if the folder does not exist, cannot be opened, or is locked by another writer.
 pub fn open_writer<R: Files<File = File> + Alloc + Clone + Drop>(
     rt: R,
     dir: &str,
-    layout: Layout,
+    layout: FolderLayout,
     sync: bool,
 ) -> Result<FolderWriter<R>, ProgramError> {
     let opened = match layout {
-        Layout::Flat => FolderWriter::open(rt, dir),
-        Layout::Levels(per) => FolderWriter::open_levels(rt, dir, per.files),
+        FolderLayout::Flat => FolderWriter::open(rt, dir),
+        FolderLayout::Levels(per) => FolderWriter::open_levels(rt, dir, per.files),
     };
     match opened {
         Ok(writer) => Ok(if sync { writer } else { writer.without_sync() }),
@@ -27,10 +27,10 @@ pub fn open_writer<R: Files<File = File> + Alloc + Clone + Drop>(
     }
 }
 
-/// Keeps the greatest numbers given to the folder's files in the file at `path`, as
+/// Keeps the greatest numbers of the folder's files in the file at `path`, as
 /// [`FolderWriter::with_numbers`] does. Does nothing without a path.
 ///
-/// Fails if the file cannot be read or created, or is anything but a line of numbers.
+/// Fails if the file cannot be read or created, or has anything other than a line of numbers.
 pub fn numbered<R: Files<File = File> + Alloc + Clone + Drop>(
     writer: FolderWriter<R>,
     path: Option<&str>,
@@ -44,10 +44,10 @@ pub fn numbered<R: Files<File = File> + Alloc + Clone + Drop>(
     }
 }
 
-/// Moves the drafts of refused stores to a quarantine, as [`FolderWriter::with_quarantine`] does. Returns
-/// what is there, or `None` without a quarantine. It is created if it is missing.
+/// Moves the drafts of refused stores to a quarantine, as [`FolderWriter::with_quarantine`] does.
+/// Returns what the quarantine has, or `None` without one. Creates it if it is missing.
 ///
-/// Fails if it cannot be created or opened, or a file cannot be moved there from the folder.
+/// Fails if it cannot be created or opened, or a file cannot be moved to it from the folder.
 pub fn quarantined<R: Files<File = File> + Alloc + Clone + Drop>(
     writer: FolderWriter<R>,
     quarantine: Option<QuarantineOption<'_>>,
@@ -61,11 +61,11 @@ pub fn quarantined<R: Files<File = File> + Alloc + Clone + Drop>(
     }
 }
 
-/// Opens an existing folder for a single filing, as [`open_writer`] does for several.
+/// Opens an existing folder for a single filing, with the layout and `sync` of [`open_writer`].
 pub fn open_folder<R: Files<File = File> + Alloc + Clone + Drop>(
     rt: R,
     dir: &str,
-    layout: Layout,
+    layout: FolderLayout,
     sync: bool,
 ) -> Result<FolderFiling<R>, ProgramError> {
     let mut writer = open_writer(rt, dir, layout, sync)?;

@@ -1,4 +1,4 @@
-//! Opens the folder that received files go to, for `dcmbox serve` and `replay`.
+//! Opens the folder in which `dcmbox serve` and `replay` store received files.
 #![tactic(auto)]
 
 mod folder;

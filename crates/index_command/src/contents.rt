@@ -1,8 +1,8 @@
-//! What `dcmbox index` reads of the files of a folder: their rows, and why a file has none.
+//! Reads the rows of a folder's files for `dcmbox index`, and why a file has none.
 ghost use Rattle.std.specs.Prelude.{◌≡◌, ◌∷◌, IfOk, OnOk, IsPermutation};
 ghost use Rattle.index_command.specs.Sharing.{files_of};
 
-use crate::instances::tell_other_instance;
+use crate::instances::report_other_instance;
 use crate::kept::IndexedFiles;
 use crate::names::path_of;
 use arguments::Index;
@@ -22,14 +22,14 @@ use std::rt::Files;
 /// Why a file gets no row.
 #[derive(Drop)]
 pub(crate) enum Reason {
-    /// Its row can't be read.
+    /// The file's row can't be read.
     Unread(Skip),
-    /// A directory has no IMAGE records of its class.
+    /// A directory has no IMAGE records for instances of the file's SOP Class.
     Class(Uid),
 }
 
-/// Returns whether a directory has the instances of this class in IMAGE records. So it has those of a class
-/// that is not in the standard's table, which has fewer than 256 rows.
+/// Returns whether a directory has IMAGE records for instances of this class; `true` for a class
+/// outside the standard's table, which has fewer than 256 rows.
 fn is_image_class(uid: &[u8]) -> bool {
     for place in 0..256 {
         match storage_class(place) {
@@ -41,7 +41,7 @@ fn is_image_class(uid: &[u8]) -> bool {
     true
 }
 
-/// Opens a file, or tells why it can't be opened.
+/// Opens a file, or reports why it can't be opened.
 fn opened<R: Files, E: Write>(rt: &R, path: &str, err: &mut E) -> Result<R::File, Skip> {
     match open_file(rt, path) {
         Ok(file) => Ok(file),
@@ -53,7 +53,7 @@ fn opened<R: Files, E: Write>(rt: &R, path: &str, err: &mut E) -> Result<R::File
     }
 }
 
-/// Returns the class of a file that a directory has no IMAGE record of, as its file header names it.
+/// Returns the SOP Class in a file's header if a directory has no IMAGE records for it.
 fn other_class<R: Files>(rt: &R, path: &str) -> Option<Uid> {
     let mut file = open_file(rt, path).ok()?;
     let class = read_any_meta(&mut file).ok()?.class;
@@ -63,18 +63,18 @@ fn other_class<R: Files>(rt: &R, path: &str) -> Option<Uid> {
     Some(class)
 }
 
-/// Which rows are read of files.
+/// The options for reading rows.
 #[derive(Clone, Copy)]
 struct RowOptions<'a> {
     dir: &'a str,
-    /// Whether they have Series Description.
+    /// Whether rows have Series Description.
     descriptions: bool,
-    /// The transfer syntaxes beside the two native ones.
+    /// The transfer syntaxes accepted besides the two native ones.
     additional: &'a [Transfer],
 }
 
-/// Reads the row of a file, whatever its class, if it is in a transfer syntax that is taken. Tells where its data set has
-/// another instance than its header.
+/// Reads the row of a file of any class, if its transfer syntax is accepted. Reports a data set
+/// with another SOP Instance UID than the file's header.
 fn short_row<R: Files + Alloc, E: Write>(
     rt: &R,
     path: &str,
@@ -90,7 +90,7 @@ where
     let mut front = FileFront::new(&mut file);
     let row = rows_of(rt.alloc(), &mut front, id, additional)?;
     let mut beginning = front.kept();
-    tell_other_instance(path, &mut beginning, row.instance(), err);
+    report_other_instance(path, &mut beginning, row.instance(), err);
     Ok(row)
 }
 
@@ -110,12 +110,12 @@ where
     let mut again = opened(rt, path, err)?;
     let row = described_row_of(rt.alloc(), &mut file, &mut again, id, additional)?;
     if let Ok(mut front) = open_file(rt, path) {
-        tell_other_instance(path, &mut front, row.instance(), err);
+        report_other_instance(path, &mut front, row.instance(), err);
     }
     Ok(row)
 }
 
-/// Reads the row of a file at this path, with Series Description where that is asked for.
+/// Reads the row of the file at this path, with Series Description if the options ask for it.
 fn read_row<R: Files + Alloc, E: Write>(
     rt: &R,
     path: &str,
@@ -134,7 +134,8 @@ where
     }
 }
 
-/// Reads the row of the file with this file ID. A file that no IMAGE record is due of need not have its keys.
+/// Reads the row of the file with this file ID. A file of a class without IMAGE records need not
+/// have the keys of a row.
 fn row_of<R: Files + Alloc, E: Write>(
     rt: &R,
     id: &FileId,
@@ -160,32 +161,34 @@ where
     }
 }
 
-/// A file that gets no row, and why.
+/// A file without a row, and the reason.
 #[derive(Drop)]
 pub(crate) struct Skipped {
     pub id: FileId,
     pub reason: Reason,
 }
 
-/// What is read of the files of a folder.
+/// The result of reading the files of a folder.
 #[derive(Drop)]
 pub(crate) struct Contents<A: Allocator> {
     pub rows: Vec<Row<A>, A>,
     pub skipped: Vec<Skipped, A>,
-    /// How many files the present directory names, and the new one leaves out.
-    pub left_out: usize,
+    /// How many files the present directory names and the new one leaves out.
+    pub omitted: usize,
     /// How many DICOM files have names that are not listed.
     pub others: usize,
 }
 
 impl<A: Allocator> Contents<A> {
-    /// Returns how many files are left out, with so many doubles.
-    pub(crate) fn count(&self, doubles: usize) -> usize {
-        let unlisted = self.skipped.len().saturating_add(self.left_out);
-        unlisted.saturating_add(self.others).saturating_add(doubles)
+    /// Returns how many files are left out, with this number of duplicates.
+    pub(crate) fn count(&self, duplicates: usize) -> usize {
+        let unlisted = self.skipped.len().saturating_add(self.omitted);
+        unlisted
+            .saturating_add(self.others)
+            .saturating_add(duplicates)
     }
 
-    /// Adds the row of a file, or why it has none; fails where memory ran out.
+    /// Adds the row of a file, or why it has none. Fails if memory ran out.
     fn push(&mut self, id: &FileId, row: Result<Row<A>, Reason>) -> Result<(), ProgramError>
         requires own { IfOk row (λ row. row.file_id ≡ id.now) }
         ensures one { OnOk result (IsPermutation (id.now ∷ files_of self.old.rows.items self.old.skipped.items) (files_of self.new.rows.items self.new.skipped.items)) }
@@ -201,10 +204,10 @@ impl<A: Allocator> Contents<A> {
     }
 }
 
-/// Reads the rows of files in the native transfer syntaxes and in these, and keeps why a file has none; fails where
-/// memory ran out.
+/// Reads the rows of files in the native transfer syntaxes and in these, and why a file has no row.
+/// Fails if memory runs out.
 ///
-/// `all`: each file has either a row or a reason why it has none, once.
+/// `all`: each file has exactly one row, or one reason why it has none.
 pub(crate) fn read_rows<R: Files + Alloc, E: Write>(
     rt: &R,
     settings: &Index,
@@ -224,7 +227,7 @@ where
     let mut contents = Contents {
         rows: Vec::new(rt.alloc()),
         skipped: Vec::new(rt.alloc()),
-        left_out: files.left_out,
+        omitted: files.omitted,
         others: files.others,
     };
     for id in &files.ids {
@@ -234,10 +237,10 @@ where
 }
 
 /// Writes a line for each file that has no row.
-pub(crate) fn tell_skipped<O: Write>(skipped: &[Skipped], out: &mut O) -> io::Result<()> {
+pub(crate) fn report_skipped<O: Write>(skipped: &[Skipped], out: &mut O) -> io::Result<()> {
     for Skipped { id, reason } in skipped {
         let path = PathText(*id);
-        let told = match reason {
+        let reported = match reason {
             Reason::Unread(Skip::Fault(number)) => {
                 writeln!(out, "skipped {path} fault {number}")
             }
@@ -251,7 +254,7 @@ pub(crate) fn tell_skipped<O: Write>(skipped: &[Skipped], out: &mut O) -> io::Re
                 writeln!(out, "skipped {path} class {class}")
             }
         };
-        told?;
+        reported?;
     }
     Ok(())
 }

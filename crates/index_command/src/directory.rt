@@ -1,13 +1,13 @@
-//! `dcmbox index`: the directory of a folder of received files.
+//! `dcmbox index`: writes the DICOMDIR of a folder of received files.
 use crate::contents::{Contents, read_rows};
-use crate::doubles::tell_doubles;
+use crate::duplicates::report_duplicates;
 use crate::indexed::{IndexCounts, Indexed};
 use crate::kept::{DIRECTORY, IndexedFiles, kept_files};
-use crate::left_out::tell_reasons;
 use crate::names::received_files;
 use crate::new_uid::new_uid;
+use crate::omitted::report_reasons;
 use crate::others::{ListedNames, other_files};
-use crate::output::{form_of, refuse, tell_built};
+use crate::output::{form_of, refuse, report_built};
 use arguments::Index;
 use dicomdir::DirFault;
 use dicomdir_writing::{Built, build_within, write_dir};
@@ -21,14 +21,14 @@ use std::io::{BufWriter, ErrorKind, Read, Write};
 use std::rt::Files;
 use std::{fs, io};
 
-/// How many bytes of a directory are looked at for what wrote it.
+/// How many bytes of a directory are searched for the implementation that wrote it.
 const HEADER_ROOM: u64 = 4096;
 
-/// The name of a directory that is not written whole yet.
+/// The name of a directory that is not complete yet.
 const DRAFT: &str = "DIRDRAFT";
 
-/// Tells how many DICOM files of a folder have names that are not listed, and what helps.
-fn tell_others<E: Write>(dir: &str, count: usize, names: ListedNames, err: &mut E) {
+/// Reports how many DICOM files of a folder are not listed for their names, and what helps.
+fn report_others<E: Write>(dir: &str, count: usize, names: ListedNames, err: &mut E) {
     if count == 0 {
         return;
     }
@@ -45,7 +45,7 @@ fn tell_others<E: Write>(dir: &str, count: usize, names: ListedNames, err: &mut 
     );
 }
 
-/// Returns the files of a folder that are listed, and tells of those that are not.
+/// Returns the files of a folder that are to be listed, and reports how many are not.
 fn found_files<R: Files + Alloc + Clone + Drop, E: Write>(
     rt: &R,
     settings: &Index,
@@ -65,18 +65,18 @@ where
     };
     let others = other_files(rt, settings.dir, names)?;
     let count = others.count;
-    tell_others(settings.dir, count, names, err);
+    report_others(settings.dir, count, names, err);
     Ok(IndexedFiles {
         ids: match names {
             ListedNames::Received => received,
             ListedNames::Any => others.ids,
         },
-        left_out: 0,
+        omitted: 0,
         others: count,
     })
 }
 
-/// Returns the files that the directory is of, or the fault of the present directory.
+/// Returns the files that the directory is to list, or the fault of the present directory.
 fn files_of<R: Files + Alloc + Clone + Drop, E: Write>(
     rt: &R,
     settings: &Index,
@@ -91,7 +91,7 @@ where
     Ok(Ok(found_files(rt, settings, err)?))
 }
 
-/// Returns the beginning of a file, as far as a file header goes.
+/// Returns the first bytes of a file, enough for a file header.
 fn beginning_of<A: Allocator, R: Read + Drop>(alloc: A, file: R) -> io::Result<Vec<u8, A>> {
     let mut bytes = Vec::new(alloc);
     file.take(HEADER_ROOM).read_to_end(&mut bytes)?;
@@ -106,7 +106,7 @@ fn is_own(file: &[u8]) -> bool {
     }
 }
 
-/// Fails if the folder has a directory that another implementation wrote, or one that can't be read.
+/// Fails if the folder has a directory that another implementation wrote or that can't be read.
 fn spare_others<R: Files + Alloc>(rt: &R, dir: &str) -> Result<(), ProgramError> {
     let path = format!(in rt.alloc(); "{dir}/{DIRECTORY}")?;
     let beginning = match fs::open(rt, path.as_str()) {
@@ -132,8 +132,8 @@ fn write_built<A: Allocator + Copy, W: Write>(
     writer.flush()
 }
 
-/// Writes the directory to a file of its own, up to the disk. What has its path is removed first, and is not written
-/// to, since it may be a link.
+/// Writes the directory to a new file and syncs it to the disk. An existing file is removed, not
+/// overwritten, since it may be a link.
 fn write_draft<R: Files + Alloc>(rt: &R, path: &str, built: &Built<'_, R::A>) -> io::Result<()>
 where
     R::A: Copy,
@@ -144,7 +144,7 @@ where
     file.sync_all()
 }
 
-/// Writes the directory to the draft and gives that its name; removes it where either fails.
+/// Writes the directory to the draft and renames the draft; removes the draft if either fails.
 fn replace<R: Files + Alloc>(
     rt: &R,
     draft: &str,
@@ -164,13 +164,13 @@ where
     written
 }
 
-/// Writes what the folder names up to the disk.
+/// Syncs the names in the folder to the disk.
 fn sync<R: Files>(rt: &R, dir: &str) -> io::Result<()> {
     let folder = fs::open(rt, dir)?;
     folder.sync_all()
 }
 
-/// Puts the directory into the folder, in place of an old one once it is whole.
+/// Puts the directory into the folder, replacing an old one once the new one is complete.
 fn put_directory<R: Files + Alloc>(
     rt: &R,
     dir: &str,
@@ -190,31 +190,35 @@ where
     }
 }
 
-/// Tells what a new directory would leave out of the present one, which stays as it is.
+/// Reports what a new directory would lose of the present one, which stays unchanged.
 fn keep_old<A: Allocator, O: Write, E: Write>(
     settings: &Index,
     built: &Built<'_, A>,
     contents: &Contents<A>,
     (out, err): (&mut O, &mut E),
 ) -> Result<Indexed, ProgramError> {
-    tell_built(
+    report_built(
         form_of(settings),
         (built, false),
         contents.skipped.as_slice(),
         out,
     )?;
-    let doubles = built.doubles().len();
-    let (dir, count) = (Printable(settings.dir.as_bytes()), contents.count(doubles));
+    let duplicates = built.duplicates().len();
+    let (dir, count) = (
+        Printable(settings.dir.as_bytes()),
+        contents.count(duplicates),
+    );
     let _ = writeln!(
         err,
         "dcmbox: {dir}: the DICOMDIR stays as it is: {count} of its records would be lost; leave them out with --drop"
     );
-    tell_reasons(contents, doubles, err);
+    report_reasons(contents, duplicates, err);
     Ok(Indexed::Kept)
 }
 
-/// Compares doubles, puts the directory into the folder, tells what it left out, and counts that.
-fn put_and_tell<R: Files + Alloc, O: Write, E: Write>(
+/// Reports duplicates, puts the directory into the folder, reports the files left out, and returns
+/// the counts.
+fn put_and_report<R: Files + Alloc, O: Write, E: Write>(
     rt: &R,
     settings: &Index,
     built: &Built<'_, R::A>,
@@ -224,9 +228,9 @@ fn put_and_tell<R: Files + Alloc, O: Write, E: Write>(
 where
     R::A: Copy,
 {
-    tell_doubles(rt, settings.dir, built, err)?;
+    report_duplicates(rt, settings.dir, built, err)?;
     put_directory(rt, settings.dir, built)?;
-    tell_built(
+    report_built(
         form_of(settings),
         (built, true),
         contents.skipped.as_slice(),
@@ -234,11 +238,11 @@ where
     )?;
     let counts = IndexCounts::of(built, contents);
     let _ = writeln!(err, "{counts}");
-    tell_reasons(contents, built.doubles().len(), err);
+    report_reasons(contents, built.duplicates().len(), err);
     Ok(Indexed::Written(counts))
 }
 
-/// Returns the instance of the directory, which is made where none was given.
+/// Returns the SOP Instance UID of the directory: the given one, or a new one.
 fn uid_of<R: Files + Alloc>(rt: &R, settings: &Index) -> Result<Uid, ProgramError> {
     match &settings.uid {
         Some(uid) => Ok(uid.copied()),
@@ -246,12 +250,13 @@ fn uid_of<R: Files + Alloc>(rt: &R, settings: &Index) -> Result<Uid, ProgramErro
     }
 }
 
-/// Returns whether a new directory would not have records of the present one that are to be kept.
+/// Returns whether a new directory would lose records of the present one that must be kept.
 fn loses<A: Allocator>(settings: &Index, built: &Built<'_, A>, contents: &Contents<A>) -> bool {
-    settings.keep && !settings.drop && contents.count(built.doubles().len()) > 0
+    settings.keep && !settings.drop && contents.count(built.duplicates().len()) > 0
 }
 
-/// Writes the directory of these files, of at most `most` bytes, and tells what it left out, or its fault.
+/// Writes the directory of these files, of at most `most` bytes, and reports the files left out or
+/// the fault.
 fn index_files<R: Files + Alloc, O: Write, E: Write>(
     rt: &R,
     settings: &Index,
@@ -268,36 +273,38 @@ where
             if loses(settings, &built, contents) {
                 keep_old(settings, &built, contents, (out, err))
             } else {
-                put_and_tell(rt, settings, &built, contents, (out, err))
+                put_and_report(rt, settings, &built, contents, (out, err))
             }
         }
         Err(fault) => refuse(form_of(settings), contents.skipped.as_slice(), fault, out),
     }
 }
 
-/// Returns the transfer syntaxes in which files are listed beside the two native ones.
+/// Returns the transfer syntaxes that are listed besides the two native ones.
 fn additional_syntaxes(all: bool) -> &'static [Transfer] {
     if all { Transfer::encapsulated() } else { &[] }
 }
 
-/// Writes the file `DICOMDIR` of a folder: the directory of its received files or, with `keep`, of the
-/// images that its present directory keeps. Once it is there, a line tells of each file that gets no row,
-/// and why; then of each double; then how many records there are; in JSON it is one object. Returns how many images
-/// it lists and how many files it leaves out. A directory that is not built, as one of more than `most` bytes,
-/// leaves an old one as it is, and its fault is told. So does one, with `keep` and without `drop`, that would not have
-/// each image of the old one.
+/// Writes the file `DICOMDIR` of a folder: the directory of its received files or, with `keep`, of
+/// the images that its present directory keeps. Then it writes a line for each file without a row,
+/// with the reason, a line for each duplicate, and the number of records; in JSON, one object.
+/// Returns how many images are listed and how many files left out. If no directory can be built
+/// (for example one of more than `most` bytes), an old directory stays unchanged and the fault is
+/// written. With `keep` and without `drop`, an old directory also stays unchanged if the new one
+/// would lose an image of it.
 ///
-/// On `err` a line tells of each record of the present directory that names a file and is no image's, of each file whose
-/// data set has another instance than its header, of how many DICOM files have names that are not listed, and of each double
-/// whether it has the bytes of the file before it; then how many images are listed and files left out, and why.
+/// On `err` a line reports each record of the present directory that names a file and is no IMAGE
+/// record, each file whose data set has another SOP Instance UID than its header, the number of
+/// DICOM files with names that are not listed, and for each duplicate whether it has the same bytes
+/// as the file before it; then the numbers of images listed and files left out, and the reasons.
 ///
-/// Memory for what the files say is the runtime's.
+/// Memory for the rows is from `rt`'s allocator.
 ///
-/// Fails if the folder or its directory can't be read; if the directory was written by another
-/// implementation, and neither its images are kept nor is it to be replaced; if the system gives no random
-/// bytes for a new UID; if the directory or the output can't be written; or if memory runs out. Then an old
-/// directory is as it was. Where only the output fails, or the folder can't be
-/// written up to the disk, the new directory is there.
+/// Fails if the folder or its directory can't be read; if another implementation wrote the
+/// directory and neither `keep` nor `replace` is set; if the system yields no random bytes for a
+/// new UID; if the directory or the output can't be written; or if memory runs out. An old
+/// directory is then unchanged, except that the new directory is in place if only writing the
+/// output or syncing the folder failed.
 pub fn index_folder<R: Files + Alloc + Clone + Drop, O: Write, E: Write>(
     rt: &R,
     settings: &Index,
@@ -321,8 +328,8 @@ where
     }
 }
 
-/// Writes the directory of a folder as `index_folder` does, of fewer than 2^32 bytes, and returns whether there
-/// was no fault. What `index_folder` tells on `err` is not told.
+/// Writes the directory of a folder as `index_folder` does, of fewer than 2^32 bytes. Returns
+/// whether there was a fault. Discards what `index_folder` reports on `err`.
 pub fn index_dir<R: Files + Alloc + Clone + Drop, O: Write>(
     rt: &R,
     settings: &Index,
@@ -335,13 +342,14 @@ where
     Ok(indexed.outcome())
 }
 
-/// Writes the directory of a folder, and prints what it left out; what `index_folder` tells beside it goes to standard
-/// error. With `strict` a file that is left out is a fault. What was written before an error is printed, too.
+/// Writes the directory of a folder and prints the files left out; `index_folder` reports on
+/// standard error. With `strict`, a file left out is a fault. Output written before an error is
+/// printed as well.
 pub fn index(rt: &HostRuntime, settings: &Index) -> Result<Outcome, ProgramError> {
     let mut out = BufWriter::new(rt.alloc(), io::writer(rt)).map_err(ProgramError::of_output)?;
     let indexed = index_folder(rt, settings, u32::MAX, &mut out, &mut rt.stderr());
     match flushed(indexed, &mut out)? {
-        Indexed::Written(counts) if settings.strict && counts.left_out > 0 => Ok(Outcome::Faulty),
+        Indexed::Written(counts) if settings.strict && counts.omitted > 0 => Ok(Outcome::Faulty),
         indexed => Ok(indexed.outcome()),
     }
 }

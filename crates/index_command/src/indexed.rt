@@ -1,4 +1,4 @@
-//! What comes of a folder that is indexed.
+//! The result of indexing a folder.
 use crate::contents::Contents;
 use dicomdir_writing::Built;
 use inspection::Outcome;
@@ -6,22 +6,23 @@ use std::alloc::Allocator;
 use std::fmt;
 use std::fmt::{Display, Formatter};
 
-/// How many images a directory lists, and how many files of its folder it leaves out.
+/// How many images a directory lists and how many files it leaves out.
 #[derive(Clone, Copy, Debug, PartialEq, Eq)]
 pub struct IndexCounts {
-    /// The images, each with a record of its own.
+    /// The images with a record.
     pub images: usize,
-    /// The files without a row, the doubles, the files whose records are not kept, and those of other names.
-    pub left_out: usize,
+    /// The files without a row, the duplicates, the files whose records are not kept, and the files
+    /// with other names.
+    pub omitted: usize,
 }
 
 impl IndexCounts {
-    /// Returns the counts of a directory, and of the files that are left out.
+    /// Returns the counts of a directory and of the files left out.
     pub(crate) fn of<A: Allocator>(built: &Built<'_, A>, contents: &Contents<A>) -> IndexCounts {
-        let doubles = built.doubles().len();
+        let duplicates = built.duplicates().len();
         IndexCounts {
-            images: built.rows().len().saturating_sub(doubles),
-            left_out: contents.count(doubles),
+            images: built.rows().len().saturating_sub(duplicates),
+            omitted: contents.count(duplicates),
         }
     }
 }
@@ -29,18 +30,18 @@ impl IndexCounts {
 /// The counts in a line, as `images 3 left out 2`.
 impl Display for IndexCounts {
     fn fmt<W: fmt::Write>(&self, f: &mut Formatter<W>) -> fmt::Result {
-        write!(f, "images {} left out {}", self.images, self.left_out)
+        write!(f, "images {} left out {}", self.images, self.omitted)
     }
 }
 
-/// What comes of a folder.
+/// The result of indexing a folder.
 #[derive(Clone, Copy, Debug, PartialEq, Eq)]
 pub enum Indexed {
-    /// Its directory is written.
+    /// The directory was written.
     Written(IndexCounts),
-    /// Its directory stays as it is, since a new one would not have records of it, which are told.
+    /// The directory is unchanged: a new one would lose records of it, which were reported.
     Kept,
-    /// The directory that is there, or the one that is due, has a fault, which is told.
+    /// The present directory or the new one has a fault, which was reported.
     Faulty,
 }
 

@@ -1,4 +1,4 @@
-//! The instances of files, by their headers and by their data sets.
+//! Compares the SOP Instance UIDs of a file's header and data set.
 use element::{Tag, unpadded};
 use inspection::Printable;
 use keyed_files::read_keys;
@@ -7,9 +7,9 @@ use std::io::{Read, Write};
 /// The tag of SOP Instance UID.
 const SOP_INSTANCE_UID: Tag = Tag(0x0008, 0x0018);
 
-/// Tells of a file whose data set has another SOP Instance UID than its header, which is the one that a record names. The
-/// reader is at the start of the file, and needs to have no more than its beginning.
-pub(crate) fn tell_other_instance<I: Read, E: Write>(
+/// Reports a file whose data set has another SOP Instance UID than `instance`, that of its header
+/// and record. The reader must be at the start of the file, and may yield only its beginning.
+pub(crate) fn report_other_instance<I: Read, E: Write>(
     path: &str,
     input: &mut I,
     instance: &[u8],

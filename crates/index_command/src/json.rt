@@ -1,4 +1,4 @@
-//! What a directory leaves out, as members of a JSON object.
+//! Writes the files that a directory leaves out as members of a JSON object.
 use crate::contents::{Reason, Skipped};
 use checkdir_command::PathText;
 use dicomdir_writing::{Built, Skip};
@@ -6,7 +6,7 @@ use inspection::{Printable, TagText};
 use std::alloc::Allocator;
 use std::io::{self, Write};
 
-/// Writes a file that has no row, and why, as an object.
+/// Writes a file without a row, and the reason, as an object.
 fn write_skipped<O: Write>(skipped: &Skipped, out: &mut O) -> io::Result<()> {
     let path = PathText(skipped.id);
     write!(out, "{{\"file\":\"{path}\"")?;
@@ -24,8 +24,8 @@ fn write_skipped<O: Write>(skipped: &Skipped, out: &mut O) -> io::Result<()> {
     }
 }
 
-/// Writes the brace that opens the object, the array of the files that have no row, and the bracket that opens
-/// that of the doubles.
+/// Writes the object's opening brace, the array of the files without a row, and the opening bracket
+/// of the array of duplicates.
 pub(crate) fn open_object<O: Write>(skipped: &[Skipped], out: &mut O) -> io::Result<()> {
     write!(out, "{{\"skipped\":[")?;
     let mut between = "";
@@ -37,8 +37,8 @@ pub(crate) fn open_object<O: Write>(skipped: &[Skipped], out: &mut O) -> io::Res
     write!(out, "],\"doubles\":[")
 }
 
-/// Writes the file of the row at this place, as an element of an array.
-fn write_double<A: Allocator, O: Write>(
+/// Writes the file of the row at this index as an element of an array.
+fn write_duplicate<A: Allocator, O: Write>(
     built: &Built<'_, A>,
     place: usize,
     between: &str,
@@ -53,14 +53,14 @@ fn write_double<A: Allocator, O: Write>(
     }
 }
 
-/// Writes the files of the doubles, as elements of an array.
-pub(crate) fn write_doubles<A: Allocator, O: Write>(
+/// Writes the files of the duplicates as elements of an array.
+pub(crate) fn write_duplicates<A: Allocator, O: Write>(
     built: &Built<'_, A>,
     out: &mut O,
 ) -> io::Result<()> {
     let mut between = "";
-    for place in built.doubles() {
-        write_double(built, *place, between, out)?;
+    for place in built.duplicates() {
+        write_duplicate(built, *place, between, out)?;
         between = ",";
     }
     Ok(())

@@ -1,6 +1,6 @@
 //! The files that a folder's present directory keeps.
 use checkdir_command::PathText;
-use dicomdir::{DirFault, FileId, Tree, check, kept_of, left_out};
+use dicomdir::{DirFault, FileId, Tree, check, kept_of, omitted};
 use failures::{Failure, ProgramError, read_whole};
 use inspection::Printable;
 use std::alloc::Allocator;
@@ -8,20 +8,20 @@ use std::fs;
 use std::io::Write;
 use std::rt::Files;
 
-/// The name of the directory of a folder.
+/// The name of a folder's directory.
 pub(crate) const DIRECTORY: &str = "DICOMDIR";
 
-/// The files that a directory is of.
+/// The files that a directory lists.
 #[derive(Drop)]
 pub(crate) struct IndexedFiles<A: Allocator> {
     pub ids: Vec<FileId, A>,
-    /// How many files the present directory names, and the new one leaves out.
-    pub left_out: usize,
+    /// How many files the present directory names and the new one leaves out.
+    pub omitted: usize,
     /// How many DICOM files of the folder have names that are not listed.
     pub others: usize,
 }
 
-/// Reads the folder's directory whole.
+/// Reads the folder's directory completely.
 fn present_directory<R: Files + Alloc>(rt: &R, dir: &str) -> Result<Vec<u8, R::A>, ProgramError>
 where
     R::A: Copy,
@@ -33,15 +33,15 @@ where
     }
 }
 
-/// Tells of each record of a directory that names a file and is left out, and returns how many there are.
-fn tell_left_out<A: Allocator + Copy, E: Write>(
+/// Reports each record of a directory that names a file and is left out. Returns their number.
+fn report_omitted<A: Allocator + Copy, E: Write>(
     dir: &str,
     tree: &Tree<'_, A>,
     err: &mut E,
 ) -> usize {
     let mut count: usize = 0;
     for record in tree.records() {
-        if let Some(file_id) = left_out(record) {
+        if let Some(file_id) = omitted(record) {
             let (dir, path) = (Printable(dir.as_bytes()), PathText(file_id));
             let kind = Printable(record.kind());
             let _ = writeln!(
@@ -54,7 +54,8 @@ fn tell_left_out<A: Allocator + Copy, E: Write>(
     count
 }
 
-/// Returns the images that a directory keeps, or its fault; tells of the other records that name files.
+/// Returns the images that a directory keeps, or its fault. Reports the other records that name
+/// files.
 fn kept_in<A: Allocator + Copy, E: Write>(
     alloc: A,
     dir: &str,
@@ -63,16 +64,16 @@ fn kept_in<A: Allocator + Copy, E: Write>(
 ) -> Result<IndexedFiles<A>, DirFault> {
     let tree = check(alloc, bytes)?;
     let ids = kept_of(alloc, &tree)?;
-    let left_out = tell_left_out(dir, &tree, err);
+    let omitted = report_omitted(dir, &tree, err);
     Ok(IndexedFiles {
         ids,
-        left_out,
+        omitted,
         others: 0,
     })
 }
 
-/// Returns the images that the folder's directory keeps, or the fault of the directory. Each record that names a file
-/// and is no image's is told of.
+/// Returns the images that the folder's directory keeps, or its fault. Reports each record that
+/// names a file and is no IMAGE record.
 pub(crate) fn kept_files<R: Files + Alloc, E: Write>(
     rt: &R,
     dir: &str,

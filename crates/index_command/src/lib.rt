@@ -1,16 +1,16 @@
-//! `dcmbox index`: the directory of a folder of received files.
+//! `dcmbox index`: writes the DICOMDIR of a folder of received files.
 #![tactic(auto)]
 
 mod contents;
 mod directory;
-mod doubles;
+mod duplicates;
 mod indexed;
 mod instances;
 mod json;
 mod kept;
-mod left_out;
 mod names;
 mod new_uid;
+mod omitted;
 mod others;
 mod output;
 

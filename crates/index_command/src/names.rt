@@ -1,5 +1,5 @@
-//! The received files of a folder: `I` and seven digits, in the folder itself and in folders named
-//! `S` and seven digits.
+//! Finds the received files of a folder: named `I` and seven digits, in the folder itself and in
+//! folders named `S` and seven digits.
 use checkdir_command::PathText;
 use dicomdir::FileId;
 use failures::ProgramError;
@@ -11,7 +11,7 @@ use std::io::ErrorKind;
 use std::rt::Files;
 use std::{fs, io};
 
-/// Adds the name of an entry of this kind.
+/// Adds the name of an entry if it is of this kind.
 fn push_name<R: Files + Drop, A: Allocator + Clone>(
     names: &mut Vec<String<A>, A>,
     kind: EntryKind,
@@ -20,7 +20,7 @@ fn push_name<R: Files + Drop, A: Allocator + Clone>(
 ) -> Result<(), ProgramError> {
     let number = match kind.number_of(entry) {
         Ok(number) => number,
-        // It has gone since it was listed.
+        // The entry vanished after it was listed.
         Err(error) if error.kind() == ErrorKind::NotFound => None,
         Err(error) => return Err(ProgramError::of_folder(error)),
     };
@@ -30,7 +30,7 @@ fn push_name<R: Files + Drop, A: Allocator + Clone>(
     Ok(())
 }
 
-/// Adds the name of what was read of a folder, if it is of this kind.
+/// Adds the name of an entry read from a folder if it is of this kind.
 fn push_read<R: Files + Drop, A: Allocator + Clone>(
     names: &mut Vec<String<A>, A>,
     kind: EntryKind,
@@ -39,7 +39,7 @@ fn push_read<R: Files + Drop, A: Allocator + Clone>(
 ) -> Result<(), ProgramError> {
     match entry {
         Ok(entry) => push_name(names, kind, alloc, &entry),
-        // A name that is not UTF-8 is no name of a received file.
+        // A name that is not UTF-8 is not that of a received file.
         Err(error) if error.kind() == ErrorKind::InvalidFilename => Ok(()),
         Err(error) => Err(ProgramError::of_folder(error)),
     }
@@ -58,7 +58,7 @@ fn push_names<R: Files + Alloc + Clone + Drop>(
     Ok(())
 }
 
-/// Returns the names of this kind in a folder, rising.
+/// Returns the names of this kind in a folder in ascending order.
 fn names_in<R: Files + Alloc + Clone + Drop>(
     rt: &R,
     dir: &str,
@@ -70,8 +70,7 @@ fn names_in<R: Files + Alloc + Clone + Drop>(
     Ok(names)
 }
 
-/// Adds the file ID of a file of this name, which a name of a received file always has; it begins with
-/// `above`.
+/// Adds the file ID that `above` and this name form. The name of a received file always forms one.
 fn push_file<A: Allocator + Clone>(
     ids: &mut Vec<FileId, A>,
     alloc: A,
@@ -85,7 +84,7 @@ fn push_file<A: Allocator + Clone>(
     Ok(())
 }
 
-/// Adds the file IDs of the files in a folder, by name; each begins with `above`.
+/// Adds the file IDs of the files in a folder in the order of names; each begins with `above`.
 fn push_files<R: Files + Alloc + Clone + Drop>(
     rt: &R,
     ids: &mut Vec<FileId, R::A>,
@@ -98,7 +97,7 @@ fn push_files<R: Files + Alloc + Clone + Drop>(
     Ok(())
 }
 
-/// Adds the file IDs of the files in a folder of files; of none that has vanished.
+/// Adds the file IDs of the files in a subfolder; none if the subfolder has vanished.
 fn push_folder<R: Files + Alloc + Clone + Drop>(
     rt: &R,
     ids: &mut Vec<FileId, R::A>,
@@ -113,7 +112,7 @@ fn push_folder<R: Files + Alloc + Clone + Drop>(
     }
 }
 
-/// Adds the file IDs of the files in each folder of files, by its name and theirs.
+/// Adds the file IDs of the files in each subfolder, in the order of names.
 fn push_folders<R: Files + Alloc + Clone + Drop>(
     rt: &R,
     ids: &mut Vec<FileId, R::A>,
@@ -125,8 +124,8 @@ fn push_folders<R: Files + Alloc + Clone + Drop>(
     Ok(())
 }
 
-/// Returns the file IDs of the received files of a folder: first those in the folder itself, by name,
-/// and then those of each folder of files, by its name and theirs.
+/// Returns the file IDs of the received files of a folder: first those in the folder itself, then
+/// those of each subfolder, in the order of names.
 pub fn received_files<R: Files + Alloc + Clone + Drop>(
     rt: &R,
     dir: &str,

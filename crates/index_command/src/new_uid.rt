@@ -6,7 +6,7 @@ use std::rt::Files;
 use std::{fs, io};
 use uuid::Builder;
 
-/// Where the system gives random bytes.
+/// The system's source of random bytes.
 const RANDOM: &str = "/dev/urandom";
 
 /// Reads 128 random bits.
@@ -17,10 +17,10 @@ fn random_bits<R: Files>(rt: &R) -> io::Result<[u8; 16]> {
     Ok(bits)
 }
 
-/// Returns a UID that no one else has: the decimal form of a random UUID under the root 2.25 (PS3.5
-/// section B.2).
+/// Returns a new unique UID: the decimal form of a random UUID under the root 2.25 (PS3.5 section
+/// B.2).
 ///
-/// Fails if the system gives no random bytes.
+/// Fails if the system yields no random bytes.
 pub fn new_uid<R: Files + Alloc>(rt: &R) -> Result<Uid, ProgramError> {
     let bits = match random_bits(rt) {
         Ok(bits) => bits,

@@ -1,4 +1,4 @@
-//! The DICOM files of a folder that have other names than received files.
+//! Finds the DICOM files of a folder that are not named like received files.
 use crate::kept::DIRECTORY;
 use dicomdir::FileId;
 use failures::ProgramError;
@@ -11,9 +11,9 @@ use std::rt::Files;
 /// Which files below a folder are listed.
 #[derive(Clone, Copy, PartialEq, Eq)]
 pub(crate) enum ListedNames {
-    /// Those named as received files are, which are found elsewhere.
+    /// Files named like received files, which `received_files` finds.
     Received,
-    /// Each whose path is a file ID.
+    /// Each file whose path is a file ID.
     Any,
 }
 
@@ -22,14 +22,14 @@ pub(crate) enum ListedNames {
 pub(crate) struct OtherFiles<A: Allocator> {
     alloc: A,
     names: ListedNames,
-    /// Those whose paths are file IDs, where each of them is listed.
+    /// The files whose paths are file IDs, with `ListedNames::Any`.
     pub ids: Vec<FileId, A>,
-    /// How many others there are.
+    /// How many other DICOM files there are.
     pub count: usize,
 }
 
-/// Returns whether this is the path of a received file: a name as I0000001, in the folder itself or in a folder S0000001
-/// of it.
+/// Returns whether a path is that of a received file: a name like I0000001, in the folder itself or
+/// in a subfolder like S0000001.
 fn is_received(path: &str) -> bool {
     match path.split_once('/') {
         Some((folder, name)) => EntryKind::Folder.number_in(folder).is_some()
@@ -46,7 +46,7 @@ fn last_name(path: &str) -> &str {
     }
 }
 
-/// Returns the file ID that is this path, if it is one.
+/// Returns the file ID that this path forms, if any.
 fn file_id_of<A: Allocator>(alloc: A, path: &str) -> Result<Option<FileId>, AllocError> {
     let mut text = Vec::new(alloc);
     for byte in path.as_bytes() {
@@ -56,7 +56,7 @@ fn file_id_of<A: Allocator>(alloc: A, path: &str) -> Result<Option<FileId>, Allo
 }
 
 impl<A: Allocator + Copy> OtherFiles<A> {
-    /// Returns none.
+    /// Returns an empty result.
     pub(crate) fn new(alloc: A, names: ListedNames) -> OtherFiles<A> {
         OtherFiles {
             alloc,
@@ -66,7 +66,7 @@ impl<A: Allocator + Copy> OtherFiles<A> {
         }
     }
 
-    /// Takes a DICOM file at this path below the folder.
+    /// Adds a DICOM file at this path below the folder.
     fn take(&mut self, path: &str) -> Result<(), AllocError> {
         if self.names == ListedNames::Any {
             if let Some(id) = file_id_of(self.alloc, path)? {
@@ -78,7 +78,7 @@ impl<A: Allocator + Copy> OtherFiles<A> {
         Ok(())
     }
 
-    /// Returns whether a file with this path below the folder is looked at.
+    /// Returns whether a file at this path below the folder is to be examined.
     fn regards(&self, path: &str) -> bool {
         let name = last_name(path);
         let is_listed = self.names == ListedNames::Received && is_received(path);
@@ -86,7 +86,7 @@ impl<A: Allocator + Copy> OtherFiles<A> {
     }
 }
 
-/// Visits what has this path: takes a DICOM file, and adds what is in a folder to the visits.
+/// Visits a path: adds a DICOM file to `others`, and the entries of a folder to the visits.
 fn visit<R: Files + Alloc>(
     rt: &R,
     path: &str,
@@ -100,7 +100,7 @@ where
     match fs::symlink_metadata(rt, path) {
         Ok(found) if found.is_dir() => {
             if let Err(error) = visits.add_folder(rt, path) {
-                // What is only counted may be left out.
+                // Files that are only counted may be missed.
                 let is_due = others.names == ListedNames::Any || error.failure().is_none();
                 if is_due && !has_vanished(rt, path, &error) {
                     return Err(error);
@@ -115,11 +115,12 @@ where
     Ok(())
 }
 
-/// Returns the DICOM files below a folder, by name, but for those that `names` finds elsewhere. A name that is not UTF-8,
-/// and a file that can't be opened, is passed by.
+/// Returns the DICOM files below a folder in the order of names, without those that
+/// `received_files` finds if `names` is `Received`. Ignores names that are not UTF-8 and files that
+/// can't be opened.
 ///
-/// Fails if the folder can't be listed, if memory runs out, or where each name is listed if a folder below it can't be and
-/// has not vanished.
+/// Fails if the folder can't be listed or memory runs out; with `ListedNames::Any`, also if a
+/// subfolder can't be listed and has not vanished.
 pub(crate) fn other_files<R: Files + Alloc>(
     rt: &R,
     dir: &str,

@@ -1,10 +1,10 @@
-//! What is written of a directory: the files that it leaves out, and what has come of it.
-use crate::contents::{Skipped, tell_skipped};
-use crate::doubles::list_doubles;
+//! Writes the result of `dcmbox index`.
+use crate::contents::{Skipped, report_skipped};
+use crate::duplicates::list_duplicates;
 use crate::indexed::Indexed;
-use crate::json::{open_object, write_doubles};
+use crate::json::{open_object, write_duplicates};
 use arguments::Index;
-use checkdir_command::tell_fault;
+use checkdir_command::report_fault;
 use dicomdir::DirFault;
 use dicomdir_writing::Built;
 use failures::ProgramError;
@@ -21,15 +21,16 @@ pub(crate) fn form_of(settings: &Index) -> OutputForm {
     }
 }
 
-/// Writes a line for each file that has no row, one for each row that is left out because an earlier one has
-/// the same instance, and one with the number of records, if the directory is put into the folder.
+/// Writes a line for each file without a row, a line for each row left out because an earlier row
+/// has the same SOP Instance UID, and, if the directory is put into the folder, a line with the
+/// number of records.
 fn write_lines<A: Allocator, O: Write>(
     (built, is_put): (&Built<'_, A>, bool),
     skipped: &[Skipped],
     out: &mut O,
 ) -> io::Result<()> {
-    tell_skipped(skipped, out)?;
-    list_doubles(built, out)?;
+    report_skipped(skipped, out)?;
+    list_duplicates(built, out)?;
     if is_put {
         let records = built.records();
         writeln!(out, "records {records}")?;
@@ -37,14 +38,14 @@ fn write_lines<A: Allocator, O: Write>(
     out.flush()
 }
 
-/// Writes the same as one JSON object.
+/// Writes what `write_lines` writes, as one JSON object.
 fn write_object<A: Allocator, O: Write>(
     (built, is_put): (&Built<'_, A>, bool),
     skipped: &[Skipped],
     out: &mut O,
 ) -> io::Result<()> {
     open_object(skipped, out)?;
-    write_doubles(built, out)?;
+    write_duplicates(built, out)?;
     if is_put {
         let records = built.records();
         writeln!(out, "],\"result\":\"good\",\"record_count\":{records}}}")?;
@@ -54,37 +55,38 @@ fn write_object<A: Allocator, O: Write>(
     out.flush()
 }
 
-/// Writes the files that a directory leaves out, and the number of its records, if it is put into the folder.
-pub(crate) fn tell_built<A: Allocator, O: Write>(
+/// Writes the files that a directory leaves out, and its number of records if it is put into the
+/// folder.
+pub(crate) fn report_built<A: Allocator, O: Write>(
     form: OutputForm,
     built: (&Built<'_, A>, bool),
     skipped: &[Skipped],
     out: &mut O,
 ) -> Result<(), ProgramError> {
-    let told = match form {
+    let reported = match form {
         OutputForm::Lines => write_lines(built, skipped, out),
         OutputForm::Json => write_object(built, skipped, out),
     };
-    told.map_err(ProgramError::of_output)
+    reported.map_err(ProgramError::of_output)
 }
 
-/// Writes which files have no row, before the fault of a directory.
-fn tell_unlisted<O: Write>(form: OutputForm, skipped: &[Skipped], out: &mut O) -> io::Result<()> {
+/// Writes which files have no row, before a directory's fault.
+fn report_unlisted<O: Write>(form: OutputForm, skipped: &[Skipped], out: &mut O) -> io::Result<()> {
     if form == OutputForm::Lines {
-        return tell_skipped(skipped, out);
+        return report_skipped(skipped, out);
     }
     open_object(skipped, out)?;
     write!(out, "],")
 }
 
-/// Writes which files have no row, and the fault of a directory, because of which none is written.
+/// Writes which files have no row, and the fault that keeps the directory from being written.
 pub(crate) fn refuse<O: Write>(
     form: OutputForm,
     skipped: &[Skipped],
     fault: DirFault,
     out: &mut O,
 ) -> Result<Indexed, ProgramError> {
-    tell_unlisted(form, skipped, out).map_err(ProgramError::of_output)?;
-    tell_fault(fault, form, out)?;
+    report_unlisted(form, skipped, out).map_err(ProgramError::of_output)?;
+    report_fault(fault, form, out)?;
     Ok(Indexed::Faulty)
 }

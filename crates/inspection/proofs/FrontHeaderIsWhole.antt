@@ -1,4 +1,4 @@
--- A header at the front of a file's bytes is whole where they hold as many as it takes (`whole_at`). Stands on the
+-- A header at the front of a file's bytes is whole where they hold as many as it needs (`whole_at`). Stands on the
 -- definitions alone.
 use Rattle.std.proofs.Common.{◌≡◌, ℕ, ◌≤◌, true, List, length, ap, ◌∙◌, arith, nat_le}
 use Rattle.std.proofs.lemmas.Bool.Decides.{nat_tests}

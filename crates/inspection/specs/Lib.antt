@@ -1,3 +1,4 @@
+pub mod BareForm
 pub mod ElementVrs
 pub mod NamedTag
 pub mod MetaRules

@@ -4,12 +4,13 @@ use Rattle.element.specs.declared.header.Header.{Header}
 use Rattle.inspection.specs.declared.meta_rule.MetaRule.{MetaRule}
 use Rattle.inspection.specs.declared.meta_rule.MetaRule.TheVariants as broken
 
--- of an element after one with the number `last`, whose header has this size, where so many bytes of the group are left
+-- the rule that an element breaks after one with the number `last`, if its header has this size and so many bytes of
+-- the group remain
 abbrev pub rule_of : Header → ℕ → ℕ → ℕ → Option MetaRule
-rule_of h size last left =
-    if nat_lt left size then Some broken.End
+rule_of h size last remaining =
+    if nat_lt remaining size then Some broken.End
     else (if not (nat_eq h.tag.0 2) then Some (broken.Group h.tag)
     else (if nat_le h.tag.1 last then Some (broken.Order h.tag)
     else (if not (nat_eq (h.length % 2) 0) then Some (broken.Even h.tag)
-    else (if nat_lt (left - size) h.length then Some broken.End
+    else (if nat_lt (remaining - size) h.length then Some broken.End
     else None))))

@@ -23,7 +23,7 @@ tag_with _ _ = None
 abbrev pub tag_of : List ℕ → List ℕ → Option Tag
 tag_of group element = tag_with (number_of group) (number_of element)
 
--- the byte at a place
+-- whether a text has this byte at this offset
 abbrev pub is_at : List ℕ → ℕ → ℕ → Bool
 is_at text place byte = nat_eq (get_or text place 0) byte
 

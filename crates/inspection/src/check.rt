@@ -1,4 +1,4 @@
-//! `dcmbox check`: the first fault of a file, and the values that break the rules of their VR.
+//! `dcmbox check`: reports the first fault of a file, and the values that break a rule of their VR.
 use crate::error::InspectionError;
 use crate::judgement::Judgement;
 use crate::notes::Notes;
@@ -7,27 +7,28 @@ use crate::outcome::{Inspected, Outcome};
 use crate::strict::StrictValues;
 use crate::walk::{Listing, list};
 use arrayvec::ArrayVec;
-use dictionary::vr_of;
+use dictionary::{Transfer, vr_of};
 use element::{Header, Tag, Vr, check_value};
 use part10::Meta;
 use std::io;
 use std::io::{Read, Write};
 use values::Repertoire;
 
-/// The longest value that is checked without the whole table of VRs.
+/// The longest value, in bytes, that is checked without `strict`.
 const SHORT: usize = 1024;
 
-/// A value that is to be checked once it is whole.
+/// A value that is checked once all of its bytes were read.
 #[derive(Clone, Copy)]
 struct Due {
-    /// Of its header.
+    /// The offset of the value's header.
     place: u64,
     tag: Tag,
     vr: Vr,
     length: usize,
 }
 
-/// Returns what is due of a header's value: nothing where it is too long, or its VR is not known.
+/// Returns the value to check after a header, or `None` if it is longer than `SHORT` or its VR is
+/// unknown.
 fn due_of(place: u64, header: Header) -> Option<Due> {
     let length = header.length as usize;
     if SHORT < length {
@@ -42,7 +43,7 @@ fn due_of(place: u64, header: Header) -> Option<Due> {
     })
 }
 
-/// Checks the values that are short enough.
+/// Checks each value of at most `SHORT` bytes.
 #[derive(Drop)]
 struct Values {
     due: Option<Due>,
@@ -50,7 +51,7 @@ struct Values {
     notes: Notes,
 }
 
-/// Returns the note of a value, if it breaks a rule of its VR.
+/// Returns the note of a value, or `None` if the value breaks no rule of its VR.
 fn note_of(due: Due, value: &[u8]) -> Option<Judgement> {
     match check_value(due.vr, value) {
         Ok(()) => None,
@@ -60,6 +61,10 @@ fn note_of(due: Due, value: &[u8]) -> Option<Judgement> {
 
 impl<O: Write> Listing<O> for Values {
     fn on_meta(&mut self, _meta: &Meta, _out: &mut O) -> io::Result<()> {
+        Ok(())
+    }
+
+    fn on_bare(&mut self, _syntax: Transfer, _out: &mut O) -> io::Result<()> {
         Ok(())
     }
 
@@ -87,7 +92,7 @@ impl<O: Write> Listing<O> for Values {
         let Some(note) = note_of(due, self.value.as_slice()) else {
             return Ok(());
         };
-        // The rules of the VRs whose texts may be in another set come with `strict` alone.
+        // Only `strict` checks the VRs whose text may be in another character set.
         let shown = notes.shown(vr, self.value.as_slice(), Repertoire::Ascii);
         self.notes.add_value(&note, &shown, out)
     }
@@ -101,14 +106,14 @@ impl<O: Write> Listing<O> for Values {
     }
 }
 
-/// How many notes were written, and how many values were not judged.
+/// The notes written so far, and the number of values that were not judged.
 #[derive(Clone, Copy)]
 struct NoteCounts {
     notes: Notes,
     unjudged: u64,
 }
 
-/// Checks a file by the usual rules. Returns how many notes were written, too.
+/// Checks a file by the rules of VRs in the dictionary. Returns the outcome and the counts.
 fn check_usual<R: Read, O: Write>(
     input: &mut R,
     syntaxes: Syntaxes,
@@ -126,8 +131,7 @@ fn check_usual<R: Read, O: Write>(
     (outcome, NoteCounts { notes, unjudged: 0 })
 }
 
-/// Checks a file by the whole table of VRs. Returns how many notes were written, too, and how many values were not
-/// judged.
+/// Checks a file by the whole table of VRs. Returns the outcome and the counts.
 fn check_all<R: Read, O: Write>(
     input: &mut R,
     syntaxes: Syntaxes,
@@ -140,8 +144,8 @@ fn check_all<R: Read, O: Write>(
     (outcome, NoteCounts { notes, unjudged })
 }
 
-/// Ends the output of a file that can't be read, and returns the error.
-fn given_up<O: Write>(error: InspectionError, notes: Notes, out: &mut O) -> InspectionError {
+/// Ends the output for a file that can't be read, and returns the error.
+fn released<O: Write>(error: InspectionError, notes: Notes, out: &mut O) -> InspectionError {
     if let InspectionError::Read(_) = &error {
         if let Err(error) = notes.give_up(out) {
             return InspectionError::Write(error);
@@ -150,11 +154,12 @@ fn given_up<O: Write>(error: InspectionError, notes: Notes, out: &mut O) -> Insp
     error
 }
 
-/// Checks the file that the reader gives, as `check_over` does, with these options. With `strict`, each value of
-/// at most 65,536 bytes is held to the table of VRs, too, and a longer one to the size of its numbers; where a header
-/// has no VR it is that of PS3.6, and those that have none there are counted as not judged. With `values`, a
-/// line after that of a note has the keyword and the value, of more than 256 bytes how many it has, and one after that of
-/// a data set's fault the keyword.
+/// Checks the file that `input` yields, as `check_over` does, with these options. With `strict`,
+/// each value of at most 65,536 bytes is also checked against the table of VRs, and a longer value
+/// against the size of its numbers; an element without a VR in its header gets its VR from PS3.6,
+/// and an element that has none there is counted as not judged. With `values`, the line after a
+/// note has the keyword and the value (for more than 256 bytes, its length), and the line after a
+/// data set's fault has the keyword.
 ///
 /// Fails if the file can't be read or the output can't be written.
 pub fn check_with<R: Read, O: Write>(
@@ -175,12 +180,12 @@ pub fn check_with<R: Read, O: Write>(
             notes: notes.count(),
             unjudged,
         }),
-        Err(error) => Err(given_up(error, notes, out)),
+        Err(error) => Err(released(error, notes, out)),
     }
 }
 
-/// Checks the file that the reader gives: writes a note for each value of at most 1024 bytes that
-/// breaks the rules of its VR (a note is no fault), and then the file's length, or its first fault.
+/// Checks the file that `input` yields: writes a note for each value of at most 1024 bytes that
+/// breaks a rule of its VR (a note is no fault), and then the file's length or its first fault.
 ///
 /// Fails if the file can't be read or the output can't be written.
 pub fn check_over<R: Read, O: Write>(

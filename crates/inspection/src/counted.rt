@@ -1,4 +1,4 @@
-//! A reader that counts.
+//! A reader that counts the bytes read.
 ghost use Rattle.std.specs.Prelude.{◌≡◌, ◌≤◌, length, IfOk};
 
 use crate::error::InspectionError;
@@ -6,7 +6,7 @@ use element::interrupted::read_retrying;
 use std::io;
 use std::io::{Error, ErrorKind, Read};
 
-/// Counts the bytes that are read, and keeps the error of a read that failed.
+/// Counts the bytes read from a reader, and keeps the error of a failed read.
 #[derive(Drop)]
 pub struct Counted<'a, R: Read> {
     input: &'a mut R,
@@ -23,7 +23,7 @@ impl<'a, R: Read> Counted<'a, R> {
         }
     }
 
-    /// Returns the reader.
+    /// Returns the underlying reader.
     pub(crate) fn input(&self) -> &R {
         self.input
     }
@@ -33,7 +33,7 @@ impl<'a, R: Read> Counted<'a, R> {
         self.count
     }
 
-    /// Returns why the last read failed.
+    /// Returns the error of the last failed read.
     pub fn into_error(self) -> InspectionError {
         match self.failure {
             Some(error) => InspectionError::Read(error),
@@ -41,7 +41,7 @@ impl<'a, R: Read> Counted<'a, R> {
         }
     }
 
-    /// Reads once, and again where a signal interrupted the call. Returns how many bytes came: none
+    /// Reads once, and again if a signal interrupted the call. Returns the number of bytes read: 0
     /// at the end.
     pub fn read_some(&mut self, room: &mut [u8]) -> Result<usize, InspectionError>
         ensures size { length room.new ≡ length room.old }

@@ -1,4 +1,4 @@
-//! The elements of a file, as members of a JSON object.
+//! Writes the elements of a file as members of a JSON object.
 use crate::followed_sets::FollowedSets;
 use crate::json::{JudgementJson, KeywordJson, VrJson};
 use crate::judgement::Judgement;
@@ -7,13 +7,13 @@ use crate::options::ShowOptions;
 use crate::shown_value::{ShownText, ShownValue};
 use crate::texts::{Printable, TagText};
 use crate::walk::Listing;
-use dictionary::vr_of;
+use dictionary::{Transfer, vr_of};
 use element::{Header, Tag};
 use part10::Meta;
 use std::io::Write;
 use std::{fmt, io};
 
-/// The length of a value: none where it is undefined.
+/// The length of a value, printed as `null` if it is undefined.
 #[derive(Clone, Copy)]
 struct LengthJson(u32);
 
@@ -27,20 +27,21 @@ impl fmt::Display for LengthJson {
     }
 }
 
-/// Where the output stands.
+/// How far the output is written.
 #[derive(Clone, Copy)]
 enum Written {
-    /// Before the elements.
+    /// The list is not opened yet.
     Nothing,
-    /// Before the first element.
-    Begun,
-    /// After an element, which is closed.
+    /// The list is open and has no element.
+    Started,
+    /// The last element is written and closed.
     Closed,
-    /// In an element, whose value is to come.
+    /// The last element is open: its value may follow.
     Open,
 }
 
-/// Lists each header, or those of some tags, and the values where they are asked for.
+/// Lists each header, or only those of the chosen tags, with the values if the options ask for
+/// them.
 #[derive(Drop)]
 pub(crate) struct ElementsJson<'a> {
     options: ShowOptions<'a>,
@@ -49,7 +50,7 @@ pub(crate) struct ElementsJson<'a> {
     written: Written,
 }
 
-/// Writes the members of an element but its value.
+/// Writes the members of an element except its value.
 fn write_element<O: Write>(
     (place, levels): (u64, usize),
     header: &Header,
@@ -76,10 +77,10 @@ impl<'a> ElementsJson<'a> {
         }
     }
 
-    /// Closes the element that is open, and returns what stands before the next one.
+    /// Closes the open element, if any, and returns the separator before the next element.
     fn close<O: Write>(&mut self, out: &mut O) -> io::Result<&'static str> {
         match self.written {
-            Written::Nothing | Written::Begun => Ok(""),
+            Written::Nothing | Written::Started => Ok(""),
             Written::Closed => Ok(","),
             Written::Open => {
                 write!(out, "}}")?;
@@ -89,7 +90,7 @@ impl<'a> ElementsJson<'a> {
         }
     }
 
-    /// Closes the element that is open, and the list of elements.
+    /// Closes the open element and the list of elements.
     fn close_all<O: Write>(&mut self, out: &mut O) -> io::Result<()> {
         self.close(out)?;
         match self.written {
@@ -107,13 +108,22 @@ impl<'a> ElementsJson<'a> {
 
 impl<O: Write> Listing<O> for ElementsJson<'_> {
     fn on_meta(&mut self, meta: &Meta, out: &mut O) -> io::Result<()> {
-        self.written = Written::Begun;
+        self.written = Written::Started;
         let class = Printable(meta.class.as_bytes());
         let instance = Printable(meta.instance.as_bytes());
         let syntax = Printable(meta.syntax.uid());
         write!(
             out,
             "\"class\":\"{class}\",\"instance\":\"{instance}\",\"syntax\":\"{syntax}\",\"elements\":["
+        )
+    }
+
+    fn on_bare(&mut self, syntax: Transfer, out: &mut O) -> io::Result<()> {
+        self.written = Written::Started;
+        let syntax = Printable(syntax.uid());
+        write!(
+            out,
+            "\"class\":null,\"instance\":null,\"syntax\":\"{syntax}\",\"elements\":["
         )
     }
 

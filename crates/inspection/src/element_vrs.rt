@@ -14,30 +14,30 @@ const PIXEL_REPRESENTATION: Tag = Tag(0x0028, 0x0103);
 /// The tag of LUT Descriptor.
 const LUT_DESCRIPTOR: Tag = Tag(0x0028, 0x3002);
 
-/// The elements of a level on which the VRs of others depend.
+/// The values in a level on which the VRs of other elements depend.
 #[derive(Clone, Copy)]
 struct LevelVrs {
-    /// Whether pixels have a sign, by Pixel Representation.
+    /// Whether pixels are signed, by Pixel Representation.
     is_signed: bool,
-    /// Whether a table has a single value, by LUT Descriptor.
+    /// Whether a lookup table has a single entry, by LUT Descriptor.
     is_single: bool,
 }
 
-/// Those of a level that has none of them.
+/// The values of a level without Pixel Representation and LUT Descriptor.
 const UNSIGNED: LevelVrs = LevelVrs {
     is_signed: false,
     is_single: false,
 };
 
-/// A value on which VRs depend, whose bytes come.
+/// An unfinished value on which VRs depend.
 #[derive(Clone, Copy)]
 struct DueNumber {
     level: usize,
     tag: Tag,
 }
 
-/// Follows the headers and the values of a data set, and knows the VRs of its elements. Those of a level depend on
-/// elements of that level, or of the levels around it, that came before.
+/// Follows the headers and values of a data set and determines the VRs of its elements. VRs depend
+/// on earlier elements of the same level or of the levels around it.
 #[derive(Drop)]
 pub(crate) struct ElementVrs {
     levels: [LevelVrs; DEPTH + 2],
@@ -45,15 +45,15 @@ pub(crate) struct ElementVrs {
     number: ArrayVec<u8, 2>,
 }
 
-/// Returns the VR of a number that may have a sign.
+/// Returns the VR of a 16-bit number: SS if signed, else US.
 fn number_vr(is_signed: bool) -> Vr
     ensures { result ≡ spelling.number_vr is_signed }
 {
     if is_signed { Vr::SS } else { Vr::US }
 }
 
-/// Returns the VR of a private creator (PS3.5 section 7.8.1) or a group length (PS3.5 section 7.2), or `None` for
-/// another tag.
+/// Returns the VR of a private creator (PS3.5 section 7.8.1) or a group length (PS3.5 section 7.2),
+/// or `None` for another tag.
 fn vr_by_rule(tag: Tag) -> Option<Vr>
     ensures { result ≡ spelling.vr_by_rule tag }
 {
@@ -77,7 +77,7 @@ impl ElementVrs {
         }
     }
 
-    /// Returns the elements of a level on which VRs depend.
+    /// Returns the values of a level on which VRs depend.
     fn level(&self, level: usize) -> LevelVrs {
         match self.levels.get(level) {
             Some(found) => *found,
@@ -85,15 +85,16 @@ impl ElementVrs {
         }
     }
 
-    /// Puts the elements of a level on which VRs depend.
+    /// Sets the values of a level on which VRs depend.
     fn put(&mut self, level: usize, vrs: LevelVrs) {
         if let Some(place) = self.levels.get_mut(level) {
             *place = vrs;
         }
     }
 
-    /// Returns the one of these VRs that an element of a level has in Implicit VR. Without Pixel Representation numbers
-    /// have no sign; where words are possible, it is OW (PS3.5 section A.1), but for a table of a single value.
+    /// Returns the one of these VRs that an element of a level has in Implicit VR. Without Pixel
+    /// Representation numbers are unsigned. Where OW is possible, the VR is OW (PS3.5 section A.1),
+    /// except for a lookup table with a single entry.
     fn one_of(&self, level: usize, vrs: &str) -> Option<Vr> {
         let LevelVrs {
             is_signed,
@@ -111,8 +112,8 @@ impl ElementVrs {
         }
     }
 
-    /// Returns the VR that an element of a level has in Implicit VR: that of the dictionary, or of the standard, or `None`
-    /// if neither has it.
+    /// Returns the VR of an element of a level in Implicit VR, by the dictionary or else by PS3.6,
+    /// or `None` if neither has a VR for this tag.
     pub(crate) fn vr_of(&self, level: usize, tag: Tag) -> Option<Vr> {
         if tag.is_marker() {
             return None;
@@ -126,7 +127,7 @@ impl ElementVrs {
         }
     }
 
-    /// Follows a header in a level.
+    /// Applies a header in a level.
     pub(crate) fn on_header(&mut self, level: usize, header: &Header) {
         self.put(level.saturating_add(1), self.level(level));
         self.due = None;
@@ -138,7 +139,7 @@ impl ElementVrs {
         }
     }
 
-    /// Follows bytes of the value of the last header.
+    /// Applies bytes of the last header's value.
     pub(crate) fn on_bytes(&mut self, bytes: &[u8]) {
         let Some(DueNumber { level, tag }) = self.due else {
             return;

@@ -1,5 +1,5 @@
-//! The sequences of defined length that a walker takes for values, in Implicit VR: their tags are not in the
-//! dictionary, and PS3.6 has them as sequences.
+//! The sequences of defined length that the walker reads as opaque values, in Implicit VR: their
+//! tags are not in the dictionary, but are sequences in PS3.6.
 use crate::element_vrs::ElementVrs;
 use crate::items::{ItemReader, ItemStep};
 use crate::keyword::UNDEFINED;
@@ -7,34 +7,37 @@ use crate::options::Vocabulary;
 use dictionary::vr_of;
 use element::{Header, Tag, Vr};
 
-/// Whose the bytes of the walker's value are.
+/// What the bytes of the walker's current value are.
 #[derive(Clone, Copy)]
 pub(crate) enum BytesOf {
-    /// Of a value.
+    /// Bytes of a value.
     Value,
-    /// Of the items in a sequence.
+    /// Items of a sequence.
     Items,
 }
 
-/// Follows what a walker finds, names the VRs of elements that have none, and reads the items that the walker does not.
+/// Follows the walker's headers and bytes, determines the VRs of elements without one, and reads
+/// the items of sequences that the walker reads as values.
 #[derive(Drop)]
 pub(crate) struct Entering {
     vocabulary: Vocabulary,
     vrs: ElementVrs,
     items: ItemReader,
     bytes: BytesOf,
-    /// Of the header of the sequence that is read, and its tag, until a fault of it was found.
+    /// The offset and the tag of the current sequence's header; `None` once a fault was found in
+    /// it.
     sequence: Option<(u64, Tag)>,
 }
 
-/// Returns whether a walker takes the sequence of this header for a value, where `vr` is its VR.
+/// Returns whether the walker reads the sequence of this header as a value, where `vr` is the VR
+/// found for the header.
 fn is_value(header: &Header, vr: Option<Vr>) -> bool {
     let Header { tag, length, .. } = *header;
     let is_unknown = header.vr.is_none() && vr_of(tag).is_none();
     is_unknown && vr == Some(Vr::SQ) && 0 < length && length != UNDEFINED
 }
 
-/// Returns a header with this VR.
+/// Returns a copy of the header with this VR.
 fn with_vr(header: &Header, vr: Option<Vr>) -> Header {
     Header {
         tag: header.tag,
@@ -54,14 +57,15 @@ impl Entering {
         }
     }
 
-    /// Begins the items in a sequence that the walker takes for a value, whose header is from its place to its end.
+    /// Starts reading the items of a sequence, whose header spans the offsets from `place` to
+    /// `end`.
     fn enter(&mut self, (place, end): (u64, u64), levels: usize, header: &Header) {
         self.items.begin(end, levels, header.length);
         self.bytes = BytesOf::Items;
         self.sequence = Some((place, header.tag));
     }
 
-    /// Returns a header with its VR, if that is known.
+    /// Returns the header with its VR, if the VR is known.
     fn named(&self, levels: usize, header: &Header) -> Header {
         match header.vr {
             Some(_) => *header,
@@ -69,7 +73,8 @@ impl Entering {
         }
     }
 
-    /// Follows a header of the walker, from its place to its end. Returns it with its VR, if that is known.
+    /// Applies a header that the walker found at these offsets (start and end). Returns the header
+    /// with its VR, if the VR is known.
     pub(crate) fn on_header(&mut self, span: (u64, u64), levels: usize, header: &Header) -> Header {
         self.bytes = BytesOf::Value;
         if self.vocabulary == Vocabulary::Dictionary {
@@ -82,7 +87,7 @@ impl Entering {
         self.named(levels, header)
     }
 
-    /// Follows bytes of a value, and returns whose they are.
+    /// Applies bytes of a value. Returns what they are.
     pub(crate) fn on_bytes(&mut self, bytes: &[u8]) -> BytesOf {
         if let BytesOf::Value = self.bytes {
             self.vrs.on_bytes(bytes);
@@ -90,22 +95,23 @@ impl Entering {
         self.bytes
     }
 
-    /// Follows the header of an item or of an element in a sequence.
+    /// Applies the header of an item or of an element inside a sequence.
     pub(crate) fn on_inner_header(&mut self, levels: usize, header: &Header) {
         self.vrs.on_header(levels, header);
     }
 
-    /// Follows bytes of a value in a sequence.
+    /// Applies bytes of a value inside a sequence.
     pub(crate) fn on_inner_bytes(&mut self, bytes: &[u8]) {
         self.vrs.on_bytes(bytes);
     }
 
-    /// Takes bytes of a sequence up to the end of a header or of a value. Returns how many, and what comes of them.
+    /// Reads bytes of a sequence up to the end of a header or of a value. Returns how many bytes
+    /// were read and what they are.
     pub(crate) fn step<'p>(&mut self, bytes: &'p [u8]) -> (usize, ItemStep<'p>) {
         self.items.step(bytes, &self.vrs)
     }
 
-    /// Returns the place and the tag of the sequence that is read, at the first fault of its items alone.
+    /// Returns the offset and the tag of the current sequence once, when its first fault is found.
     pub(crate) fn take_fault(&mut self) -> Option<(u64, Tag)> {
         if !self.items.is_faulty() {
             return None;

@@ -1,7 +1,7 @@
-//! What ends an inspection early.
+//! Errors that end an inspection early.
 use std::io;
 
-/// Why a file was not inspected to its end, or to its first fault.
+/// Why a file was not inspected up to its end or its first fault.
 #[derive(Debug, Drop)]
 pub enum InspectionError {
     /// The file can't be read.

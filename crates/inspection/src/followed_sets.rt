@@ -1,4 +1,4 @@
-//! The character sets of a data set whose headers and values come one after the other.
+//! The character sets of a data set that is read header by header.
 use crate::sets::Sets;
 use arrayvec::ArrayVec;
 use element::{Header, Tag, Vr};
@@ -7,19 +7,19 @@ use values::Repertoire;
 /// The tag of Specific Character Set.
 pub(crate) const SPECIFIC_CHARACTER_SET: Tag = Tag(0x0008, 0x0005);
 
-/// How many bytes of Specific Character Set are kept: those of one term, and of longer values enough to see that they
-/// have several.
+/// How many bytes of Specific Character Set are kept: enough for one term, or to see that a value
+/// has several.
 const KEPT: usize = 64;
 
-/// A value of Specific Character Set whose bytes come.
+/// An unfinished value of Specific Character Set.
 #[derive(Clone, Copy)]
 struct DueTerms {
     level: usize,
-    /// How many bytes of it are kept.
+    /// How many bytes of the value are to be kept.
     kept: usize,
 }
 
-/// Follows the headers and the values of a data set, and names the sets of its levels.
+/// Follows the headers and values of a data set and determines the character set of each level.
 #[derive(Drop)]
 pub(crate) struct FollowedSets {
     sets: Sets,
@@ -36,7 +36,7 @@ impl FollowedSets {
         }
     }
 
-    /// Follows a header in a level.
+    /// Applies a header in a level.
     pub(crate) fn on_header(&mut self, level: usize, header: &Header) {
         self.sets.hand_down(level);
         self.due = None;
@@ -47,7 +47,7 @@ impl FollowedSets {
         }
     }
 
-    /// Follows bytes of the value of the last header.
+    /// Applies bytes of the last header's value.
     pub(crate) fn on_bytes(&mut self, bytes: &[u8]) {
         let Some(due) = self.due else {
             return;
@@ -61,7 +61,7 @@ impl FollowedSets {
         }
     }
 
-    /// Returns which characters the bytes of the values of a VR in a level are.
+    /// Returns the repertoire of characters for values of a VR in a level.
     pub(crate) fn repertoire_of(&self, level: usize, vr: Option<Vr>) -> Repertoire {
         match vr {
             Some(vr) => self.sets.repertoire_of(level, vr),

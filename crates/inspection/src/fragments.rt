@@ -1,11 +1,11 @@
-//! Where the fragments of encapsulated Pixel Data are (PS3.5 section A.4).
+//! Finds the fragments of encapsulated Pixel Data (PS3.5 section A.4).
 use crate::keyword::UNDEFINED;
 use element::{Header, Tag, Vr};
 
 /// The tag of Pixel Data.
 const PIXEL_DATA: Tag = Tag(0x7fe0, 0x0010);
 
-/// The bytes of an item's header.
+/// The size of an item's header, in bytes.
 const ITEM_HEADER: u64 = 8;
 
 /// Returns whether a header opens encapsulated Pixel Data.
@@ -15,33 +15,33 @@ pub(crate) fn opens_fragments(header: &Header) -> bool {
     tag == PIXEL_DATA && is_opaque && length == UNDEFINED
 }
 
-/// What a header is for the fragments of Pixel Data.
+/// What a header means for the fragments of Pixel Data.
 #[derive(Clone, Copy)]
 pub(crate) enum FragmentEvent {
-    /// Nothing: it is outside of them.
+    /// The header is outside Pixel Data.
     Outside,
-    /// It opens Pixel Data.
+    /// The header opens encapsulated Pixel Data.
     Opens,
-    /// The first item, which has the basic offset table.
+    /// The first item: the Basic Offset Table.
     Table,
-    /// A fragment, so many bytes after the first one.
+    /// A fragment, at this offset from the first fragment.
     Fragment(u64),
-    /// It follows the last item.
+    /// The header follows the last item.
     Ends,
 }
 
-/// What comes next.
+/// Which header is expected next.
 #[derive(Clone, Copy)]
 enum Next {
-    /// A header outside of Pixel Data.
+    /// A header outside Pixel Data.
     Element,
-    /// The first item.
+    /// The first item of Pixel Data.
     Table,
-    /// A fragment, where the first one is at this place.
+    /// A fragment; the first fragment is at this offset in the file.
     Fragment(u64),
 }
 
-/// Follows the headers of a data set, and finds the fragments of its Pixel Data.
+/// Follows the headers of a data set and finds the fragments of its Pixel Data.
 #[derive(Clone, Copy)]
 pub(crate) struct Fragments {
     next: Next,
@@ -54,7 +54,7 @@ impl Fragments {
         }
     }
 
-    /// Follows a header.
+    /// Applies a header at an offset of the file.
     pub(crate) fn on_header(&mut self, place: u64, header: &Header) -> FragmentEvent {
         let is_item = header.tag == Tag::ITEM;
         match self.next {

@@ -1,5 +1,5 @@
-//! The tables that say where the frames of encapsulated Pixel Data are, held against its fragments: the basic offset
-//! table (PS3.5 section A.4), and the extended one with its lengths (PS3.3 section C.7.6.3.1.8).
+//! Compares the offset tables of encapsulated Pixel Data with its fragments: the Basic Offset Table
+//! (PS3.5 section A.4), and the Extended Offset Table with its lengths (PS3.3 section C.7.6.3.1.8).
 use crate::fragments::{FragmentEvent, Fragments};
 use crate::judgement::Judgement;
 use crate::number_table::{Met, NumberSize, NumberTable};
@@ -12,7 +12,7 @@ const OFFSETS: Tag = Tag(0x7fe0, 0x0001);
 /// The tag of Extended Offset Table Lengths.
 const LENGTHS: Tag = Tag(0x7fe0, 0x0002);
 
-/// Returns the number that the digits of an integer string spell, or `None` for another one.
+/// Returns the number that an integer string of digits spells, or `None` for any other string.
 fn number_of(value: &[u8]) -> Option<u64> {
     let mut number: u64 = 0;
     for byte in value {
@@ -24,7 +24,7 @@ fn number_of(value: &[u8]) -> Option<u64> {
     Some(number)
 }
 
-/// Whose value the bytes are that come.
+/// Which table's bytes are read next.
 #[derive(Clone, Copy)]
 enum TableValue {
     Other,
@@ -33,7 +33,7 @@ enum TableValue {
     Lengths,
 }
 
-/// The tables of one Pixel Data.
+/// The offset tables of one Pixel Data element.
 #[derive(Drop)]
 pub(crate) struct FrameTables {
     fragments: Fragments,
@@ -41,11 +41,11 @@ pub(crate) struct FrameTables {
     basic: NumberTable,
     offsets: NumberTable,
     lengths: NumberTable,
-    /// Of the extended table.
+    /// The level of the extended table.
     level: usize,
-    /// Of the data set.
+    /// The data set's Number of Frames.
     frames: Option<u64>,
-    /// That there have to be.
+    /// How many offsets a table must have.
     count: Option<u64>,
 }
 
@@ -63,18 +63,19 @@ impl FrameTables {
         }
     }
 
-    /// Takes the Number of Frames of the data set.
+    /// Stores the data set's Number of Frames.
     pub(crate) fn set_frames(&mut self, value: &[u8]) {
         self.frames = number_of(value);
     }
 
-    /// Forgets the extended table.
+    /// Discards the extended table.
     fn forget(&mut self) {
         self.offsets.forget();
         self.lengths.forget();
     }
 
-    /// Follows a header outside of Pixel Data: an extended table stands before it in its level and its group.
+    /// Applies a header outside Pixel Data. An extended table precedes Pixel Data in the same level
+    /// and group.
     fn on_element(&mut self, place: u64, level: usize, header: &Header) {
         let Header { tag, length, vr } = *header;
         if tag.0 != OFFSETS.0 || level != self.level {
@@ -93,7 +94,7 @@ impl FrameTables {
         }
     }
 
-    /// Begins Pixel Data: there are as many lengths as offsets.
+    /// Starts Pixel Data. Returns a note unless there are as many lengths as offsets.
     fn open(&mut self, level: usize) -> Option<Judgement> {
         if level != self.level {
             self.forget();
@@ -104,7 +105,7 @@ impl FrameTables {
         if offsets == lengths {
             return None;
         }
-        self.lengths.let_go();
+        self.lengths.close();
         let (place, tag) = if lengths > 0 {
             (self.lengths.place(), LENGTHS)
         } else {
@@ -114,7 +115,7 @@ impl FrameTables {
         Some(Judgement::TableNote(place, tag, Some(Vr::OV), fault))
     }
 
-    /// Begins the basic table: it is empty beside an extended one.
+    /// Starts the Basic Offset Table. Returns a note if there is an extended table as well.
     fn begin_basic(&mut self, place: u64, length: u32) -> Option<Judgement> {
         if length > 0 && self.offsets.length() > 0 {
             let fault = TableFault::SecondTable;
@@ -125,7 +126,7 @@ impl FrameTables {
         None
     }
 
-    /// Returns the note of the table of offsets that there is.
+    /// Returns the note of this fault for the table of offsets in use.
     fn note(&self, fault: TableFault) -> Judgement {
         if self.offsets.length() > 0 {
             Judgement::TableNote(self.offsets.place(), OFFSETS, Some(Vr::OV), fault)
@@ -134,18 +135,18 @@ impl FrameTables {
         }
     }
 
-    /// Follows a fragment of a frame, the only one where there are lengths.
+    /// Compares the length of a frame's only fragment with the table of lengths.
     fn meet_length(&mut self, length: u32) -> Option<Judgement> {
         if !self.lengths.is_held() || self.lengths.meet_length(length) {
             return None;
         }
-        self.lengths.let_go();
+        self.lengths.close();
         let fault = TableFault::WrongLength;
         let place = self.lengths.place();
         Some(Judgement::TableNote(place, LENGTHS, Some(Vr::OV), fault))
     }
 
-    /// Follows a fragment, so many bytes after the first one.
+    /// Compares a fragment, at offset `at` from the first fragment, with the table of offsets.
     fn meet(&mut self, at: u64, length: u32) -> Option<Judgement> {
         let table = if self.offsets.is_held() {
             &mut self.offsets
@@ -158,13 +159,13 @@ impl FrameTables {
             Met::Named => self.meet_length(length),
             Met::Additional => None,
             Met::Wrong => {
-                self.lengths.let_go();
+                self.lengths.close();
                 Some(self.note(TableFault::WrongOffset))
             }
         }
     }
 
-    /// Returns what is wrong with a table of offsets after the last fragment.
+    /// Returns the fault of a table of offsets after the last fragment, if any.
     fn fault_at_end(&self, table: &NumberTable) -> Option<TableFault> {
         if !table.is_held() {
             return None;
@@ -178,7 +179,7 @@ impl FrameTables {
         }
     }
 
-    /// Ends Pixel Data.
+    /// Ends Pixel Data. Returns the note of a wrong table, if any.
     fn end(&mut self) -> Option<Judgement> {
         let fault = match self.fault_at_end(&self.offsets) {
             None => self.fault_at_end(&self.basic),
@@ -192,7 +193,7 @@ impl FrameTables {
         note
     }
 
-    /// Follows a header; returns what is found to be wrong with a table.
+    /// Applies a header. Returns the note of a wrong table, if any.
     pub(crate) fn on_header(
         &mut self,
         place: u64,
@@ -212,7 +213,7 @@ impl FrameTables {
         }
     }
 
-    /// Takes bytes of the last header's value.
+    /// Stores bytes of the last header's value if it is a table.
     pub(crate) fn on_bytes(&mut self, bytes: &[u8]) {
         match self.value {
             TableValue::Other => {}

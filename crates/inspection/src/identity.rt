@@ -1,4 +1,4 @@
-//! Which instance a data set is, and of which study: what a strict check asks of it beside its values.
+//! The UIDs of the instance and of the study that a strict check requires of a data set.
 use element::{Header, Tag, Uid, unpadded};
 use part10::Meta;
 
@@ -8,13 +8,13 @@ pub(crate) const SOP_INSTANCE_UID: Tag = Tag(0x0008, 0x0018);
 /// The tag of Study Instance UID.
 const STUDY_INSTANCE_UID: Tag = Tag(0x0020, 0x000d);
 
-/// How many UIDs may be due.
+/// The most UIDs that a data set must have.
 pub(crate) const MOST_DUE: usize = 2;
 
-/// The SOP class Media Storage Directory Storage: a DICOMDIR has neither UID in its data set (PS3.3 section F.3).
+/// Media Storage Directory Storage: the data set of a DICOMDIR has neither UID (PS3.3 section F.3).
 const DIRECTORY_CLASS: &[u8] = b"1.2.840.10008.1.3.10";
 
-/// The SOP classes whose instances are of no patient, and so of no study (PS3.4 section GG.3).
+/// The SOP Classes whose instances belong to no patient, hence to no study (PS3.4 section GG.3).
 const OF_NO_STUDY: [&[u8]; 9] = [
     b"1.2.840.10008.5.1.4.38.1",
     b"1.2.840.10008.5.1.4.39.1",
@@ -27,24 +27,26 @@ const OF_NO_STUDY: [&[u8]; 9] = [
     b"1.2.840.10008.5.1.4.1.1.201.1",
 ];
 
-/// The number and the name of the rule that SOP Instance UID is that of the file's header (PS3.10 section 7.1).
+/// The number and name of the rule that the SOP Instance UID equals that in the file's header
+/// (PS3.10 section 7.1).
 pub(crate) const OTHER_INSTANCE: (u8, &str) = (20, "OtherInstance");
 
-/// The number and the name of the rule that a data set has SOP Instance UID and Study Instance UID (PS3.3 sections
-/// C.12.1 and C.7.2.1).
+/// The number and name of the rule that a data set has a SOP Instance UID and a Study Instance UID
+/// (PS3.3 sections C.12.1 and C.7.2.1), and a file's header a Transfer Syntax UID (PS3.10 section
+/// 7.1).
 pub(crate) const MISSING_UID: (u8, &str) = (21, "MissingUid");
 
-/// Follows the elements of a data set up to the UIDs of its instance and its study.
+/// Follows the elements of a data set and finds whether its instance and study UIDs are there.
 #[derive(Drop)]
 pub(crate) struct Identity {
-    /// The SOP Instance UID in the file's header, where the data set must have the same.
+    /// The SOP Instance UID in the file's header, if the data set must have the same.
     instance: Option<Uid>,
-    /// The tags of the UIDs that are still to come.
+    /// The tags of the required UIDs that were not found yet.
     due: [Option<Tag>; MOST_DUE],
 }
 
 impl Identity {
-    /// Returns one to which no UID is due.
+    /// Returns a value that requires no UID.
     pub(crate) fn new() -> Identity {
         Identity {
             instance: None,
@@ -52,7 +54,7 @@ impl Identity {
         }
     }
 
-    /// Begins the data set after a file's header.
+    /// Starts the data set after a file's header.
     pub(crate) fn begin(&mut self, meta: &Meta) {
         let class = meta.class.as_bytes();
         if class == DIRECTORY_CLASS {
@@ -67,7 +69,8 @@ impl Identity {
         self.due = [Some(SOP_INSTANCE_UID), study];
     }
 
-    /// Follows the header of an element of the data set itself; one without a value counts for none.
+    /// Applies the header of an element at the top level. An element without a value counts as
+    /// absent.
     pub(crate) fn meet(&mut self, header: &Header) {
         if header.length == 0 {
             return;
@@ -79,7 +82,8 @@ impl Identity {
         }
     }
 
-    /// Returns the tag of a UID that had to come before an element with this number, once.
+    /// Returns the tag of a required UID that is absent before an element with this tag number.
+    /// Returns each tag once.
     pub(crate) fn take_missing(&mut self, number: u32) -> Option<Tag> {
         for place in 0..MOST_DUE {
             if let Some(tag) = self.due[place] {
@@ -92,7 +96,8 @@ impl Identity {
         None
     }
 
-    /// Returns the SOP Instance UID in the file's header, if that of the data set, whose value this is, is another.
+    /// Returns the SOP Instance UID in the file's header if it differs from `value`, the data
+    /// set's.
     pub(crate) fn other_than(&self, value: &[u8]) -> Option<&Uid> {
         match &self.instance {
             Some(uid) if uid.as_bytes() != unpadded(value) => Some(uid),

@@ -1,4 +1,4 @@
-//! The items in a value that is a sequence of defined length (PS3.5 section 7.5), in Implicit VR.
+//! Reads the items of a sequence of defined length (PS3.5 section 7.5) in Implicit VR.
 ghost use Rattle.std.specs.Prelude.{◌≡◌};
 ghost use Rattle.inspection.specs.ElementVrs as spelling;
 
@@ -8,18 +8,19 @@ use crate::limits::DEPTH;
 use arrayvec::ArrayVec;
 use element::{Header, Tag, Vr};
 
-/// The bytes of a header.
+/// The size of a header, in bytes.
 const HEADER: usize = 8;
 
-/// A sequence or an item that is open.
+/// An open sequence or item.
 #[derive(Clone, Copy)]
 struct OpenLevel {
     is_sequence: bool,
     /// Whether its length is undefined.
     is_endless: bool,
-    /// Where it ends in the file, or the level around it does if its length is undefined.
+    /// The offset in the file where the level ends; with undefined length, where the enclosing
+    /// level ends.
     end: u64,
-    /// The number of its last element's tag.
+    /// The tag number of the level's last element.
     last: u32,
 }
 
@@ -34,73 +35,74 @@ impl Default for OpenLevel {
     }
 }
 
-/// Returns whether what begins at a place and has this length goes past the end of its level.
+/// Returns whether an element of this length at an offset extends past the end of its level.
 fn passes(place: u64, length: u32, end: u64) -> bool
     ensures { result ≡ spelling.passes place length end }
 {
     length != UNDEFINED && end.saturating_sub(place) < u64::from(length)
 }
 
-/// What comes of bytes.
+/// What a step read.
 #[derive(Clone, Copy)]
 pub(crate) enum ItemStep<'p> {
-    /// Nothing: a header is unfinished, or broken.
+    /// Nothing to report: a header is unfinished or invalid.
     More,
-    /// The end of a header: its place in the file, and how many levels are open before it.
+    /// A complete header, with its offset in the file and the number of levels open before it.
     Header(u64, usize, Header),
     /// Bytes of the value of the last header.
     Run(&'p [u8]),
 }
 
-/// Reads the value of a sequence in pieces of any size, in fixed memory.
+/// Reads the items of a sequence in chunks of any size, in fixed memory.
 #[derive(Drop)]
 pub(crate) struct ItemReader {
     /// How many levels are open around the sequence.
     around: usize,
     levels: ArrayVec<OpenLevel, DEPTH>,
     header: ArrayVec<u8, HEADER>,
-    /// How many bytes of a value are to come.
-    left: u32,
-    /// Of the next byte in the file.
+    /// How many bytes of the current value remain.
+    remaining: u32,
+    /// The offset of the next byte in the file.
     place: u64,
-    /// Whether what follows can't be read: it is not items that end where the value does.
+    /// Whether the rest can't be read: the bytes are not items that end where the value ends.
     is_broken: bool,
-    /// Whether tags don't rise, or a length is odd.
+    /// Whether a tag does not rise or a length is odd.
     is_irregular: bool,
 }
 
 impl ItemReader {
-    /// Returns a reader of no sequence.
+    /// Returns a reader that has no sequence yet.
     pub(crate) fn new() -> ItemReader {
         ItemReader {
             around: 0,
             levels: ArrayVec::new(),
             header: ArrayVec::new(),
-            left: 0,
+            remaining: 0,
             place: 0,
             is_broken: false,
             is_irregular: false,
         }
     }
 
-    /// Begins the value of a sequence of this length, whose header ends at `place` within so many levels.
+    /// Starts a sequence of this length, whose header ends at offset `place` inside `levels` open
+    /// levels.
     pub(crate) fn begin(&mut self, place: u64, levels: usize, length: u32) {
         self.around = levels;
         self.levels.clear();
         self.header.clear();
-        self.left = 0;
+        self.remaining = 0;
         self.place = place;
         self.is_broken = false;
         self.is_irregular = false;
         self.open(true, length, place);
     }
 
-    /// Returns whether what follows can't be read.
+    /// Returns whether the rest of the sequence can't be read.
     pub(crate) fn is_broken(&self) -> bool {
         self.is_broken
     }
 
-    /// Returns whether a rule is broken: of what follows, or of what came.
+    /// Returns whether the items break a rule so far.
     pub(crate) fn is_faulty(&self) -> bool {
         self.is_broken || self.is_irregular
     }
@@ -110,7 +112,7 @@ impl ItemReader {
         self.around.saturating_add(self.levels.len())
     }
 
-    /// Returns the innermost level, or `None` if none is open.
+    /// Returns the innermost open level, or `None` if none is open.
     fn top(&self) -> Option<OpenLevel> {
         match self.levels.as_slice().last() {
             Some(level) => Some(*level),
@@ -118,7 +120,8 @@ impl ItemReader {
         }
     }
 
-    /// Closes the levels that end here. A header has to fit before the next end.
+    /// Closes the levels that end at the current offset. The reader is broken if no header fits
+    /// before the next end.
     fn arrive(&mut self) {
         for _ in 0..DEPTH {
             match self.top() {
@@ -135,7 +138,7 @@ impl ItemReader {
         }
     }
 
-    /// Opens a sequence or an item of this length in a level that ends at `end`.
+    /// Opens a sequence or an item of this length inside a level that ends at `end`.
     fn open(&mut self, is_sequence: bool, length: u32, end: u64) {
         if length > 0 {
             let is_endless = length == UNDEFINED;
@@ -157,13 +160,13 @@ impl ItemReader {
         self.arrive();
     }
 
-    /// Closes the innermost level, which is of undefined length.
+    /// Closes the innermost level, which has undefined length.
     fn close(&mut self) {
         self.levels.pop();
         self.arrive();
     }
 
-    /// Follows the header of an element: tags rise.
+    /// Checks that an element's tag rises above the tag before it.
     fn rise(&mut self, tag: Tag, top: OpenLevel) {
         let number = tag.number();
         if number <= top.last || tag.0 == 0 || tag.0 == 2 {
@@ -174,7 +177,7 @@ impl ItemReader {
         }
     }
 
-    /// Follows the header of an element in an item.
+    /// Applies the header of an element in an item.
     fn on_element(&mut self, header: &Header, top: OpenLevel) {
         let Header { tag, length, vr } = *header;
         let is_sequence = vr == Some(Vr::SQ) || vr.is_none() && length == UNDEFINED;
@@ -184,14 +187,14 @@ impl ItemReader {
         } else if length == UNDEFINED {
             self.is_broken = true;
         } else {
-            self.left = length;
+            self.remaining = length;
             if length == 0 {
                 self.arrive();
             }
         }
     }
 
-    /// Follows a header in this level.
+    /// Applies a header in this level.
     fn on_header(&mut self, header: &Header, top: OpenLevel) {
         let Header { tag, length, .. } = *header;
         if passes(self.place, length, top.end) {
@@ -217,18 +220,18 @@ impl ItemReader {
         }
     }
 
-    /// Takes bytes of a value.
+    /// Reads bytes of the current value.
     fn take_value<'p>(&mut self, bytes: &'p [u8]) -> (usize, ItemStep<'p>) {
-        let count = bytes.len().min(self.left as usize);
-        self.left = self.left.saturating_sub(count as u32);
+        let count = bytes.len().min(self.remaining as usize);
+        self.remaining = self.remaining.saturating_sub(count as u32);
         self.place = self.place.saturating_add(count as u64);
-        if self.left == 0 {
+        if self.remaining == 0 {
             self.arrive();
         }
         (count, ItemStep::Run(bytes.get(..count).unwrap_or(bytes)))
     }
 
-    /// Follows a header that is whole.
+    /// Applies the header if all of its bytes were read.
     fn take_whole<'p>(&mut self, vrs: &ElementVrs) -> ItemStep<'p> {
         let level = self.depth();
         let [a, b, c, d, e, f, g, h] = self.header.as_slice() else {
@@ -252,13 +255,13 @@ impl ItemReader {
         ItemStep::Header(self.place.saturating_sub(HEADER as u64), level, header)
     }
 
-    /// Takes bytes up to the end of a header or of a value. Returns how many, and what comes of them: nothing more once
-    /// the reader is broken.
+    /// Reads bytes up to the end of a header or of a value. Returns how many bytes were read and
+    /// what they are. A broken reader skips all bytes.
     pub(crate) fn step<'p>(&mut self, bytes: &'p [u8], vrs: &ElementVrs) -> (usize, ItemStep<'p>) {
         if self.is_broken {
             return (bytes.len(), ItemStep::More);
         }
-        if self.left > 0 {
+        if self.remaining > 0 {
             return self.take_value(bytes);
         }
         let count = bytes.len().min(HEADER.saturating_sub(self.header.len()));

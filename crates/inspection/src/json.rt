@@ -1,4 +1,4 @@
-//! What is found in a file, as members of a JSON object.
+//! Judgements as members of a JSON object.
 use crate::identity::{MISSING_UID, OTHER_INSTANCE, SOP_INSTANCE_UID};
 use crate::judgement::{Judgement, WRONG_ITEMS, place_of};
 use crate::keyword::known_keyword;
@@ -8,11 +8,11 @@ use part10::MetaFault;
 use sequence::Fault;
 use std::fmt;
 
-/// A judgement as members of an object of JSON: of that of a note, or of that of the file.
+/// Prints a judgement as members of a JSON object: the object of a note, or that of the file.
 #[derive(Clone, Copy)]
 pub struct JudgementJson<'a>(pub &'a Judgement);
 
-/// The keyword of a tag, or none.
+/// The keyword of a tag, printed as `null` if unknown.
 #[derive(Clone, Copy)]
 pub(crate) struct KeywordJson(pub Tag);
 
@@ -25,7 +25,7 @@ impl fmt::Display for KeywordJson {
     }
 }
 
-/// The letters of a VR, or none.
+/// Prints the letters of a VR, or `null` without one.
 #[derive(Clone, Copy)]
 pub(crate) struct VrJson(pub Option<Vr>);
 
@@ -65,7 +65,7 @@ fn write_bad_header<W: fmt::Write>(f: &mut fmt::Formatter<W>, fault: MetaFault) 
     )
 }
 
-/// Prints the fault of a data set that begins at this place of its file.
+/// Prints the fault of a data set that begins at offset `start` of its file.
 fn write_bad_data<W: fmt::Write>(
     f: &mut fmt::Formatter<W>,
     start: u64,

@@ -1,4 +1,4 @@
-//! What is found in a file, as a line tells it.
+//! The findings of an inspection, printed as lines.
 use crate::identity::{MISSING_UID, OTHER_INSTANCE, SOP_INSTANCE_UID};
 use crate::table_fault::TableFault;
 use crate::texts::{TagText, VrText};
@@ -8,26 +8,30 @@ use sequence::Fault;
 use std::fmt;
 use values::FormFault;
 
-/// What is found in a file. It prints as a line of `dcmbox check`.
+/// A finding in a file. It prints as a line of `dcmbox check`.
 #[derive(Clone, Copy, Debug)]
 pub enum Judgement {
-    /// A value breaks a rule of its VR: where its header stands, and which rule.
+    /// A value breaks a rule of its VR: the offset of its header, tag, VR and rule.
     Note(u64, Tag, Vr, ValueFault),
-    /// A value breaks the form of its VR: where its header stands, and how.
+    /// A value breaks the form of its VR: the offset of its header, tag, VR and fault.
     FormNote(u64, Tag, Vr, FormFault),
-    /// A table of offsets or lengths is wrong: where its header stands, and how.
+    /// A table of offsets or lengths is wrong: the offset of its header, tag, VR and fault.
     TableNote(u64, Tag, Option<Vr>, TableFault),
-    /// A sequence of defined length whose tag is not in the dictionary has wrong items: where its header stands.
+    /// A sequence of defined length whose tag is not in the dictionary has invalid items: the
+    /// offset of its header, and its tag.
     ItemsNote(u64, Tag),
-    /// The SOP Instance UID of the data set is not that of the file's header: where its header stands.
+    /// The data set's SOP Instance UID differs from that in the file's header: the offset of its
+    /// header.
     InstanceNote(u64),
-    /// The data set has no value with this tag, that of a UID: where it would stand.
+    /// A required UID with this tag is absent or empty: the offset of the element after it, or the
+    /// file's length.
     MissingNote(u64, Tag),
-    /// The file has a fault in its header, after which nothing is read.
+    /// The file's header has a fault. Nothing is read after it.
     BadHeader(MetaFault),
-    /// The data set that begins at this place of its file has a fault, after which nothing is read.
+    /// The data set, which begins at this offset of the file, has a fault. Nothing is read after
+    /// it.
     BadData(u64, Fault),
-    /// The file has no fault, and so many bytes.
+    /// The file has no fault. The number is its length in bytes.
     Good(u64),
 }
 
@@ -48,10 +52,10 @@ impl Judgement {
     }
 }
 
-/// The number and the name of the rule that a sequence breaks whose items are wrong.
+/// The number and name of the rule that a sequence with invalid items breaks.
 pub(crate) const WRONG_ITEMS: (u8, &str) = (19, "WrongItems");
 
-/// Returns where a file's header breaks a rule: at the letters `DICM`, or after them.
+/// Returns the offset where a file's header breaks a rule: at the letters `DICM`, or after them.
 pub(crate) fn place_of(fault: MetaFault) -> u64 {
     match fault {
         MetaFault::NotPart10 => 128,
@@ -69,7 +73,7 @@ fn write_note<W: fmt::Write>(
     write!(f, "note {place:010} {tag} {vr} {number} {name}")
 }
 
-/// Prints a note of a UID.
+/// Prints a note about a UID.
 fn write_uid_note<W: fmt::Write>(
     f: &mut fmt::Formatter<W>,
     place: u64,
@@ -79,7 +83,7 @@ fn write_uid_note<W: fmt::Write>(
     write_note(f, place, (TagText(tag), VrText(Some(Vr::UI))), rule)
 }
 
-/// Prints the fault of a data set that begins at this place of its file.
+/// Prints the fault of a data set that begins at offset `start` of its file.
 fn write_fault<W: fmt::Write>(f: &mut fmt::Formatter<W>, start: u64, fault: Fault) -> fmt::Result {
     let (number, name, tag) = (fault.number, fault.name(), TagText(fault.tag));
     let place = start.saturating_add(fault.place);

@@ -1,12 +1,12 @@
-//! The keywords of the elements that are shown.
+//! The keywords of elements.
 use dictionary::name_of;
 use element::Tag;
 use keywords::element_keyword;
 
-/// The length that stands for an undefined one.
+/// The value of a length field that means undefined length.
 pub(crate) const UNDEFINED: u32 = 0xffff_ffff;
 
-/// Returns the dictionary's keyword of a tag, and what stands in its place for items.
+/// Returns the dictionary's keyword of a tag; `Item` or `End` for items and delimitations.
 pub(crate) fn keyword(tag: Tag) -> Option<&'static str> {
     if tag == Tag::ITEM {
         return Some("Item");
@@ -17,7 +17,7 @@ pub(crate) fn keyword(tag: Tag) -> Option<&'static str> {
     name_of(tag)
 }
 
-/// Returns the same, and the standard's keyword (PS3.6) where the dictionary has none.
+/// Returns the keyword of a tag by `keyword`, or else by the standard (PS3.6).
 pub fn known_keyword(tag: Tag) -> Option<&'static str> {
     match keyword(tag) {
         Some(keyword) => Some(keyword),

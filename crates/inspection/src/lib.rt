@@ -1,6 +1,8 @@
-//! What is in a DICOM file: its elements, its first fault, and the values that break the rules of their VR.
+//! Inspects a DICOM file: its elements, its first fault, and the values that break a rule of their
+//! VR.
 #![tactic(auto)]
 
+mod bare;
 mod check;
 mod counted;
 mod element_json;
@@ -35,6 +37,7 @@ mod texts;
 mod value_text;
 mod walk;
 
+pub use bare::bare_form;
 pub use check::{check_over, check_with};
 pub use counted::Counted;
 pub use error::InspectionError;
@@ -49,5 +52,5 @@ pub use origin::{class_of, implementation_of, other_syntax_of, value_from};
 pub use outcome::{Inspected, Outcome};
 pub use show::{show_over, show_with};
 pub use table_fault::TableFault;
-pub use texts::{Indent, Printable, TagText, VrText};
+pub use texts::{Indent, PathText, Printable, TagText, VrText};
 pub use value_text::ValueText;

@@ -1,4 +1,4 @@
-//! Which rule of the file meta information a file breaks (PS3.10 section 7.1).
+//! Finds which rule of the File Meta Information a file breaks (PS3.10 section 7.1).
 ghost use Rattle.std.specs.Prelude.{◌≡◌};
 ghost use Rattle.inspection.specs.MetaRules as rules;
 
@@ -10,36 +10,38 @@ use element::{Header, Need, Syntax, Tag, need};
 use part10::{MetaFault, read_any_meta};
 use std::fmt;
 
-/// Where the element stands that has the length of group 0002, and where those after it begin.
+/// The offsets of the element with the length of group 0002, and of the elements after it.
 const LENGTH: usize = 132;
 
 const ELEMENTS: usize = 144;
 
-/// The tags of the class, the instance and the transfer syntax.
+/// The tags of SOP Class UID, SOP Instance UID and Transfer Syntax UID.
 const NEEDED: [Tag; 3] = [
     Tag(0x0002, 0x0002),
     Tag(0x0002, 0x0003),
     Tag(0x0002, 0x0010),
 ];
 
-/// The rule of the file meta information that a file breaks. It prints as what is wrong.
+/// The rule of the File Meta Information that a file breaks. It prints as a description of the
+/// fault.
 #[derive(Clone, Copy, Debug, PartialEq, Eq)]
 pub enum MetaRule {
     /// Group 0002 begins with its length: (0002,0000), UL, of four bytes.
     Length,
-    /// The file goes on to the end of group 0002.
+    /// The file contains all of group 0002.
     Whole,
-    /// Elements of group 0002 have VRs.
+    /// Each element of group 0002 has a VR.
     Vr,
-    /// Group 0002 ends where an element does.
+    /// Group 0002 ends at the end of an element.
     End,
-    /// What the length of group 0002 spans is of that group. This element is not.
+    /// Only elements of group 0002 are within the group's length. This element is of another group.
     Group(Tag),
-    /// Tags rise. This one does not.
+    /// Tags rise. This tag does not.
     Order(Tag),
-    /// Lengths are even and defined. That of this element is not.
+    /// Lengths are even and defined. The length of this element is not.
     Even(Tag),
-    /// The class, the instance and the transfer syntax are there. This one is not, or is no UID.
+    /// The SOP Class UID, the SOP Instance UID and the Transfer Syntax UID are present. This
+    /// element is absent or no UID.
     Needed(Tag),
 }
 
@@ -84,13 +86,13 @@ impl fmt::Display for MetaRule {
     }
 }
 
-/// Returns the rule that an element breaks, whose header has this size, after an element with the number `last` where
-/// so many bytes of the group are left.
-fn rule_of(header: Header, size: u64, last: u16, left: u64) -> Option<MetaRule>
-    ensures { result ≡ rules.rule_of header size last left }
+/// Returns the rule that an element breaks, if any. Its header has `size` bytes, `last` is the
+/// element number before it, and `remaining` bytes of the group remain.
+fn rule_of(header: Header, size: u64, last: u16, remaining: u64) -> Option<MetaRule>
+    ensures { result ≡ rules.rule_of header size last remaining }
 {
     let Tag(group, number) = header.tag;
-    if left < size {
+    if remaining < size {
         Some(MetaRule::End)
     } else if group != 2 {
         Some(MetaRule::Group(header.tag))
@@ -98,14 +100,14 @@ fn rule_of(header: Header, size: u64, last: u16, left: u64) -> Option<MetaRule>
         Some(MetaRule::Order(header.tag))
     } else if header.length % 2 != 0 {
         Some(MetaRule::Even(header.tag))
-    } else if left - size < u64::from(header.length) {
+    } else if remaining - size < u64::from(header.length) {
         Some(MetaRule::End)
     } else {
         None
     }
 }
 
-/// Returns the length of group 0002.
+/// Returns the length of group 0002, or the broken rule.
 fn group_length(file: &[u8]) -> Result<u32, MetaRule> {
     let Some(bytes) = file.get(LENGTH..ELEMENTS) else {
         return Err(MetaRule::Whole);
@@ -116,13 +118,14 @@ fn group_length(file: &[u8]) -> Result<u32, MetaRule> {
     }
 }
 
-/// Returns the header that the bytes begin with and its size, where so many bytes of the group are left.
-fn header_within(bytes: &[u8], left: u64) -> Result<(Header, u64), MetaRule> {
+/// Returns the header at the start of `bytes` and its size, or the rule that it breaks. `remaining`
+/// bytes of the group remain.
+fn header_within(bytes: &[u8], remaining: u64) -> Result<(Header, u64), MetaRule> {
     match need(Syntax::Explicit, bytes) {
         Need::More => Err(MetaRule::Whole),
         Need::BadVr => Err(MetaRule::Vr),
         Need::Size(size) => {
-            if left < size as u64 {
+            if remaining < size as u64 {
                 return Err(MetaRule::End);
             }
             match first_header(bytes) {
@@ -133,22 +136,22 @@ fn header_within(bytes: &[u8], left: u64) -> Result<(Header, u64), MetaRule> {
     }
 }
 
-/// Returns the first rule that an element of group 0002 of this length breaks.
+/// Returns the first rule that an element of group 0002 breaks, if any; the group has this length.
 fn rule_of_elements(file: &[u8], length: u32) -> Option<MetaRule> {
     let mut rest = file.get(ELEMENTS..)?;
-    let mut left = u64::from(length);
+    let mut remaining = u64::from(length);
     let mut last = 0;
     // Each element has at least eight bytes.
     for _ in 0..file.len() {
-        if left == 0 {
+        if remaining == 0 {
             return None;
         }
-        let (header, size) = match header_within(rest, left) {
+        let (header, size) = match header_within(rest, remaining) {
             Ok(found) => found,
             Err(rule) => return Some(rule),
         };
         let (tag, length) = (header.tag, header.length);
-        if let Some(rule) = rule_of(header, size, last, left) {
+        if let Some(rule) = rule_of(header, size, last, remaining) {
             return Some(rule);
         }
         let whole = size.saturating_add(u64::from(length));
@@ -156,14 +159,15 @@ fn rule_of_elements(file: &[u8], length: u32) -> Option<MetaRule> {
             return Some(MetaRule::Whole);
         };
         rest = after;
-        left = left.saturating_sub(whole);
+        remaining = remaining.saturating_sub(whole);
         let Tag(_, number) = tag;
         last = number;
     }
     None
 }
 
-/// Returns the rule that the first element breaks which is needed in group 0002 of this length.
+/// Returns the rule for the first required element that is absent or no UID, if any. Group 0002 has
+/// this length.
 fn rule_of_needed(file: &[u8], length: u32) -> Option<MetaRule> {
     let end = ELEMENTS.saturating_add(length as usize);
     let header = file.get(..end)?;
@@ -175,7 +179,7 @@ fn rule_of_needed(file: &[u8], length: u32) -> Option<MetaRule> {
     None
 }
 
-/// Returns the first rule that the file meta information breaks.
+/// Returns the first rule that the File Meta Information breaks, if any.
 fn first_rule(file: &[u8]) -> Option<MetaRule> {
     match group_length(file) {
         Ok(length) => match rule_of_elements(file, length) {
@@ -186,8 +190,9 @@ fn first_rule(file: &[u8]) -> Option<MetaRule> {
     }
 }
 
-/// Returns the rule of the File Meta Information that a file breaks whose header is refused as `BadMeta`. `file` is its
-/// beginning, as `FileFront` keeps it; `None` if the rule is broken after that, or the header is not `BadMeta`.
+/// Returns the rule of the File Meta Information that a file breaks, if its header is rejected as
+/// `BadMeta`. `file` is the beginning that `FileFront` keeps. `None` if the fault is after these
+/// bytes or the header is not `BadMeta`.
 pub fn broken_rule_of(file: &[u8]) -> Option<MetaRule> {
     let mut input = file;
     match read_any_meta(&mut input) {

@@ -1,4 +1,4 @@
-//! Tags as they are named on a command line.
+//! Reads tags from a command line.
 ghost use Rattle.std.specs.Prelude.{◌≡◌, ◌<◌, true, Some, IfSome};
 ghost use Rattle.inspection.specs.NamedTag as named;
 
@@ -12,7 +12,7 @@ fn is_digit(byte: u8) -> bool
     b'0' <= byte && byte <= b'9' || b'a' <= byte && byte <= b'f' || b'A' <= byte && byte <= b'F'
 }
 
-/// Returns the number that a hexadecimal digit spells.
+/// Returns the value of a hexadecimal digit.
 fn digit_of(byte: u8) -> u16
     requires { named.is_digit byte ≡ true }
     ensures value { result ≡ named.digit_of byte }
@@ -27,7 +27,7 @@ fn digit_of(byte: u8) -> u16
     }
 }
 
-/// Returns the number that four hexadecimal digits spell.
+/// Returns the number that four hexadecimal digits spell, or `None` for other bytes.
 fn number_of(digits: &[u8]) -> Option<u16>
     ensures { result ≡ named.number_of digits.now }
 {
@@ -41,7 +41,7 @@ fn number_of(digits: &[u8]) -> Option<u16>
     }
 }
 
-/// Returns the tag whose group and element are spelled by these digits.
+/// Returns the tag whose group and element these digits spell, or `None` if either is invalid.
 fn tag_of(group: &[u8], element: &[u8]) -> Option<Tag>
     ensures { result ≡ named.tag_of group.now element.now }
 {
@@ -50,7 +50,8 @@ fn tag_of(group: &[u8], element: &[u8]) -> Option<Tag>
     Some(Tag(group, element))
 }
 
-/// Returns the tag that a text spells: group and element in hexadecimal, as `00100020`, `0010,0020` or `(0010,0020)`.
+/// Returns the tag that a text spells in hexadecimal, as `00100020`, `0010,0020` or `(0010,0020)`,
+/// or `None`.
 pub fn tag_spelled(text: &[u8]) -> Option<Tag>
     ensures { result ≡ named.tag_spelled text.now }
 {
@@ -65,8 +66,8 @@ pub fn tag_spelled(text: &[u8]) -> Option<Tag>
     }
 }
 
-/// Returns the tag that a text names: one that it spells, as `tag_spelled` reads it, or that of the data element whose
-/// keyword it is (PS3.6), if no other tag has it.
+/// Returns the tag that a text spells (see `tag_spelled`), or else the tag with this keyword
+/// (PS3.6), or `None` if no tag or several have the keyword.
 pub fn tag_named(text: &str) -> Option<Tag>
     ensures { IfSome (named.tag_spelled text.now) (λ tag. result ≡ Some tag) }
 {

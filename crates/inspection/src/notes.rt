@@ -1,4 +1,4 @@
-//! The notes of a check, and its end.
+//! Writes the notes of a check and its final line.
 use crate::json::JudgementJson;
 use crate::judgement::Judgement;
 use crate::keyword::known_keyword;
@@ -11,25 +11,25 @@ use std::io;
 use std::io::Write;
 use values::Repertoire;
 
-/// The longest value that is written with its note.
+/// The longest value, in bytes, that is written with its note.
 const LONGEST_NOTED: usize = 256;
 
 /// Writes the notes of a check and counts them.
 #[derive(Clone, Copy)]
 pub(crate) struct Notes {
     form: OutputForm,
-    /// Whether values are written, too.
+    /// Whether values are written with their notes.
     values: bool,
     count: u64,
 }
 
-/// Writes the line of a keyword after that of a note or a fault.
+/// Writes the line with the keyword that follows a note or a fault.
 fn write_keyword<O: Write>(tag: Tag, out: &mut O) -> io::Result<()> {
     let keyword = known_keyword(tag).unwrap_or("?");
     writeln!(out, "           {keyword}")
 }
 
-/// Writes the line of a keyword and a value after that of a note.
+/// Writes the line with keyword and value that follows a note.
 fn write_value<O: Write>(tag: Tag, value: &ShownText<'_>, out: &mut O) -> io::Result<()> {
     let keyword = known_keyword(tag).unwrap_or("?");
     writeln!(out, "           {keyword} = {value}")
@@ -48,7 +48,8 @@ impl Notes {
         self.count
     }
 
-    /// Returns what is written of a value of texts of this repertoire: of a long one, how many bytes it has.
+    /// Returns the printed form of a value in this repertoire, of which lines have ASCII only, or
+    /// its length if it is longer than `LONGEST_NOTED`.
     pub(crate) fn shown<'a>(
         &self,
         vr: Vr,
@@ -62,11 +63,14 @@ impl Notes {
             vr: Some(vr),
             value,
             form: self.form,
-            repertoire,
+            repertoire: match self.form {
+                OutputForm::Lines => Repertoire::Ascii,
+                OutputForm::Json => repertoire,
+            },
         })
     }
 
-    /// Writes what stands before the first note.
+    /// Writes the text before the first note.
     pub(crate) fn begin<O: Write>(&self, out: &mut O) -> io::Result<()> {
         match self.form {
             OutputForm::Lines => Ok(()),
@@ -74,7 +78,7 @@ impl Notes {
         }
     }
 
-    /// Writes the lines of a note or a fault: the keyword has one where values are written.
+    /// Writes the line of a note or a fault, and a line with the keyword if values are written.
     fn write_lines<O: Write>(&self, judgement: &Judgement, out: &mut O) -> io::Result<()> {
         writeln!(out, "{judgement}")?;
         match judgement.tag() {
@@ -83,7 +87,7 @@ impl Notes {
         }
     }
 
-    /// Writes the lines of a note of a value.
+    /// Writes the lines of a note about a value.
     fn write_value_lines<O: Write>(
         &self,
         note: &Judgement,
@@ -97,14 +101,14 @@ impl Notes {
         }
     }
 
-    /// Opens the object of a note.
+    /// Opens the JSON object of a note.
     fn open<O: Write>(&self, note: &Judgement, out: &mut O) -> io::Result<()> {
         let comma = if self.count > 0 { "," } else { "" };
         let note = JudgementJson(note);
         write!(out, "{comma}{{{note}")
     }
 
-    /// Closes the object of a note of a value.
+    /// Closes the JSON object of a note, after the value if values are written.
     fn close<O: Write>(&self, value: &ShownText<'_>, out: &mut O) -> io::Result<()> {
         match value {
             ShownText::Value(value) if self.values => { write!(out, ",\"value\":\"{value}\"}}") }
@@ -112,7 +116,7 @@ impl Notes {
         }
     }
 
-    /// Writes a note that is not of a value.
+    /// Writes a note that has no value.
     pub(crate) fn add<O: Write>(&mut self, note: &Judgement, out: &mut O) -> io::Result<()> {
         match self.form {
             OutputForm::Lines => self.write_lines(note, out)?,
@@ -125,7 +129,7 @@ impl Notes {
         Ok(())
     }
 
-    /// Writes a note of a value, and the value where that is asked for.
+    /// Writes a note about a value, with the value if the options ask for it.
     pub(crate) fn add_value<O: Write>(
         &mut self,
         note: &Judgement,
@@ -143,7 +147,8 @@ impl Notes {
         Ok(())
     }
 
-    /// Writes the note that the SOP Instance UID of the data set, whose value this is, is not that of the file's header.
+    /// Writes the note that the data set's SOP Instance UID, `value`, differs from that in the
+    /// file's header.
     pub(crate) fn add_instance<O: Write>(
         &mut self,
         place: u64,
@@ -165,7 +170,7 @@ impl Notes {
         Ok(())
     }
 
-    /// Writes how the file ends.
+    /// Writes the final judgement of the file.
     pub(crate) fn end<O: Write>(&self, judgement: &Judgement, out: &mut O) -> io::Result<()> {
         match self.form {
             OutputForm::Lines => self.write_lines(judgement, out),

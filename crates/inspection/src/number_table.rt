@@ -1,8 +1,8 @@
-//! A table of numbers: of the offsets or of the lengths of frames.
+//! A table of the offsets or lengths of frames.
 use crate::limits::LONGEST;
 use arrayvec::ArrayVec;
 
-/// How many bytes a number of a table has, the lowest first.
+/// The size of a number in a table; numbers are little-endian.
 #[derive(Clone, Copy)]
 pub(crate) enum NumberSize {
     Four,
@@ -10,7 +10,7 @@ pub(crate) enum NumberSize {
 }
 
 impl NumberSize {
-    /// Returns the number that the bytes begin with.
+    /// Returns the first number of the bytes, or `None` if they are too few.
     fn first(self, bytes: &[u8]) -> Option<u64> {
         match self {
             NumberSize::Four => match bytes {
@@ -26,7 +26,7 @@ impl NumberSize {
         }
     }
 
-    /// Returns how many bytes that are.
+    /// Returns the size in bytes.
     fn bytes(self) -> usize {
         match self {
             NumberSize::Four => 4,
@@ -35,29 +35,29 @@ impl NumberSize {
     }
 }
 
-/// What a fragment is for a table of offsets.
+/// How a fragment compares with a table of offsets.
 #[derive(Clone, Copy)]
 pub(crate) enum Met {
-    /// The one at the next offset.
+    /// The fragment is at the next offset.
     Named,
-    /// A further one of the same frame.
+    /// The fragment continues the current frame.
     Additional,
-    /// The next offset is not that of it, nor of a later one.
+    /// The next offset is neither that of the fragment nor of a later one.
     Wrong,
 }
 
-/// A table that is held against the fragments after it.
+/// A table that is compared with the fragments after it.
 #[derive(Drop)]
 pub(crate) struct NumberTable {
     size: NumberSize,
-    /// Whether a fault of it is still looked for.
+    /// Whether the table is still checked.
     is_held: bool,
-    /// Of the header.
+    /// The offset of the table's header.
     place: u64,
-    /// Of the value; 0 without a table.
+    /// The length of the table in bytes; 0 without a table.
     length: u32,
     bytes: ArrayVec<u8, LONGEST>,
-    /// How many bytes are of numbers whose fragments came.
+    /// How many bytes of the table were already compared.
     met: usize,
 }
 
@@ -73,7 +73,7 @@ impl NumberTable {
         }
     }
 
-    /// Begins a table; the numbers of one that is empty or too long are not looked at.
+    /// Starts a table. A table that is empty or longer than `LONGEST` is not checked.
     pub(crate) fn begin(&mut self, place: u64, length: u32) {
         self.is_held = 0 < length && length as usize <= LONGEST;
         self.place = place;
@@ -82,14 +82,14 @@ impl NumberTable {
         self.met = 0;
     }
 
-    /// There is no table.
+    /// Discards the table.
     pub(crate) fn forget(&mut self) {
         self.is_held = false;
         self.length = 0;
     }
 
-    /// Looks for no further fault.
-    pub(crate) fn let_go(&mut self) {
+    /// Stops checking the table.
+    pub(crate) fn close(&mut self) {
         self.is_held = false;
     }
 
@@ -101,31 +101,31 @@ impl NumberTable {
         self.place
     }
 
-    /// Returns the length of the value: 0 without a table.
+    /// Returns the length of the table in bytes; 0 without a table.
     pub(crate) fn length(&self) -> u32 {
         self.length
     }
 
-    /// Takes bytes of the value.
+    /// Stores bytes of the table.
     pub(crate) fn take(&mut self, bytes: &[u8]) {
         if self.is_held {
             let _ = self.bytes.try_extend_from_slice(bytes);
         }
     }
 
-    /// Returns the next number.
+    /// Returns the next number, or `None` after the last.
     fn next(&self) -> Option<u64> {
         let rest = self.bytes.as_slice().get(self.met..)?;
         self.size.first(rest)
     }
 
-    /// Goes on to the number after it.
+    /// Moves on to the number after `next`.
     fn advance(&mut self) {
         self.met = self.met.saturating_add(self.size.bytes());
     }
 
-    /// Compares the next offset of the table with a fragment that begins so many bytes after the first one: it is this
-    /// fragment's, or that of a later one.
+    /// Compares the next offset of the table with a fragment at offset `at` from the first: the
+    /// next offset must be `at` or that of a later fragment, and 0 for the first.
     pub(crate) fn meet_offset(&mut self, at: u64) -> Met {
         match self.next() {
             None => Met::Additional,
@@ -135,14 +135,14 @@ impl NumberTable {
             }
             Some(offset) if at > 0 && at < offset => Met::Additional,
             Some(_) => {
-                self.let_go();
+                self.close();
                 Met::Wrong
             }
         }
     }
 
-    /// Follows a fragment of this length, which is the only one of the next frame; returns whether that has the next
-    /// length, without the byte that pads an odd one.
+    /// Compares the next length of the table with a frame's only fragment, of this length. Returns
+    /// whether they agree; an odd length is padded by one byte.
     pub(crate) fn meet_length(&mut self, fragment: u32) -> bool {
         match self.next() {
             None => true,
@@ -153,12 +153,12 @@ impl NumberTable {
         }
     }
 
-    /// Returns whether a number is left that no fragment was met for.
+    /// Returns whether the table has a number that was not compared.
     pub(crate) fn has_more(&self) -> bool {
         self.met < self.bytes.len()
     }
 
-    /// Returns how many numbers there are.
+    /// Returns how many numbers the table has.
     pub(crate) fn count(&self) -> u64 {
         match self.size {
             NumberSize::Four => (self.bytes.len() / 4) as u64,

@@ -1,72 +1,77 @@
-//! How the findings of an inspection are written, and which.
+//! The options of an inspection.
 use crate::limits::{LONGEST, LONGEST_SHOWN};
 use element::Tag;
 
-/// How findings are written.
+/// The format of the output.
 #[derive(Clone, Copy, Debug, PartialEq, Eq)]
 pub enum OutputForm {
-    /// A line each.
+    /// Each finding is a line.
     Lines,
-    /// Members of one JSON object, whose first members stand before them; a brace and a line feed end it.
+    /// Findings are members of one JSON object, which the caller opened; a brace and a line feed
+    /// end it.
     Json,
 }
 
-/// In which transfer syntaxes a file may be.
+/// Which transfer syntaxes a file may have.
 #[derive(Clone, Copy, Debug, PartialEq, Eq)]
 pub enum Syntaxes {
-    /// The two in which Pixel Data is native.
+    /// The two transfer syntaxes with native Pixel Data.
     Native,
-    /// Those in which it may be encapsulated, too.
+    /// Also the transfer syntaxes with encapsulated Pixel Data.
     All,
+    /// As `All`; also files without preamble and File Meta Information (see `bare_form`).
+    Any,
 }
 
-/// Which VRs and sequences are known of elements whose headers have no VR.
+/// The source of VRs for elements whose headers have none.
 #[derive(Clone, Copy, Debug, PartialEq, Eq)]
 pub(crate) enum Vocabulary {
-    /// Those of the dictionary, by which a data set is walked.
+    /// The dictionary by which the walker reads a data set.
     Dictionary,
-    /// Those of PS3.6, too.
+    /// The dictionary and PS3.6.
     Standard,
 }
 
-/// What a check holds a file to.
+/// The options of a check.
 #[derive(Clone, Copy, Debug)]
 pub struct CheckOptions {
-    /// Whether values are held to the whole table of VRs.
+    /// Whether values are checked against the whole table of VRs.
     pub strict: bool,
-    /// Whether the keyword and the value are written with a note, and the keyword with a fault.
+    /// Whether a note is written with keyword and value, and a fault with its keyword.
     pub values: bool,
     pub form: OutputForm,
     pub syntaxes: Syntaxes,
 }
 
-/// What is shown of a file.
+/// The options of a listing.
 #[derive(Clone, Copy, Debug)]
 pub struct ShowOptions<'a> {
     /// Whether values are shown.
     pub values: bool,
-    /// Whether they are shown whole, of up to 65,536 bytes.
+    /// Whether values are shown whole, up to 65,536 bytes.
     pub full: bool,
-    /// Whether the file meta information is listed, too.
+    /// Whether the File Meta Information is listed.
     pub meta: bool,
-    /// The elements that are shown; all of them where none is named.
+    /// The elements that are shown; empty for all.
     pub tags: &'a [Tag],
     pub form: OutputForm,
+    /// Whether lines have the characters of values beyond ASCII, in UTF-8. JSON always has them.
+    pub unicode: bool,
     pub syntaxes: Syntaxes,
 }
 
 impl ShowOptions<'_> {
-    /// Returns whether nothing but the elements is asked for.
+    /// Returns whether only the headers of all elements are shown.
     pub(crate) fn is_plain(&self) -> bool {
         !self.values && !self.meta && self.tags.is_empty()
     }
 
-    /// Returns whether elements of the file meta information are listed.
+    /// Returns whether elements of the File Meta Information are listed.
     pub(crate) fn has_meta(&self) -> bool {
         self.meta || self.tags.iter().any(|tag: &Tag| tag.0 == 2)
     }
 
-    /// Returns how many bytes the longest value has that is shown.
+    /// Returns the length in bytes of the longest value that is shown.
     pub(crate) fn longest(&self) -> usize {
         if self.full || self.form == OutputForm::Json {
             LONGEST
@@ -75,7 +80,7 @@ impl ShowOptions<'_> {
         }
     }
 
-    /// Returns which VRs are known: those of the dictionary alone where nothing is chosen.
+    /// Returns the source of VRs: the dictionary alone for a listing in lines without options.
     pub(crate) fn vocabulary(&self) -> Vocabulary {
         if self.is_plain() && self.form == OutputForm::Lines {
             Vocabulary::Dictionary

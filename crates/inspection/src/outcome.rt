@@ -1,20 +1,20 @@
-//! What an inspection comes to.
+//! The result of an inspection.
 
 /// Whether a fault was found.
 #[derive(Clone, Copy, Debug, PartialEq, Eq)]
 pub enum Outcome {
-    /// None: status 0.
+    /// No fault: exit status 0.
     Good,
-    /// One, which the last line of the output names: status 1.
+    /// A fault, which the last line of the output names: exit status 1.
     Faulty,
 }
 
-/// What an inspection of a file found.
+/// The result of inspecting a file.
 #[derive(Clone, Copy, Debug)]
 pub struct Inspected {
     pub outcome: Outcome,
-    /// How many values break the rules of their VR.
+    /// How many notes were written.
     pub notes: u64,
-    /// How many values a strict check could not hold to a rule: their VR is not known, or UN.
+    /// How many values a strict check could not judge: their VR is unknown or UN.
     pub unjudged: u64,
 }

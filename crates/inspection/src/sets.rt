@@ -3,10 +3,10 @@ use crate::limits::DEPTH;
 use element::Vr;
 use values::{CharacterSet, Repertoire};
 
-/// Which VRs have texts in the set that Specific Character Set names (PS3.5 section 6.1.2.2).
+/// The VRs whose text is in the set that Specific Character Set names (PS3.5 section 6.1.2.2).
 const TEXTS: [[u8; 2]; 7] = [*b"SH", *b"LO", *b"ST", *b"LT", *b"PN", *b"UC", *b"UT"];
 
-/// The set of a level: which bytes of a text are one character, and which one.
+/// The character set of a level: how bytes form characters, and which characters.
 #[derive(Clone, Copy)]
 struct LevelSet {
     characters: CharacterSet,
@@ -19,31 +19,32 @@ const ASCII: LevelSet = LevelSet {
     repertoire: Repertoire::Ascii,
 };
 
-/// The sets of the open levels: that of a level is that of the level above, until it names one itself.
+/// The character sets of the open levels. A level inherits the set of the level around it until it
+/// names its own.
 #[derive(Clone, Copy)]
 pub(crate) struct Sets {
     sets: [LevelSet; DEPTH + 2],
 }
 
 impl Sets {
-    /// Returns the sets of a data set that has named none: ASCII.
+    /// Returns the sets of a data set that names none: ASCII.
     pub(crate) fn new() -> Sets {
         Sets {
             sets: [ASCII; DEPTH + 2],
         }
     }
 
-    /// Returns which bytes of the values of a VR in a level are one character.
+    /// Returns how bytes form characters in values of a VR in a level.
     pub(crate) fn of(&self, level: usize, vr: Vr) -> CharacterSet {
         self.of_texts(level, vr).characters
     }
 
-    /// Returns which characters the bytes of the values of a VR in a level are.
+    /// Returns the repertoire of characters for values of a VR in a level.
     pub(crate) fn repertoire_of(&self, level: usize, vr: Vr) -> Repertoire {
         self.of_texts(level, vr).repertoire
     }
 
-    /// Returns the set of the values of a VR in a level.
+    /// Returns the set for values of a VR in a level.
     fn of_texts(&self, level: usize, vr: Vr) -> LevelSet {
         let letters = vr.letters();
         if TEXTS.iter().any(|text| *text == letters) {
@@ -61,14 +62,14 @@ impl Sets {
         }
     }
 
-    /// Puts the set of a level.
+    /// Sets the character set of a level.
     fn put(&mut self, level: usize, set: LevelSet) {
         if let Some(place) = self.sets.get_mut(level) {
             *place = set;
         }
     }
 
-    /// Names the set of a level by a value of Specific Character Set.
+    /// Sets the character set of a level from a value of Specific Character Set.
     pub(crate) fn name(&mut self, level: usize, value: &[u8]) {
         let set = LevelSet {
             characters: CharacterSet::of_value(value),
@@ -77,7 +78,7 @@ impl Sets {
         self.put(level, set);
     }
 
-    /// Gives the level below the set of this one.
+    /// Copies the set of a level to the level inside it.
     pub(crate) fn hand_down(&mut self, level: usize) {
         let set = self.level(level);
         self.put(level.saturating_add(1), set);

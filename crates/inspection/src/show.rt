@@ -1,6 +1,7 @@
-//! `dcmbox show`: the elements of a file, without their values or with them.
+//! `dcmbox show`: lists the elements of a file, with or without their values.
 use crate::element_json::ElementsJson;
 use crate::error::InspectionError;
+use crate::followed_sets::FollowedSets;
 use crate::judgement::Judgement;
 use crate::keyword::{UNDEFINED, keyword, known_keyword};
 use crate::options::{OutputForm, ShowOptions, Syntaxes};
@@ -8,21 +9,23 @@ use crate::outcome::{Inspected, Outcome};
 use crate::shown_value::ShownValue;
 use crate::texts::{Indent, Printable, TagText, VrText};
 use crate::walk::{Listing, list, list_with_meta};
-use dictionary::vr_of;
+use dictionary::{Transfer, vr_of};
 use element::{Header, Tag};
 use part10::Meta;
 use std::io::{Read, Write};
 use std::{fmt, io};
 use values::Repertoire;
 
-/// Lists each header, or those of some tags, and the values where they are asked for.
+/// Lists each header, or only those of the chosen tags, with the values if the options ask for
+/// them.
 #[derive(Drop)]
 struct Elements<'a> {
     options: ShowOptions<'a>,
     value: ShownValue,
+    sets: FollowedSets,
 }
 
-/// The length of a value, which may be undefined.
+/// The length of a value, printed as `undefined` if it is undefined.
 #[derive(Clone, Copy)]
 struct LengthText(u32);
 
@@ -37,12 +40,22 @@ impl fmt::Display for LengthText {
 }
 
 impl Elements<'_> {
-    /// Returns the keyword of a header's element, from the dictionary alone where nothing is chosen.
+    /// Returns the keyword of an element, from the dictionary alone in a listing without options.
     fn keyword(&self, header: &Header) -> &'static str {
         if self.options.is_plain() {
             keyword(header.tag).unwrap_or("?")
         } else {
             known_keyword(header.tag).unwrap_or("?")
+        }
+    }
+
+    /// Returns the repertoire in which the value of a header is printed.
+    fn repertoire_of(&self, levels: usize, header: &Header) -> Repertoire {
+        if self.options.unicode {
+            let vr = header.vr.or(vr_of(header.tag));
+            self.sets.repertoire_of(levels, vr)
+        } else {
+            Repertoire::Ascii
         }
     }
 
@@ -56,7 +69,7 @@ impl Elements<'_> {
     ) -> io::Result<()> {
         let keyword = self.keyword(header);
         let Header { tag, length, vr } = *header;
-        // The dictionary's VR, where the header has none.
+        // The dictionary's VR if the header has none.
         let vr = VrText(vr.or(vr_of(tag)));
         let (indent, length) = (Indent(levels), LengthText(length));
         let tag = TagText(tag);
@@ -75,6 +88,14 @@ impl<O: Write> Listing<O> for Elements<'_> {
         writeln!(out, "class {class}\ninstance {instance}\nsyntax {syntax}")
     }
 
+    fn on_bare(&mut self, syntax: Transfer, out: &mut O) -> io::Result<()> {
+        if !self.options.tags.is_empty() {
+            return Ok(());
+        }
+        let syntax = Printable(syntax.uid());
+        writeln!(out, "syntax {syntax}")
+    }
+
     fn on_header(
         &mut self,
         place: u64,
@@ -83,17 +104,24 @@ impl<O: Write> Listing<O> for Elements<'_> {
         out: &mut O,
     ) -> io::Result<()> {
         self.value.begin(header);
+        if self.options.unicode {
+            self.sets.on_header(levels, header);
+        }
         let tag = header.tag;
         if !self.options.names(tag) {
             return Ok(());
         }
         if self.options.values {
-            self.value.expect(levels, header, Repertoire::Ascii);
+            let repertoire = self.repertoire_of(levels, header);
+            self.value.expect(levels, header, repertoire);
         }
         self.write_line(place, levels, header, out)
     }
 
     fn on_bytes(&mut self, bytes: &[u8], out: &mut O) -> io::Result<()> {
+        if self.options.unicode {
+            self.sets.on_bytes(bytes);
+        }
         self.value.take(bytes);
         if !self.value.is_whole() {
             return Ok(());
@@ -117,7 +145,7 @@ impl<O: Write> Listing<O> for Elements<'_> {
     }
 }
 
-/// Lists a file, with its file meta information where that is asked for.
+/// Lists a file, with its File Meta Information if the options ask for it.
 fn list_elements<R: Read, L: Listing<O>, O: Write>(
     input: &mut R,
     options: ShowOptions<'_>,
@@ -138,8 +166,11 @@ fn show_lines<R: Read, O: Write>(
     options: ShowOptions<'_>,
     out: &mut O,
 ) -> Result<Outcome, InspectionError> {
-    let value = ShownValue::new(&options);
-    let mut elements = Elements { options, value };
+    let mut elements = Elements {
+        options,
+        value: ShownValue::new(&options),
+        sets: FollowedSets::new(),
+    };
     list_elements(input, options, &mut elements, out)
 }
 
@@ -159,9 +190,10 @@ fn show_json<R: Read, O: Write>(
     }
 }
 
-/// Lists the file that the reader gives, as `show_over` does, with these options: the elements that are named
-/// alone, after each its value; one of more than 64 bytes, or of more than 65,536 where they are shown whole or as JSON, as
-/// its length.
+/// Lists the file that `input` yields, as `show_over` does, with these options: only the elements
+/// in `tags`, and with `values` each value after its element. For a value of more than 64 bytes
+/// (65,536 if values are shown whole) a line has the length instead; JSON omits a value of more
+/// than 65,536 bytes.
 ///
 /// Fails if the file can't be read or the output can't be written.
 pub fn show_with<R: Read, O: Write>(
@@ -180,8 +212,8 @@ pub fn show_with<R: Read, O: Write>(
     })
 }
 
-/// Lists the file that the reader gives: its class, instance and transfer syntax, a line for each
-/// header, and its length; or, after the lines before it, its first fault.
+/// Lists the file that `input` yields: its class, instance and transfer syntax, a line for each
+/// header, and its length, or its first fault instead of the length.
 ///
 /// No byte of a value is written. Fails if the file can't be read or the output can't be written.
 pub fn show_over<R: Read, O: Write>(
@@ -194,6 +226,7 @@ pub fn show_over<R: Read, O: Write>(
         meta: false,
         tags: &[],
         form: OutputForm::Lines,
+        unicode: false,
         syntaxes: Syntaxes::Native,
     };
     show_with(input, options, out)

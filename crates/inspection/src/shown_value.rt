@@ -1,4 +1,4 @@
-//! The value that is shown next.
+//! Collects the value that is shown next.
 use crate::fragments::opens_fragments;
 use crate::keyword::UNDEFINED;
 use crate::limits::LONGEST;
@@ -10,19 +10,20 @@ use element::{Header, Tag, Vr};
 use std::fmt;
 use values::Repertoire;
 
-/// Where the offset table of encapsulated Pixel Data is: its first item (PS3.5 section A.4).
+/// Where the Basic Offset Table is: in the first item of encapsulated Pixel Data (PS3.5 section
+/// A.4).
 #[derive(Clone, Copy)]
 enum Table {
-    /// Not next.
+    /// Elsewhere.
     Elsewhere,
     /// In the next item.
     Next,
-    /// In the item whose header came last.
+    /// In the current item.
     Here,
 }
 
 impl Table {
-    /// Returns where the table is after a header.
+    /// Returns the new state after a header.
     fn after(self, header: &Header) -> Table {
         if opens_fragments(header) {
             return Table::Next;
@@ -34,23 +35,23 @@ impl Table {
     }
 }
 
-/// A value of which bytes come.
+/// Collects the bytes of a value.
 #[derive(Drop)]
 pub(crate) struct ShownValue {
     vr: Option<Vr>,
     levels: usize,
-    /// Of a value that is to be shown.
+    /// The length of the value to show, if any.
     length: Option<u32>,
-    /// How many bytes the longest value has that is shown.
+    /// The length in bytes of the longest value that is shown.
     longest: usize,
     bytes: ArrayVec<u8, LONGEST>,
-    has_begun: bool,
+    has_started: bool,
     table: Table,
     form: OutputForm,
     repertoire: Repertoire,
 }
 
-/// A value, or its length where it is longer than what is shown.
+/// A value, or its length if it is too long to be shown.
 #[derive(Clone, Copy)]
 pub(crate) enum ShownText<'a> {
     Value(ValueText<'a>),
@@ -74,30 +75,30 @@ impl ShownValue {
             length: None,
             longest: options.longest(),
             bytes: ArrayVec::new(),
-            has_begun: false,
+            has_started: false,
             table: Table::Elsewhere,
             form: options.form,
             repertoire: Repertoire::Ascii,
         }
     }
 
-    /// Returns whether a value of this length is longer than what is shown.
+    /// Returns whether a value of this length is too long to be shown.
     fn is_long(&self, length: u32) -> bool {
         length as usize > self.longest
     }
 
-    /// Waits for no value.
+    /// Expects no value.
     pub(crate) fn forget(&mut self) {
         self.length = None;
     }
 
-    /// Follows a header, and waits for no value.
+    /// Applies a header, and expects no value until `expect` is called.
     pub(crate) fn begin(&mut self, header: &Header) {
         self.table = self.table.after(header);
         self.forget();
     }
 
-    /// Returns the VR of the value of a header: an offset table has numbers of four bytes.
+    /// Returns the VR of a header's value; the Basic Offset Table has VR UL.
     fn vr_of(&self, header: &Header) -> Option<Vr> {
         match self.table {
             Table::Here => Some(Vr::UL),
@@ -105,7 +106,7 @@ impl ShownValue {
         }
     }
 
-    /// Waits for the value of the header that it follows, if that has one; its texts are of this repertoire.
+    /// Expects the value of this header, if it has one. The value's text is in this repertoire.
     pub(crate) fn expect(&mut self, levels: usize, header: &Header, repertoire: Repertoire) {
         let Header { tag, length, .. } = *header;
         let vr = self.vr_of(header);
@@ -119,12 +120,12 @@ impl ShownValue {
         self.repertoire = repertoire;
         self.length = Some(length);
         self.bytes.clear();
-        self.has_begun = false;
+        self.has_started = false;
     }
 
-    /// Takes bytes of the value.
+    /// Stores bytes of the value.
     pub(crate) fn take(&mut self, bytes: &[u8]) {
-        self.has_begun = true;
+        self.has_started = true;
         if let Some(length) = self.length {
             if !self.is_long(length) {
                 let _ = self.bytes.try_extend_from_slice(bytes);
@@ -132,21 +133,22 @@ impl ShownValue {
         }
     }
 
-    /// Returns whether the value can be shown: it is whole, or its length is shown.
+    /// Returns whether the value can be shown: all of its bytes were read, or its length is shown
+    /// instead.
     pub(crate) fn is_whole(&self) -> bool {
         match self.length {
             None => false,
-            Some(length) if self.is_long(length) => self.has_begun,
+            Some(length) if self.is_long(length) => self.has_started,
             Some(length) => self.bytes.len() >= length as usize,
         }
     }
 
-    /// Returns how many levels are open round the value.
+    /// Returns how many levels are open around the value.
     pub(crate) fn levels(&self) -> usize {
         self.levels
     }
 
-    /// Returns what is shown.
+    /// Returns the value, or its length if it is too long.
     pub(crate) fn text(&self) -> ShownText<'_> {
         match self.length {
             Some(length) if self.is_long(length) => ShownText::Long(length as usize),

@@ -1,15 +1,16 @@
-//! `dcmbox check --strict`: also the values that break the table of VRs.
+//! `dcmbox check --strict`: also checks values against the whole table of VRs.
 use crate::followed_sets::SPECIFIC_CHARACTER_SET;
 use crate::frame_tables::FrameTables;
 use crate::identity::{Identity, MOST_DUE, SOP_INSTANCE_UID};
 use crate::judgement::Judgement;
 use crate::limits::LONGEST;
 use crate::notes::Notes;
+use crate::origin::TRANSFER_SYNTAX_UID;
 use crate::sets::Sets;
 use crate::shown_value::ShownText;
 use crate::walk::Listing;
 use arrayvec::ArrayVec;
-use dictionary::vr_of;
+use dictionary::{Transfer, vr_of};
 use element::{Header, Tag, ValueFault, Vr, check_value};
 use part10::Meta;
 use std::io;
@@ -19,13 +20,13 @@ use values::{Reading, check_form, number_size};
 /// The tag of Number of Frames.
 const NUMBER_OF_FRAMES: Tag = Tag(0x0028, 0x0008);
 
-/// The length that stands for an undefined one.
+/// The value of a length field that means undefined length.
 const UNDEFINED: u32 = 0xffff_ffff;
 
-/// A value that is to be checked once it is whole.
+/// A value that is checked once all of its bytes were read.
 #[derive(Clone, Copy)]
 struct DueText {
-    /// Of its header.
+    /// The offset of the value's header.
     place: u64,
     level: usize,
     tag: Tag,
@@ -33,7 +34,7 @@ struct DueText {
     length: usize,
 }
 
-/// Checks each value that is short enough, and of the longer ones the size of their numbers.
+/// Checks each value of at most `LONGEST` bytes, and the size of the numbers in longer values.
 #[derive(Drop)]
 pub(crate) struct StrictValues {
     due: Option<DueText>,
@@ -47,7 +48,7 @@ pub(crate) struct StrictValues {
     unjudged: u64,
 }
 
-/// Returns whether the value of a header can't be judged: its VR is not known, or UN.
+/// Returns whether the value of a header can't be judged: its VR is unknown or UN.
 fn is_opaque(header: &Header) -> bool {
     let Header { tag, length, vr } = *header;
     let is_known = match vr {
@@ -80,7 +81,7 @@ impl StrictValues {
         self.notes
     }
 
-    /// Returns the note of a value, if it breaks a rule of its VR.
+    /// Returns the note of a value, or `None` if the value breaks no rule of its VR.
     fn note_of(&mut self, due: DueText) -> Option<Judgement> {
         let value = self.value.as_slice();
         if let Err(fault) = check_value(due.vr, value) {
@@ -94,8 +95,8 @@ impl StrictValues {
         }
     }
 
-    /// Writes a note for each UID that had to come before an element with this number.
-    fn tell_missing<O: Write>(&mut self, place: u64, number: u32, out: &mut O) -> io::Result<()> {
+    /// Writes a note for each required UID that is absent before an element with this tag number.
+    fn report_missing<O: Write>(&mut self, place: u64, number: u32, out: &mut O) -> io::Result<()> {
         for _ in 0..MOST_DUE {
             match self.identity.take_missing(number) {
                 Some(tag) => self.notes.add(&Judgement::MissingNote(place, tag), out)?,
@@ -105,7 +106,8 @@ impl StrictValues {
         Ok(())
     }
 
-    /// Compares the SOP Instance UID of the data set, whose header is at this place, with that of the file's header.
+    /// Writes a note if the data set's SOP Instance UID, whose header is at offset `place`, differs
+    /// from that in the file's header.
     fn compare<O: Write>(&mut self, place: u64, out: &mut O) -> io::Result<()> {
         let value = self.value.as_slice();
         match self.identity.other_than(value) {
@@ -114,7 +116,7 @@ impl StrictValues {
         }
     }
 
-    /// Checks a value that is whole.
+    /// Checks a value of which all bytes were read.
     fn check<O: Write>(&mut self, due: DueText, out: &mut O) -> io::Result<()> {
         if due.tag == SPECIFIC_CHARACTER_SET {
             self.sets.name(due.level, self.value.as_slice());
@@ -134,7 +136,7 @@ impl StrictValues {
         self.notes.add_value(&note, &shown, out)
     }
 
-    /// Checks the length of a value that is too long to be kept.
+    /// Checks the length of a value that is longer than `LONGEST`.
     fn check_length<O: Write>(&mut self, due: DueText, out: &mut O) -> io::Result<()> {
         if due.length % number_size(due.vr) == 0 {
             return Ok(());
@@ -152,6 +154,11 @@ impl<O: Write> Listing<O> for StrictValues {
         Ok(())
     }
 
+    fn on_bare(&mut self, _syntax: Transfer, out: &mut O) -> io::Result<()> {
+        self.notes
+            .add(&Judgement::MissingNote(0, TRANSFER_SYNTAX_UID), out)
+    }
+
     fn on_header(
         &mut self,
         place: u64,
@@ -164,7 +171,7 @@ impl<O: Write> Listing<O> for StrictValues {
         self.due = None;
         self.sets.hand_down(levels);
         if levels == 0 {
-            self.tell_missing(place, tag.number(), out)?;
+            self.report_missing(place, tag.number(), out)?;
             self.identity.meet(header);
         }
         if let Some(note) = self.tables.on_header(place, levels, header) {
@@ -209,7 +216,7 @@ impl<O: Write> Listing<O> for StrictValues {
 
     fn on_end(&mut self, judgement: &Judgement, out: &mut O) -> io::Result<()> {
         if let Judgement::Good(length) = judgement {
-            self.tell_missing(*length, u32::MAX, out)?;
+            self.report_missing(*length, u32::MAX, out)?;
         }
         self.notes.end(judgement, out)
     }

@@ -1,20 +1,21 @@
-//! How a table of offsets or lengths is wrong.
+//! The faults of tables of offsets and lengths.
 
-/// How a table of the frames of encapsulated Pixel Data is wrong.
+/// A fault in an offset table of encapsulated Pixel Data.
 #[derive(Clone, Copy, Debug, PartialEq, Eq)]
 pub enum TableFault {
-    /// 15: an offset is not the place of a fragment after that of the one before it, or the first one is not 0.
+    /// 15: an offset is not that of a fragment after the fragment of the offset before it, or the
+    /// first offset is not 0.
     WrongOffset,
-    /// 16: there are more or fewer offsets than frames, or more or fewer lengths than offsets.
+    /// 16: the offsets are more or fewer than the frames, or the lengths than the offsets.
     WrongCount,
     /// 17: a length is not that of the fragment at its offset.
     WrongLength,
-    /// 18: a table of offsets stands beside the extended one.
+    /// 18: the Basic Offset Table is not empty although there is an Extended Offset Table.
     SecondTable,
 }
 
 impl TableFault {
-    /// Returns its number.
+    /// Returns the fault's number.
     pub fn number(self) -> u8 {
         match self {
             TableFault::WrongOffset => 15,
@@ -24,7 +25,7 @@ impl TableFault {
         }
     }
 
-    /// Returns its name.
+    /// Returns the fault's name.
     pub fn name(self) -> &'static str {
         match self {
             TableFault::WrongOffset => "WrongOffset",

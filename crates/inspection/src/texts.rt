@@ -2,7 +2,7 @@
 use element::{Tag, Vr};
 use std::fmt;
 
-/// A tag: group and element in hexadecimal.
+/// Prints a tag: group and element in hexadecimal.
 #[derive(Clone, Copy)]
 pub struct TagText(pub Tag);
 
@@ -13,7 +13,7 @@ impl fmt::Display for TagText {
     }
 }
 
-/// The letters of a VR, or what stands for one that is not known.
+/// Prints the letters of a VR, or `--` if it is unknown.
 #[derive(Clone, Copy)]
 pub struct VrText(pub Option<Vr>);
 
@@ -29,7 +29,7 @@ impl fmt::Display for VrText {
     }
 }
 
-/// What stands before a line within so many levels.
+/// Prints the indent of a line: two spaces for each open level.
 #[derive(Clone, Copy)]
 pub struct Indent(pub usize);
 
@@ -42,7 +42,33 @@ impl fmt::Display for Indent {
     }
 }
 
-/// A text of a file, with `?` for each byte that is not a printable character.
+/// Prints a path, with `?` for each byte that is not a printable ASCII character; or in UTF-8, with
+/// `?` for each byte of a control character.
+#[derive(Clone, Copy)]
+pub struct PathText<'a> {
+    pub path: &'a str,
+    /// Whether characters beyond ASCII are printed.
+    pub unicode: bool,
+}
+
+impl fmt::Display for PathText<'_> {
+    fn fmt<W: fmt::Write>(&self, f: &mut fmt::Formatter<W>) -> fmt::Result {
+        if !self.unicode {
+            let path = Printable(self.path.as_bytes());
+            return write!(f, "{path}");
+        }
+        for character in self.path.chars() {
+            match character {
+                '\0'..='\x1f' | '\x7f' => f.write_char('?')?,
+                '\u{80}'..='\u{9f}' => f.write_str("??")?,
+                _ => f.write_char(character)?,
+            }
+        }
+        Ok(())
+    }
+}
+
+/// Prints a text of a file, with `?` for each byte that is not a printable ASCII character.
 #[derive(Clone, Copy)]
 pub struct Printable<'a>(pub &'a [u8]);
 

@@ -1,5 +1,5 @@
-//! Values as they are shown.
-use crate::json_text::write_json_text;
+//! Prints values.
+use crate::json_text::write_text;
 use crate::options::OutputForm;
 use crate::texts::TagText;
 use element::{Tag, Vr, unpadded};
@@ -7,7 +7,7 @@ use std::fmt;
 use std::num::{f32_from_bits_with_nan, f64_from_bits_with_nan};
 use values::Repertoire;
 
-/// How the values of a VR are shown.
+/// How the values of a VR are printed.
 #[derive(Clone, Copy)]
 enum Notation {
     Text,
@@ -19,12 +19,12 @@ enum Notation {
     Bytes,
 }
 
-/// Returns whether these letters are among those.
+/// Returns whether these letters are among the names.
 fn is_one_of(letters: [u8; 2], names: &[[u8; 2]]) -> bool {
     names.iter().any(|name| *name == letters)
 }
 
-/// Returns how the values of a VR are shown, and how many bytes one takes.
+/// Returns how the values of a VR are printed, and the size of one value in bytes.
 fn notation_of(vr: Option<Vr>) -> (Notation, usize) {
     let Some(vr) = vr else {
         return (Notation::Bytes, 1);
@@ -43,7 +43,7 @@ fn notation_of(vr: Option<Vr>) -> (Notation, usize) {
     }
 }
 
-/// Returns the same of the letters of the other VRs.
+/// Returns what `notation_of` returns, for the letters of the remaining VRs.
 fn notation_of_letters(letters: [u8; 2]) -> (Notation, usize) {
     if letters == *b"SS" {
         (Notation::Signed, 2)
@@ -68,21 +68,7 @@ fn notation_of_letters(letters: [u8; 2]) -> (Notation, usize) {
     }
 }
 
-/// Prints text in a line, with `%` and two hexadecimal digits for each byte that is no printed ASCII character, and
-/// for `%`.
-fn write_text<W: fmt::Write>(f: &mut fmt::Formatter<W>, text: &[u8]) -> fmt::Result {
-    for byte in text {
-        let is_printable = byte.is_ascii_graphic() || *byte == b' ';
-        if !is_printable || *byte == b'%' {
-            write!(f, "%{:02x}", *byte)?;
-        } else {
-            f.write_char(char::from(*byte))?;
-        }
-    }
-    Ok(())
-}
-
-/// Prints what stands between two values, in a string of JSON as it has it.
+/// Prints the backslash between two values, escaped in JSON.
 fn write_backslash<W: fmt::Write>(f: &mut fmt::Formatter<W>, form: OutputForm) -> fmt::Result {
     match form {
         OutputForm::Lines => f.write_str("\\"),
@@ -90,7 +76,7 @@ fn write_backslash<W: fmt::Write>(f: &mut fmt::Formatter<W>, form: OutputForm) -
     }
 }
 
-/// Prints an unsigned number, the low byte first.
+/// Prints an unsigned little-endian number.
 fn write_unsigned<W: fmt::Write>(f: &mut fmt::Formatter<W>, bytes: &[u8]) -> fmt::Result {
     match bytes {
         [a, b] => write!(f, "{}", u16::from_le_bytes([*a, *b])),
@@ -106,7 +92,7 @@ fn write_unsigned<W: fmt::Write>(f: &mut fmt::Formatter<W>, bytes: &[u8]) -> fmt
     }
 }
 
-/// Prints a number with a sign, the low byte first.
+/// Prints a signed little-endian number.
 fn write_signed<W: fmt::Write>(f: &mut fmt::Formatter<W>, bytes: &[u8]) -> fmt::Result {
     match bytes {
         [a, b] => write!(f, "{}", i16::from_le_bytes([*a, *b])),
@@ -122,7 +108,7 @@ fn write_signed<W: fmt::Write>(f: &mut fmt::Formatter<W>, bytes: &[u8]) -> fmt::
     }
 }
 
-/// Prints a number with a fraction, the low byte first.
+/// Prints a little-endian floating-point number.
 fn write_float<W: fmt::Write>(f: &mut fmt::Formatter<W>, bytes: &[u8]) -> fmt::Result {
     match bytes {
         [a, b, c, d] => {
@@ -150,7 +136,7 @@ fn write_tag<W: fmt::Write>(f: &mut fmt::Formatter<W>, bytes: &[u8]) -> fmt::Res
     }
 }
 
-/// Prints a word in hexadecimal, whose low byte stands first.
+/// Prints a little-endian word in hexadecimal.
 fn write_bytes<W: fmt::Write>(f: &mut fmt::Formatter<W>, bytes: &[u8]) -> fmt::Result {
     for byte in bytes.iter().rev() {
         write!(f, "{:02x}", *byte)?;
@@ -173,7 +159,7 @@ fn write_one<W: fmt::Write>(
     }
 }
 
-/// Prints numbers, tags or words of so many bytes, with a backslash between them.
+/// Prints numbers, tags or words of `size` bytes, with a backslash between them.
 fn write_all<W: fmt::Write>(
     f: &mut fmt::Formatter<W>,
     (notation, size): (Notation, usize),
@@ -197,14 +183,14 @@ fn write_all<W: fmt::Write>(
     Ok(())
 }
 
-/// A value as it is shown: text without its padding, numbers, tags, or words in hexadecimal, with a backslash
-/// between several. No control character is printed.
+/// Prints a value: text without its padding, numbers, tags, or words in hexadecimal, with a
+/// backslash between values. No control character is printed.
 #[derive(Clone, Copy)]
 pub struct ValueText<'a> {
     pub vr: Option<Vr>,
     pub value: &'a [u8],
     pub form: OutputForm,
-    /// Of text in JSON; a line has ASCII alone.
+    /// The repertoire of text.
     pub repertoire: Repertoire,
 }
 
@@ -216,12 +202,9 @@ impl fmt::Display for ValueText<'_> {
             form,
             repertoire,
         } = *self;
-        match (notation_of(vr), form) {
-            ((Notation::Text, _), OutputForm::Lines) => write_text(f, unpadded(value)),
-            ((Notation::Text, _), OutputForm::Json) => {
-                write_json_text(f, repertoire, unpadded(value))
-            }
-            (notation, _) => write_all(f, notation, form, value),
+        match notation_of(vr) {
+            (Notation::Text, _) => write_text(f, form, repertoire, unpadded(value)),
+            notation => write_all(f, notation, form, value),
         }
     }
 }

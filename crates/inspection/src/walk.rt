@@ -1,4 +1,4 @@
-//! A file, walked from its first byte to its last in fixed memory.
+//! Walks a file from its first byte to its last in fixed memory.
 use crate::counted::Counted;
 use crate::entering::{BytesOf, Entering};
 use crate::error::InspectionError;
@@ -10,19 +10,22 @@ use crate::options::{Syntaxes, Vocabulary};
 use crate::origin::{PREFIX, header_at};
 use crate::outcome::Outcome;
 use dictionary::Transfer;
-use element::{Header, Tag};
+use element::{Header, Syntax, Tag};
 use part10::{Meta, MetaFault};
 use sequence::{Fault, Step, Walker, Wanted};
 use std::io;
 use std::io::{Read, Write};
 
-/// What is printed of a file while it is walked.
+/// Receives what a walk finds in a file, and prints it.
 pub trait Listing<O: Write> {
-    /// After the file's header.
+    /// Called after the file's header.
     fn on_meta(&mut self, meta: &Meta, out: &mut O) -> io::Result<()>;
 
-    /// At each header of an element, an item or a delimitation: its place in the file, and how many
-    /// levels are open before it.
+    /// Called at the start of a file without header, which is read in this transfer syntax.
+    fn on_bare(&mut self, syntax: Transfer, out: &mut O) -> io::Result<()>;
+
+    /// Called at each header of an element, an item or a delimitation, with its offset in the file
+    /// and the number of levels open before it.
     fn on_header(
         &mut self,
         place: u64,
@@ -31,18 +34,18 @@ pub trait Listing<O: Write> {
         out: &mut O,
     ) -> io::Result<()>;
 
-    /// At bytes of the value of the last header.
+    /// Called with bytes of the last header's value.
     fn on_bytes(&mut self, bytes: &[u8], out: &mut O) -> io::Result<()>;
 
-    /// At the first fault of the items in a sequence with this tag, whose header is at this place and which the
-    /// data set takes for a value.
+    /// Called at the first fault in the items of a sequence that the walker reads as a value, with
+    /// the offset of the sequence's header and its tag.
     fn on_items_fault(&mut self, place: u64, tag: Tag, out: &mut O) -> io::Result<()>;
 
-    /// At the fault of a file, or at the end of one without a fault.
+    /// Called at the file's fault, or at the end of a file without a fault.
     fn on_end(&mut self, judgement: &Judgement, out: &mut O) -> io::Result<()>;
 }
 
-/// Returns how many bytes a header has (PS3.5 section 7.1).
+/// Returns the size of a header in bytes (PS3.5 section 7.1).
 fn size_of_header(header: &Header) -> u64 {
     let vr = header.vr;
     match vr {
@@ -51,8 +54,8 @@ fn size_of_header(header: &Header) -> u64 {
     }
 }
 
-/// Tells of a header that ends at `end`.
-fn tell_header<L: Listing<O>, O: Write>(
+/// Reports a header that ends at offset `end`.
+fn report_header<L: Listing<O>, O: Write>(
     end: u64,
     levels: usize,
     header: &Header,
@@ -65,15 +68,15 @@ fn tell_header<L: Listing<O>, O: Write>(
     listing.on_header(place, levels, &header, out)
 }
 
-/// Tells of the items in bytes of a sequence.
-fn tell_items<L: Listing<O>, O: Write>(
+/// Reports the items in bytes of a sequence.
+fn report_items<L: Listing<O>, O: Write>(
     bytes: &[u8],
     entering: &mut Entering,
     listing: &mut L,
     out: &mut O,
 ) -> io::Result<()> {
     let mut rest = bytes;
-    // Each step takes at least one byte.
+    // Each step consumes at least one byte.
     for _ in 0..bytes.len() {
         if rest.is_empty() {
             break;
@@ -98,8 +101,8 @@ fn tell_items<L: Listing<O>, O: Write>(
     Ok(())
 }
 
-/// Tells of bytes of a value.
-fn tell_bytes<L: Listing<O>, O: Write>(
+/// Reports bytes of a value.
+fn report_bytes<L: Listing<O>, O: Write>(
     bytes: &[u8],
     entering: &mut Entering,
     listing: &mut L,
@@ -107,11 +110,12 @@ fn tell_bytes<L: Listing<O>, O: Write>(
 ) -> io::Result<()> {
     match entering.on_bytes(bytes) {
         BytesOf::Value => listing.on_bytes(bytes, out),
-        BytesOf::Items => tell_items(bytes, entering, listing, out),
+        BytesOf::Items => report_items(bytes, entering, listing, out),
     }
 }
 
-/// Walks a piece of a data set that begins at `start` of its file; stops at a fault.
+/// Walks a chunk of a data set that begins at offset `start` of the file. Returns the fault, if
+/// any.
 fn walk_piece<L: Listing<O>, O: Write>(
     (walker, entering): (&mut Walker<VALUES, DEPTH>, &mut Entering),
     piece: &[u8],
@@ -120,7 +124,7 @@ fn walk_piece<L: Listing<O>, O: Write>(
     out: &mut O,
 ) -> io::Result<Option<Fault>> {
     let mut rest = piece;
-    // Each step takes at least one byte, or refuses.
+    // Each step consumes at least one byte, or refuses.
     for _ in 0..piece.len() {
         if rest.is_empty() {
             break;
@@ -132,16 +136,16 @@ fn walk_piece<L: Listing<O>, O: Write>(
         match step {
             Step::More => {}
             Step::Element(header) | Step::Opened(header) | Step::Closed(header) => {
-                tell_header(end, levels, &header, entering, listing, out)?;
+                report_header(end, levels, &header, entering, listing, out)?;
             }
-            Step::Run(bytes) => tell_bytes(bytes, entering, listing, out)?,
+            Step::Run(bytes) => report_bytes(bytes, entering, listing, out)?,
             Step::Refused(fault) => return Ok(Some(fault)),
         }
     }
     Ok(None)
 }
 
-/// Walks the data set that the reader goes on with; returns its first fault.
+/// Walks the data set that `input` continues with. Returns its first fault, if any.
 fn walk_data_set<R: Read, L: Listing<O>, O: Write>(
     input: &mut Counted<'_, R>,
     (transfer, vocabulary): (Transfer, Vocabulary),
@@ -167,7 +171,7 @@ fn walk_data_set<R: Read, L: Listing<O>, O: Write>(
     Ok(walker.finish().err())
 }
 
-/// Returns how the walk of a file ended: with its first fault, or at its end.
+/// Returns the final judgement of a file: its first fault, or its length.
 fn ending(found: Option<Fault>, start: u64, end: u64) -> (Judgement, Outcome) {
     match found {
         Some(fault) => (Judgement::BadData(start, fault), Outcome::Faulty),
@@ -175,8 +179,8 @@ fn ending(found: Option<Fault>, start: u64, end: u64) -> (Judgement, Outcome) {
     }
 }
 
-/// Tells how a file ended.
-fn tell_end<L: Listing<O>, O: Write>(
+/// Reports the final judgement of a file.
+fn report_end<L: Listing<O>, O: Write>(
     (judgement, outcome): (Judgement, Outcome),
     listing: &mut L,
     out: &mut O,
@@ -187,19 +191,33 @@ fn tell_end<L: Listing<O>, O: Write>(
     }
 }
 
-/// Lists the rest of a file after its header, up to its first fault.
+/// Lists the data set that `input` continues with, up to its first fault.
 fn list_data_set<R: Read, L: Listing<O>, O: Write>(
     input: &mut Counted<'_, R>,
-    (meta, vocabulary): (&Meta, Vocabulary),
+    (syntax, vocabulary): (Transfer, Vocabulary),
     listing: &mut L,
     out: &mut O,
 ) -> Result<Outcome, InspectionError> {
     let start = input.count();
-    let found = walk_data_set(input, (meta.syntax, vocabulary), listing, out)?;
-    tell_end(ending(found, start, input.count()), listing, out)
+    let found = walk_data_set(input, (syntax, vocabulary), listing, out)?;
+    report_end(ending(found, start, input.count()), listing, out)
 }
 
-/// Lists the elements of the file meta information in these bytes, which are the beginning of a file.
+/// Lists a file without header, a data set in this form, up to its first fault.
+fn list_bare<R: Read, L: Listing<O>, O: Write>(
+    input: &mut FileFront<'_, R>,
+    (form, vocabulary): (Syntax, Vocabulary),
+    listing: &mut L,
+    out: &mut O,
+) -> Result<Outcome, InspectionError> {
+    let syntax = Transfer::native(form);
+    listing
+        .on_bare(syntax, out)
+        .map_err(InspectionError::Write)?;
+    list_data_set(&mut Counted::new(input), (syntax, vocabulary), listing, out)
+}
+
+/// Lists the elements of the File Meta Information in `file`, the beginning of a file.
 fn list_meta<L: Listing<O>, O: Write>(file: &[u8], listing: &mut L, out: &mut O) -> io::Result<()> {
     let mut place = PREFIX;
     for _ in 0..file.len() {
@@ -217,8 +235,8 @@ fn list_meta<L: Listing<O>, O: Write>(file: &[u8], listing: &mut L, out: &mut O)
     Ok(())
 }
 
-/// Lists a file as `list` does, and before its data set the elements of its file meta information that end within 4096
-/// bytes of the file.
+/// Lists a file as `list` does, with the elements of the File Meta Information that end within the
+/// first 4096 bytes before the data set.
 ///
 /// Fails if the file can't be read or the output can't be written.
 pub(crate) fn list_with_meta<R: Read, L: Listing<O>, O: Write>(
@@ -228,21 +246,24 @@ pub(crate) fn list_with_meta<R: Read, L: Listing<O>, O: Write>(
     out: &mut O,
 ) -> Result<Outcome, InspectionError> {
     let mut front = FileFront::new(input);
+    if let Some(form) = syntaxes.bare_form(&mut front) {
+        return list_bare(&mut front, (form, vocabulary), listing, out);
+    }
     let mut input = Counted::new(&mut front);
     match syntaxes.read_meta(&mut input) {
         Ok(meta) => {
             listing.on_meta(&meta, out).map_err(InspectionError::Write)?;
-            list_meta(input.input().kept(), listing, out).map_err(InspectionError::Write)?;
-            list_data_set(&mut input, (&meta, vocabulary), listing, out)
+            list_meta(input.input().returned(), listing, out).map_err(InspectionError::Write)?;
+            list_data_set(&mut input, (meta.syntax, vocabulary), listing, out)
         }
         Err(MetaFault::ReadFailed) => Err(input.into_error()),
-        Err(fault) => tell_end((Judgement::BadHeader(fault), Outcome::Faulty), listing, out),
+        Err(fault) => report_end((Judgement::BadHeader(fault), Outcome::Faulty), listing, out),
     }
 }
 
-/// Lists a file in one of these transfer syntaxes that the reader gives, up to its first fault, which is that of its
-/// walker whatever the vocabulary. With the standard's a header that has no VR gets it, and the items in a sequence of
-/// defined length are listed that the walker takes for a value.
+/// Lists the file that `input` yields, in one of these transfer syntaxes, up to its first fault.
+/// The vocabulary does not change the fault. With `Vocabulary::Standard`, headers without a VR get
+/// the VR of PS3.6, and the items of sequences that the walker reads as values are listed.
 ///
 /// Fails if the file can't be read or the output can't be written.
 pub fn list<R: Read, L: Listing<O>, O: Write>(
@@ -251,13 +272,17 @@ pub fn list<R: Read, L: Listing<O>, O: Write>(
     listing: &mut L,
     out: &mut O,
 ) -> Result<Outcome, InspectionError> {
-    let mut input = Counted::new(input);
+    let mut front = FileFront::new(input);
+    if let Some(form) = syntaxes.bare_form(&mut front) {
+        return list_bare(&mut front, (form, vocabulary), listing, out);
+    }
+    let mut input = Counted::new(&mut front);
     match syntaxes.read_meta(&mut input) {
         Ok(meta) => {
             listing.on_meta(&meta, out).map_err(InspectionError::Write)?;
-            list_data_set(&mut input, (&meta, vocabulary), listing, out)
+            list_data_set(&mut input, (meta.syntax, vocabulary), listing, out)
         }
         Err(MetaFault::ReadFailed) => Err(input.into_error()),
-        Err(fault) => tell_end((Judgement::BadHeader(fault), Outcome::Faulty), listing, out),
+        Err(fault) => report_end((Judgement::BadHeader(fault), Outcome::Faulty), listing, out),
     }
 }

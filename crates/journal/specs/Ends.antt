@@ -1,7 +1,7 @@
--- Which decisions end an association and as what, and as what its end is counted (PS3.8 sections 7 and 9). This product's own
+-- Which decisions end an association, how, and how its end is counted (PS3.8 sections 7 and 9). This product's own
 -- profile.
 use Rattle.std.specs.Prelude.{ℕ, ◌&&◌, Bool, true, false, Option, Some, None, nat_le, if◌then◌else◌}
-use Rattle.connection.specs.declared.observer.ReadEnd.TheVariants as read
+use Rattle.service.specs.declared.observer.ReadEnd.TheVariants as read
 use Rattle.decisions.specs.declared.decision.Decision.{Decision}
 use Rattle.decisions.specs.declared.decision.Decision.TheVariants as decision
 use Rattle.journal.specs.declared.cause.Cause.{Cause}
@@ -27,12 +27,12 @@ counted_as (ends.Read read.Failed) = counted.ConnectionFailed
 counted_as ends.SendFailed = counted.ConnectionFailed
 counted_as ends.FileLost = counted.FileLost
 
--- one whose end was not seen is counted apart
+-- how an association is counted by its end; one whose end was not seen is counted separately
 abbrev pub counted_where : Option End → CountedEnd
 counted_where (Some end) = counted_as end
 counted_where None = counted.Unknown
 
--- as what an association is counted that ends with this decision
+-- how an association that ends with this decision is counted
 abbrev pub counted_by : Decision → CountedEnd
 counted_by decision.Nothing = counted.Unknown
 counted_by (decision.PduRefused head) = counted.AbortedByBox
@@ -44,7 +44,7 @@ counted_by (decision.Fragment head) = counted.Unknown
 counted_by (decision.ContextRefused head) = counted.AbortedByBox
 counted_by (decision.FragmentRefused head fault) = counted.AbortedByBox
 counted_by decision.ValueInvalid = counted.AbortedByBox
-counted_by (decision.BytesLeft end) = counted.AbortedByBox
+counted_by (decision.BytesRemaining end) = counted.AbortedByBox
 counted_by (decision.CommandRefused fault field) = counted.AbortedByBox
 counted_by decision.DataDue = counted.Unknown
 counted_by (decision.Replied status detail) = counted.Unknown

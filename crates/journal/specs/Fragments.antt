@@ -1,5 +1,5 @@
--- What a log keeps of a message by what was decided of it, and why a fragment does not continue it (PS3.7 section 6.3, PS3.8
--- annex E).
+-- What a log keeps of a message after each decision, and why a fragment does not continue the message (PS3.7 section
+-- 6.3, PS3.8 annex E).
 use Rattle.std.specs.Prelude.{ℕ, ◌+◌, ◌-◌, ◌^◌, Bool, true, false, min, nat_lt}
 use Rattle.decisions.specs.declared.decision.Decision.{Decision}
 use Rattle.decisions.specs.declared.decision.Decision.TheVariants as decision
@@ -12,7 +12,7 @@ use Rattle.journal.specs.declared.message.Misplaced.TheVariants.{TooLong, DataFi
 use Rattle.journal.specs.declared.message.Stage.{Stage}
 use Rattle.journal.specs.declared.message.Stage.TheVariants.{Between, Command, Data}
 
--- the fault that a message has by such a fragment
+-- the fault of a message with such a fragment
 abbrev pub fault_of : Misplaced → DimseFault
 fault_of (TooLong size) = faults.CommandTooLong
 fault_of DataFirst = faults.WrongKind
@@ -20,7 +20,7 @@ fault_of DataInside = faults.WrongKind
 fault_of TwoCommands = faults.WrongKind
 fault_of (OtherContext id own) = faults.OtherContext
 
--- so many bytes more, up to the greatest number of the type
+-- a number of bytes increased by so many, up to the greatest number of the type
 abbrev pub more : ℕ → ℕ → ℕ
 more n size = min (n + size) (2 ^ 64 - 1)
 
@@ -35,14 +35,13 @@ abbrev pub sized : Bool → ℕ → Message → Message
 sized true size m = record m { command_size = more m.command_size size; is_fragment_due = nat_lt 0 size }
 sized false size m = record m { data_size = more m.data_size size; is_fragment_due = nat_lt 0 size }
 
-abbrev pub begun : PdvHead → Message → Message
-begun head m = sized head.command (head.length - 2) (opened m.stage head m)
+abbrev pub started : PdvHead → Message → Message
+started head m = sized head.command (head.length - 2) (opened m.stage head m)
 
--- What is kept once a part of a PDU is complete, by what was decided last: with that part, unless it is a fragment after which
--- the message goes on, and which its head had continued.
+-- What is kept of a message after this decision, when a part of a PDU is complete; a fragment counts once, at its head.
 abbrev pub decided : Bool → Decision → Message → Message
 decided true (decision.Fragment head) m = m
-decided false (decision.Fragment head) m = begun head m
+decided false (decision.Fragment head) m = started head m
 decided after decision.DataDue m = record m { stage = Data; is_store = true; data_size = 0 }
 decided after (decision.Replied status detail) m = record m { stage = Between }
 decided after other m = m

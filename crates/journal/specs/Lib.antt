@@ -2,5 +2,5 @@ pub mod Printable
 pub mod Outcomes
 pub mod Fragments
 pub mod Ends
-pub mod Told
+pub mod Reported
 pub mod Limits

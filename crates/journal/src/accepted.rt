@@ -2,15 +2,15 @@
 use negotiate::{Config, result_of};
 use pdu::Request;
 
-/// The result of a context that was not proposed: none of PS3.8 Table 9-18.
+/// The result of a context that was not proposed. It is not in PS3.8 Table 9-18.
 const UNPROPOSED: u8 = 255;
 
-/// The results of the contexts of a request, by their IDs, which are odd.
+/// The results of the contexts of a request, indexed by half their IDs, which are odd.
 #[derive(Clone, Copy)]
 pub(crate) struct Results([u8; 128]);
 
 impl Results {
-    /// Returns the results that this configuration gives.
+    /// Returns the results of the contexts of `request` under this configuration.
     pub(crate) fn of(config: &Config, request: &Request) -> Results {
         let mut results = Results([UNPROPOSED; 128]);
         for proposal in request.contexts() {

@@ -1,21 +1,21 @@
-//! What a store was asked for, and how it was answered.
+//! The class and instance of a store, and its reply.
 use crate::refused::shown_class;
 use crate::text::Text;
 use dimse::element_numbers::{CLASS, FIELD, INSTANCE};
 use dimse::{Command, CommandSet, Detail};
 use element::unpadded;
 
-/// A unique identifier, or a keyword in its place, as it is shown.
+/// A UID, or its keyword, as the log shows it.
 pub(crate) type Value = Text<64>;
 
-/// The class and the instance of a store, by their unique identifiers.
+/// The class and the instance of a store, by their UIDs.
 #[derive(Drop)]
 pub(crate) struct Asked {
     class: Value,
     pub instance: Value,
 }
 
-/// Returns a UID of a command set, without its padding; empty where there is none.
+/// Returns a UID of a command set without padding, or an empty text if it has none.
 fn uid_of(set: &CommandSet, number: u16) -> Value {
     let mut uid = Value::new();
     if let Some(bytes) = set.value(number) {
@@ -25,7 +25,7 @@ fn uid_of(set: &CommandSet, number: u16) -> Value {
 }
 
 impl Asked {
-    /// Returns what no store was asked for.
+    /// Returns an empty class and instance.
     pub(crate) fn nothing() -> Asked {
         Asked {
             class: Value::new(),
@@ -33,7 +33,8 @@ impl Asked {
         }
     }
 
-    /// Reads the command set of a C-STORE.
+    /// Reads the class and the instance of a C-STORE from its command set, or returns empty ones if
+    /// it is invalid.
     pub(crate) fn read(command: &[u8]) -> Asked {
         match CommandSet::read(command) {
             Some(set) => Asked {
@@ -44,22 +45,22 @@ impl Asked {
         }
     }
 
-    /// Returns the class by its keyword, where it has one, else its UID.
+    /// Returns the keyword of the class, or its UID if it has none.
     pub(crate) fn class(&self) -> Value {
         shown_class(self.class.as_str().as_bytes())
     }
 }
 
-/// An element of a command set that has to be a unique identifier and is none.
+/// A UID element of a command set that is invalid or missing.
 #[derive(Drop)]
 pub(crate) struct BadElement {
     pub number: u16,
-    /// Its value; empty where it is missing.
+    /// The value, empty if missing.
     pub value: Value,
 }
 
 impl BadElement {
-    /// Returns the first such element of a command set, if it is that of a C-ECHO or a C-STORE with these bytes.
+    /// Returns the first invalid UID element of this command set of a C-ECHO or C-STORE, or `None`.
     pub(crate) fn of(command: &[u8]) -> Option<BadElement> {
         let set = CommandSet::read(command)?;
         let numbers: &[u16] = match set.number(FIELD) {

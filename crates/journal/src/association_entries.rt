@@ -1,4 +1,4 @@
-//! What the lines of the log tell of an association: that it was rejected or aborted, or ended.
+//! The log lines about an association: its refusals, its rejection or abort, and its end.
 use crate::asked::{BadElement, Reply, Value};
 use crate::end::{End, Rejection};
 use crate::entry::{Entry, Event, Fields, Name};
@@ -49,11 +49,11 @@ impl Entry for Rejected<'_> {
     }
 }
 
-/// The association was aborted, and not by the peer.
+/// The association was aborted by dcmbox.
 #[derive(Clone, Copy)]
 pub(crate) struct Aborted<'a> {
     pub end: Option<End>,
-    /// What is wrong with the command set for which it was.
+    /// The invalid element of the command set for which it was aborted.
     pub bad: Option<&'a BadElement>,
     pub calling: &'a Title,
 }
@@ -87,7 +87,7 @@ impl Entry for Aborted<'_> {
     }
 }
 
-/// No context of these classes was accepted: a warning, if one of them may be a storage class.
+/// No context of these classes was accepted: a warning, if one may be a storage class.
 #[derive(Clone, Copy)]
 pub(crate) struct ClassesRefused<'a> {
     pub level: Level,
@@ -113,7 +113,7 @@ impl Entry for ClassesRefused<'_> {
     }
 }
 
-/// Gives the classes that are named, and how many others there are.
+/// Writes the fields of the named classes and the number of others.
 fn give_refused<F: Fields>(refused: &RefusedClasses, out: &mut F) {
     out.list(Name::new("classes", ": "), refused.named.as_str());
     if refused.others > 0 {
@@ -126,7 +126,8 @@ fn give_refused<F: Fields>(refused: &RefusedClasses, out: &mut F) {
     }
 }
 
-/// Contexts of these classes were accepted, and others refused for their transfer syntaxes; and no store came.
+/// Contexts of these classes were accepted and others refused for their transfer syntaxes, and the
+/// peer asked for no store or aborted.
 #[derive(Clone, Copy)]
 pub(crate) struct SyntaxesRefused<'a> {
     pub refused: &'a RefusedClasses,
@@ -151,7 +152,7 @@ impl Entry for SyntaxesRefused<'_> {
     }
 }
 
-/// An echo was not answered with success.
+/// The reply to a C-ECHO did not report success.
 #[derive(Clone, Copy)]
 pub(crate) struct EchoRefused<'a> {
     pub status: u16,
@@ -186,7 +187,7 @@ impl Entry for EchoRefused<'_> {
 #[derive(Clone, Copy)]
 pub(crate) struct ContextRefused<'a> {
     pub id: u8,
-    /// Its result (PS3.8 Table 9-18).
+    /// The result of the context (PS3.8 Table 9-18).
     pub answer: u8,
     pub class: &'a Value,
     pub syntaxes: &'a Text<300>,
@@ -215,16 +216,16 @@ impl Entry for ContextRefused<'_> {
     }
 }
 
-/// What an association came to.
+/// A summary of an association that has ended.
 #[derive(Clone, Copy)]
 pub struct Served {
-    /// How it stands.
+    /// The state of the association.
     pub standing: &'static str,
-    /// How many bytes it holds.
+    /// How many received bytes the association still holds.
     pub held: usize,
-    /// How many files it put into the folder.
+    /// How many files the association added to the folder.
     pub files: u32,
-    /// How many bytes it received.
+    /// How many bytes were received.
     pub received: u64,
     pub seconds: u64,
 }
@@ -236,7 +237,7 @@ pub(crate) struct Ended<'a> {
     pub state: &'a State,
 }
 
-/// Gives how many stores came to what.
+/// Writes how many stores were filed, refused and failed.
 fn give_counts<F: Fields>(counts: Counts, out: &mut F) {
     out.number(Name::new("stored", " stored "), counts.stored);
     out.number(Name::new("refused", " refused "), counts.refused);

@@ -1,68 +1,68 @@
-//! Why the box aborted an association.
+//! Why dcmbox aborted an association.
 ghost use Rattle.std.specs.Prelude.{◌≡◌};
 
 use crate::end::Abort;
 use crate::fields::field_name;
 use crate::limits::Limits;
 use crate::message::Misplaced;
-use connection::COMMAND;
 use dimse::DimseFault;
 use pdu::pdu_type::{A_ABORT, A_ASSOCIATE_RJ, A_ASSOCIATE_RQ, A_RELEASE_RQ, P_DATA_TF};
 use pdu::{PduFault, PduHead};
+use service::COMMAND;
 use std::fmt;
 
-/// The bytes of an association request's body before its items.
+/// The size in bytes of the body of an A-ASSOCIATE-RQ before its items.
 const BEFORE_ITEMS: u32 = 68;
 
-/// The type of a TLS record that is part of a handshake (RFC 8446 section 5.1), which is that of no PDU.
+/// The type of a TLS handshake record (RFC 8446 section 5.1), which is not the type of a PDU.
 const HANDSHAKE: u8 = 0x16;
 
-/// The bytes of the head of a presentation data value.
+/// The size in bytes of the header of a presentation data value.
 const VALUE_HEAD: u32 = 6;
 
 /// The reason unrecognized-PDU of an A-ABORT of the service provider (PS3.8 Table 9-26).
 const UNRECOGNIZED: u8 = 1;
 
-/// Its reason unexpected-PDU.
+/// The reason unexpected-PDU of an A-ABORT of the service provider.
 const UNEXPECTED: u8 = 2;
 
-/// Its reason invalid-PDU-parameter-value.
+/// The reason invalid-PDU-parameter-value of an A-ABORT of the service provider.
 const INVALID_PARAMETER: u8 = 6;
 
-/// What the peer sent that an A-ABORT answers.
+/// What the peer sent for which the association was aborted.
 #[derive(Clone, Copy, Debug, PartialEq, Eq)]
 pub(crate) enum Cause {
-    /// A PDU of this type, which is unknown or out of place.
+    /// A PDU of this type, which is unknown or unexpected.
     Pdu(u8),
     /// The first bytes of a TLS connection.
     Tls,
-    /// A PDU of this type and length, whose body has to be of four bytes.
+    /// A PDU of this type and length, whose body must have four bytes.
     Length(u8, u32),
-    /// A P-DATA-TF PDU of this length, above this limit.
+    /// A P-DATA-TF PDU of this length, above this limit, in bytes.
     LongData(u32, u32),
-    /// A P-DATA-TF PDU of this length, without room for a presentation data value.
+    /// A P-DATA-TF PDU of this length, too short for a presentation data value.
     ShortData(u32),
-    /// A request with this fault.
+    /// An A-ASSOCIATE-RQ with this fault.
     Request(PduFault),
-    /// The head of a presentation data value whose length is below 2 or passes the PDU.
+    /// A presentation data value whose length is below 2 or exceeds the PDU.
     Value,
-    /// Bytes after the last presentation data value that are no head of a further one.
+    /// Bytes after the last presentation data value, too few for another header.
     Leftover,
-    /// A presentation data value of this context, which is not accepted.
+    /// A presentation data value in the context with this ID, which is not accepted.
     Context(u8),
     /// A fragment that does not continue its message.
     Fragment(Misplaced),
-    /// A command set with this fault, and its command field, if it could be read.
+    /// A command set with this fault, and its command field, if that could be read.
     Command(DimseFault, Option<u16>),
 }
 
-/// Returns whether the last four of the first six bytes of a TLS connection may be read as this number: the second byte
-/// of its version, at most 4, the length of the record, and the type of the message, ClientHello (1).
+/// Returns whether a PDU length may be bytes 3 to 6 of a TLS ClientHello: the minor version, at
+/// most 4, the length of the record, and the message type 1.
 fn is_hello(length: u32) -> bool {
     length >> 24 <= 4 && length & 0xff == 1
 }
 
-/// Returns why the head of a PDU has an association aborted that is established or not (PS3.8
+/// Returns why the header of a PDU aborts an association, which is established or not (PS3.8
 /// section 9.2).
 pub(crate) fn head_cause(head: PduHead, is_established: bool, limits: Limits) -> Cause {
     let PduHead { kind, length } = head;
@@ -83,8 +83,8 @@ pub(crate) fn head_cause(head: PduHead, is_established: bool, limits: Limits) ->
 impl Cause {
     ghost use Rattle.journal.specs.Ends.{abort_for};
 
-    /// Returns the A-ABORT that answers it. Where no association is established, that is the
-    /// service user's (AA-1 of PS3.8 Table 9-9).
+    /// Returns the A-ABORT that is sent for the cause. If no association is established, its source
+    /// is the service user (AA-1 of PS3.8 Table 9-9).
     pub(crate) fn abort(self, is_established: bool) -> Abort
         ensures { result ≡ abort_for is_established self }
     {
@@ -115,7 +115,7 @@ impl fmt::Display for Misplaced {
     }
 }
 
-/// Writes the fault of a command set, and its field with the name that PS3.7 gives it.
+/// Writes the fault of a command set, and its command field with the name in PS3.7.
 fn write_command<W: fmt::Write>(
     f: &mut fmt::Formatter<W>,
     fault: DimseFault,

@@ -1,4 +1,4 @@
-//! What the log tells of the presentation contexts of a request.
+//! The log lines about the presentation contexts of a request.
 use crate::accepted::Results;
 use crate::association_entries::{ClassesRefused, ContextRefused, SyntaxesRefused};
 use crate::end::End;
@@ -7,16 +7,15 @@ use crate::refused::{RefusedClasses, shown_class, shown_syntax};
 use crate::state::{Phase, State};
 use crate::text::Text;
 use arrayvec::ArrayVec;
-use connection::Taken;
 use folder_filing::StoredFile;
 use log::{Level, Log};
 use negotiate::{Answer, Config, ContextRow, compact};
 use pdu::{Proposal, Request, read_request};
+use service::Taken;
 use std::rt::Files;
 use std::time::Clock;
 
-/// Returns the transfer syntaxes of a proposed context by their keywords, where they have one, else
-/// their identifiers.
+/// Returns the transfer syntaxes of a proposed context by keyword, or by UID if they have none.
 fn shown_syntaxes(proposal: &Proposal) -> Text<300> {
     let mut syntaxes = Text::new();
     for uid in proposal.transfer_syntaxes() {
@@ -28,24 +27,24 @@ fn shown_syntaxes(proposal: &Proposal) -> Text<300> {
     syntaxes
 }
 
-/// The bytes of the head of a PDU.
+/// The size in bytes of the header of a PDU.
 const HEAD: usize = 6;
 
-/// The contexts of a request.
+/// The presentation contexts of a request, with their results.
 #[derive(Drop)]
 struct AskedContexts {
-    /// The maximum length of a P-DATA-TF PDU that the request names.
+    /// The maximum length of a P-DATA-TF PDU that the peer receives.
     maximum: u32,
     proposed: u64,
     accepted: ArrayVec<ContextRow, 128>,
-    /// The classes of which none was accepted.
+    /// The classes of which no context was accepted.
     refused: RefusedClasses,
-    /// The storage classes of which one was, and others were not.
+    /// The storage classes of which some contexts were accepted and others were not.
     in_part: RefusedClasses,
 }
 
 impl AskedContexts {
-    /// Returns those of a request that have these results.
+    /// Returns the contexts of a request with these results.
     fn of(config: &Config, request: &Request, results: &Results) -> AskedContexts {
         let mut proposed: u64 = 0;
         for _ in request.contexts() {
@@ -68,8 +67,8 @@ impl<R: Log + Clock, S: Files + Alloc + Clone + Drop> Journal<'_, R, S>
 where
     S::File: StoredFile,
 {
-    /// Takes note of the answer to the request, and of its contexts. Writes of those that were not accepted, if the
-    /// request was.
+    /// Records the answer to the request, and its contexts. If it was accepted, counts the contexts
+    /// that were not, and logs the classes of which none was.
     pub(crate) fn judge(&self, state: &mut State, answer: Answer, taken: &Taken<'_>) {
         let contexts = self.contexts(taken, answer);
         let is_accepted = answer == Answer::Accept;
@@ -102,7 +101,7 @@ where
             Level::Info
         };
         if !refused.is_empty() && self.has_lines(state, level) {
-            self.logger.tell(&ClassesRefused {
+            self.logger.report(&ClassesRefused {
                 level,
                 refused: &refused,
                 calling: &state.calling,
@@ -110,34 +109,35 @@ where
         }
     }
 
-    /// Writes of storage classes that were accepted, but not in all transfer syntaxes, where the peer made no use of them: it may
-    /// have had nothing else to send.
-    pub(crate) fn tell_unused(&self, state: &mut State) {
+    /// Logs the storage classes that were accepted in some transfer syntaxes only, if the peer
+    /// asked for no store or aborted the association, perhaps for that reason.
+    pub(crate) fn report_unused(&self, state: &mut State) {
         let is_unused = state.counts.asked == 0 || matches!(state.end, Some(End::AbortedByPeer(_)));
         if is_unused && !state.refused_in_part.is_empty() && self.has_lines(state, Level::Warn) {
-            self.logger.tell(&SyntaxesRefused {
+            self.logger.report(&SyntaxesRefused {
                 refused: &state.refused_in_part,
                 calling: &state.calling,
             });
         }
     }
 
-    /// Returns the contexts of the request that was judged, the first PDU that came.
+    /// Returns the contexts of the judged request, the first PDU received, or `None` if it cannot
+    /// be read. Logs the refused ones at level trace.
     fn contexts(&self, taken: &Taken<'_>, answer: Answer) -> Option<AskedContexts> {
         let request = read_request(taken.whole.get(HEAD..)?).ok()?;
         let results = Results::of(self.config, &request);
-        if answer == Answer::Accept && self.logger.tells(Level::Trace) {
-            self.tell_refused(&request, &results);
+        if answer == Answer::Accept && self.logger.reports(Level::Trace) {
+            self.report_refused(&request, &results);
         }
         Some(AskedContexts::of(self.config, &request, &results))
     }
 
-    /// Writes of each context that was not accepted.
-    fn tell_refused(&self, request: &Request, results: &Results) {
+    /// Logs each context that was not accepted.
+    fn report_refused(&self, request: &Request, results: &Results) {
         for proposal in request.contexts() {
             match results.result(proposal.id()) {
                 None | Some(0) => {}
-                Some(answer) => self.logger.tell(&ContextRefused {
+                Some(answer) => self.logger.report(&ContextRefused {
                     id: proposal.id(),
                     answer,
                     class: &shown_class(proposal.abstract_syntax()),

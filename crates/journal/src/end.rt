@@ -3,18 +3,19 @@ ghost use Rattle.std.specs.Prelude.{◌≡◌};
 
 use crate::cause::Cause;
 use crate::words::{provider_words, rejection_words};
-use connection::{REQUEST, ReadEnd};
 use metrics::CountedEnd;
+use service::{REQUEST, ReadEnd};
 use std::fmt;
 
-/// The bytes of the heads of a PDU and of a presentation data value, which a request leaves free.
+/// The size in bytes of the headers of a PDU and a presentation data value, by which the limit of a
+/// request is below `REQUEST`.
 const HEADS: usize = 12;
 
-/// The least maximum length of a peer that leaves room for a fragment.
+/// The smallest maximum length of a peer that has room for a fragment.
 const LEAST_MAXIMUM: u32 = 8;
 
-/// Why a request was rejected: the source and the reason of the A-ASSOCIATE-RJ, and what the request has to
-/// do with it.
+/// Why a request was rejected: the source and the reason of the A-ASSOCIATE-RJ, and the number in
+/// the request that caused it.
 #[derive(Clone, Copy, Debug, PartialEq, Eq)]
 pub(crate) struct Rejection {
     pub source: u8,
@@ -22,12 +23,12 @@ pub(crate) struct Rejection {
     pub about: About,
 }
 
-/// What a request has to do with its rejection.
+/// The number in a request that caused its rejection.
 #[derive(Clone, Copy, Debug, PartialEq, Eq)]
 pub(crate) enum About {
-    /// Nothing that has a number.
+    /// No number.
     Nothing,
-    /// Its body has so many bytes.
+    /// The size of the body of the request in bytes.
     Length(u32),
     /// The maximum length of a P-DATA-TF PDU that the peer receives.
     Maximum(u32),
@@ -59,7 +60,7 @@ pub(crate) struct Abort {
 impl Abort {
     ghost use Rattle.journal.specs.Ends.{provider, user};
 
-    /// Returns that of the service user.
+    /// Returns the A-ABORT of the service user.
     pub(crate) fn of_user() -> Abort
         ensures { result ≡ user }
     {
@@ -69,7 +70,7 @@ impl Abort {
         }
     }
 
-    /// Returns that of the service provider, with this reason.
+    /// Returns the A-ABORT of the service provider, with this reason.
     pub(crate) fn of_provider(reason: u8) -> Abort
         ensures { result ≡ provider reason }
     {
@@ -77,7 +78,7 @@ impl Abort {
     }
 }
 
-/// Which side's user or provider aborted, and why, where the provider says so.
+/// Writes whether the service user or provider aborted, and the reason of a provider.
 impl fmt::Display for Abort {
     fn fmt<W: fmt::Write>(&self, f: &mut fmt::Formatter<W>) -> fmt::Result {
         match self.source {
@@ -96,24 +97,24 @@ impl fmt::Display for Abort {
 pub(crate) enum End {
     /// The peer released it.
     Released,
-    /// Its request was rejected.
+    /// The request was rejected.
     Rejected(Rejection),
     /// The peer aborted it.
     AbortedByPeer(Abort),
-    /// The box aborted it, for what the peer had sent.
+    /// dcmbox aborted it, for what the peer had sent.
     Aborted(Abort, Cause),
-    /// Nothing more was read.
+    /// Reading ended.
     Read(ReadEnd),
     /// A send failed.
     SendFailed,
-    /// The file of a store could not be kept once it was committed.
+    /// The file of a store was committed, but could not be made durable.
     FileLost,
 }
 
 impl End {
     ghost use Rattle.journal.specs.Ends.{counted_as};
 
-    /// Returns as what it is counted: as what its words in the log say.
+    /// Returns the counter that this end increments, which matches the words in the log.
     pub(crate) fn counted(self) -> CountedEnd
         ensures { result ≡ counted_as self }
     {

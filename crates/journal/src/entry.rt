@@ -1,7 +1,7 @@
-//! What a line of the log tells: an event, and fields that have names.
+//! The content of a log line: an event and named fields.
 use log::Level;
 
-/// How a field is called: in JSON, and what stands before and after it in a text.
+/// The name of a field: its key in JSON, and what is written before and after its value in text.
 #[derive(Clone, Copy)]
 pub struct Name {
     pub key: &'static str,
@@ -10,7 +10,7 @@ pub struct Name {
 }
 
 impl Name {
-    /// Returns the name of a field that stands in a text after its key.
+    /// Returns the name of a field with nothing after its value in text.
     pub fn new(key: &'static str, before: &'static str) -> Name {
         Name {
             key,
@@ -20,31 +20,31 @@ impl Name {
     }
 }
 
-/// What a line tells of: its name in JSON, and its words in a text.
+/// The event of a line: its name in JSON, and its words in text.
 #[derive(Clone, Copy)]
 pub struct Event {
     pub key: &'static str,
     pub words: &'static str,
 }
 
-/// Takes the fields of a line.
+/// Writes the fields of a line.
 pub trait Fields {
     fn number(&mut self, name: Name, value: u64);
 
     fn text(&mut self, name: Name, value: &str);
 
-    /// Takes a list, whose parts have a comma and a space between them.
+    /// Writes a list, whose parts are separated by a comma and a space.
     fn list(&mut self, name: Name, values: &str);
 }
 
-/// What a line of the log tells.
+/// The content of a log line.
 pub trait Entry {
-    /// Returns how important it is.
+    /// Returns the level of the line.
     fn level(&self) -> Level;
 
-    /// Returns what it tells of.
+    /// Returns the event of the line.
     fn event(&self) -> Event;
 
-    /// Gives its fields, in the order of a text.
+    /// Writes the fields, in the order of the text form.
     fn fields<F: Fields>(&self, out: &mut F);
 }

@@ -1,4 +1,4 @@
-//! Fields that several lines of the log have.
+//! Fields that several log lines share.
 use crate::asked::Reply;
 use crate::end::End;
 use crate::entry::{Fields, Name};
@@ -56,10 +56,10 @@ const ERROR: Name = Name {
     after: "",
 };
 
-/// A short text of the log itself.
+/// A short text that the log itself composes.
 pub(crate) type Words = Text<160>;
 
-/// Returns how an association ended, in words; empty where it has not.
+/// Returns how an association ended, in words, or an empty text if it has not.
 pub(crate) fn end_words(end: Option<End>) -> Words {
     let mut words = Words::new();
     if let Some(end) = end {
@@ -68,21 +68,21 @@ pub(crate) fn end_words(end: Option<End>) -> Words {
     words
 }
 
-/// Gives a system's error.
+/// Writes a system error.
 pub(crate) fn give_error<F: Fields>(error: &io::Error, out: &mut F) {
     let mut words = Words::new();
     let _ = write!(words, "{error}");
     out.text(ERROR, words.as_str());
 }
 
-/// Gives the calling title, where it is known.
+/// Writes the calling title, if known.
 pub(crate) fn give_calling<F: Fields>(calling: &Title, out: &mut F) {
     if calling.len() > 0 {
         out.text(CALLING, calling.as_str());
     }
 }
 
-/// Gives the status of a reply in hexadecimal, and the cause that it reports.
+/// Writes the status of a reply in hexadecimal, and the cause that it reports.
 pub(crate) fn give_status<F: Fields>(reply: Reply, out: &mut F) {
     let mut status = Text::<4>::new();
     let _ = write!(status, "{:04X}", reply.status);
@@ -92,7 +92,7 @@ pub(crate) fn give_status<F: Fields>(reply: Reply, out: &mut F) {
     }
 }
 
-/// Gives the cause of a failure, as the response's Error Comment and Offending Element name it.
+/// Writes the cause of a failure, as the response's Error Comment and Offending Element name it.
 fn give_detail<F: Fields>(detail: Detail, out: &mut F) {
     let Some(name) = cause_name(detail.number) else {
         return;

@@ -1,6 +1,7 @@
 //! The command fields of DIMSE messages.
 
-/// Returns the name of the message that has this command field, or `None` if PS3.7 has none (PS3.7 annex E).
+/// Returns the name of the DIMSE message with this command field, or `None` if PS3.7 has none
+/// (PS3.7 annex E).
 pub(crate) fn field_name(field: u16) -> Option<&'static str> {
     let name = match field {
         0x0001 => "C-STORE-RQ",

@@ -1,11 +1,11 @@
-//! The two forms of a log.
+//! The form of log lines.
 use std::alloc::Global;
 
-/// How lines are written.
+/// The form of log lines.
 #[derive(Clone, Copy)]
-pub enum Form {
+pub enum LineForm {
     /// As text, for people.
     Text,
-    /// Each as a JSON object, for machines. It takes memory while a line is written.
+    /// As JSON objects, for machines. Memory is allocated while a line is written.
     Json(Global),
 }

@@ -1,4 +1,4 @@
-//! Is shown what goes over one connection, and writes the lines that tell of it.
+//! Observes one connection, and writes its log lines.
 ghost use Rattle.std.specs.Prelude.{◌≡◌, []};
 
 use crate::asked::{BadElement, Reply};
@@ -15,13 +15,13 @@ use crate::server_entries::NumbersLow;
 use crate::sheet::sheet_of;
 use crate::state::State;
 use crate::store_entries::{Answered, FilingFailed, NotConfirmed, NotStored, Unanswered};
-use connection::{Observer, ReadEnd, Taken};
 use decisions::{Decision, ValueEnd};
 use dimse::{DimseFault, status};
 use element::history::History;
 use folder_filing::{DraftNotes, Location, StoredFile};
 use log::{Level, Log};
 use negotiate::Config;
+use service::{Observer, ReadEnd, Taken};
 use std::alloc::{AllocError, Global};
 use std::cell::RefCell;
 use std::io;
@@ -29,19 +29,19 @@ use std::rc::Rc;
 use std::rt::Files;
 use std::time::Clock;
 
-/// Is shown what goes over one connection, and writes the lines that tell of it: at once what an
-/// operator has to act on, and at the end what the association came to. It is not `Drop`: it is given up by `end`
-/// alone, so no association is without the lines of its end.
+/// Observes one connection, and writes its log lines: at once what needs an operator's action, and
+/// a summary of the association at its end. It is not `Drop`: only `end` consumes it, so each
+/// association has the lines of its end.
 pub struct Journal<'a, R: Log + Clock, S: Files + Alloc + Clone + Drop>
 where
     S::File: StoredFile,
 {
     pub(crate) logger: Logger<'a, R>,
-    /// What became of the drafts of its filing.
+    /// What happened to the drafts of the filing.
     pub(crate) notes: Rc<DraftNotes<S>, S::A>,
     pub(crate) config: &'a Config,
     state: RefCell<State>,
-    /// What contracts see of the pieces that it was told of.
+    /// For contracts: the portions of input of which it was notified.
     heard: History<History<u8>>,
     alloc: Global,
 }
@@ -50,8 +50,8 @@ impl<'a, R: Log + Clock, S: Files + Alloc + Clone + Drop> Journal<'a, R, S>
 where
     S::File: StoredFile,
 {
-    /// Returns the journal of a new connection that is held to this configuration, whose files
-    /// become what these notes say. It takes memory for the text beside a data set that is kept in the quarantine.
+    /// Creates the journal of a connection with this configuration. `notes` are those of its
+    /// filing. `alloc` is for the text that is written beside a quarantined data set.
     pub fn new(
         alloc: Global,
         logger: Logger<'a, R>,
@@ -70,19 +70,20 @@ where
         }
     }
 
-    /// Returns what the connection is held to.
+    /// Returns the limits of the connection that the log names.
     pub(crate) fn limits(&self) -> Limits {
         Limits::of(self.config)
     }
 
-    /// Returns the text of an entry about this connection. Fails if memory runs out.
+    /// Returns an entry about this connection as text, a line for each field. Fails if memory runs
+    /// out.
     pub(crate) fn sheet<E: Entry>(&self, entry: &E) -> Result<String, AllocError> {
         sheet_of(self.alloc, self.logger.head(), entry)
     }
 
-    /// Writes the lines of an association that has ended.
+    /// Writes the last lines of an association that has ended.
     pub fn end(self, served: Served) {
-        self.tell_association(served);
+        self.report_association(served);
         let Journal {
             logger: _logger,
             notes: _notes,
@@ -93,28 +94,29 @@ where
         } = self;
     }
 
-    fn tell_association(&self, served: Served) {
+    fn report_association(&self, served: Served) {
         let Ok(mut state) = self.state.try_borrow_mut() else {
             return;
         };
-        self.tell_filing(&mut state);
+        self.report_filing(&mut state);
         self.remove_aside();
-        self.tell_left_out(&mut state);
-        self.tell_unanswered(&mut state);
-        self.tell_unused(&mut state);
+        self.report_omitted(&mut state);
+        self.report_unanswered(&mut state);
+        self.report_unused(&mut state);
         self.count_end(&state, served.received);
         if self.has_lines(&mut state, Level::Info) {
-            self.logger.tell(&Ended {
+            self.logger.report(&Ended {
                 served,
                 state: &state,
             });
         }
     }
 
-    /// Returns whether lines of this level tell of the association: of each that stored something, and else of the first ones
-    /// in a second, since a peer may open as many as it likes.
+    /// Returns whether lines of this level are written about the association. They are if it stored
+    /// something, else only for a limited number of associations a second, since a peer may open
+    /// any number.
     pub(crate) fn has_lines(&self, state: &mut State, level: Level) -> bool {
-        if !self.logger.tells(level) {
+        if !self.logger.reports(level) {
             return false;
         }
         if state.counts.stored > 0 {
@@ -130,7 +132,7 @@ where
         }
     }
 
-    /// Counts the association, and the stores without a reply.
+    /// Adds the association, and its stores without a reply, to the metrics.
     fn count_end(&self, state: &State, received: u64) {
         if let Some(metrics) = self.logger.metrics() {
             metrics.count_unanswered(state.counts.unanswered());
@@ -138,8 +140,9 @@ where
         }
     }
 
-    /// Writes of the store that was not answered, or whose reply was not all sent. Why a file was lost is told already.
-    fn tell_unanswered(&self, state: &mut State) {
+    /// Logs the store that had no reply, or whose reply was not sent completely, unless it was
+    /// logged why its file was lost.
+    fn report_unanswered(&self, state: &mut State) {
         let count = state.counts.unanswered();
         if count == 0 && state.unconfirmed.is_none()
             || state.has_filing_failed && state.end == Some(End::FileLost)
@@ -150,7 +153,7 @@ where
         let class = state.asked.class();
         let calling = &state.calling;
         if let Some(place) = state.unconfirmed {
-            self.logger.tell(&NotConfirmed {
+            self.logger.report(&NotConfirmed {
                 end: state.end,
                 place,
                 class: &class,
@@ -158,7 +161,7 @@ where
                 calling,
             });
         } else {
-            self.logger.tell(&Unanswered {
+            self.logger.report(&Unanswered {
                 end: state.end,
                 count,
                 class: &class,
@@ -168,11 +171,11 @@ where
         }
     }
 
-    /// Writes the system's error of a failed filing, once, with the store that it failed.
-    fn tell_filing(&self, state: &mut State) {
+    /// Logs the system error of a failed call of the filing, once, with its store.
+    fn report_filing(&self, state: &mut State) {
         if let Some(error) = self.notes.take_error() {
             state.has_filing_failed = true;
-            self.logger.tell_limited(
+            self.logger.report_limited(
                 Limited::File,
                 &FilingFailed {
                     error: &error,
@@ -184,19 +187,19 @@ where
         }
     }
 
-    /// Takes note of what an association took, and writes the lines of it.
+    /// Records input that the association consumed, and logs its effect.
     fn note(&self, taken: &Taken<'_>) {
         let Ok(mut state) = self.state.try_borrow_mut() else {
             return;
         };
-        self.tell_minute(&mut state);
+        self.report_minute(&mut state);
         let decision = state.take(taken);
-        self.tell_filing(&mut state);
-        self.tell(&mut state, decision, taken);
+        self.report_filing(&mut state);
+        self.report(&mut state, decision, taken);
     }
 
-    /// Takes note of what the association decided, and writes its lines.
-    fn tell(&self, state: &mut State, decision: Decision, taken: &Taken<'_>) {
+    /// Records what the association decided, and logs it.
+    fn report(&self, state: &mut State, decision: Decision, taken: &Taken<'_>) {
         if let Decision::RequestJudged(answer) = decision {
             self.judge(state, answer, taken);
         }
@@ -206,38 +209,38 @@ where
                 if taken.is_held {
                     state.held = Some(reply);
                 } else {
-                    self.tell_reply(state, reply);
+                    self.report_reply(state, reply);
                 }
             }
             ValueEnd::Replied(status, _) if status != status::SUCCESS => {
-                self.tell_echo(state, status);
+                self.report_echo(state, status);
             }
             _ => {}
         }
         if let Some(end) = state.end_by(decision, self.limits()) {
             state.end(end);
-            self.tell_end(state, end, taken);
+            self.report_end(state, end, taken);
         }
     }
 
-    /// Writes that an echo was refused, once.
-    fn tell_echo(&self, state: &mut State, status: u16) {
-        if !state.is_echo_told && self.has_lines(state, Level::Warn) {
-            self.logger.tell(&EchoRefused {
+    /// Logs that an echo was refused, once.
+    fn report_echo(&self, state: &mut State, status: u16) {
+        if !state.is_echo_reported && self.has_lines(state, Level::Warn) {
+            self.logger.report(&EchoRefused {
                 status,
                 calling: &state.calling,
             });
         }
-        state.is_echo_told = true;
+        state.is_echo_reported = true;
     }
 
-    /// Writes that the association was rejected or aborted with what it decided.
-    fn tell_end(&self, state: &mut State, end: End, taken: &Taken<'_>) {
+    /// Logs that the association was rejected or aborted by its last decision.
+    fn report_end(&self, state: &mut State, end: End, taken: &Taken<'_>) {
         match end {
             End::Rejected(rejection) => {
                 state.take_titles(taken.ahead);
                 if self.has_lines(state, Level::Warn) {
-                    self.logger.tell(&Rejected {
+                    self.logger.report(&Rejected {
                         rejection,
                         called: &state.called,
                         calling: &state.calling,
@@ -245,17 +248,17 @@ where
                 }
             }
             End::Aborted(_, Cause::Command(DimseFault::BadCommand, _)) => {
-                self.tell_abort(state, BadElement::of(taken.bytes));
+                self.report_abort(state, BadElement::of(taken.bytes));
             }
-            End::Aborted(..) => self.tell_abort(state, None),
+            End::Aborted(..) => self.report_abort(state, None),
             _ => {}
         }
     }
 
-    /// Writes that the association was aborted, and which element was wrong.
-    fn tell_abort(&self, state: &mut State, bad: Option<BadElement>) {
+    /// Logs that the association was aborted, with the invalid element, if any.
+    fn report_abort(&self, state: &mut State, bad: Option<BadElement>) {
         if self.has_lines(state, Level::Warn) {
-            self.logger.tell(&Aborted {
+            self.logger.report(&Aborted {
                 end: state.end,
                 bad: bad.as_ref(),
                 calling: &state.calling,
@@ -263,8 +266,8 @@ where
         }
     }
 
-    /// Counts a store that is answered, and writes its lines.
-    fn tell_reply(&self, state: &mut State, reply: Reply) {
+    /// Counts the reply to a store, and logs it.
+    fn report_reply(&self, state: &mut State, reply: Reply) {
         let counted = state.count(reply.status);
         if let Some(metrics) = self.logger.metrics() {
             metrics.count_answer(counted);
@@ -275,15 +278,15 @@ where
         if is_stored {
             state.unconfirmed = Some(place);
         }
-        if !is_stored || self.logger.tells(Level::Debug) {
-            self.tell_store(state, reply, place);
+        if !is_stored || self.logger.reports(Level::Debug) {
+            self.report_store(state, reply, place);
         }
         if let Some(place) = self.notes.take_low() {
-            self.logger.tell(&NumbersLow(place));
+            self.logger.report(&NumbersLow(place));
         }
     }
 
-    /// Returns what the status of a reply does not tell, if anything.
+    /// Returns the reason for a reply that its status does not give, or an empty text.
     pub(crate) fn reason(&self, state: &State, reply: Reply) -> Reason {
         if reply.status == status::OUT_OF_RESOURCES {
             resources_words(state.message.data_size, self.limits())
@@ -292,15 +295,15 @@ where
         }
     }
 
-    /// Writes the lines of a store that is answered. Why a file could not be written is told already.
-    fn tell_store(&self, state: &mut State, reply: Reply, place: Option<Location>) {
+    /// Logs the reply to a store, unless it was logged why its file could not be written.
+    fn report_store(&self, state: &mut State, reply: Reply, place: Option<Location>) {
         let class = state.asked.class();
         let syntax = state.syntax();
-        let is_told = state.has_filing_failed && reply.status == status::OUT_OF_RESOURCES;
+        let is_reported = state.has_filing_failed && reply.status == status::OUT_OF_RESOURCES;
         let is_stored = Outcome::of(reply.status) == Outcome::Stored;
-        if !is_stored && !is_told && self.has_line(state, reply) {
+        if !is_stored && !is_reported && self.has_line(state, reply) {
             let reason = self.reason(state, reply);
-            self.logger.tell(&NotStored {
+            self.logger.report(&NotStored {
                 reply,
                 class: &class,
                 instance: &state.asked.instance,
@@ -309,7 +312,7 @@ where
                 calling: &state.calling,
             });
         }
-        self.logger.tell(&Answered {
+        self.logger.report(&Answered {
             reply,
             class: &class,
             instance: &state.asked.instance,
@@ -337,12 +340,12 @@ where
         let Ok(mut state) = self.state.try_borrow_mut() else {
             return;
         };
-        self.tell_filing(&mut state);
+        self.report_filing(&mut state);
         let held = state.held.take();
         if !is_kept {
             state.end(End::FileLost);
         } else if let Some(reply) = held {
-            self.tell_reply(&mut state, reply);
+            self.report_reply(&mut state, reply);
         }
     }
 
@@ -356,17 +359,17 @@ where
         let Ok(mut state) = self.state.try_borrow_mut() else {
             return;
         };
-        self.tell_filing(&mut state);
+        self.report_filing(&mut state);
         state.answer(abort);
         state.end(End::Read(why));
         if abort > 0 {
-            self.tell_abort(&mut state, None);
+            self.report_abort(&mut state, None);
         }
     }
 
     fn send_failed(&self, _error: &io::Error) {
         if let Ok(mut state) = self.state.try_borrow_mut() {
-            self.tell_filing(&mut state);
+            self.report_filing(&mut state);
             state.end(End::SendFailed);
         }
     }

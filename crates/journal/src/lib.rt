@@ -1,5 +1,5 @@
-//! The log of served associations: what each decides, as it is told, and the lines that tell of it.
-//! Nothing here can change what is received, sent or filed: it is lent the bytes.
+//! The log of served associations: observes what each decides, and writes log lines. It is passed
+//! the bytes by reference, and cannot change what is received, sent or filed.
 #![tactic(auto)]
 
 mod accepted;
@@ -34,7 +34,7 @@ mod text;
 mod words;
 
 pub use association_entries::Served;
-pub use form::Form;
+pub use form::LineForm;
 pub use journal::Journal;
 pub use line::{LINE, Line};
 pub use line_limits::{Limited, LineLimits};

@@ -1,17 +1,17 @@
-//! What a connection is held to, as far as its log names it.
+//! The limits of a connection that its log names.
 use negotiate::Config;
 
-/// What a connection is held to, as far as its log names it.
+/// The limits of a connection that its log names.
 #[derive(Clone, Copy, Debug)]
 pub(crate) struct Limits {
-    /// The longest P-DATA-TF PDU that is taken, in bytes.
+    /// The maximum length of a P-DATA-TF PDU that is accepted, in bytes.
     pub max_pdu: u32,
-    /// The longest data set that is taken, in bytes.
+    /// The maximum size of a data set that is accepted, in bytes.
     pub max_data: u64,
 }
 
 impl Limits {
-    /// Returns those of a configuration.
+    /// Returns the limits of a configuration.
     pub(crate) fn of(config: &Config) -> Limits {
         Limits {
             max_pdu: config.max_pdu,

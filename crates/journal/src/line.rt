@@ -1,6 +1,6 @@
-//! Lines of the log: printable ASCII alone, at most so many characters.
+//! Log lines: printable ASCII, of bounded length.
 use crate::entry::{Entry, Fields, Name};
-use crate::form::Form;
+use crate::form::LineForm;
 use crate::text::Text;
 use jiff::Timestamp;
 use serde_json::{Map, Value};
@@ -8,30 +8,30 @@ use std::alloc::{AllocError, Global};
 use std::fmt::Write;
 use std::net::SocketAddr;
 
-/// The characters of a line at most, without the level and the target that a text has before it.
+/// The maximum number of characters of a line, without the level and the target before a text.
 pub const LINE: usize = 980;
 
-/// A line.
+/// A log line.
 pub type Line = Text<LINE>;
 
-/// When a line was written, and whose connection it is about.
+/// The time of a line, and the peer that it concerns.
 #[derive(Clone, Copy)]
 pub(crate) struct Head {
     pub time: Option<Timestamp>,
     pub peer: Option<SocketAddr>,
 }
 
-/// A time in UTC, of fixed width: whole milliseconds (RFC 3339).
+/// A time in UTC with milliseconds (RFC 3339), of fixed width.
 pub(crate) type Time = Text<32>;
 
 /// The address of a peer, with its port.
 pub(crate) type Peer = Text<64>;
 
-/// The line where there is no memory for its JSON.
+/// The line that replaces a JSON line for which memory runs out.
 const NO_MEMORY: &[u8] =
     b"{\"event\":\"lost line\",\"level\":\"ERROR\",\"error\":\"out of memory\"}";
 
-/// The line where its JSON would be longer than a line may be.
+/// The line that replaces a JSON line of more than `LINE` characters.
 const TOO_LONG: &[u8] = b"{\"event\":\"lost line\",\"level\":\"ERROR\",\"error\":\"too long\"}";
 
 impl Fields for Line {
@@ -48,21 +48,21 @@ impl Fields for Line {
     }
 }
 
-/// Returns the time as it is shown.
+/// Returns the time as the log shows it.
 pub(crate) fn shown_time(time: Timestamp) -> Time {
     let mut text = Time::new();
     let _ = write!(text, "{time:.3}");
     text
 }
 
-/// Returns the peer as it is shown.
+/// Returns the peer as the log shows it.
 pub(crate) fn shown_peer(peer: SocketAddr) -> Peer {
     let mut text = Peer::new();
     let _ = write!(text, "{peer}");
     text
 }
 
-/// Returns a line of text.
+/// Returns the text line of an entry.
 fn text_line<E: Entry>(head: Head, entry: &E) -> Line {
     let mut line = Line::new();
     if let Some(time) = head.time {
@@ -78,7 +78,7 @@ fn text_line<E: Entry>(head: Head, entry: &E) -> Line {
     line
 }
 
-/// The members of a JSON object, until memory runs out.
+/// The members of a JSON object, unless memory ran out.
 #[derive(Drop)]
 struct Object {
     alloc: Global,
@@ -87,7 +87,7 @@ struct Object {
 }
 
 impl Object {
-    /// Adds a member.
+    /// Adds a member, or records that memory ran out.
     fn put(&mut self, key: &str, value: Result<Value, AllocError>) {
         let added = match value {
             Ok(value) => serde_json::put(&mut self.members, self.alloc, key, value),
@@ -119,7 +119,7 @@ impl Fields for Object {
     }
 }
 
-/// Returns the parts of a text between which there are a comma and a space.
+/// Returns the parts of a text that a comma and a space separate.
 fn list_of(alloc: Global, values: &str) -> Result<Value, AllocError> {
     let mut list = Vec::new(alloc);
     for value in values.split(", ") {
@@ -128,7 +128,7 @@ fn list_of(alloc: Global, values: &str) -> Result<Value, AllocError> {
     Ok(Value::Array(list))
 }
 
-/// Returns the members of a line of JSON.
+/// Returns the members of a JSON line.
 fn object_of<E: Entry>(alloc: Global, head: Head, entry: &E) -> Object {
     let mut object = Object {
         alloc,
@@ -147,7 +147,7 @@ fn object_of<E: Entry>(alloc: Global, head: Head, entry: &E) -> Object {
     object
 }
 
-/// Returns a line of JSON.
+/// Returns the JSON line of an entry.
 fn json_line<E: Entry>(alloc: Global, head: Head, entry: &E) -> Line {
     let object = object_of(alloc, head, entry);
     let mut line = Line::new();
@@ -164,9 +164,9 @@ fn json_line<E: Entry>(alloc: Global, head: Head, entry: &E) -> Line {
 }
 
 /// Returns the line of an entry.
-pub(crate) fn line_of<E: Entry>(form: Form, head: Head, entry: &E) -> Line {
+pub(crate) fn line_of<E: Entry>(form: LineForm, head: Head, entry: &E) -> Line {
     match form {
-        Form::Text => text_line(head, entry),
-        Form::Json(alloc) => json_line(alloc, head, entry),
+        LineForm::Text => text_line(head, entry),
+        LineForm::Json(alloc) => json_line(alloc, head, entry),
     }
 }

@@ -1,4 +1,4 @@
-//! Limits how often lines are written that peers can cause.
+//! Rate limits of the lines that peers can cause.
 ghost use Rattle.std.specs.Prelude.{◌≡◌, ◌≢◌, ◌+◌, ◌<◌, ◌≤◌, None, true, false, min, option_map};
 ghost use Rattle.std.specs.Time.{instant_nanos};
 ghost use Rattle.journal.specs.Limits as spelling;
@@ -6,30 +6,31 @@ ghost use Rattle.journal.specs.Limits as spelling;
 use std::cell::Cell;
 use std::time::{Duration, Instant};
 
-/// How many lines of a kind there were since a span of time began, and how many had no room in it.
+/// A rate limit: how many lines of a kind were written in the current span of time, and how many
+/// were left out.
 #[derive(Clone, Copy, Debug)]
 pub(crate) struct LineLimit {
-    /// When the span began, with the first line.
+    /// When the span started, with its first line.
     pub began: Option<Instant>,
     pub lines: u64,
-    pub left_out: u64,
+    pub omitted: u64,
 }
 
 impl LineLimit {
-    /// Returns that of lines of which there was none yet.
+    /// Creates the limit before the first line.
     pub(crate) fn new() -> LineLimit
         ensures began { result.began ≡ None }
         ensures lines { result.lines ≡ 0 }
-        ensures left_out { result.left_out ≡ 0 }
+        ensures omitted { result.omitted ≡ 0 }
     {
         LineLimit {
             began: None,
             lines: 0,
-            left_out: 0,
+            omitted: 0,
         }
     }
 
-    /// Returns whether a span of so many seconds is over, or did not begin.
+    /// Returns whether the span, of `seconds`, is over or has not started.
     pub(crate) fn is_over(&self, now: Instant, seconds: u64) -> bool
         ensures { result ≡ spelling.is_over (option_map instant_nanos self.now.began) seconds (instant_nanos now) }
     {
@@ -41,14 +42,15 @@ impl LineLimit {
         }
     }
 
-    /// Takes note of a line. Returns whether it is among the first of the span, so many at most; else it is counted.
+    /// Counts a line. Returns whether it is among the first `most` of the span; if not, it counts
+    /// as left out.
     pub(crate) fn admit(&mut self, now: Option<Instant>, most: u64) -> bool
         ensures line { result ≡ true → (self.old.lines < most) × (self.new.lines ≡ self.old.lines + 1) }
-        ensures none_more { result ≡ true → self.new.left_out ≡ self.old.left_out }
+        ensures none_more { result ≡ true → self.new.omitted ≡ self.old.omitted }
         ensures same_lines { result ≡ false → (most ≤ self.old.lines) × (self.new.lines ≡ self.old.lines) }
-        ensures counted { result ≡ false → self.new.left_out ≡ min (self.old.left_out + 1) 18446744073709551615 }
+        ensures counted { result ≡ false → self.new.omitted ≡ min (self.old.omitted + 1) 18446744073709551615 }
         ensures begins { self.old.began ≡ None → self.new.began ≡ now }
-        ensures goes_on { self.old.began ≢ None → self.new.began ≡ self.old.began }
+        ensures continues { self.old.began ≢ None → self.new.began ≡ self.old.began }
     {
         if self.began.is_none() {
             self.began = now;
@@ -57,27 +59,27 @@ impl LineLimit {
             self.lines += 1;
             return true;
         }
-        self.left_out = self.left_out.saturating_add(1);
+        self.omitted = self.omitted.saturating_add(1);
         false
     }
 }
 
-/// What lines tell of that have one limit for all connections.
+/// The kinds of lines whose rate limit is shared by all connections.
 #[derive(Clone, Copy, Debug, PartialEq, Eq)]
 pub enum Limited {
     /// An association that stored nothing.
     Association,
-    /// A store that failed, of such an association.
+    /// A failed store of an association that stored nothing.
     Store,
-    /// A data set that was put into the quarantine.
+    /// A data set that was quarantined.
     Quarantined,
-    /// A data set that could not be put there.
+    /// A data set that could not be quarantined.
     NotQuarantined,
     /// A file that could not be written.
     File,
-    /// Names of files that could not be written to the disk.
+    /// File names that could not be synced to the disk.
     Names,
-    /// A connection that got no association.
+    /// A connection over which no association could be opened.
     Connection,
 }
 
@@ -92,8 +94,8 @@ impl Limited {
         Limited::Connection,
     ];
 
-    /// Returns how many lines there are at most in a span, and how many seconds that has: what a peer does may be told of ten
-    /// times a second, and that the system fails once a minute.
+    /// Returns the maximum number of lines in a span, and the duration of the span in seconds: ten
+    /// a second for what a peer causes, one a minute for system errors.
     fn rate(self) -> (u64, u64) {
         match self {
             Limited::Association | Limited::Store | Limited::Quarantined => (10, 1),
@@ -103,7 +105,8 @@ impl Limited {
         }
     }
 
-    /// Returns what lines were left out of, in words, or `None` where associations tell that themselves.
+    /// Returns the words for the lines of this kind that were left out, or `None` if each
+    /// association logs that itself.
     pub(crate) fn words(self) -> Option<&'static str> {
         match self {
             Limited::Association => Some("associations that stored nothing"),
@@ -117,7 +120,7 @@ impl Limited {
     }
 }
 
-/// The limits of the lines that all connections share. Whoever writes lines has a shared reference.
+/// The rate limits that all connections share, by reference.
 #[derive(Drop)]
 pub struct LineLimits {
     association: Cell<LineLimit>,
@@ -130,7 +133,7 @@ pub struct LineLimits {
 }
 
 impl LineLimits {
-    /// Returns those of a box that has just begun.
+    /// Creates the limits before the first line.
     pub fn new() -> LineLimits {
         LineLimits {
             association: Cell::new(LineLimit::new()),
@@ -143,7 +146,7 @@ impl LineLimits {
         }
     }
 
-    /// Returns that of lines of this kind.
+    /// Returns the limit of lines of this kind.
     fn of(&self, kind: Limited) -> &Cell<LineLimit> {
         match kind {
             Limited::Association => &self.association,
@@ -156,7 +159,7 @@ impl LineLimits {
         }
     }
 
-    /// Takes note of a line of this kind. Returns whether it is written.
+    /// Counts a line of this kind. Returns whether it is to be written.
     pub(crate) fn admit(&self, kind: Limited, now: Option<Instant>) -> bool {
         let (most, _) = kind.rate();
         let mut limit = self.of(kind).get();
@@ -165,8 +168,8 @@ impl LineLimits {
         is_written
     }
 
-    /// Begins another span, if the last one is over, or without a time. Returns how many lines of this kind had no room
-    /// in the last one.
+    /// Starts a new span if the last one is over or `now` is `None`. Returns how many lines of this
+    /// kind were left out in the last one.
     pub(crate) fn renew(&self, kind: Limited, now: Option<Instant>) -> u64 {
         let limit = self.of(kind).get();
         let (_, seconds) = kind.rate();
@@ -174,6 +177,6 @@ impl LineLimits {
             return 0;
         }
         self.of(kind).set(LineLimit::new());
-        limit.left_out
+        limit.omitted
     }
 }

@@ -1,31 +1,31 @@
 //! Writes lines to the log.
 use crate::entry::Entry;
-use crate::form::Form;
+use crate::form::LineForm;
 use crate::line::{Head, line_of};
 use crate::line_limits::{Limited, LineLimits};
-use crate::server_entries::LinesLeftOut;
+use crate::server_entries::LinesOmitted;
 use jiff::Timestamp;
 use log::{Level, Log, log, log_enabled};
 use metrics::MetricsFile;
 use std::net::SocketAddr;
 use std::time::{Clock, Instant};
 
-/// The target of each line of the log, by which a reader of logs finds the lines of this command.
+/// The target of each log line, by which the lines of this command are found.
 pub const TARGET: &str = "dcmbox::serve";
 
-/// Writes lines about a connection, or about none.
+/// Writes log lines, about the connection of one peer or about none.
 #[derive_where(Clone, Copy)]
 pub struct Logger<'a, R> {
     rt: &'a R,
-    form: Form,
+    form: LineForm,
     peer: Option<SocketAddr>,
     metrics: Option<&'a MetricsFile>,
     limits: Option<&'a LineLimits>,
 }
 
 impl<'a, R: Log + Clock> Logger<'a, R> {
-    /// Returns what writes lines in this form, about no connection.
-    pub fn new(rt: &'a R, form: Form) -> Logger<'a, R> {
+    /// Creates a logger of lines in this form, about no connection.
+    pub fn new(rt: &'a R, form: LineForm) -> Logger<'a, R> {
         Logger {
             rt,
             form,
@@ -35,7 +35,7 @@ impl<'a, R: Log + Clock> Logger<'a, R> {
         }
     }
 
-    /// Returns what holds lines that peers can cause to these limits.
+    /// Returns the logger with these rate limits for lines that peers can cause.
     pub fn limited(self, limits: &'a LineLimits) -> Logger<'a, R> {
         Logger {
             limits: Some(limits),
@@ -43,18 +43,18 @@ impl<'a, R: Log + Clock> Logger<'a, R> {
         }
     }
 
-    /// Returns what also counts in this file what the lines tell of, if there is one.
+    /// Returns the logger with this metrics file, if any, which counts what is logged.
     pub fn counting(self, metrics: Option<&'a MetricsFile>) -> Logger<'a, R> {
         Logger { metrics, ..self }
     }
 
-    /// Returns the file that counts, if there is one.
+    /// Returns the metrics file, if there is one.
     pub(crate) fn metrics(&self) -> Option<&'a MetricsFile> {
         self.metrics
     }
 
-    /// Returns what writes lines about the connection of this peer. An IPv4 address that came mapped to IPv6
-    /// (RFC 4291 section 2.5.5.2) is shown as the IPv4 address.
+    /// Returns the logger of lines about the connection of this peer. An IPv4 address that is
+    /// mapped to IPv6 (RFC 4291 section 2.5.5.2) is shown as the IPv4 address.
     pub fn about(self, peer: SocketAddr) -> Logger<'a, R> {
         Logger {
             peer: Some(SocketAddr::new(peer.ip().to_canonical(), peer.port())),
@@ -63,11 +63,11 @@ impl<'a, R: Log + Clock> Logger<'a, R> {
     }
 
     /// Returns whether lines of this level are written.
-    pub(crate) fn tells(&self, level: Level) -> bool {
+    pub(crate) fn reports(&self, level: Level) -> bool {
         log_enabled!(self.rt; target: TARGET, level)
     }
 
-    /// Returns what stands before an entry: the time, if the clock can be read, and the peer.
+    /// Returns the head of a line: the time, if the clock can be read, and the peer.
     pub(crate) fn head(&self) -> Head {
         Head {
             time: Timestamp::now(self.rt).ok(),
@@ -80,50 +80,51 @@ impl<'a, R: Log + Clock> Logger<'a, R> {
         Instant::now(self.rt).ok()
     }
 
-    /// Writes a line, if lines of its level are written, with the time, if the clock can be read.
-    pub fn tell<E: Entry>(&self, entry: &E) {
+    /// Writes a line, if lines of its level are written.
+    pub fn report<E: Entry>(&self, entry: &E) {
         let level = entry.level();
-        if self.tells(level) {
+        if self.reports(level) {
             let line = line_of(self.form, self.head(), entry);
             log!(self.rt; target: TARGET, level, "{line}");
         }
     }
 
-    /// Returns whether a line of this kind is written now; else it is counted.
+    /// Returns whether a line of this kind may be written now. If not, it is counted as left out.
     pub(crate) fn admits(&self, kind: Limited) -> bool {
         let Some(limits) = self.limits else {
             return true;
         };
         let now = self.now();
-        self.tell_lines_of(limits, kind, now);
+        self.report_lines_of(limits, kind, now);
         limits.admit(kind, now)
     }
 
-    /// Writes a line of this kind, if one is written now and lines of its level are; else it is counted.
-    pub fn tell_limited<E: Entry>(&self, kind: Limited, entry: &E) {
-        if self.tells(entry.level()) && self.admits(kind) {
-            self.tell(entry);
+    /// Writes a line of this kind, if lines of its level are written. If it exceeds its rate limit,
+    /// it is counted as left out.
+    pub fn report_limited<E: Entry>(&self, kind: Limited, entry: &E) {
+        if self.reports(entry.level()) && self.admits(kind) {
+            self.report(entry);
         }
     }
 
-    /// Writes how many lines were left out of each kind whose time is over; without a time, of all.
-    pub fn tell_left_out(&self, now: Option<Instant>) {
+    /// Logs how many lines of each kind were left out, if its span is over or `now` is `None`.
+    pub fn report_omitted(&self, now: Option<Instant>) {
         if let Some(limits) = self.limits {
             for kind in Limited::ALL {
-                self.tell_lines_of(limits, kind, now);
+                self.report_lines_of(limits, kind, now);
             }
         }
     }
 
-    /// Writes how many lines of this kind were left out, if any were.
-    fn tell_lines_of(&self, limits: &LineLimits, kind: Limited, now: Option<Instant>) {
+    /// Logs how many lines of this kind were left out, if any.
+    fn report_lines_of(&self, limits: &LineLimits, kind: Limited, now: Option<Instant>) {
         let count = limits.renew(kind, now);
         if let (1.., Some(of)) = (count, kind.words()) {
             Logger {
                 peer: None,
                 ..*self
             }
-            .tell(&LinesLeftOut { count, of });
+            .report(&LinesOmitted { count, of });
         }
     }
 }

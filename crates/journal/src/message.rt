@@ -1,11 +1,11 @@
-//! What an association has decided of a message.
+//! The decisions of an association about a message.
 ghost use Rattle.std.specs.Prelude.{◌≡◌, IfSome};
 
 use decisions::Decision;
 use dimse::DimseFault;
 use pdu::PdvHead;
 
-/// What is due of a message.
+/// What is expected next of a message.
 #[derive(Clone, Copy, Debug, PartialEq, Eq)]
 pub(crate) enum Stage {
     /// The first fragment of a command set.
@@ -19,22 +19,23 @@ pub(crate) enum Stage {
 /// Why a fragment does not continue its message.
 #[derive(Clone, Copy, Debug, PartialEq, Eq)]
 pub(crate) enum Misplaced {
-    /// The command set would have so many bytes, and more than are taken.
+    /// The command set would have this many bytes, which is above the limit.
     TooLong(u64),
-    /// A fragment of a data set, where a command is due.
+    /// A fragment of a data set, where a command set is expected.
     DataFirst,
-    /// A fragment of a data set, before the command set is whole.
+    /// A fragment of a data set, before the command set is complete.
     DataInside,
-    /// A fragment of a command set, where a data set is due.
+    /// A fragment of a command set, where a data set is expected.
     TwoCommands,
-    /// A fragment in the first of these contexts, and the message is in the other one.
+    /// A fragment in the context with the first ID, inside a message of the context with the
+    /// second.
     OtherContext(u8, u8),
 }
 
 impl Misplaced {
     ghost use Rattle.journal.specs.Fragments.{fault_of};
 
-    /// Returns the fault that the message has by it.
+    /// Returns the fault that the association decided.
     pub(crate) fn fault(self) -> DimseFault
         ensures { result ≡ fault_of self }
     {
@@ -48,27 +49,27 @@ impl Misplaced {
     }
 }
 
-/// What an association has decided of a message: the numbers of its fragments, and none of their
+/// The decisions of an association about a message: the sizes of its fragments, without their
 /// bytes.
 #[derive(Clone, Copy, Debug, PartialEq, Eq)]
 pub(crate) struct Message {
     pub stage: Stage,
-    /// The context of its first fragment.
+    /// The ID of the context of its first fragment.
     pub context: u8,
-    /// How many bytes the fragments of its command set have.
+    /// The size in bytes of the fragments of its command set.
     command_size: u64,
-    /// Whether it is a store, and its data set was due.
+    /// Whether the message is a store whose data set was expected.
     pub is_store: bool,
-    /// How many bytes the fragments of its data set have.
+    /// The size in bytes of the fragments of its data set.
     pub data_size: u64,
-    /// Whether the last fragment has bytes, which are due.
+    /// Whether the bytes of the last fragment are expected.
     is_fragment_due: bool,
 }
 
 impl Message {
-    ghost use Rattle.journal.specs.Fragments.{begun, fault_of, heard};
+    ghost use Rattle.journal.specs.Fragments.{started, fault_of, heard};
 
-    /// Returns a message of which nothing was decided.
+    /// Creates a message before any decision.
     pub(crate) fn new() -> Message {
         Message {
             stage: Stage::Between,
@@ -80,9 +81,9 @@ impl Message {
         }
     }
 
-    /// Takes note of the fragment after this head, which continues the message.
+    /// Records the header of a fragment that continues the message.
     fn begin(&mut self, head: PdvHead)
-        ensures { self.new ≡ begun head self.old }
+        ensures { self.new ≡ started head self.old }
     {
         match self.stage {
             Stage::Between => {
@@ -102,8 +103,8 @@ impl Message {
         self.is_fragment_due = size > 0;
     }
 
-    /// Takes note of what was decided last, where a part of a PDU is complete: it was decided with
-    /// that part, unless the part is a fragment after which the message goes on.
+    /// Records the last decision when a section of a PDU is complete. It was decided with that
+    /// section, unless the section is a fragment after which the message continues.
     pub(crate) fn hear(&mut self, decision: Decision)
         ensures { self.new ≡ heard decision self.old }
     {
@@ -125,9 +126,9 @@ impl Message {
         }
     }
 
-    /// Returns why the fragment after this head does not continue the message, by the fault that
-    /// was decided of it (PS3.7 section 6.3, PS3.8 annex E), or `None` if no fragment has such a
-    /// fault.
+    /// Returns why the fragment with this header does not continue the message, given the fault
+    /// that was decided (PS3.7 section 6.3, PS3.8 annex E), or `None` if the fault is not of a
+    /// fragment's position or size.
     pub(crate) fn misplaced(&self, head: PdvHead, fault: DimseFault) -> Option<Misplaced>
         ensures { IfSome result (λ m. fault_of m ≡ fault) }
     {

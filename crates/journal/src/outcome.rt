@@ -1,4 +1,4 @@
-//! What became of stores, by the statuses of their replies, and how many there were.
+//! The outcomes of stores, by the statuses of their replies, and their numbers.
 ghost use Rattle.std.specs.Prelude.{◌≡◌, ◌-◌, ◌+◌, ℕ};
 ghost use Rattle.journal.specs.Outcomes as spelling;
 ghost use Rattle.metrics.specs.Statuses.{status_of};
@@ -6,18 +6,18 @@ ghost use Rattle.metrics.specs.Statuses.{status_of};
 use dimse::status;
 use metrics::CountedStatus;
 
-/// What a reply says of its store.
+/// The outcome of a store, which its reply reports.
 #[derive(Clone, Copy, Debug, PartialEq, Eq)]
 pub enum Outcome {
     /// Success: the instance is filed.
     Stored,
-    /// Refused, with 0122 or A700: it may be sent again, or elsewhere.
+    /// Refused, with status 0122 or A700: the instance may be sent again, or elsewhere.
     Refused,
-    /// Every other status: an error of the data set.
+    /// Every other status: an error in the data set.
     Failed,
 }
 
-/// Returns whether the status is one of those that begin with "refused".
+/// Returns whether the name of the status in the standard starts with "refused".
 fn is_refusal(status: u16) -> bool
     ensures { result ≡ spelling.is_refusal status }
 {
@@ -25,7 +25,8 @@ fn is_refusal(status: u16) -> bool
 }
 
 impl Outcome {
-    /// Returns what a status says of its store (PS3.7 annex C, PS3.4 annex B.2.3).
+    /// Returns the outcome of a store from the status of its reply (PS3.7 annex C, PS3.4 annex
+    /// B.2.3).
     pub fn of(status: u16) -> Outcome
         ensures { result ≡ spelling.outcome_of status }
     {
@@ -38,8 +39,8 @@ impl Outcome {
         }
     }
 
-    /// Returns what a status says of its store, from as what it is counted: so what the log counts of stores is what the
-    /// counters of their statuses come to.
+    /// Returns the outcome of a store from the counter of its status, so that the counts in the log
+    /// equal the sums of the counters.
     pub fn counted(status: CountedStatus) -> Outcome
         ensures { (number : ℕ) → status_of number ≡ status → result ≡ spelling.outcome_of number }
     {
@@ -53,12 +54,12 @@ impl Outcome {
     }
 }
 
-/// How many stores of an association came to what. Each number stops at the greatest `u64`.
+/// The numbers of stores of an association by outcome. They saturate.
 #[derive(Clone, Copy, Debug, Default, PartialEq, Eq)]
 pub struct Counts {
     /// Stores whose command was received.
     pub asked: u64,
-    /// Stores that were answered with success.
+    /// Stores whose reply reported success.
     pub stored: u64,
     pub refused: u64,
     pub failed: u64,
@@ -83,14 +84,14 @@ impl Counts {
         }
     }
 
-    /// Returns how many stores were not answered with success.
+    /// Returns how many stores had no reply that reported success.
     pub fn dropped(self) -> u64
         ensures { result ≡ self.asked - self.stored }
     {
         self.asked.saturating_sub(self.stored)
     }
 
-    /// Returns how many stores were not answered at all.
+    /// Returns how many stores had no reply.
     pub fn unanswered(self) -> u64
         ensures { result ≡ self.asked - self.stored - self.refused - self.failed }
     {

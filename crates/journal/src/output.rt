@@ -1,5 +1,5 @@
-//! Where the lines of a log go.
-use crate::form::Form;
+//! The output of the log lines.
+use crate::form::LineForm;
 use log::kv::Source;
 use log::sink::Console;
 use log::span::Spans;
@@ -7,15 +7,15 @@ use log::{Level, Log, Metadata, Record};
 use std::fmt;
 use std::fmt::Display;
 
-/// Writes each line to standard error: a text with its level and its target before it, JSON as it is.
+/// Writes each line to standard error: text with its level and target before it, JSON unchanged.
 #[derive(Clone, Copy)]
 pub struct Output<R> {
     console: Console<R>,
-    form: Form,
+    form: LineForm,
     has_priorities: bool,
 }
 
-/// Returns the priority of a level among those of syslog (RFC 5424 section 6.2.1).
+/// Returns the syslog priority of a level (RFC 5424 section 6.2.1).
 fn priority(level: Level) -> u8 {
     match level {
         Level::Error => 3,
@@ -25,11 +25,11 @@ fn priority(level: Level) -> u8 {
     }
 }
 
-/// A line after its priority, as systemd reads it.
+/// A line with its priority before it, as systemd reads it.
 #[derive(Drop)]
 struct Prioritized<'a, D> {
     level: Level,
-    /// The target, where the line is a text.
+    /// The target, if the line is text.
     target: Option<&'a str>,
     line: &'a D,
 }
@@ -45,8 +45,8 @@ impl<D: Display> Display for Prioritized<'_, D> {
 }
 
 impl<R: Eprint> Output<R> {
-    /// Returns the output of a log in this form.
-    pub fn new(rt: R, form: Form) -> Output<R> {
+    /// Creates the output of a log in this form.
+    pub fn new(rt: R, form: LineForm) -> Output<R> {
         Output {
             console: Console(rt),
             form,
@@ -54,8 +54,8 @@ impl<R: Eprint> Output<R> {
         }
     }
 
-    /// Returns an output that writes the priority of each line before it, as `<4>`, by which systemd's journal
-    /// knows it.
+    /// Returns an output that writes the priority of each line before it, such as `<4>`, for
+    /// systemd's journal.
     pub fn with_priorities(self) -> Output<R> {
         Output {
             has_priorities: true,
@@ -71,12 +71,12 @@ impl<R: Eprint> Log for Output<R> {
 
     fn log<D: Display, K: Source, S: Spans>(&self, record: &Record<'_, D, K, S>) {
         let target = match self.form {
-            Form::Text if !self.has_priorities => {
+            LineForm::Text if !self.has_priorities => {
                 self.console.log(record);
                 return;
             }
-            Form::Text => Some(record.target()),
-            Form::Json(_) => None,
+            LineForm::Text => Some(record.target()),
+            LineForm::Json(_) => None,
         };
         if self.has_priorities {
             let _ = self.console.0.eprintln(Prioritized {

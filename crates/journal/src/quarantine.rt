@@ -1,4 +1,4 @@
-//! Keeps data sets of stores in a quarantine, by the statuses of their replies.
+//! Quarantines the data sets of stores, by the statuses of their replies.
 ghost use Rattle.std.specs.Prelude.{◌≡◌};
 ghost use Rattle.journal.specs.Outcomes as spelling;
 
@@ -15,9 +15,10 @@ use std::io::{Error, ErrorKind};
 use std::rt::Files;
 use std::time::Clock;
 
-/// Returns whether the data set of a store with this status is kept: where it cannot be understood
-/// (C000), does not match its command (A900), or has too many bytes or levels, which is answered with
-/// A700 (out of resources), as is a file that could not be written.
+/// Returns whether the data set of a store with this status is quarantined: it cannot be understood
+/// (C000), does not match its command (A900), or has too many bytes or levels (A700, out of
+/// resources). A700 is also the status of a file that could not be written, which is not
+/// quarantined.
 fn is_quarantined(status: u16, has_filing_failed: bool) -> bool
     ensures { result ≡ spelling.is_quarantined status has_filing_failed }
 {
@@ -32,32 +33,33 @@ impl<R: Log + Clock, S: Files + Alloc + Clone + Drop> Journal<'_, R, S>
 where
     S::File: StoredFile,
 {
-    /// Writes why a draft could not be moved to the quarantine, if one could not.
-    pub(crate) fn tell_not_aside(&self) {
+    /// Logs why a draft could not be moved to the quarantine, if that failed.
+    pub(crate) fn report_not_aside(&self) {
         if let Some(error) = self.notes.take_aside_error() {
             self.logger
-                .tell_limited(Limited::NotQuarantined, &NotQuarantined(&error));
+                .report_limited(Limited::NotQuarantined, &NotQuarantined(&error));
         }
     }
 
-    /// Removes the draft that was moved to the quarantine, if there is one: its store was not answered.
+    /// Removes the draft that was moved to the quarantine, if there is one, as its store had no
+    /// reply.
     pub(crate) fn remove_aside(&self) {
-        self.tell_not_aside();
+        self.report_not_aside();
         if let Some(aside) = self.notes.take_aside() {
-            self.tell_failed(aside.remove());
+            self.report_failed(aside.remove());
         }
     }
 
-    fn tell_failed(&self, done: io::Result<()>) {
+    fn report_failed(&self, done: io::Result<()>) {
         if let Err(error) = done {
             self.logger
-                .tell_limited(Limited::NotQuarantined, &NotQuarantined(&error));
+                .report_limited(Limited::NotQuarantined, &NotQuarantined(&error));
         }
     }
 
     /// Keeps the draft that was moved to the quarantine, or removes it, by the reply to its store.
     pub(crate) fn settle_aside(&self, state: &State, reply: Reply) {
-        self.tell_not_aside();
+        self.report_not_aside();
         let Some(aside) = self.notes.take_aside() else {
             return;
         };
@@ -66,10 +68,10 @@ where
         } else {
             aside.remove()
         };
-        self.tell_failed(done);
+        self.report_failed(done);
     }
 
-    /// Keeps a draft in the quarantine, and writes of it.
+    /// Keeps a draft in the quarantine with a text beside it, and logs that.
     fn keep(&self, state: &State, reply: Reply, aside: SetAside<S>) -> io::Result<()> {
         let class = state.asked.class();
         let reason = self.reason(state, reply);
@@ -89,7 +91,7 @@ where
             return Err(Error::from(ErrorKind::OutOfMemory));
         };
         let done = aside.keep(text.as_str())?;
-        self.logger.tell_limited(
+        self.logger.report_limited(
             Limited::Quarantined,
             &Quarantined {
                 number: done.number,
@@ -97,7 +99,7 @@ where
             },
         );
         if done.is_full {
-            self.logger.tell(&QuarantineFull);
+            self.logger.report(&QuarantineFull);
         }
         Ok(())
     }

@@ -1,4 +1,4 @@
-//! What the log tells of data sets that are kept in a quarantine, and what the texts beside them tell.
+//! The log lines about quarantined data sets, and the texts beside them.
 use crate::asked::{Reply, Value};
 use crate::entry::{Entry, Event, Fields, Name};
 use crate::entry_fields::{Words, give_calling, give_error, give_status};
@@ -14,19 +14,19 @@ const FILE: Name = Name {
     after: "",
 };
 
-/// A data set that is kept: what the text beside it tells.
+/// The text beside a quarantined data set.
 #[derive(Clone, Copy)]
 pub(crate) struct QuarantineSheet<'a> {
     pub reply: Reply,
     pub class: &'a Value,
     pub instance: &'a Value,
-    /// What its status does not tell, if anything.
+    /// The reason that the status does not give, or an empty text.
     pub reason: &'a Reason,
     pub called: &'a Title,
     pub calling: &'a Title,
-    /// How many bytes of its data set came.
+    /// How many bytes of the data set were received.
     pub received: u64,
-    /// How many of them the file has.
+    /// How many of these bytes the file has.
     pub kept: u64,
 }
 
@@ -62,7 +62,7 @@ impl Entry for QuarantineSheet<'_> {
     }
 }
 
-/// A data set was put into the quarantine, under this number.
+/// A data set was quarantined, in the file with this number.
 #[derive(Clone, Copy)]
 pub(crate) struct Quarantined {
     pub number: u32,
@@ -89,7 +89,7 @@ impl Entry for Quarantined {
     }
 }
 
-/// A data set could not be put into the quarantine: the system's error.
+/// A data set could not be quarantined, with the system error.
 #[derive(Clone, Copy)]
 pub(crate) struct NotQuarantined<'a>(pub &'a io::Error);
 
@@ -110,7 +110,7 @@ impl Entry for NotQuarantined<'_> {
     }
 }
 
-/// The quarantine has as many data sets as it may have, so no more are kept.
+/// The quarantine has its maximum number of data sets, so no more are kept.
 #[derive(Clone, Copy)]
 pub struct QuarantineFull;
 
@@ -129,7 +129,7 @@ impl Entry for QuarantineFull {
     fn fields<F: Fields>(&self, _out: &mut F) {}
 }
 
-/// Drafts were removed from the quarantine that a killed program had left there: how many.
+/// This many drafts, which a killed program had left, were removed from the quarantine.
 #[derive(Clone, Copy)]
 pub struct QuarantineCleared(pub u64);
 

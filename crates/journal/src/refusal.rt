@@ -1,24 +1,24 @@
-//! Why a store was refused for want of resources.
+//! Why a store was refused for lack of resources.
 use crate::limits::Limits;
 use crate::text::Text;
-use connection::DEPTH;
+use service::DEPTH;
 use std::fmt::Write;
 
-/// The least bytes of an item's or a sequence's header: a data set that is too deep has that many for each
-/// level, and for the one that is too many.
+/// The minimum size in bytes of the header of an item or a sequence. A data set that is too deep
+/// has one for each level, and one more.
 const LEVEL: u64 = 8;
 
-/// The greatest length that an element announces, with its header.
+/// The maximum size in bytes that the header of an element announces, with the header.
 const MOST_ANNOUNCED: u64 = 0xffff_ffff + 12;
 
-/// Why a store was refused, in words.
+/// The reason why a store was refused, in words.
 pub(crate) type Reason = Text<140>;
 
-/// Returns why a store was answered with A700 (PS3.4 annex B.2.3) where no call of the system failed: its data
-/// set, of which so many bytes came, has too many bytes or levels.
+/// Returns why the reply to a store was A700 (PS3.4 annex B.2.3) if no system call failed: its data
+/// set, of which `bytes` were received, has too many bytes or levels.
 ///
-/// A data set has too many bytes also where the header of an element announces them, though they never
-/// come; then the log may not know which of the two it was.
+/// A data set also has too many bytes if the header of an element announces them, even if they are
+/// never received. Then the log may not know which of the two it was.
 pub(crate) fn resources_words(bytes: u64, limits: Limits) -> Reason {
     let mut words = Reason::new();
     let is_shallow = bytes < LEVEL * (DEPTH as u64 + 1);

@@ -1,4 +1,4 @@
-//! The classes of a request that have refused presentation contexts.
+//! The classes of a request of which presentation contexts were refused.
 use crate::accepted::Results;
 use crate::asked::Value;
 use crate::entry_fields::Words;
@@ -9,31 +9,32 @@ use keywords::{class_keyword, syntax_keyword};
 use pdu::{Proposal, Request};
 use std::fmt::Write;
 
-/// How many classes are named.
+/// The maximum number of classes that are named.
 const MOST_NAMED: u64 = 4;
 
-/// The most storage classes that the standard's table can have.
+/// The maximum size of the table of the standard's storage classes.
 const MOST_CLASSES: usize = 1024;
 
-/// The result of a context whose class is not taken: abstract-syntax-not-supported (PS3.8 Table 9-18).
+/// The result of a context whose class is not accepted: abstract-syntax-not-supported (PS3.8 Table
+/// 9-18).
 const CLASS_REFUSED: u8 = 3;
 
-/// The most transfer syntaxes that are named of a class.
+/// The maximum number of transfer syntaxes that are named for a class.
 const MOST_SYNTAXES: u64 = 3;
 
-/// Classes of a request that have refused contexts: the first of them, each with why, and with the options that would take it,
-/// and how many there are beside those.
+/// Classes of which contexts were refused: the first with the reason and the options that would
+/// accept them, and the number of the others.
 #[derive(Drop)]
 pub(crate) struct RefusedClasses {
-    /// Those that are named, with a comma and a space between them.
+    /// The classes that are named, separated by a comma and a space.
     pub named: Text<560>,
     named_count: u64,
     pub others: u64,
-    /// Whether one of them is a storage class, or may be.
+    /// Whether one of the classes is or may be a storage class.
     pub has_storage: bool,
 }
 
-/// Returns a class by its keyword, where it has one, else its identifier.
+/// Returns the keyword of a class, or its UID if it has none.
 pub(crate) fn shown_class(uid: &[u8]) -> Value {
     let mut class = Value::new();
     match class_keyword(uid) {
@@ -43,7 +44,7 @@ pub(crate) fn shown_class(uid: &[u8]) -> Value {
     class
 }
 
-/// Returns whether the class is in the table of storage classes of the standard.
+/// Returns whether the class is in the standard's table of storage classes.
 fn is_registered(uid: &[u8]) -> bool {
     for place in 0..MOST_CLASSES {
         match storage_class(place) {
@@ -55,7 +56,7 @@ fn is_registered(uid: &[u8]) -> bool {
     false
 }
 
-/// Returns the option by which a class would be taken, or an empty text if none takes it.
+/// Returns the option by which a class would be accepted, or an empty text if there is none.
 fn class_option(uid: &[u8]) -> &'static str {
     if is_registered(uid) {
         return "--all-storage";
@@ -69,19 +70,19 @@ fn class_option(uid: &[u8]) -> &'static str {
     }
 }
 
-/// The transfer syntaxes of a class in contexts that were refused.
+/// The transfer syntaxes of the refused contexts of a class.
 #[derive(Drop)]
 struct RefusedSyntaxes {
-    /// The first of them by their keywords, with spaces between them.
+    /// The keywords of the first of them, separated by spaces.
     named: Text<160>,
     count: u64,
-    /// Whether one is always taken.
+    /// Whether one of them is always accepted.
     has_native: bool,
-    /// Whether one is taken where that is asked for.
+    /// Whether one of them is accepted by option.
     has_compressed: bool,
 }
 
-/// Returns a transfer syntax by its keyword, where it has one, else its identifier.
+/// Returns the keyword of a transfer syntax, or its UID if it has none.
 pub(crate) fn shown_syntax(uid: &[u8]) -> Value {
     let mut syntax = Value::new();
     match syntax_keyword(uid) {
@@ -92,7 +93,7 @@ pub(crate) fn shown_syntax(uid: &[u8]) -> Value {
 }
 
 impl RefusedSyntaxes {
-    /// Returns those of a class.
+    /// Returns the transfer syntaxes of the refused contexts of this class.
     fn of(request: &Request, results: &Results, class: &[u8]) -> RefusedSyntaxes {
         let mut syntaxes = RefusedSyntaxes {
             named: Text::new(),
@@ -110,7 +111,7 @@ impl RefusedSyntaxes {
         syntaxes
     }
 
-    /// Adds one.
+    /// Adds a transfer syntax.
     fn add(&mut self, uid: &[u8]) {
         self.has_native |= syntax_of(uid).is_some();
         self.has_compressed |= Transfer::of(uid).is_some();
@@ -132,7 +133,8 @@ impl RefusedSyntaxes {
         }
     }
 
-    /// Returns the options that would take a context of the class with this result, or an empty text if none would.
+    /// Returns the options that would accept a context of the class with this result, or an empty
+    /// text if there are none.
     fn options(&self, class: &[u8], answer: u8) -> Words {
         let mut options = Words::new();
         if answer == CLASS_REFUSED {
@@ -150,7 +152,8 @@ impl RefusedSyntaxes {
     }
 }
 
-/// Returns whether a context of its class was accepted, or `None` if this is not the first of the class that was refused.
+/// Returns whether another context of the same class was accepted, or `None` if an earlier context
+/// of the class was refused too.
 fn accepts_class(request: &Request, results: &Results, proposal: &Proposal) -> Option<bool> {
     let mut is_accepted = false;
     let mut is_before = true;
@@ -169,7 +172,7 @@ fn accepts_class(request: &Request, results: &Results, proposal: &Proposal) -> O
 }
 
 impl RefusedClasses {
-    /// Returns none.
+    /// Creates an empty list of classes.
     pub(crate) fn new() -> RefusedClasses {
         RefusedClasses {
             named: Text::new(),
@@ -179,8 +182,8 @@ impl RefusedClasses {
         }
     }
 
-    /// Returns those of a request whose contexts have these results: the classes of which none was accepted, and the storage
-    /// classes of which one was, and others were not.
+    /// Returns the classes of which no context was accepted, and the storage classes of which some
+    /// contexts were accepted and others were not.
     pub(crate) fn of(request: &Request, results: &Results) -> (RefusedClasses, RefusedClasses) {
         let mut refused = RefusedClasses::new();
         let mut in_part = RefusedClasses::new();
@@ -198,12 +201,12 @@ impl RefusedClasses {
         (refused, in_part)
     }
 
-    /// Returns whether there is none.
+    /// Returns whether there are no classes.
     pub(crate) fn is_empty(&self) -> bool {
         self.named_count == 0
     }
 
-    /// Adds the class of a context with this result.
+    /// Adds the class of a refused context with this result.
     fn add(&mut self, request: &Request, results: &Results, proposal: &Proposal, answer: u8) {
         let class = proposal.abstract_syntax();
         self.has_storage |= !class_option(class).is_empty();

@@ -1,18 +1,18 @@
-//! The titles of an association request.
+//! The AE titles of an A-ASSOCIATE-RQ.
 ghost use Rattle.std.specs.Prelude.{◌+◌, ◌≤◌, length};
 
 use crate::text::Text;
 use arrayvec::ArrayVec;
 use element::AeTitle;
 
-/// An AE title, as it is shown.
+/// An AE title, as the log shows it.
 pub(crate) type Title = Text<16>;
 
-/// The bytes of a request's body up to the end of its titles.
+/// The size in bytes of the body of an A-ASSOCIATE-RQ up to the end of its titles.
 const TITLES: usize = 36;
 
-/// Returns the title at this place of a request's body, without leading and trailing spaces.
-/// Quotation marks are put round it in a line: one of its own is shown as what does not print.
+/// Returns the title at this offset of a request's body, without leading and trailing spaces.
+/// Quotation marks enclose it in a line, so each of its own is shown as `?`.
 fn title_at(body: &[u8], place: usize) -> Title
     requires { place + 16 ≤ length body.now }
 {
@@ -26,34 +26,35 @@ fn title_at(body: &[u8], place: usize) -> Title
     title
 }
 
-/// The titles of a request.
+/// The called and calling AE title of a request.
 #[derive(Drop)]
 pub(crate) struct Titles {
     pub called: Title,
     pub calling: Title,
 }
 
-/// The first bytes of the body of an association request, which have its titles, as far as they have come.
+/// The first bytes of the body of an A-ASSOCIATE-RQ, up to its titles, as far as they were
+/// received.
 #[derive(Drop)]
 pub(crate) struct RequestFront {
     bytes: ArrayVec<u8, TITLES>,
 }
 
 impl RequestFront {
-    /// Returns those of a request of which none has come.
+    /// Creates the beginning of a request of which no byte was received.
     pub(crate) fn new() -> RequestFront {
         RequestFront {
             bytes: ArrayVec::new(),
         }
     }
 
-    /// Keeps the next bytes of the body, as far as they are of these.
+    /// Appends the next bytes of the body, up to the end of the titles.
     pub(crate) fn keep(&mut self, part: &[u8]) {
         let count = self.bytes.remaining_capacity().min(part.len());
         let _ = self.bytes.try_extend_from_slice(&part[..count]);
     }
 
-    /// Returns the titles, or `None` if they are not all in what was kept and in what follows it.
+    /// Returns the titles, or `None` if the kept bytes, followed by `ahead`, do not have them all.
     pub(crate) fn titles(&self, ahead: &[u8]) -> Option<Titles> {
         let mut front = RequestFront::new();
         front.keep(self.bytes.as_slice());

@@ -1,4 +1,4 @@
-//! What the lines of the log tell of the box itself, and not of one association.
+//! The log lines about the server itself.
 use crate::entry::{Entry, Event, Fields, Name};
 use crate::entry_fields::{Words, give_error};
 use folder_filing::Location;
@@ -20,13 +20,13 @@ const LOW: Name = Name {
     after: " of 9999999",
 };
 
-/// How many storage classes are taken where nothing else is asked for.
+/// How many storage classes are accepted by default.
 const OWN_CLASSES: u64 = 11;
 
-/// How many transfer syntaxes are always taken.
+/// How many transfer syntaxes are always accepted.
 const NATIVE_SYNTAXES: u64 = 2;
 
-/// The box listens: `listening on ADDRESS:PORT`.
+/// The server listens: `listening on ADDRESS:PORT`.
 #[derive(Clone, Copy)]
 pub struct Listening(pub SocketAddr);
 
@@ -49,16 +49,16 @@ impl Entry for Listening {
     }
 }
 
-/// The box begins: what it is, whom it serves, where its files go, how many drafts it found and
-/// removed there, and what it takes.
+/// The server starts: its version, configuration and folder, the number of old drafts that it
+/// removed, and what it accepts.
 #[derive(Clone, Copy)]
 pub struct Started<'a> {
     pub version: &'a str,
     pub config: &'a Config,
     pub folder: &'a str,
-    /// The folder of refused data sets, if there is one.
+    /// The folder of quarantined data sets, if there is one.
     pub quarantine: Option<&'a str>,
-    /// How many associations are served at once.
+    /// The maximum number of associations at once.
     pub at_once: u64,
     pub drafts: u64,
 }
@@ -103,8 +103,8 @@ impl Entry for Started<'_> {
     }
 }
 
-/// Gives how many titles may be called, if not the first alone, and how many may call, if not all; and how many storage
-/// classes and transfer syntaxes are taken.
+/// Writes how many called titles are accepted, unless only one is, how many calling titles, and how
+/// many storage classes and transfer syntaxes.
 fn give_taken<F: Fields>(config: &Config, out: &mut F) {
     let titles = Name::new("titles", " titles ");
     if config.any_called {
@@ -136,7 +136,7 @@ fn give_taken<F: Fields>(config: &Config, out: &mut F) {
     out.number(Name::new("syntaxes", " syntaxes "), syntaxes);
 }
 
-/// The box ends.
+/// The server has stopped.
 #[derive(Clone, Copy)]
 pub struct Stopped;
 
@@ -155,8 +155,8 @@ impl Entry for Stopped {
     fn fields<F: Fields>(&self, _out: &mut F) {}
 }
 
-/// The names that files were given could not be written to the disk: the system's error. The files are
-/// lost whose replies waited for that.
+/// The names that files were given could not be synced to the disk, with the system error. The
+/// files whose replies waited for that are lost.
 #[derive(Clone, Copy)]
 pub struct NamesNotSynced<'a>(pub &'a io::Error);
 
@@ -177,7 +177,7 @@ impl Entry for NamesNotSynced<'_> {
     }
 }
 
-/// The box was asked to end.
+/// The server was asked to stop.
 #[derive(Clone, Copy)]
 pub struct Stopping;
 
@@ -196,7 +196,7 @@ impl Entry for Stopping {
     fn fields<F: Fields>(&self, _out: &mut F) {}
 }
 
-/// Every place of the box has an association, so connections wait: how many places there are.
+/// Every slot, of this number, has an association, so connections wait.
 #[derive(Clone, Copy)]
 pub struct SlotsFull(pub u64);
 
@@ -217,8 +217,8 @@ impl Entry for SlotsFull {
     }
 }
 
-/// The peer has as many associations as one address may have, so its further connections wait: how
-/// many those are.
+/// The peer has as many associations as one address may have, which is this number, so its further
+/// connections wait.
 #[derive(Clone, Copy)]
 pub struct PeerFull(pub u64);
 
@@ -239,7 +239,7 @@ impl Entry for PeerFull {
     }
 }
 
-/// A connection was closed at once, since as many as may wait for a place do already.
+/// A connection was closed at once, as the maximum number of connections wait for a slot.
 #[derive(Clone, Copy)]
 pub struct TurnedAway;
 
@@ -258,7 +258,7 @@ impl Entry for TurnedAway {
     fn fields<F: Fields>(&self, _out: &mut F) {}
 }
 
-/// A connection waited long for the one place, and has it: for how many seconds at least.
+/// A connection got the only slot after it waited for at least this many seconds.
 #[derive(Clone, Copy)]
 pub struct Waited(pub u64);
 
@@ -284,7 +284,7 @@ impl Entry for Waited {
     }
 }
 
-/// A connection could not be accepted.
+/// A connection could not be accepted, with the system error.
 #[derive(Clone, Copy)]
 pub struct NotAccepted<'a>(pub &'a io::Error);
 
@@ -305,7 +305,7 @@ impl Entry for NotAccepted<'_> {
     }
 }
 
-/// The metrics could not be written: the system's error. Serving goes on.
+/// The metrics could not be written, with the system error. Serving continues.
 #[derive(Clone, Copy)]
 pub struct MetricsNotWritten<'a>(pub &'a io::Error);
 
@@ -326,7 +326,7 @@ impl Entry for MetricsNotWritten<'_> {
     }
 }
 
-/// The metrics were written, after they could not be.
+/// The metrics were written, after writing them had failed.
 #[derive(Clone, Copy)]
 pub struct MetricsWritten;
 
@@ -345,7 +345,7 @@ impl Entry for MetricsWritten {
     fn fields<F: Fields>(&self, _out: &mut F) {}
 }
 
-/// Few numbers are left in the folder after that of this file, which is the first one of which it is so.
+/// Few file numbers remain in the folder, with the location of the first file for which that is so.
 #[derive(Clone, Copy)]
 pub(crate) struct NumbersLow(pub Location);
 
@@ -368,7 +368,7 @@ impl Entry for NumbersLow {
     }
 }
 
-/// A connection failed.
+/// No association could be opened over a connection, with the system error.
 #[derive(Clone, Copy)]
 pub struct ConnectionFailed<'a>(pub &'a io::Error);
 
@@ -389,14 +389,14 @@ impl Entry for ConnectionFailed<'_> {
     }
 }
 
-/// Lines were left out, since there would have been more than a log takes of what they tell: how many, and of what.
+/// This many lines were left out by their rate limit, about this subject.
 #[derive(Clone, Copy)]
-pub(crate) struct LinesLeftOut {
+pub(crate) struct LinesOmitted {
     pub count: u64,
     pub of: &'static str,
 }
 
-impl Entry for LinesLeftOut {
+impl Entry for LinesOmitted {
     fn level(&self) -> Level {
         Level::Warn
     }

@@ -1,11 +1,11 @@
-//! The text beside a data set that is kept in a quarantine: a line for each field.
+//! The text beside a quarantined data set: a line for each field.
 use crate::entry::{Entry, Fields, Name};
 use crate::line::{Head, shown_peer, shown_time};
 use crate::text::Text;
 use std::alloc::{AllocError, Global};
 use std::fmt::Write;
 
-/// The lines of a text, until memory runs out.
+/// The lines of a text, unless memory ran out.
 #[derive(Drop)]
 struct Sheet {
     text: String,
@@ -19,7 +19,7 @@ impl Sheet {
         }
     }
 
-    /// Adds a line: the key, and the value after a colon.
+    /// Adds a line: the key, a colon, and the value.
     fn put(&mut self, key: &str, value: &str) {
         self.add(key);
         self.add(": ");
@@ -44,7 +44,8 @@ impl Fields for Sheet {
     }
 }
 
-/// Returns the text of an entry, with the time and the peer before its fields. Fails if memory runs out.
+/// Returns an entry as text, a line for each field, after lines for the time and the peer. Fails if
+/// memory runs out.
 pub(crate) fn sheet_of<E: Entry>(
     alloc: Global,
     head: Head,

@@ -1,4 +1,4 @@
-//! What a log knows of an association.
+//! What the log knows of an association.
 ghost use Rattle.std.specs.Prelude.{◌≡◌, ◌<◌, ◌+◌, Some, true, false, min};
 
 use crate::asked::{Asked, Reply, Value};
@@ -11,74 +11,75 @@ use crate::outcome::{Counts, Outcome};
 use crate::refused::{RefusedClasses, shown_syntax};
 use crate::request::{RequestFront, Title};
 use arrayvec::ArrayVec;
-use connection::Taken;
 use decisions::{Decision, ValueEnd};
 use folder_filing::Location;
 use metrics::{CountedEnd, CountedStatus};
 use negotiate::{Answer, ContextRow, rejection};
+use service::Taken;
 use std::time::Instant;
 
-/// How far an association has come.
+/// The phase of an association.
 #[derive(Clone, Copy, Debug, PartialEq, Eq)]
 pub(crate) enum Phase {
-    /// The head of a request's PDU is due.
+    /// The header of an A-ASSOCIATE-RQ PDU is expected.
     Awaited,
-    /// The body of a request is due.
+    /// The body of an A-ASSOCIATE-RQ is expected.
     InRequest,
     Established,
-    /// It was rejected, released or aborted.
+    /// The association has ended.
     Over,
 }
 
-/// What a log knows of an association.
+/// What the log knows of an association.
 #[derive(Drop)]
 pub(crate) struct State {
     pub phase: Phase,
     pub request: RequestFront,
-    /// The maximum length of a P-DATA-TF PDU that the request names, once it was read.
+    /// The maximum length of a P-DATA-TF PDU that the peer receives, once the request was read.
     pub maximum: Option<u32>,
     pub message: Message,
-    /// What was asked for in the last store.
+    /// The class and the instance of the last store.
     pub asked: Asked,
     pub counts: Counts,
-    /// The lines that tell of stores which were not filed.
+    /// The rate limit of lines about stores not filed.
     pub lines: LineLimit,
-    /// The reply to the last of them that had none.
-    pub last_left_out: Option<Reply>,
-    /// Whether lines tell of the association while it stored nothing, once that was asked.
+    /// The reply to the last store whose line was left out.
+    pub last_omitted: Option<Reply>,
+    /// Whether lines are written about the association while it has stored nothing, once decided.
     pub has_lines: Option<bool>,
     pub called: Title,
     pub calling: Title,
     /// The contexts that were accepted.
     pub accepted: ArrayVec<ContextRow, 128>,
     pub proposed: u64,
-    /// The storage classes of which some contexts were accepted, and others not for their transfer syntaxes.
+    /// The storage classes of which some contexts were accepted, and others refused for their
+    /// transfer syntaxes.
     pub refused_in_part: RefusedClasses,
     pub end: Option<End>,
-    /// Whether it was told that an echo was refused.
-    pub is_echo_told: bool,
-    /// Whether a file could not be written, since a store was asked for last.
+    /// Whether it was logged that an echo was refused.
+    pub is_echo_reported: bool,
+    /// Whether a file could not be written since the last C-STORE request.
     pub has_filing_failed: bool,
     /// The reply to a store whose file waits to be settled.
     pub held: Option<Reply>,
-    /// Where the file stands of a store whose reply was not all sent.
+    /// The location of the file of a store whose reply is not sent completely, if there is one.
     pub unconfirmed: Option<Option<Location>>,
-    /// The last two bytes that were taken: in an A-ABORT its source and reason.
+    /// The last two bytes that were consumed: in an A-ABORT its source and reason.
     last: (u8, u8),
-    /// How many bytes it was to send.
+    /// How many bytes the association was to send.
     answered: u64,
-    /// How many of them were sent.
+    /// How many bytes were sent.
     sent: u64,
 }
 
 impl State {
     ghost use Rattle.journal.specs.Ends.{counted_as, counted_by, counted_where};
     ghost use Rattle.journal.specs.Outcomes.{counted, outcome_of};
-    ghost use Rattle.journal.specs.Told.{asked_by, asked_more, told_by};
+    ghost use Rattle.journal.specs.Reported.{asked_by, asked_more, reported_by};
     ghost use Rattle.metrics.specs.Statuses.{status_of};
     ghost use Rattle.metrics.specs.declared.ends.CountedEnd.TheVariants.{AbortedByBox};
 
-    /// Returns what is known before anything has come.
+    /// Creates the state before any byte is received.
     pub(crate) fn new() -> State {
         State {
             phase: Phase::Awaited,
@@ -88,7 +89,7 @@ impl State {
             asked: Asked::nothing(),
             counts: Counts::default(),
             lines: LineLimit::new(),
-            last_left_out: None,
+            last_omitted: None,
             has_lines: None,
             called: Title::new(),
             calling: Title::new(),
@@ -96,7 +97,7 @@ impl State {
             proposed: 0,
             refused_in_part: RefusedClasses::new(),
             end: None,
-            is_echo_told: false,
+            is_echo_reported: false,
             has_filing_failed: false,
             held: None,
             unconfirmed: None,
@@ -106,10 +107,10 @@ impl State {
         }
     }
 
-    /// Takes note of what the association took and is to send, and returns what it decided, if that
-    /// is told. Once it is over, nothing counts but the titles of its request.
+    /// Records what the association consumed and is to send. Returns its decision, or `Nothing` if
+    /// no section of a PDU is complete or the association is over.
     pub(crate) fn take(&mut self, taken: &Taken<'_>) -> Decision
-        ensures told { result ≡ told_by taken.now.is_complete self.old.phase taken.now.decision }
+        ensures reported { result ≡ reported_by taken.now.is_complete self.old.phase taken.now.decision }
         ensures asked { self.new.counts ≡ asked_by result self.old.counts }
     {
         self.answer(taken.answered);
@@ -130,7 +131,7 @@ impl State {
         taken.decision
     }
 
-    /// Keeps bytes of the request's body, and the last two.
+    /// Keeps the last two bytes, and those of the request that have its titles.
     fn keep(&mut self, bytes: &[u8])
         ensures phase { self.new.phase ≡ self.old.phase }
         ensures counts { self.new.counts ≡ self.old.counts }
@@ -152,8 +153,7 @@ impl State {
         }
     }
 
-    /// Takes the titles of the request, as far as they have come: what was taken, and what is read
-    /// ahead of that.
+    /// Reads the titles of the request, if the consumed bytes, followed by `ahead`, have them.
     pub(crate) fn take_titles(&mut self, ahead: &[u8])
         ensures phase { self.new.phase ≡ self.old.phase }
         ensures counts { self.new.counts ≡ self.old.counts }
@@ -164,7 +164,7 @@ impl State {
         }
     }
 
-    /// Takes note that the association is to send so many bytes.
+    /// Records that the association is to send this many bytes.
     pub(crate) fn answer(&mut self, count: usize)
         ensures phase { self.new.phase ≡ self.old.phase }
         ensures counts { self.new.counts ≡ self.old.counts }
@@ -172,7 +172,7 @@ impl State {
         self.answered = self.answered.saturating_add(count as u64);
     }
 
-    /// Takes note that so many bytes were sent.
+    /// Records that this many bytes were sent.
     pub(crate) fn send(&mut self, count: usize) {
         self.sent = self.sent.saturating_add(count as u64);
         if self.sent >= self.answered {
@@ -180,7 +180,8 @@ impl State {
         }
     }
 
-    /// A store was asked for, by this command set; of no bytes where the association has ended with it.
+    /// Records a C-STORE request with this command set, which is empty if the association ended
+    /// with it.
     fn ask(&mut self, command: &[u8])
         ensures { self.new.counts ≡ asked_more self.old.counts }
     {
@@ -189,7 +190,8 @@ impl State {
         self.asked = Asked::read(command);
     }
 
-    /// Returns the transfer syntax of the context of the message, as it is shown; empty where it is not known.
+    /// Returns the transfer syntax of the context of the message, as the log shows it, or an empty
+    /// text if unknown.
     pub(crate) fn syntax(&self) -> Value {
         for row in &self.accepted {
             if row.id == self.message.context {
@@ -199,22 +201,22 @@ impl State {
         Value::new()
     }
 
-    /// Takes note of a store that was not filed, with this reply. Returns whether it is among the first of its minute, so many at
-    /// most; else it is counted, and the reply kept.
+    /// Counts a store that was not filed. Returns whether it is among the first `most` of its
+    /// minute; if not, keeps its reply.
     pub(crate) fn admit(&mut self, now: Option<Instant>, most: u64, reply: Reply) -> bool
         ensures line { result ≡ true → self.old.lines.lines < most }
-        ensures none_more { result ≡ true → (self.new.lines.left_out ≡ self.old.lines.left_out) × (self.new.last_left_out ≡ self.old.last_left_out) }
-        ensures counted { result ≡ false → self.new.lines.left_out ≡ min (self.old.lines.left_out + 1) 18446744073709551615 }
-        ensures last { result ≡ false → self.new.last_left_out ≡ Some reply }
+        ensures none_more { result ≡ true → (self.new.lines.omitted ≡ self.old.lines.omitted) × (self.new.last_omitted ≡ self.old.last_omitted) }
+        ensures counted { result ≡ false → self.new.lines.omitted ≡ min (self.old.lines.omitted + 1) 18446744073709551615 }
+        ensures last { result ≡ false → self.new.last_omitted ≡ Some reply }
     {
-        let is_told = self.lines.admit(now, most);
-        if !is_told {
-            self.last_left_out = Some(reply);
+        let is_reported = self.lines.admit(now, most);
+        if !is_reported {
+            self.last_omitted = Some(reply);
         }
-        is_told
+        is_reported
     }
 
-    /// Counts the reply to a store, by its status. Returns as what the status is counted.
+    /// Counts the reply to a store. Returns the counter of its status.
     pub(crate) fn count(&mut self, status: u16) -> CountedStatus
         ensures status { result ≡ status_of status }
         ensures counts { self.new.counts ≡ counted (outcome_of status) self.old.counts }
@@ -224,8 +226,8 @@ impl State {
         status
     }
 
-    /// The association ended so, unless it had before. Only the titles of a request that was
-    /// rejected may come yet.
+    /// Records how the association ended, unless it had before. Only the titles of a rejected
+    /// request may still be received.
     pub(crate) fn end(&mut self, end: End) {
         self.phase = Phase::Over;
         if self.end.is_none() {
@@ -233,7 +235,7 @@ impl State {
         }
     }
 
-    /// Returns as what it is counted.
+    /// Returns the counter that the end of the association increments.
     pub(crate) fn counted_end(&self) -> CountedEnd
         ensures { result ≡ counted_where self.now.end }
     {
@@ -243,7 +245,7 @@ impl State {
         }
     }
 
-    /// Returns how the association ended with what it decided, or `None` if it goes on.
+    /// Returns how the association ended by this decision, or `None` if it continues.
     pub(crate) fn end_by(&self, decision: Decision, limits: Limits) -> Option<End>
         ensures { counted_where result ≡ counted_by decision }
     {
@@ -279,21 +281,22 @@ impl State {
                 }))
             }
             Decision::ValueInvalid => Some(self.abort(Cause::Value)),
-            Decision::BytesLeft(_) => Some(self.abort(Cause::Leftover)),
+            Decision::BytesRemaining(_) => Some(self.abort(Cause::Leftover)),
             Decision::CommandRefused(fault, field) => {
                 Some(self.abort(Cause::Command(fault, field)))
             }
         }
     }
 
-    /// Returns the end of an association that the box aborted for this cause.
+    /// Returns the end of an association that dcmbox aborted for this cause.
     fn abort(&self, cause: Cause) -> End
         ensures { counted_as result ≡ AbortedByBox }
     {
         End::Aborted(cause.abort(self.phase == Phase::Established), cause)
     }
 
-    /// Returns the rejection with this source and reason.
+    /// Returns the rejection with this source and reason, and the number in the request that caused
+    /// it.
     fn rejection(&self, source: u8, reason: u8) -> Rejection {
         let is_of_user = source == rejection::SERVICE_USER;
         let about = if is_of_user && reason == rejection::NO_REASON_GIVEN {
@@ -308,7 +311,7 @@ impl State {
         }
     }
 
-    /// Returns the maximum length that the request names.
+    /// Returns the maximum length of a P-DATA-TF PDU that the peer receives, if it is known.
     fn maximum(&self) -> About {
         match self.maximum {
             Some(maximum) => About::Maximum(maximum),

@@ -1,4 +1,4 @@
-//! What the lines of the log tell of a store.
+//! The log lines about a store.
 use crate::asked::{Reply, Value};
 use crate::end::End;
 use crate::entry::{Entry, Event, Fields, Name};
@@ -29,7 +29,7 @@ const FILE: Name = Name {
     after: "",
 };
 
-/// A file could not be written: the system's error, and the store, if one was asked for.
+/// A file could not be written, with the system error, and the store, if it is known.
 #[derive(Clone, Copy)]
 pub(crate) struct FilingFailed<'a> {
     pub error: &'a io::Error,
@@ -57,7 +57,7 @@ impl Entry for FilingFailed<'_> {
     }
 }
 
-/// Gives the class and the instance of a store, if one was asked for.
+/// Writes the class and the instance of a store, if they are known.
 fn give_store<F: Fields>(class: &Value, instance: &Value, out: &mut F) {
     if class.len() > 0 {
         out.text(CLASS, class.as_str());
@@ -65,14 +65,14 @@ fn give_store<F: Fields>(class: &Value, instance: &Value, out: &mut F) {
     }
 }
 
-/// Gives the transfer syntax of a store, if it is known.
+/// Writes the transfer syntax of a store, if it is known.
 fn give_syntax<F: Fields>(syntax: &Value, out: &mut F) {
     if syntax.len() > 0 {
         out.text(Name::new("syntax", " syntax "), syntax.as_str());
     }
 }
 
-/// Gives where a file stands, if there is one.
+/// Writes the location of a file, if there is one.
 fn give_place<F: Fields>(place: Option<Location>, out: &mut F) {
     if let Some(place) = place {
         let mut file = Text::<32>::new();
@@ -81,14 +81,14 @@ fn give_place<F: Fields>(place: Option<Location>, out: &mut F) {
     }
 }
 
-/// A store was answered.
+/// The reply to a store.
 #[derive(Clone, Copy)]
 pub(crate) struct Answered<'a> {
     pub reply: Reply,
     pub class: &'a Value,
     pub instance: &'a Value,
     pub syntax: &'a Value,
-    /// How many bytes its data set has.
+    /// The size of the data set in bytes.
     pub bytes: u64,
     pub place: Option<Location>,
 }
@@ -115,14 +115,14 @@ impl Entry for Answered<'_> {
     }
 }
 
-/// A store was answered, and not with success.
+/// The reply to a store that did not report success.
 #[derive(Clone, Copy)]
 pub(crate) struct NotStored<'a> {
     pub reply: Reply,
     pub class: &'a Value,
     pub instance: &'a Value,
     pub syntax: &'a Value,
-    /// What its status does not tell, if anything.
+    /// The reason that the status does not give, or an empty text.
     pub reason: &'a Reason,
     pub calling: &'a Title,
 }
@@ -151,8 +151,8 @@ impl Entry for NotStored<'_> {
     }
 }
 
-/// Further stores of the association were not answered with success, and have no lines of their own: how many, and
-/// the reply to the last of them.
+/// More stores of the association without success, which have no lines of their own: their number,
+/// and the reply to the last.
 #[derive(Clone, Copy)]
 pub(crate) struct MoreNotStored<'a> {
     pub count: u64,
@@ -184,7 +184,8 @@ impl Entry for MoreNotStored<'_> {
     }
 }
 
-/// The association ended before stores were answered: the last one that was asked for, where it is known.
+/// The association ended before the reply to stores: their number, and the last of them, if it is
+/// known.
 #[derive(Clone, Copy)]
 pub(crate) struct Unanswered<'a> {
     pub end: Option<End>,
@@ -214,7 +215,7 @@ impl Entry for Unanswered<'_> {
     }
 }
 
-/// A store was filed, and the association ended before its reply was sent.
+/// A store was filed, but the association ended before its reply was sent completely.
 #[derive(Clone, Copy)]
 pub(crate) struct NotConfirmed<'a> {
     pub end: Option<End>,

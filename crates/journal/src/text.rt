@@ -1,4 +1,4 @@
-//! Texts of the log: printable ASCII alone, and at most so many characters.
+//! Texts of the log: printable ASCII, of bounded length.
 ghost use Rattle.std.specs.Prelude.{◌≡◌, ◌≤◌, ◌+◌, ◌-◌, ◌^◌, ◌++◌, [], length, map, take, true};
 ghost use Rattle.std.specs.List.{list_all};
 ghost use Rattle.arrayvec.specs.ArrayString.{array_string_len};
@@ -15,7 +15,7 @@ fn is_printable(byte: u8) -> bool
     b' ' <= byte && byte <= b'~'
 }
 
-/// Returns the byte, or a question mark in place of one that does not print.
+/// Returns the byte, or a question mark if it is not printable.
 fn shown(byte: u8) -> u8
     ensures { result ≡ spelling.shown byte }
 {
@@ -40,7 +40,7 @@ impl<const N: usize> Model for Text<N> {
     ghost invariant = { λ t. (N ≤ 2 ^ 24) × (list_all spelling.is_printable t.text.bytes ≡ true) };
 }
 
-/// Appends these bytes as they are shown.
+/// Appends these bytes, with a question mark for each that is not printable.
 fn push_shown<const N: usize>(text: &mut ArrayString<N>, bytes: &[u8])
     requires few { N ≤ 2 ^ 24 }
     requires room { array_string_len text.old + length bytes.now ≤ N }
@@ -62,7 +62,7 @@ impl<const N: usize> Text<N> {
         }
     }
 
-    /// Appends these bytes, with `?` in place of each that does not print, as far as there is room.
+    /// Appends these bytes, with `?` for each that is not printable, as far as there is room.
     pub fn add(&mut self, bytes: &[u8])
         ensures { self.new ≡ self.old ++ map spelling.shown (take (N - length self.old) bytes.now) }
     {
@@ -87,7 +87,7 @@ impl<const N: usize> Text<N> {
     }
 }
 
-/// Appends what is written, as `add` does: what has no room is left out.
+/// Appends what is written, as `add` does, as far as there is room. Never fails.
 impl<const N: usize> fmt::Write for Text<N> {
     fn write_str(&mut self, s: &str) -> fmt::Result {
         self.add(s.as_bytes());

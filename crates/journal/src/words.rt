@@ -1,4 +1,5 @@
-//! The numbers of an A-ASSOCIATE-RJ and of an A-ABORT, in words (PS3.8 sections 9.3.4 and 9.3.8).
+//! The meanings of the numbers in an A-ASSOCIATE-RJ, in an A-ABORT, and in the result of a context
+//! (PS3.8 sections 9.3.3, 9.3.4 and 9.3.8).
 
 /// Returns why an association was rejected, from the source and the reason of its A-ASSOCIATE-RJ
 /// (PS3.8 Table 9-21).
@@ -30,7 +31,7 @@ pub(crate) fn provider_words(reason: u8) -> &'static str {
     }
 }
 
-/// Returns the result of a presentation context (PS3.8 Table 9-18).
+/// Returns the meaning of the result of a presentation context (PS3.8 Table 9-18).
 pub(crate) fn context_words(answer: u8) -> &'static str {
     match answer {
         0 => "acceptance",

@@ -15,17 +15,17 @@ same_text (x ∷ xs) (y ∷ ys) h = by (nat_eq x y) refl h (λ k. same_text xs y
   by true e k later = let first : x ≡ y = grind (arith, nat_tests) in let rest = later k in cc
   by false e k later = absurd cc
 
-pub before : (one one_left other other_left : Option (List ℕ)) (front front_other : List ℕ) → Consumes one one_left front → Consumes other other_left front_other → front ≡ front_other → GiveTheSame one_left other_left → GiveTheSame one other
-before None one_left other other_left front front_other took took_other fronts same = _
-before (Some one) one_left None other_left front front_other took took_other fronts same = _
-before (Some one) None (Some other) other_left front front_other took took_other fronts same = absurd took
-before (Some one) (Some one_left) (Some other) None front front_other took took_other fronts same = absurd took_other
-before (Some one) (Some one_left) (Some other) (Some other_left) front front_other took took_other fronts same =
-    took ∙ ap (λ (rest : List ℕ). front ++ rest) same ∙ ap (λ (bytes : List ℕ). bytes ++ other_left) fronts ∙ sym took_other
+pub before : (one one_remaining other other_remaining : Option (List ℕ)) (front front_other : List ℕ) → Consumes one one_remaining front → Consumes other other_remaining front_other → front ≡ front_other → GiveTheSame one_remaining other_remaining → GiveTheSame one other
+before None one_remaining other other_remaining front front_other took took_other fronts same = _
+before (Some one) one_remaining None other_remaining front front_other took took_other fronts same = _
+before (Some one) None (Some other) other_remaining front front_other took took_other fronts same = absurd took
+before (Some one) (Some one_remaining) (Some other) None front front_other took took_other fronts same = absurd took_other
+before (Some one) (Some one_remaining) (Some other) (Some other_remaining) front front_other took took_other fronts same =
+    took ∙ ap (λ (rest : List ℕ). front ++ rest) same ∙ ap (λ (bytes : List ℕ). bytes ++ other_remaining) fronts ∙ sym took_other
 
-pub at_end : (one one_left other other_left : Option (List ℕ)) → Consumes one one_left [] → IsAtEnd one_left → Consumes other other_left [] → IsAtEnd other_left → GiveTheSame one other
-at_end None one_left other other_left took ended took_other ended_other = _
-at_end (Some one) one_left None other_left took ended took_other ended_other = _
-at_end (Some one) None (Some other) other_left took ended took_other ended_other = absurd took
-at_end (Some one) (Some one_left) (Some other) None took ended took_other ended_other = absurd took_other
-at_end (Some one) (Some one_left) (Some other) (Some other_left) took ended took_other ended_other = took ∙ ended ∙ sym ended_other ∙ sym took_other
+pub at_end : (one one_remaining other other_remaining : Option (List ℕ)) → Consumes one one_remaining [] → IsAtEnd one_remaining → Consumes other other_remaining [] → IsAtEnd other_remaining → GiveTheSame one other
+at_end None one_remaining other other_remaining took ended took_other ended_other = _
+at_end (Some one) one_remaining None other_remaining took ended took_other ended_other = _
+at_end (Some one) None (Some other) other_remaining took ended took_other ended_other = absurd took
+at_end (Some one) (Some one_remaining) (Some other) None took ended took_other ended_other = absurd took_other
+at_end (Some one) (Some one_remaining) (Some other) (Some other_remaining) took ended took_other ended_other = took ∙ ended ∙ sym ended_other ∙ sym took_other

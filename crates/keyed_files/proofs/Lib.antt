@@ -1,2 +1,2 @@
 pub mod FrontsAreSame
-pub mod VisitsGoOn
+pub mod VisitsContinue

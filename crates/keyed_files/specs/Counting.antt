@@ -8,12 +8,12 @@ use Rattle.keyed_files.specs.declared.reading.NoKeys.{NoKeys}
 use Rattle.keyed_files.specs.declared.reading.NoKeys.TheVariants.{Directory, Faulty, Unread}
 use Rattle.keyed_files.specs.declared.tally.Tally.{Tally}
 
--- one more, up to the greatest number of the type
+-- the number plus one, up to the greatest number of the type
 abbrev pub counted_more : ℕ → ℕ
 counted_more n = min (n + 1) (2 ^ 64 - 1)
 
-abbrev pub with_left_out : Tally → Tally
-with_left_out tally = record tally { left_out = counted_more tally.left_out }
+abbrev pub with_omitted : Tally → Tally
+with_omitted tally = record tally { omitted = counted_more tally.omitted }
 
 abbrev pub with_ignored : Tally → Tally
 with_ignored tally = record tally { ignored = counted_more tally.ignored }
@@ -21,27 +21,27 @@ with_ignored tally = record tally { ignored = counted_more tally.ignored }
 abbrev pub with_vanished : Tally → Tally
 with_vanished tally = record tally { vanished = counted_more tally.vanished }
 
--- what can't be read is left out, too
+-- the counts with one more unread file, which is also counted as left out
 abbrev pub with_unread : Tally → Tally
-with_unread tally = with_left_out (record tally { unread = counted_more tally.unread })
+with_unread tally = with_omitted (record tally { unread = counted_more tally.unread })
 
--- the file has no prefix `DICM`, so it is no DICOM file
+-- whether a file has no prefix `DICM`, so that it is no DICOM file
 abbrev pub is_other : Judgement → Bool
 is_other (BadHeader NotPart10) = true
 is_other _ = false
 
--- what is counted after a file with this fault, where files that are no DICOM files are passed by or not
+-- the counts after a file with this fault, if files that are no DICOM files are skipped or not
 abbrev pub after_fault : Bool → Judgement → Tally → Tally
-after_fault ignores_others fault tally = if ignores_others && is_other fault then with_ignored tally else with_left_out tally
+after_fault ignores_others fault tally = if ignores_others && is_other fault then with_ignored tally else with_omitted tally
 
--- what is counted after a file, by what was read of it: one that can't be read is counted later, since it may have vanished
+-- the counts after a file, by what was read of it: an unreadable file is counted later, since it may have vanished
 abbrev pub after_read : Bool → Result FileKeys NoKeys → Tally → Tally
 after_read ignores_others (Ok keys) tally = tally
 after_read ignores_others (Err Directory) tally = tally
 after_read ignores_others (Err (Faulty fault)) tally = after_fault ignores_others fault tally
 after_read ignores_others (Err (Unread error)) tally = tally
 
--- whether nothing is left to be done with a file of which no values were read
+-- whether a file of which no values were read needs no further handling
 abbrev pub is_over : NoKeys → Bool
 is_over Directory = true
 is_over (Faulty fault) = true

@@ -8,7 +8,7 @@ use Rattle.keyed_files.specs.declared.keys.Start.{Start}
 abbrev pub same_tag : Tag → Tag → Bool
 same_tag one other = nat_eq one.0 other.0 && nat_eq one.1 other.1
 
--- the bytes from one place to another, if there are such bytes
+-- the bytes from one offset to another, if there are such bytes
 abbrev pub bytes_between : List ℕ → ℕ → ℕ → Option (List ℕ)
 bytes_between bytes from to = if nat_le from to && nat_le to (length bytes) then Some (slice_range bytes from to) else None
 

@@ -17,32 +17,32 @@ state_of_visit visitor = record { reads = visitor.reads; tally = visitor.tally; 
 
 -- nothing was read, and nothing is counted
 abbrev pub unvisited : VisitState
-unvisited = record { reads = []; tally = record { left_out = 0; unread = 0; ignored = 0; vanished = 0 }; ignores_others = false }
+unvisited = record { reads = []; tally = record { omitted = 0; unread = 0; ignored = 0; vanished = 0 }; ignores_others = false }
 
--- this was read of one more file
+-- the state after this was read of one more file
 abbrev pub with_read : Result FileKeys NoKeys → VisitState → VisitState
 with_read read state = record state { reads = state.reads ++ read ∷ [] }
 
--- what can't be read is counted once: as unread and left out, or as vanished
+-- an unreadable file is counted once: as unread and left out, or as vanished
 abbrev pub CountsUnread : VisitState → VisitState → Type 0
 CountsUnread old new = (new ≡ record old { tally = with_unread old.tally }) ⊎ (new ≡ record old { tally = with_vanished old.tally })
 
--- what is counted after this was read of a file, if it is done with
+-- the counts after this was read of a file, if the file needs no further handling
 abbrev pub after : Result FileKeys NoKeys → VisitState → VisitState
 after read state = record state { tally = after_read state.ignores_others read state.tally }
 
--- a file was read and is done with: its values were handled, or its fault is counted, or it is a DICOMDIR
+-- a file was read and is finished: its values were handled, or its fault is counted, or it is a DICOMDIR
 abbrev pub IsDone : {S : Type 0} → (S → List ℕ → FileKeys → S → Type 0) → List ℕ → Result FileKeys NoKeys → S → S → VisitState → VisitState → Type 0
 IsDone took path (Ok keys) before later old new = took before path keys later × (new ≡ with_read (Ok keys) old)
 IsDone took path (Err why) before later old new = (later ≡ before) × (is_over why ≡ true) × (new ≡ after (Err why) (with_read (Err why) old))
 
--- nothing is counted of what failed: it could not be opened or read, or what handles its values failed
+-- a file that failed is not counted: it could not be opened or read, or the handling of its values failed
 pub data FailsUncounted {S : Type 0} (took : S → List ℕ → FileKeys → S → Type 0) : S → S → VisitState → VisitState → Type 0 where
   unopened : {s : S} {state : VisitState} → FailsUncounted took s s state state
   unread : {s : S} {state : VisitState} (why : NoKeys) → is_over why ≡ false → FailsUncounted took s s state (with_read (Err why) state)
   untaken : {s t : S} {state : VisitState} (keys : FileKeys) → FailsUncounted took s t state (with_read (Ok keys) state)
 
--- What a visit did, file by file: each that it read is done with, or it failed and is counted once.
+-- The effect of a visit, file by file: each file is finished, or failed and is counted once.
 pub data Visited {S : Type 0} (took : S → List ℕ → FileKeys → S → Type 0) : S → S → VisitState → VisitState → Type 0 where
   none : {s : S} {state : VisitState} → Visited took s s state state
   done : {s t u : S} {old state new : VisitState} (path : List ℕ) (read : Result FileKeys NoKeys)
@@ -50,7 +50,7 @@ pub data Visited {S : Type 0} (took : S → List ℕ → FileKeys → S → Type
   counted : {s t u : S} {old state later new : VisitState}
       → Visited took s t old state → FailsUncounted took t u state later → CountsUnread later new → Visited took s u old new
 
--- a visit that stops at what failed
+-- a visit that stops at a file that failed
 pub record Stops {S : Type 0} (took : S → List ℕ → FileKeys → S → Type 0) (before later : S) (old new : VisitState) : Type 0 where
   pub taking : S
   pub state : VisitState

@@ -1,8 +1,7 @@
 //! Shows progress on a terminal.
 use std::io::{IsTerminal, Write};
 
-/// Shows the number of visited files on standard error, if that is a terminal and standard output is
-/// not.
+/// Shows the number of visited files on standard error, if only standard error is a terminal.
 #[derive(Clone, Copy)]
 pub struct Counter {
     is_shown: bool,
@@ -18,7 +17,7 @@ impl Counter {
         }
     }
 
-    /// Creates a counter of zero, which shows itself if standard error is a terminal and standard
+    /// Creates a counter of zero, which is shown if standard error is a terminal and standard
     /// output is not.
     pub fn new(rt: &HostRuntime) -> Counter {
         Counter {

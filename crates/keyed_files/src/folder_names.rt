@@ -1,14 +1,14 @@
-//! The names in a folder, as the bytes that they are: std's listing keeps none that is not UTF-8.
+//! Reads the names in a folder as bytes; std's listing drops names that are not UTF-8.
 use element::interrupted::read_retrying;
 use std::alloc::{AllocError, Allocator};
 use std::io::{self, Read};
 use std::rt::Files;
 use std::str;
 
-/// The bytes of names that one read takes. A name has at most 255.
+/// The most bytes of names per read. A name has at most 255.
 const PIECE: usize = 8192;
 
-/// Returns this path with a slash at its end, as a folder that a link leads to is opened.
+/// Returns this path with a slash at its end, so that a link to a folder can be opened.
 fn with_slash<A: Allocator>(alloc: A, dir: &str) -> Result<String<A>, AllocError> {
     if dir.is_empty() || dir.ends_with('/') {
         String::from_str(alloc, dir)
@@ -31,7 +31,8 @@ pub(crate) fn path_in<A: Allocator>(
     format!(in alloc; "{dir}{slash}{name}")
 }
 
-/// Returns the path of a name in a folder that is not UTF-8: its bytes that are no ASCII are `?`.
+/// Returns the path of a name in a folder that is not UTF-8, with `?` for each byte that is not
+/// ASCII.
 pub(crate) fn masked_path_in<A: Allocator + Copy>(
     alloc: A,
     dir: &str,
@@ -52,12 +53,12 @@ pub(crate) fn masked_path_in<A: Allocator + Copy>(
 #[derive(Clone, Copy)]
 pub(crate) enum FolderName<'a> {
     Text(&'a str),
-    /// One that is not UTF-8.
+    /// A name that is not UTF-8.
     Bytes(&'a [u8]),
 }
 
 impl FolderName<'_> {
-    /// Returns the name of these bytes, or `None` for the folder itself and the one that it is in.
+    /// Returns the name with these bytes, or `None` for `.`, `..` and the empty name.
     fn of(bytes: &[u8]) -> Option<FolderName<'_>> {
         if bytes.is_empty() || bytes == b".".as_slice() || bytes == b"..".as_slice() {
             return None;
@@ -69,8 +70,8 @@ impl FolderName<'_> {
     }
 }
 
-/// Takes the first name off names each of which ends with a zero byte; `None` where it is the folder itself or the one
-/// that it is in.
+/// Splits the first name off zero-terminated names. The name is `None` for `.`, `..` and the empty
+/// name.
 pub(crate) fn split_name(names: &[u8]) -> (Option<FolderName<'_>>, &[u8]) {
     let end = names
         .iter()
@@ -80,7 +81,7 @@ pub(crate) fn split_name(names: &[u8]) -> (Option<FolderName<'_>>, &[u8]) {
     (FolderName::of(name), rest.get(1..).unwrap_or(&[]))
 }
 
-/// A folder whose names are read some at a time, in the order in which the system lists them.
+/// Reads the names in a folder in chunks, in the order in which the system lists them.
 #[derive(Drop)]
 pub(crate) struct NameListing<D: Read + Drop> {
     dir: D,
@@ -97,7 +98,7 @@ impl<D: Read + Drop> NameListing<D> {
         })
     }
 
-    /// Reads further names, each of which ends with a zero byte; none at the end.
+    /// Reads more zero-terminated names; empty at the end.
     pub(crate) fn read(&mut self) -> io::Result<&[u8]> {
         let count = read_retrying(&mut self.dir, &mut self.room)?;
         Ok(self.room.get(..count).unwrap_or(&[]))

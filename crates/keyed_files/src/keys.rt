@@ -1,4 +1,4 @@
-//! The values that were read of a file.
+//! The requested values of a file.
 ghost use Rattle.std.specs.Prelude.{◌≡◌, option_map};
 ghost use Rattle.keyed_files.specs.Keys.{file_text, file_value};
 
@@ -6,15 +6,15 @@ use arrayvec::ArrayVec;
 use element::{Tag, unpadded};
 
 /// The greatest number of values.
-const MOST_KEYS: usize = 19;
+const MOST_KEYS: usize = 27;
 
 /// The greatest number of bytes kept of a value.
 pub const LONGEST_KEPT: usize = 256;
 
 /// The greatest number of bytes of all values together.
-const ROOM: usize = 4864;
+const ROOM: usize = 6912;
 
-/// The tag of a value, and the index of its first byte in the buffer.
+/// The tag of a value and the index of its first byte in the buffer.
 #[derive(Clone, Copy)]
 struct Start {
     tag: Tag,
@@ -30,7 +30,7 @@ impl Default for Start {
     }
 }
 
-/// The requested values of a file: at most nineteen, of each at most its first 256 bytes.
+/// The requested values of a file: at most 27, and the first 256 bytes of each.
 #[derive(Drop)]
 pub struct FileKeys {
     starts: ArrayVec<Start, MOST_KEYS>,
@@ -55,7 +55,7 @@ impl FileKeys {
         self.is_open = self.starts.try_push(Start { tag, place }).is_ok();
     }
 
-    /// Ends the value that was started, if there is one.
+    /// Ends the current value, if any.
     pub(crate) fn end(&mut self) {
         self.is_open = false;
     }
@@ -68,7 +68,7 @@ impl FileKeys {
         }
     }
 
-    /// Appends bytes to the value that was started, up to 256. Drops them if there is none.
+    /// Appends bytes to the current value, up to 256, or drops them without a current value.
     pub(crate) fn take(&mut self, bytes: &[u8]) {
         if !self.is_open {
             return;
@@ -78,8 +78,8 @@ impl FileKeys {
         let _ = self.bytes.try_extend_from_slice(&bytes[..count]);
     }
 
-    /// Returns the value with this tag, including padding, or `None` if the file has none. Of a value
-    /// of more than 256 bytes it returns the first 256.
+    /// Returns the value with this tag, including padding, or `None` if the file has none. Of a
+    /// longer value it returns the first 256 bytes.
     pub fn value(&self, tag: Tag) -> Option<&[u8]>
         ensures { option_map (λ v. v.now) result ≡ file_value self.now tag }
     {

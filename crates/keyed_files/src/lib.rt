@@ -1,5 +1,5 @@
-//! Visits the DICOM files in a folder and its subfolders, and reads some values of each: in fixed
-//! memory, and no further in the file than needed.
+//! Visits the DICOM files in a folder and its subfolders and reads requested values of each, in
+//! fixed memory and no further into the file than needed.
 #![tactic(auto)]
 
 mod counter;
@@ -11,6 +11,7 @@ mod node_id;
 mod reading;
 mod same_bytes;
 mod tally;
+mod text_elements;
 mod visiting;
 mod visits;
 
@@ -21,6 +22,7 @@ pub use kinds::{NO_FILE, has_vanished, is_dicom, open_file};
 pub use node_id::NodeId;
 pub use reading::{NoKeys, read_keys};
 pub use same_bytes::have_the_same;
-pub use tally::{Tally, tell_passed_by};
+pub use tally::{Tally, report_passed_by};
+pub use text_elements::is_text_element;
 pub use visiting::{FoundFile, Taking, Visitor};
 pub use visits::Visits;

@@ -2,8 +2,7 @@
 use std::fs::Metadata;
 use std::os::unix::fs::MetadataExt;
 
-/// The identity of a file or a folder, its device and inode numbers: the same for all paths that lead
-/// to it.
+/// The device and inode numbers of a file or folder, equal for all paths that lead to it.
 #[derive(Clone, Copy, PartialEq, Eq)]
 pub struct NodeId {
     device: u64,

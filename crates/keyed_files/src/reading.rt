@@ -6,38 +6,38 @@ use part10::{MetaFault, read_any_meta};
 use sequence::{Fault, Step, Walker, Wanted};
 use std::io::{self, Read};
 
-/// The greatest number of bytes that one read takes.
+/// The most bytes of one read.
 const PIECE: usize = 4096;
 
 /// The greatest size of a data set in bytes.
 const MOST_DATA: u64 = 1 << 48;
 
-/// The UID of the SOP class Media Storage Directory Storage, that of a DICOMDIR.
+/// The SOP Class UID of a DICOMDIR: Media Storage Directory Storage.
 const DIRECTORY_CLASS: &[u8] = b"1.2.840.10008.1.3.10";
 
-/// A walker of a data set of at most 64 open levels.
+/// A walker of data sets with at most 64 open levels.
 type KeyWalker = Walker<140, 64>;
 
-/// Why no values were read of a file.
+/// Why no values were read from a file.
 #[derive(Drop)]
 pub enum NoKeys {
-    /// It is a DICOMDIR.
+    /// The file is a DICOMDIR.
     Directory,
-    /// It has this fault, before the end of the requested values.
+    /// The file has this fault before the end of the requested values.
     Faulty(Judgement),
     /// A read failed.
     Unread(io::Error),
 }
 
-/// Returns the system error for a file that cannot be read.
+/// Returns the reason for a file that can't be read.
 fn unread(error: InspectionError) -> NoKeys {
     match error {
         InspectionError::Read(error) | InspectionError::Write(error) => NoKeys::Unread(error),
     }
 }
 
-/// Starts the value of an element of the data set itself, if its tag is among the requested `tags`.
-/// Returns whether the tag is above all of those.
+/// Starts the value of an element at the top level if its tag is in `tags`. Returns whether the tag
+/// is above all of `tags`.
 fn take_tag(tag: Tag, tags: &[Tag], keys: &mut FileKeys) -> bool {
     if tags.iter().any(|asked| *asked == tag) {
         keys.begin(tag);
@@ -47,8 +47,8 @@ fn take_tag(tag: Tag, tags: &[Tag], keys: &mut FileKeys) -> bool {
     tags.iter().all(|asked| asked.number() < tag.number())
 }
 
-/// Walks a piece of a data set, up to the first element with a tag above all requested ones. Returns
-/// whether that was reached. The error is the first fault of the data set.
+/// Walks a chunk of a data set, up to the first element with a tag above all requested tags.
+/// Returns whether that element was reached. The error is the data set's first fault.
 fn walk_piece(
     walker: &mut KeyWalker,
     piece: &[u8],
@@ -56,7 +56,7 @@ fn walk_piece(
     keys: &mut FileKeys,
 ) -> Result<bool, Fault> {
     let mut rest = piece;
-    // Each step takes at least one byte, or finds a fault.
+    // Each step consumes at least one byte, or finds a fault.
     for _ in 0..piece.len() {
         if rest.is_empty() {
             break;
@@ -79,8 +79,8 @@ fn walk_piece(
     Ok(false)
 }
 
-/// Walks the data set in the rest of the input, up to the first element with a tag above all requested
-/// ones, or to its end.
+/// Walks the data set in the rest of the input, up to its end or the first element with a tag above
+/// all requested tags.
 fn walk<R: Read>(
     input: &mut Counted<'_, R>,
     walker: &mut KeyWalker,
@@ -89,7 +89,7 @@ fn walk<R: Read>(
 ) -> Result<(), NoKeys> {
     let start = input.count();
     let mut room = [0; PIECE];
-    // The walker stops at its limit of bytes, so there are never so many pieces.
+    // The walker's limit of bytes ends the loop earlier.
     for _ in 0..u64::MAX {
         let count = input.read_some(&mut room).map_err(unread)?;
         let walked = if count == 0 {
@@ -106,9 +106,9 @@ fn walk<R: Read>(
     Ok(())
 }
 
-/// Reads the values of the elements with these tags, at most nineteen, from a file in any transfer syntax of
-/// the dictionary. The reader must be at the start of the file. It reads no further than to the first
-/// element with a tag above all of them, so that faults after it are not found.
+/// Reads the values with these tags, at most 27, from a file in any transfer syntax of the
+/// dictionary. The reader must be at the start of the file. Reading stops at the first element with
+/// a tag above all of them; faults after that are not found.
 ///
 /// Fails if the file is a DICOMDIR, has a fault before that element, or a read fails.
 pub fn read_keys<R: Read>(input: &mut R, tags: &[Tag]) -> Result<FileKeys, NoKeys> {

@@ -1,4 +1,4 @@
-//! Whether two files have the same bytes.
+//! Compares the bytes of two files.
 ghost use Rattle.std.specs.Prelude.{◌≡◌, IfOk, true};
 ghost use Rattle.keyed_files.specs.SameBytes.{GiveTheSame};
 
@@ -7,7 +7,7 @@ use std::fs;
 use std::io::{self, ErrorKind, Read};
 use std::rt::Files;
 
-/// The bytes that are compared at a time.
+/// How many bytes are compared at a time.
 const PIECE: usize = 8192;
 
 #[tactic(auto, using(crate::proofs::FrontsAreSame::same_text))]
@@ -17,7 +17,7 @@ fn are_same(one: &[u8], other: &[u8]) -> bool
     one == other
 }
 
-/// Returns whether two readers give the same bytes, up to the end of both. Fails if one can't be read.
+/// Returns whether two readers yield the same bytes up to the end of both. Fails if a read fails.
 #[tactic(auto, using(crate::proofs::FrontsAreSame::at_end))]
 fn give_the_same<R: Read>(one: &mut R, other: &mut R) -> io::Result<bool>
     ensures same { IfOk result (λ same. same ≡ true → GiveTheSame (R.remaining one.old) (R.remaining other.old)) }
@@ -39,7 +39,7 @@ fn give_the_same<R: Read>(one: &mut R, other: &mut R) -> io::Result<bool>
     Ok(false)
 }
 
-/// Returns whether the files of two paths have the same bytes. Fails if one can't be read.
+/// Returns whether the files at two paths have the same bytes. Fails if either can't be read.
 pub fn have_the_same<R: Files>(rt: &R, one: &str, other: &str) -> io::Result<bool> {
     let mut first = fs::open(rt, one)?;
     let mut second = fs::open(rt, other)?;

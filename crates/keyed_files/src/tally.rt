@@ -1,50 +1,50 @@
-//! Counts the files of a folder that were left out or passed by.
+//! Counts the files that a visit left out or ignored.
 ghost use Rattle.std.specs.Prelude.{◌≡◌};
-ghost use Rattle.keyed_files.specs.Counting.{with_ignored, with_left_out, with_unread, with_vanished};
+ghost use Rattle.keyed_files.specs.Counting.{with_ignored, with_omitted, with_unread, with_vanished};
 
 use failures::ProgramError;
 use inspection::Outcome;
 use std::io::Write;
 
-/// The number of files that a visit has left out, and why.
+/// The number of files that a visit left out, by reason.
 #[derive(Clone, Copy)]
 pub struct Tally {
     /// Files that are no DICOM files, have a fault before the requested values, or cannot be read.
-    pub left_out: u64,
+    pub omitted: u64,
     /// Files and folders that cannot be read.
     pub unread: u64,
-    /// Files that are no DICOM files, where these are passed by.
+    /// Files that are no DICOM files, if the visit ignores these.
     pub ignored: u64,
-    /// Files and folders that were found, and were gone when they were to be read.
+    /// Files and folders that vanished before they were read.
     pub vanished: u64,
 }
 
 impl Tally {
     /// Creates counts of zero.
     pub(crate) fn new() -> Tally
-        ensures { result ≡ record { left_out = 0; unread = 0; ignored = 0; vanished = 0 } }
+        ensures { result ≡ record { omitted = 0; unread = 0; ignored = 0; vanished = 0 } }
     {
         Tally {
-            left_out: 0,
+            omitted: 0,
             unread: 0,
             ignored: 0,
             vanished: 0,
         }
     }
 
-    /// Returns `Outcome::Good` if no file was left out, else `Outcome::Faulty`. Fails with `Unread` if
-    /// a file or folder cannot be read.
+    /// Returns `Outcome::Good` if no file was left out, else `Outcome::Faulty`. Fails with `Unread`
+    /// if a file or folder cannot be read.
     pub fn outcome(self) -> Result<Outcome, ProgramError> {
         if self.unread > 0 {
             return Err(ProgramError::Unread);
         }
-        if self.left_out > 0 {
+        if self.omitted > 0 {
             return Ok(Outcome::Faulty);
         }
         Ok(Outcome::Good)
     }
 
-    /// Counts a file that is passed by.
+    /// Counts a file that is ignored.
     pub(crate) fn add_ignored(&mut self)
         ensures { self.new ≡ with_ignored self.old }
     {
@@ -59,10 +59,10 @@ impl Tally {
     }
 
     /// Counts a file that was left out.
-    pub(crate) fn add_left_out(&mut self)
-        ensures { self.new ≡ with_left_out self.old }
+    pub(crate) fn add_omitted(&mut self)
+        ensures { self.new ≡ with_omitted self.old }
     {
-        self.left_out = self.left_out.saturating_add(1);
+        self.omitted = self.omitted.saturating_add(1);
     }
 
     /// Counts a file or a folder that cannot be read.
@@ -70,12 +70,12 @@ impl Tally {
         ensures { self.new ≡ with_unread self.old }
     {
         self.unread = self.unread.saturating_add(1);
-        self.add_left_out();
+        self.add_omitted();
     }
 }
 
-/// Tells how many files were passed by, if any were: those that are no DICOM files, and those that have vanished.
-pub fn tell_passed_by<E: Write>(ignored: u64, vanished: u64, err: &mut E) {
+/// Reports how many files were ignored (no DICOM files) and how many have vanished, if any.
+pub fn report_passed_by<E: Write>(ignored: u64, vanished: u64, err: &mut E) {
     for (count, what) in [(ignored, "ignored"), (vanished, "vanished")] {
         if count > 0 {
             let _ = writeln!(err, "dcmbox: {what} {count}");

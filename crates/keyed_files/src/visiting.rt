@@ -10,7 +10,7 @@ use crate::keys::FileKeys;
 use crate::kinds::{NO_FILE, has_vanished, open_file};
 use crate::node_id::NodeId;
 use crate::reading::{NoKeys, read_keys};
-use crate::tally::{Tally, tell_passed_by};
+use crate::tally::{Tally, report_passed_by};
 use element::Tag;
 use element::history::History;
 use failures::{Failure, ProgramError};
@@ -36,29 +36,29 @@ pub struct FoundFile<'a> {
 pub trait Taking {
     ghost use Rattle.keyed_files.specs.declared.keys.FileKeys.{FileKeys};
 
-    /// For contracts: what a file at this path with these values changes.
+    /// For contracts: relates the states before and after this file was handled.
     ghost took: { Self → List ℕ → FileKeys → Self → Type 0 };
 
-    /// Handles a file. If it fails because the file cannot be read, that is reported and the visit
+    /// Handles a file. An error because the file cannot be read is reported, and the visit
     /// continues; any other error ends it.
     fn take(&mut self, file: FoundFile<'_>) -> Result<(), ProgramError>
         ensures took { OnOk result (took self.old file.entry.path.now file.entry.keys.now self.new) };
 }
 
-/// Visits the DICOM files in a folder and its subfolders, in the order in which the system lists them,
-/// and reports those that are left out. It allocates for folders that are still to be visited, not for
+/// Visits the DICOM files in a folder and its subfolders, in the order in which the system lists
+/// them, and reports those that are left out. It allocates for folders still to be visited, not for
 /// files.
 ///
-/// Drafts, DICOMDIR files and symbolic links are ignored; pipes, sockets and devices are reported, and not counted; files
-/// and folders that another program removes or moves away meanwhile are counted by themselves.
+/// Drafts, DICOMDIR files and symbolic links are skipped. Pipes, sockets and devices are reported,
+/// but not counted. Vanished files and folders have a count of their own.
 #[derive(Drop)]
 pub struct Visitor<'a, R, E: Write + Drop> {
     rt: &'a R,
     /// The tags of the values that are read of each file.
     tags: &'a [Tag],
-    /// A folder that is left out, if any.
+    /// The folder to skip, if any.
     spared: Option<NodeId>,
-    /// Whether files that are no DICOM files are passed by.
+    /// Whether files that are no DICOM files are ignored.
     ignores_others: bool,
     err: E,
     counter: Counter,
@@ -71,8 +71,8 @@ impl<'a, R: Files + Alloc + Clone + Drop, E: Write + Drop> Visitor<'a, R, E>
 where
     R::A: Copy,
 {
-    /// Creates a visitor that reads the values with these tags, at most nineteen, and reports files that are
-    /// left out on `err`.
+    /// Creates a visitor that reads the values with these tags, at most 27, and reports files that
+    /// are left out on `err`.
     pub fn new(rt: &'a R, tags: &'a [Tag], err: E, counter: Counter) -> Visitor<'a, R, E>
         ensures { state_of_visit result ≡ unvisited }
     {
@@ -88,22 +88,22 @@ where
         }
     }
 
-    /// Leaves out this folder, by whatever path it is found.
+    /// Skips this folder, by whatever path it is found.
     pub fn spare(&mut self, folder: NodeId)
         ensures { state_of_visit self.new ≡ state_of_visit self.old }
     {
         self.spared = Some(folder);
     }
 
-    /// Passes by files that are no DICOM files: they are counted, and not left out.
+    /// Ignores files that are no DICOM files: they are counted, but not left out.
     pub fn ignore_others(&mut self)
         ensures { state_of_visit self.new ≡ record (state_of_visit self.old) { ignores_others = true } }
     {
         self.ignores_others = true;
     }
 
-    /// Reports on standard error what is wrong with what has this path.
-    fn tell<D: Display>(&mut self, path: &str, what: &D)
+    /// Reports `what` about this path on standard error.
+    fn report<D: Display>(&mut self, path: &str, what: &D)
         ensures same { state_of_visit self.new ≡ state_of_visit self.old }
     {
         let path = Printable(path.as_bytes());
@@ -111,8 +111,8 @@ where
         let _ = writeln!(self.err, "dcmbox: {path}: {what}");
     }
 
-    /// Counts and reports a file or folder that cannot be read. Any other error is returned.
-    fn tell_failure(&mut self, path: &str, error: ProgramError) -> Result<(), ProgramError>
+    /// Counts and reports a file or folder that cannot be read. Returns any other error.
+    fn report_failure(&mut self, path: &str, error: ProgramError) -> Result<(), ProgramError>
         ensures counted { OnOk result (CountsUnread (state_of_visit self.old) (state_of_visit self.new)) }
         ensures same { OnErr result (state_of_visit self.new ≡ state_of_visit self.old) }
     {
@@ -120,13 +120,13 @@ where
             return Err(error);
         }
         self.tally.add_unread();
-        self.tell(path, &error);
+        self.report(path, &error);
         Ok(())
     }
 
-    /// Counts what was found in a folder and cannot be read, and reports it unless it has vanished. Any other error is
-    /// returned.
-    fn tell_unread(&mut self, path: &str, error: ProgramError) -> Result<(), ProgramError>
+    /// Counts a path that was found in a folder and cannot be read, and reports it unless it has
+    /// vanished. Returns any other error.
+    fn report_unread(&mut self, path: &str, error: ProgramError) -> Result<(), ProgramError>
         ensures counted { OnOk result (CountsUnread (state_of_visit self.old) (state_of_visit self.new)) }
         ensures same { OnErr result (state_of_visit self.new ≡ state_of_visit self.old) }
     {
@@ -136,11 +136,11 @@ where
             self.tally.add_vanished();
             return Ok(());
         }
-        self.tell_failure(path, error)
+        self.report_failure(path, error)
     }
 
-    /// Counts a file with a fault, and reports it if it is not passed by.
-    fn tell_fault(&mut self, path: &str, fault: &Judgement)
+    /// Counts a file with a fault, and reports it unless it is ignored.
+    fn report_fault(&mut self, path: &str, fault: &Judgement)
         ensures counted { state_of_visit self.new ≡ record (state_of_visit self.old) { tally = after_fault self.old.ignores_others fault.now self.old.tally } }
     {
         if let (true, Judgement::BadHeader(MetaFault::NotPart10)) = (self.ignores_others, fault) {
@@ -148,13 +148,13 @@ where
             return;
         }
         let path = Printable(path.as_bytes());
-        self.tally.add_left_out();
+        self.tally.add_omitted();
         self.counter.clear(&mut self.err);
         let _ = writeln!(self.err, "dcmbox: {path}: left out: {fault}");
     }
 
-    /// Reads the requested values of a file. The outer error is that it cannot be opened, or memory ran
-    /// out; the inner one why it has no values.
+    /// Reads the requested values of a file. The outer error is that the file cannot be opened or
+    /// memory runs out, the inner error why the file has no values.
     fn keys_of(&mut self, path: &str) -> Result<Result<FileKeys, NoKeys>, ProgramError>
         ensures read { IfOk result (λ read. state_of_visit self.new ≡ with_read read (state_of_visit self.old)) }
         ensures none { OnErr result (state_of_visit self.new ≡ state_of_visit self.old) }
@@ -173,7 +173,8 @@ where
         }
     }
 
-    /// Handles a file by what was read of it: one with a fault is counted, a DICOMDIR is passed over.
+    /// Handles a file by the result of reading it: a file with a fault is counted, a DICOMDIR is
+    /// skipped.
     fn handle<T: Taking>(
         &mut self,
         path: &str,
@@ -194,7 +195,7 @@ where
             }),
             Err(NoKeys::Directory) => Ok(()),
             Err(NoKeys::Faulty(fault)) => {
-                self.tell_fault(path, &fault);
+                self.report_fault(path, &fault);
                 Ok(())
             }
             Err(NoKeys::Unread(error)) => Err(ProgramError::of(Failure::Read, error)),
@@ -216,8 +217,8 @@ where
         self.handle(path, metadata, read, taking)
     }
 
-    /// Visits a path that was found in a folder: handles a file, if it is no draft, and appends a folder to those still to
-    /// be visited. Symbolic links are not followed.
+    /// Visits a path that was found in a folder: handles a file unless it is a draft, and appends a
+    /// folder to those still to be visited. Symbolic links are not followed.
     fn visit<T: Taking>(
         &mut self,
         path: &str,
@@ -238,14 +239,15 @@ where
             Ok(found) if found.is_symlink() || is_draft => Ok(()),
             Ok(found) if found.is_file() => self.take(path, &found, taking),
             Ok(_) => {
-                self.tell(path, &NO_FILE);
+                self.report(path, &NO_FILE);
                 Ok(())
             }
             Err(error) => Err(ProgramError::of(Failure::Open, error)),
         }
     }
 
-    /// Visits a name that was found in a folder. One that is not UTF-8 can't be opened.
+    /// Visits a name that was found in a folder. A name that is not UTF-8 is reported as
+    /// unreadable.
     fn visit_name<T: Taking>(
         &mut self,
         dir: &str,
@@ -261,17 +263,20 @@ where
             FolderName::Bytes(bytes) => {
                 let path = masked_path_in(self.rt.alloc(), dir, bytes)?;
                 let error = Error::from(ErrorKind::InvalidFilename);
-                return self.tell_unread(path.as_str(), ProgramError::System(Failure::Open, error));
+                return self.report_unread(
+                    path.as_str(),
+                    ProgramError::System(Failure::Open, error),
+                );
             }
         };
         let path = path_in(self.rt.alloc(), dir, text)?;
         match self.visit(path.as_str(), is_draft(text), folders, taking) {
             Ok(()) => Ok(()),
-            Err(error) => self.tell_unread(path.as_str(), error),
+            Err(error) => self.report_unread(path.as_str(), error),
         }
     }
 
-    /// Visits names in a folder, each of which ends with a zero byte.
+    /// Visits zero-terminated names in a folder.
     fn visit_names<T: Taking>(
         &mut self,
         dir: &str,
@@ -296,7 +301,7 @@ where
         Ok(())
     }
 
-    /// Visits the entries of a folder, without those of its subfolders.
+    /// Visits the entries of a folder, but not of its subfolders.
     fn visit_folder<T: Taking>(
         &mut self,
         dir: &str,
@@ -311,7 +316,7 @@ where
             match listing.read() {
                 Ok([]) => break,
                 Ok(names) => self.visit_names(dir, names, folders, taking)?,
-                Err(error) => return self.tell_unread(dir, ProgramError::of_folder(error)),
+                Err(error) => return self.report_unread(dir, ProgramError::of_folder(error)),
             }
         }
         Ok(())
@@ -330,31 +335,33 @@ where
             };
             match self.visit_folder(dir.as_str(), &mut folders, taking) {
                 Ok(()) => {}
-                Err(error) => self.tell_unread(dir.as_str(), error)?,
+                Err(error) => self.report_unread(dir.as_str(), error)?,
             }
         }
         Ok(())
     }
 
-    /// Visits folders and their subfolders. Of several folders one that cannot be listed is counted and reported.
+    /// Visits folders and their subfolders. With several folders, a folder that cannot be listed is
+    /// counted and reported.
     fn visit_each<T: Taking>(&mut self, dirs: &[&str], taking: &mut T) -> Result<(), ProgramError>
         ensures visited { OnOk result (Visited T.took taking.old taking.new (state_of_visit self.old) (state_of_visit self.new)) }
     {
         for dir in dirs {
             match self.visit_folders(*dir, taking) {
                 Ok(()) => {}
-                Err(error) if dirs.len() > 1 => self.tell_failure(*dir, error)?,
+                Err(error) if dirs.len() > 1 => self.report_failure(*dir, error)?,
                 Err(error) => return Err(error),
             }
         }
         Ok(())
     }
 
-    /// Visits the files in folders and their subfolders. Returns the number of those that were left out,
-    /// which are reported, too. Of several folders one that cannot be listed is reported, and the others are visited.
+    /// Visits the files in folders and their subfolders. Returns the counts of files that were left
+    /// out, which are also reported. With several folders, a folder that cannot be listed is
+    /// reported, and the others are visited.
     ///
-    /// Fails if the only folder cannot be listed, if memory runs out, or with the error of
-    /// [`Taking::take`], except that of a file that cannot be read.
+    /// Fails if the only folder cannot be listed, if memory runs out, or with any error of
+    /// [`Taking::take`] other than that the file cannot be read.
     pub fn visit_all<T: Taking>(
         &mut self,
         dirs: &[&str],
@@ -365,7 +372,7 @@ where
     {
         let visited = self.visit_each(dirs, taking);
         self.counter.clear(&mut self.err);
-        tell_passed_by(self.tally.ignored, self.tally.vanished, &mut self.err);
+        report_passed_by(self.tally.ignored, self.tally.vanished, &mut self.err);
         visited?;
         Ok(self.tally)
     }

@@ -1,15 +1,15 @@
-//! The files below a folder, by name: those in the folder itself and those in its folders.
+//! Lists the files below a folder in the order of their names.
 use crate::folder_names::{FolderName, NameListing, masked_path_in, path_in, split_name};
 use failures::ProgramError;
 use std::alloc::{AllocError, Allocator};
 use std::rt::Files;
 
-/// The names in a folder.
+/// The names in a folder, sorted.
 #[derive(Drop)]
 struct SortedNames<A: Allocator> {
-    /// Those that are UTF-8.
+    /// The names that are UTF-8.
     texts: Vec<String<A>, A>,
-    /// The paths of the others, with `?` for each byte that is no ASCII.
+    /// The paths of the other names, with `?` for each byte that is not ASCII.
     masked: Vec<String<A>, A>,
 }
 
@@ -23,7 +23,7 @@ impl<A: Allocator + Copy> SortedNames<A> {
         Ok(())
     }
 
-    /// Adds names, each of which ends with a zero byte.
+    /// Adds zero-terminated names.
     fn push_all(&mut self, alloc: A, dir: &str, names: &[u8]) -> Result<(), AllocError> {
         let mut rest = names;
         for _ in 0..names.len() {
@@ -40,7 +40,7 @@ impl<A: Allocator + Copy> SortedNames<A> {
     }
 }
 
-/// Returns the names in a folder, rising.
+/// Returns the names in a folder in ascending order.
 fn names_in<R: Files + Alloc>(rt: &R, dir: &str) -> Result<SortedNames<R::A>, ProgramError>
 where
     R::A: Copy,
@@ -62,7 +62,7 @@ where
     Ok(names)
 }
 
-/// Files and folders that are still to be visited, the next one last.
+/// Files and folders still to be visited; the next is the last.
 #[derive(Drop)]
 pub struct Visits<R: Alloc> {
     paths: Vec<String<R::A>, R::A>,
@@ -72,15 +72,15 @@ impl<R: Files + Alloc> Visits<R>
 where
     R::A: Copy,
 {
-    /// Returns no visits.
+    /// Returns an empty list.
     pub fn new(rt: &R) -> Visits<R> {
         Visits {
             paths: Vec::new(rt.alloc()),
         }
     }
 
-    /// Adds what is in a folder, to be visited next. Returns the paths that can't be visited, since their names are not
-    /// UTF-8; their bytes that are no ASCII are `?`.
+    /// Adds the entries of a folder, to be visited next. Returns the paths of names that are not
+    /// UTF-8 and can't be visited, with `?` for each byte that is not ASCII.
     ///
     /// Fails if the folder can't be listed or memory runs out.
     pub fn add_folder(
@@ -96,7 +96,7 @@ where
         Ok(masked)
     }
 
-    /// Takes the path that is visited next.
+    /// Removes and returns the path to visit next, or `None`.
     pub fn next(&mut self) -> Option<String<R::A>> {
         self.paths.pop()
     }

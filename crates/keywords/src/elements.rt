@@ -1,6 +1,7 @@
-//! The VRs and the keywords of data elements. A row of a table is a line with a tag of eight hexadecimal digits, where
-//! `x` stands for any digit, a space, the VRs, a space and the keyword. Where the VR depends on other elements, a slash
-//! stands between those that it may be; for an item and its end there is none, which is `--`.
+//! VRs and keywords of data elements. A row of a table is a line: a tag of eight hexadecimal
+//! digits, in which `x` matches any digit, a space, the VRs, a space and the keyword. Where the VR
+//! depends on other elements, slashes separate the alternatives; items and delimitations have `--`,
+//! as they have no VR.
 mod part_1;
 mod part_10;
 mod part_11;
@@ -33,7 +34,7 @@ const TABLES: [&str; 13] = [
     part_13::ROWS,
 ];
 
-/// The eight hexadecimal digits of a tag, first those of the group.
+/// The eight hexadecimal digits of a tag, group first.
 type Digits = [u8; 8];
 
 /// Returns the last hexadecimal digit of a number.
@@ -55,7 +56,7 @@ fn digits_of(group: u16, element: u16) -> Digits {
     ]
 }
 
-/// Rows that were cut at the one in their middle.
+/// Rows split at the row in their middle: that row, and those before and after it.
 #[derive(Clone, Copy)]
 struct Halves {
     before: &'static str,
@@ -63,7 +64,7 @@ struct Halves {
     after: &'static str,
 }
 
-/// Cuts rows at the one in their middle.
+/// Splits rows at the row in their middle. Never `None` for ASCII text.
 fn middle_of(rows: &'static str) -> Option<Halves> {
     let (front, _) = rows.split_at_checked(rows.len() / 2)?;
     let (before, start) = match front.rsplit_once('\n') {
@@ -75,11 +76,11 @@ fn middle_of(rows: &'static str) -> Option<Halves> {
     Some(Halves { before, row, after })
 }
 
-/// Returns what the row of a tag has after the digits, in rows in ascending order, or `None` if none is that of the
-/// tag.
+/// Returns the text after the digits in the row of `tag`, or `None` if no row has exactly this tag.
+/// The rows must be in ascending order.
 fn found_in(rows: &'static str, tag: &Digits) -> Option<&'static str> {
     let mut rows = rows;
-    // Each turn leaves half of the rows.
+    // Each iteration halves the rows.
     for _ in 0..64 {
         let Halves { before, row, after } = middle_of(rows)?;
         let (digits, found) = row.split_once(' ')?;
@@ -95,7 +96,7 @@ fn found_in(rows: &'static str, tag: &Digits) -> Option<&'static str> {
     None
 }
 
-/// Returns whether a row with these digits is that of the tag.
+/// Returns whether the digits of a row match the tag; `x` matches any digit.
 fn are_of(digits: &[u8], tag: &Digits) -> bool {
     digits.len() == 8
         && digits
@@ -104,7 +105,7 @@ fn are_of(digits: &[u8], tag: &Digits) -> bool {
             .all(|(digit, wanted)| digit == wanted || *digit == b'x')
 }
 
-/// Returns what the first row of a tag has after the digits, or `None` if none is that of the tag.
+/// Returns the text after the digits in the first row that matches `tag`, or `None`.
 fn found_among(rows: &'static str, tag: &Digits) -> Option<&'static str> {
     for row in rows.split('\n') {
         let (digits, found) = row.split_once(' ')?;
@@ -115,7 +116,7 @@ fn found_among(rows: &'static str, tag: &Digits) -> Option<&'static str> {
     None
 }
 
-/// Returns whether the first row of a table has a tag above this one.
+/// Returns whether the first row of a table has a tag above `tag`, or the table is empty.
 fn is_above(rows: &str, tag: &Digits) -> bool {
     match rows.as_bytes().get(..8) {
         Some(first) => first > tag.as_slice(),
@@ -123,7 +124,7 @@ fn is_above(rows: &str, tag: &Digits) -> bool {
     }
 }
 
-/// Returns the only table that can have this tag.
+/// Returns the only table of [`TABLES`] that can have this tag.
 fn table_of(tag: &Digits) -> &'static str {
     let mut table = "";
     for rows in TABLES {
@@ -135,8 +136,8 @@ fn table_of(tag: &Digits) -> &'static str {
     table
 }
 
-/// Returns the VRs and the keyword of the data element with this group and element number, or `None` if the standard
-/// has none, as of each odd group.
+/// Returns the VRs and the keyword of the data element with this group and element number, or
+/// `None` if the standard has none, as for odd (private) groups.
 fn row_of(group: u16, element: u16) -> Option<(&'static str, &'static str)> {
     if group % 2 == 1 {
         return None;
@@ -149,22 +150,23 @@ fn row_of(group: u16, element: u16) -> Option<(&'static str, &'static str)> {
     found.split_once(' ')
 }
 
-/// Returns the keyword of the data element with this group and element number (PS3.6 sections 6 to 9),
-/// or `None` if the standard has none.
+/// Returns the keyword of the data element with this group and element number (PS3.6 sections 6 to
+/// 9), or `None` if the standard has none.
 pub fn element_keyword(group: u16, element: u16) -> Option<&'static str> {
     let (_, keyword) = row_of(group, element)?;
     Some(keyword)
 }
 
-/// Returns the VR of the data element with this group and element number (PS3.6 sections 6 to 9), or `None` if the
-/// standard has none. Where the VR depends on other elements, a slash stands between those that it may be; for an item
-/// and its end there is none, which is `--`.
+/// Returns the VR of the data element with this group and element number (PS3.6 sections 6 to 9),
+/// or `None` if the standard has none. Where the VR depends on other elements, slashes separate the
+/// alternatives; items and delimitations have `--`, as they have no VR.
 pub fn element_vrs(group: u16, element: u16) -> Option<&'static str> {
     let (vrs, _) = row_of(group, element)?;
     Some(vrs)
 }
 
-/// Returns the digits of a row that has this keyword, if they are those of one tag.
+/// Returns the digits of a row with this keyword, or `None` if it has another or stands for several
+/// tags.
 fn digits_in(row: &'static str, keyword: &str) -> Option<&'static str> {
     let (digits, found) = row.split_once(' ')?;
     let (_, named) = found.split_once(' ')?;
@@ -175,7 +177,7 @@ fn digits_in(row: &'static str, keyword: &str) -> Option<&'static str> {
     }
 }
 
-/// Returns the digits of the first of these rows that has this keyword.
+/// Returns the digits of the first of these rows that has this keyword, or `None`.
 fn first_digits(rows: &'static str, keyword: &str) -> Option<&'static str> {
     for row in rows.split('\n') {
         if let Some(digits) = digits_in(row, keyword) {
@@ -185,8 +187,9 @@ fn first_digits(rows: &'static str, keyword: &str) -> Option<&'static str> {
     None
 }
 
-/// Returns the tag of the data element with this keyword (PS3.6 sections 6 to 9): eight hexadecimal digits, group
-/// before element. `None` if the standard has no such keyword, or several tags with it.
+/// Returns the tag of the data element with this keyword (PS3.6 sections 6 to 9) as eight
+/// hexadecimal digits, group first, or `None` if the standard does not have the keyword, or has it
+/// for several tags.
 pub fn element_digits(keyword: &str) -> Option<&'static str> {
     for rows in TABLES {
         if let Some(digits) = first_digits(rows, keyword) {

@@ -1,5 +1,5 @@
-//! The keywords of data elements, SOP classes and transfer syntaxes, and the VRs of data elements (PS3.6), for output
-//! that people read. No verdict is decided by them.
+//! Keywords of data elements, SOP classes and transfer syntaxes, and VRs of data elements (PS3.6),
+//! for output that people read. No check depends on them.
 #![tactic(auto)]
 
 mod classes;
@@ -8,10 +8,10 @@ mod syntaxes;
 
 pub use elements::{element_digits, element_keyword, element_vrs};
 
-/// A row of a table: the part of a UID after [`ROOT`], and the keyword.
+/// A row of a table: the part of a UID after [`ROOT`], and its keyword.
 type Row = (&'static str, &'static str);
 
-/// The root of the UIDs that the standard defines.
+/// The root of all UIDs that the standard defines.
 const ROOT: &[u8] = b"1.2.840.10008.";
 
 /// Returns the keyword of the UID whose part after [`ROOT`] is `rest`, or `None` if no row has it.

@@ -1,5 +1,5 @@
 -- Where the part at one place has one file more, all parts have one file more (`one_more`): a series that counts one more
--- (`one_image`), or lists one more (`one_path`). What is found by a UID has it (`found_or_none`), and so has what is added
+-- (`one_image`), or lists one more (`one_listed`). What is found by a UID has it (`found_or_none`), and so has what is added
 -- (`added`). The count of some series and of the next one is the count of both (`images_more`). Stands on the definitions alone.
 use Rattle.std.proofs.Common.{◌≡◌, ◌+◌, ℕ, zero, suc, List, [], ◌∷◌, ◌++◌, length, map, get_or, take, position, Option, Some, None, refl, sym, ap, subst, ◌∙◌, append-nil, add-one, arith, min, ◌-◌, ◌^◌}
 use Rattle.std.specs.Prelude.{IfSome, IsPermutation, Vec, replicate, slice_get}
@@ -13,8 +13,7 @@ use Rattle.std.proofs.lemmas.Option.{slice_get-map, slice_get-get_or}
 use Rattle.std.proofs.lemmas.List.{length-append, length-replicate, map-append}
 use Rattle.indexmap.specs.IndexMap.{set_value_at, insert_entry}
 use Rattle.indexmap.proofs.MapLemmas.{absent_from_lookup, insert_entry-absent, or_len-absent}
-use Rattle.std.specs.String.{string_bytes}
-use Rattle.list_command.specs.Tree.{files_in, is_uid, one_or_none, HasPath, HasUid, IsAdded}
+use Rattle.list_command.specs.Tree.{files_in, is_uid, one_or_none, shown, HasUid, IsAdded, Listed, Lists}
 use Rattle.list_command.specs.declared.studies.Instance.{Instance}
 use Rattle.list_command.specs.declared.studies.Series.{Series}
 
@@ -79,13 +78,13 @@ images_more study es i k s images more at so_far next =
     let one = images_to study es i k s at in
     rw (add-one i, one) (grind (arith, so_far, next))
 
-pub one_path : {A : Type 0} (study uid key path : List ℕ) (listed after : List (Instance A)) (instance : Option (Instance A)) → key ≡ uid → HasPath path instance → after ≡ listed ++ one_or_none instance
-    → IsPermutation {X = List ℕ × (List ℕ × List ℕ)} ((study, (uid, path)) ∷ map (λ one. (study, (key, string_bytes one.path))) listed) (map (λ one. (study, (key, string_bytes one.path))) after)
-one_path study uid key path listed after None named has more = absurd has
-one_path {A} study uid key path listed after (Some instance) named has more =
-    let show : Instance A → List ℕ × (List ℕ × List ℕ) = λ one. (study, (key, string_bytes one.path)) in
-    let last : List ℕ × (List ℕ × List ℕ) = show instance in
-    let same : last ≡ (study, (uid, path)) = ap (λ (text : List ℕ). (study, (key, text))) has ∙ ap (λ (text : List ℕ). (study, (text, path))) named in
-    let all : map show after ≡ map show listed ++ last ∷ [] = ap (map show) more ∙ map-append show listed (instance ∷ []) in
-    subst (λ (given : List ℕ × (List ℕ × List ℕ)). IsPermutation (given ∷ map show listed) (map show after)) same
-    (subst (IsPermutation (last ∷ map show listed)) (sym all) (IsPermutation-sym _ _ (IsPermutation-to_front (map show listed) last)))
+pub one_listed : {A : Type 0} (study uid key : List ℕ) (listed : Listed) (before after : List (Instance A)) (instance : Option (Instance A)) → key ≡ uid → Lists listed instance → after ≡ before ++ one_or_none instance
+    → IsPermutation {X = List ℕ × (List ℕ × Listed)} ((study, (uid, listed)) ∷ map (λ one. (study, (key, shown one))) before) (map (λ one. (study, (key, shown one))) after)
+one_listed study uid key listed before after None named has more = absurd has
+one_listed {A} study uid key listed before after (Some instance) named has more =
+    let show : Instance A → List ℕ × (List ℕ × Listed) = λ one. (study, (key, shown one)) in
+    let last : List ℕ × (List ℕ × Listed) = show instance in
+    let same : last ≡ (study, (uid, listed)) = ap (λ (given : Listed). (study, (key, given))) has ∙ ap (λ (text : List ℕ). (study, (text, listed))) named in
+    let all : map show after ≡ map show before ++ last ∷ [] = ap (map show) more ∙ map-append show before (instance ∷ []) in
+    subst (λ (given : List ℕ × (List ℕ × Listed)). IsPermutation (given ∷ map show before) (map show after)) same
+    (subst (IsPermutation (last ∷ map show before)) (sym all) (IsPermutation-sym _ _ (IsPermutation-to_front (map show before) last)))

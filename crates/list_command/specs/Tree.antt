@@ -1,4 +1,4 @@
--- What a listing has of each file: its place in one series of one study. This product's own profile.
+-- What a listing has of each file: the series and the study that it belongs to. This product's own profile.
 use Rattle.std.specs.Prelude.{◌≡◌, ℕ, Bool, true, List, [], ◌∷◌, ◌++◌, map, Option, Some, None, nat_eq, replicate, slice_get, Vec, IsPermutation}
 use Rattle.std.specs.Cmp.Lexicographic.{pointwise}
 use Rattle.std.specs.List.{flat_map}
@@ -6,6 +6,8 @@ use Rattle.std.specs.Map.{keys_of}
 use Rattle.std.specs.String.{string_bytes}
 use Rattle.keyed_files.specs.Keys.{file_text}
 use Rattle.keyed_files.specs.declared.keys.FileKeys.{FileKeys}
+use Rattle.list_command.specs.Values.{columns_of}
+use Rattle.list_command.specs.declared.columns.Column.{Column}
 use Rattle.list_command.specs.declared.studies.Instance.{Instance}
 use Rattle.list_command.specs.declared.studies.Series.{Series}
 use Rattle.list_command.specs.declared.studies.Study.{Study}
@@ -18,13 +20,25 @@ files_in study entries = flat_map (λ entry. replicate entry.1.images (study, en
 abbrev pub files_of : {A : Type 0} → List (Vec ℕ A × Study A) → List (List ℕ × List ℕ)
 files_of entries = flat_map (λ entry. files_in entry.0.items entry.1.series.entries) entries
 
--- the listed files of a study's series, each as the UIDs of its study and its series, and its path
-abbrev pub paths_in : {A : Type 0} → List ℕ → List (Vec ℕ A × Series A) → List (List ℕ × (List ℕ × List ℕ))
-paths_in study entries = flat_map (λ entry. map (λ instance. (study, (entry.0.items, string_bytes instance.path))) entry.1.instances.items) entries
+-- the bytes of each text
+abbrev pub texts_of : {A : Type 0} → List (Vec ℕ A) → List (List ℕ)
+texts_of texts = map (λ text. text.items) texts
+
+-- what is listed of a file: its path and its further columns
+abbrev pub Listed : Type 0
+Listed = List ℕ × List (List ℕ)
+
+-- what is listed of this file
+abbrev pub shown : {A : Type 0} → Instance A → Listed
+shown instance = (string_bytes instance.path, texts_of instance.columns.items)
+
+-- the listed files of a study's series, each as the UIDs of its study and its series, and what is listed of it
+abbrev pub listed_in : {A : Type 0} → List ℕ → List (Vec ℕ A × Series A) → List (List ℕ × (List ℕ × Listed))
+listed_in study entries = flat_map (λ entry. map (λ instance. (study, (entry.0.items, shown instance))) entry.1.instances.items) entries
 
 -- the listed files of all studies
-abbrev pub paths_of : {A : Type 0} → List (Vec ℕ A × Study A) → List (List ℕ × (List ℕ × List ℕ))
-paths_of entries = flat_map (λ entry. paths_in entry.0.items entry.1.series.entries) entries
+abbrev pub listed_of : {A : Type 0} → List (Vec ℕ A × Study A) → List (List ℕ × (List ℕ × Listed))
+listed_of entries = flat_map (λ entry. listed_in entry.0.items entry.1.series.entries) entries
 
 -- Study Instance UID (0020,000D), without padding
 abbrev pub study_uid : FileKeys → List ℕ
@@ -34,18 +48,18 @@ study_uid keys = file_text keys (record { 0 = 0x0020; 1 = 0x000d })
 abbrev pub series_uid : FileKeys → List ℕ
 series_uid keys = file_text keys (record { 0 = 0x0020; 1 = 0x000e })
 
--- A file with these values is one more in the series of the study that they name, and every other file stays where it was.
--- Where files are listed, so is its path.
-pub record IsFiled {A : Type 0} (is_listed : Bool) (path : List ℕ) (keys : FileKeys) (old new : List (Vec ℕ A × Study A)) : Type 0 where
+-- A file with these values is added to the series of the study that they name, and every other file is unchanged. If
+-- files are listed, its path is added, too, with its values for the further columns.
+pub record IsFiled {A : Type 0} (is_listed : Bool) (columns : List Column) (path : List ℕ) (keys : FileKeys) (old new : List (Vec ℕ A × Study A)) : Type 0 where
   pub counted : IsPermutation {X = List ℕ × List ℕ} ((study_uid keys, series_uid keys) ∷ files_of old) (files_of new)
-  pub listed : is_listed ≡ true → IsPermutation {X = List ℕ × (List ℕ × List ℕ)} ((study_uid keys, (series_uid keys, path)) ∷ paths_of old) (paths_of new)
+  pub listed : is_listed ≡ true → IsPermutation {X = List ℕ × (List ℕ × Listed)} ((study_uid keys, (series_uid keys, (path, columns_of keys columns))) ∷ listed_of old) (listed_of new)
 
--- the file at this path is to be listed
-abbrev pub HasPath : {A : Type 0} → List ℕ → Option (Instance A) → Type 0
-HasPath path None = ⊥
-HasPath path (Some instance) = string_bytes instance.path ≡ path
+-- this is to be listed of a file
+abbrev pub Lists : {A : Type 0} → Listed → Option (Instance A) → Type 0
+Lists listed None = ⊥
+Lists listed (Some instance) = shown instance ≡ listed
 
--- the study or series at this place has this UID
+-- the study or series at this index has this UID
 abbrev pub HasUid : {A T : Type 0} → List ℕ → ℕ → List (Vec ℕ A × T) → Type 0
 HasUid uid place entries = slice_get (map (λ key. key.items) (keys_of entries)) place ≡ Some uid
 

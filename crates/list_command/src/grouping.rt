@@ -1,8 +1,10 @@
 //! Groups the files of a folder by study and series.
 ghost use Rattle.std.specs.Prelude.{◌≡◌, ◌∷◌, [], ℕ, List, None, true, OnOk, IfOk, IfSome, IfNone, IsPermutation};
 ghost use Rattle.indexmap.specs.IndexMap.{get_by};
-ghost use Rattle.list_command.specs.Tree.{files_in, files_of, paths_in, paths_of, is_uid, HasPath, HasUid, IsAdded, IsFiled};
+ghost use Rattle.list_command.specs.Tree.{files_in, files_of, listed_in, listed_of, texts_of, is_uid, HasUid, IsAdded, IsFiled, Listed, Lists};
+ghost use Rattle.list_command.specs.Values.{columns_of as values_for};
 
+use crate::columns::{Column, columns_of};
 use crate::studies::{ByUid, Instance, Series, Study};
 use element::Tag;
 use failures::ProgramError;
@@ -33,7 +35,7 @@ const SERIES_NUMBER: Tag = Tag(0x0020, 0x0011);
 
 const INSTANCE_NUMBER: Tag = Tag(0x0020, 0x0013);
 
-/// The tags of the values that are read of each file.
+/// The tags of the values that are read from each file for the list.
 pub(crate) const LISTED: [Tag; 11] = [
     CHARACTER_SET,
     INSTANCE_UID,
@@ -58,28 +60,40 @@ fn repertoire_of(keys: &FileKeys) -> Repertoire {
     Repertoire::of_value(keys.text(CHARACTER_SET))
 }
 
-/// Returns a study with the values of this file, and without series.
-fn new_study<A: Allocator + Copy>(alloc: A, keys: &FileKeys) -> Result<Study<A>, AllocError>
+/// Returns a study with the values of this file and no series.
+fn new_study<A: Allocator + Copy>(
+    alloc: A,
+    keys: &FileKeys,
+    columns: &[Column<'_>],
+) -> Result<Study<A>, AllocError>
     ensures empty { IfOk result (λ study. study.series.entries ≡ []) }
+    ensures columns { IfOk result (λ study. texts_of study.columns.items ≡ values_for keys.now columns.now) }
 {
     Ok(Study {
         date: text_of(alloc, keys, STUDY_DATE)?,
         patient_id: text_of(alloc, keys, PATIENT_ID)?,
         patient_name: text_of(alloc, keys, PATIENT_NAME)?,
+        columns: columns_of(alloc, keys, columns)?,
         repertoire: repertoire_of(keys),
         has_several_patients: false,
         series: IndexMap::new(alloc),
     })
 }
 
-/// Returns a series with the values of this file, and without files.
-fn new_series<A: Allocator + Copy>(alloc: A, keys: &FileKeys) -> Result<Series<A>, AllocError>
+/// Returns a series with the values of this file and no files.
+fn new_series<A: Allocator + Copy>(
+    alloc: A,
+    keys: &FileKeys,
+    columns: &[Column<'_>],
+) -> Result<Series<A>, AllocError>
     ensures empty { IfOk result (λ series. (series.images ≡ 0) × (series.instances.items ≡ [])) }
+    ensures columns { IfOk result (λ series. texts_of series.columns.items ≡ values_for keys.now columns.now) }
 {
     Ok(Series {
         number: text_of(alloc, keys, SERIES_NUMBER)?,
         modality: text_of(alloc, keys, MODALITY)?,
         description: text_of(alloc, keys, SERIES_DESCRIPTION)?,
+        columns: columns_of(alloc, keys, columns)?,
         repertoire: repertoire_of(keys),
         images: 0,
         instances: Vec::new(alloc),
@@ -94,7 +108,8 @@ fn place_of<T, A: Allocator>(all: &ByUid<T, A>, uid: &[u8]) -> Option<usize>
     all.get_index_of(uid)
 }
 
-/// Adds a study or a series with this UID, which none has, and returns its index. Fails if memory runs out.
+/// Adds a study or series with this UID, which must be new, and returns its index. Fails if memory
+/// runs out.
 fn add_new<T: Drop, A: Allocator + Copy>(
     alloc: A,
     all: &mut ByUid<T, A>,
@@ -110,16 +125,24 @@ fn add_new<T: Drop, A: Allocator + Copy>(
 }
 
 impl<A: Allocator + Copy> Study<A> {
-    /// Returns the index of the series with this UID, which is added if it is new. Fails if memory runs out.
-    fn series_of(&mut self, alloc: A, uid: &[u8], keys: &FileKeys) -> Result<usize, AllocError>
+    /// Returns the index of the series with this UID, adding it if it is new. Fails if memory runs
+    /// out.
+    fn series_of(
+        &mut self,
+        alloc: A,
+        uid: &[u8],
+        keys: &FileKeys,
+        columns: &[Column<'_>],
+    ) -> Result<usize, AllocError>
         ensures at { IfOk result (λ place. HasUid uid.now place self.new.series.entries) }
         ensures same { OnOk result ((study : List ℕ) → files_in study self.new.series.entries ≡ files_in study self.old.series.entries) }
-        ensures listed { OnOk result ((study : List ℕ) → paths_in study self.new.series.entries ≡ paths_in study self.old.series.entries) }
+        ensures listed { OnOk result ((study : List ℕ) → listed_in study self.new.series.entries ≡ listed_in study self.old.series.entries) }
     {
         if let Some(place) = place_of(&self.series, uid) {
             return Ok(place);
         }
-        add_new(alloc, &mut self.series, uid, new_series(alloc, keys)?)
+        let series = new_series(alloc, keys, columns)?;
+        add_new(alloc, &mut self.series, uid, series)
     }
 
     /// Counts a file in its series. Fails if memory runs out.
@@ -128,13 +151,14 @@ impl<A: Allocator + Copy> Study<A> {
         alloc: A,
         uid: &[u8],
         file: FoundFile<'_>,
+        columns: &[Column<'_>],
         instance: Option<Instance<A>>,
     ) -> Result<(), AllocError>
         ensures counted { OnOk result ((study : List ℕ) → IsPermutation ((study, uid.now) ∷ files_in study self.old.series.entries) (files_in study self.new.series.entries)) }
-        ensures listed { OnOk result ((study path : List ℕ) → HasPath path instance
-            → IsPermutation ((study, (uid.now, path)) ∷ paths_in study self.old.series.entries) (paths_in study self.new.series.entries)) }
+        ensures listed { OnOk result ((study : List ℕ) (listed : Listed) → Lists listed instance
+            → IsPermutation ((study, (uid.now, listed)) ∷ listed_in study self.old.series.entries) (listed_in study self.new.series.entries)) }
     {
-        let place = self.series_of(alloc, uid, file.keys)?;
+        let place = self.series_of(alloc, uid, file.keys, columns)?;
         self.series[place].add(instance)?;
         self.has_several_patients |= self.patient_id.as_slice() != file.keys.text(PATIENT_ID);
         Ok(())
@@ -143,38 +167,43 @@ impl<A: Allocator + Copy> Study<A> {
 
 /// The studies and series of the files found so far.
 #[derive(Drop)]
-pub(crate) struct Grouping<A: Allocator> {
+pub(crate) struct Grouping<'a, A: Allocator> {
     alloc: A,
     has_instances: bool,
+    columns: &'a [Column<'a>],
     pub studies: ByUid<Study<A>, A>,
 }
 
-impl<A: Allocator + Copy> Grouping<A> {
-    /// Creates an empty grouping. `has_instances` says whether files are listed, and so kept.
-    pub fn new(alloc: A, has_instances: bool) -> Grouping<A> {
+impl<'a, A: Allocator + Copy> Grouping<'a, A> {
+    /// Creates an empty grouping. `has_instances` is whether files are listed, and so kept.
+    pub fn new(alloc: A, has_instances: bool, columns: &'a [Column<'a>]) -> Grouping<'a, A> {
         Grouping {
             alloc,
             has_instances,
+            columns,
             studies: IndexMap::new(alloc),
         }
     }
 
-    /// Returns the index of the study with this UID, which is added if it is new. Fails if memory runs out.
+    /// Returns the index of the study with this UID, adding it if it is new. Fails if memory runs
+    /// out.
     fn study_of(&mut self, uid: &[u8], keys: &FileKeys) -> Result<usize, AllocError>
         ensures at { IfOk result (λ place. HasUid uid.now place self.new.studies.entries) }
         ensures same { OnOk result (files_of self.new.studies.entries ≡ files_of self.old.studies.entries) }
-        ensures listed { OnOk result (paths_of self.new.studies.entries ≡ paths_of self.old.studies.entries) }
+        ensures listed { OnOk result (listed_of self.new.studies.entries ≡ listed_of self.old.studies.entries) }
     {
         if let Some(place) = place_of(&self.studies, uid) {
             return Ok(place);
         }
-        let study = new_study(self.alloc, keys)?;
+        let study = new_study(self.alloc, keys, self.columns)?;
         add_new(self.alloc, &mut self.studies, uid, study)
     }
 
-    /// Returns the values that are listed of a file, if files are listed. Fails if memory runs out.
+    /// Returns the listed values of a file if files are listed, else `None`. Fails if memory runs
+    /// out.
     fn instance_of(&self, file: FoundFile<'_>) -> Result<Option<Instance<A>>, AllocError>
-        ensures path { self.now.has_instances ≡ true → IfOk result (HasPath file.entry.path.now) }
+        ensures listed { self.now.has_instances ≡ true
+            → IfOk result (Lists (file.entry.path.now, values_for file.entry.keys.now self.now.columns.now)) }
     {
         if !self.has_instances {
             return Ok(None);
@@ -183,25 +212,28 @@ impl<A: Allocator + Copy> Grouping<A> {
             uid: text_of(self.alloc, file.keys, INSTANCE_UID)?,
             number: text_of(self.alloc, file.keys, INSTANCE_NUMBER)?,
             path: String::from_str(self.alloc, file.path)?,
+            columns: columns_of(self.alloc, file.keys, self.columns)?,
+            repertoire: repertoire_of(file.keys),
         }))
     }
 
-    /// Counts a file in its study and series, and keeps it if files are listed. Fails if memory runs
-    /// out.
+    /// Counts a file in its study and series, and keeps it if files are listed. Fails if memory
+    /// runs out.
     fn add(&mut self, study: &[u8], series: &[u8], file: FoundFile<'_>) -> Result<(), AllocError>
         ensures counted { OnOk result (IsPermutation ((study.now, series.now) ∷ files_of self.old.studies.entries) (files_of self.new.studies.entries)) }
         ensures listed { self.old.has_instances ≡ true
-            → OnOk result (IsPermutation ((study.now, (series.now, file.entry.path.now)) ∷ paths_of self.old.studies.entries) (paths_of self.new.studies.entries)) }
+            → OnOk result (IsPermutation ((study.now, (series.now, (file.entry.path.now, values_for file.entry.keys.now self.old.columns.now))) ∷ listed_of self.old.studies.entries)
+            (listed_of self.new.studies.entries)) }
     {
         let instance = self.instance_of(file)?;
         let place = self.study_of(study, file.keys)?;
-        self.studies[place].add(self.alloc, series, file, instance)?;
+        self.studies[place].add(self.alloc, series, file, self.columns, instance)?;
         Ok(())
     }
 }
 
-impl<A: Allocator + Copy> Taking for Grouping<A> {
-    ghost took = { λ old path keys new. IsFiled old.has_instances path keys old.studies.entries new.studies.entries };
+impl<A: Allocator + Copy> Taking for Grouping<'_, A> {
+    ghost took = { λ old path keys new. IsFiled old.has_instances old.columns.now path keys old.studies.entries new.studies.entries };
 
     fn take(&mut self, file: FoundFile<'_>) -> Result<(), ProgramError> {
         self.add(file.keys.text(STUDY_UID), file.keys.text(SERIES_UID), file)?;

@@ -1,4 +1,5 @@
 //! Prints studies as one JSON object.
+use crate::columns::Column;
 use crate::grouping::Grouping;
 use crate::listing::ListOptions;
 use crate::order::{modalities_of, order_of_instances, order_of_series, order_of_studies};
@@ -8,10 +9,33 @@ use failures::ProgramError;
 use inspection::{JsonPath, JsonText};
 use std::alloc::Allocator;
 use std::io::{self, Write};
+use values::Repertoire;
 
 /// Writes the comma before each element of an array except the first.
 fn separate<O: Write>(is_first: bool, out: &mut O) -> io::Result<()> {
     if is_first { Ok(()) } else { write!(out, ",") }
+}
+
+/// Writes the member `columns`, an object with the value of each column, if there are columns.
+fn write_columns<A: Allocator, O: Write>(
+    columns: &[Column<'_>],
+    values: &[Vec<u8, A>],
+    repertoire: Repertoire,
+    out: &mut O,
+) -> io::Result<()> {
+    if columns.is_empty() {
+        return Ok(());
+    }
+    let mut is_first = true;
+    write!(out, ",\"columns\":{{")?;
+    for (column, value) in columns.iter().zip(values) {
+        separate(is_first, out)?;
+        let keyword = column.keyword;
+        let value = JsonText(value.as_slice(), column.repertoire_in(repertoire));
+        write!(out, "\"{keyword}\":{value}")?;
+        is_first = false;
+    }
+    write!(out, "}}")
 }
 
 /// Writes the members of a study's object, except its series and the closing brace.
@@ -19,6 +43,7 @@ fn write_study<A: Allocator, O: Write>(
     uid: &[u8],
     study: &Study<A>,
     modalities: &[&[u8]],
+    columns: &[Column<'_>],
     out: &mut O,
 ) -> io::Result<()> {
     let (date, uid) = (JsonText::ascii(study.date.as_slice()), JsonText::ascii(uid));
@@ -37,13 +62,14 @@ fn write_study<A: Allocator, O: Write>(
     if study.has_several_patients {
         write!(out, ",\"several_patients\":true")?;
     }
-    Ok(())
+    write_columns(columns, study.columns.as_slice(), study.repertoire, out)
 }
 
 /// Writes the members of a series's object, except its files and the closing brace.
 fn write_series<A: Allocator, O: Write>(
     uid: &[u8],
     series: &Series<A>,
+    columns: &[Column<'_>],
     out: &mut O,
 ) -> io::Result<()> {
     let (number, uid) = (
@@ -60,11 +86,16 @@ fn write_series<A: Allocator, O: Write>(
     write!(
         out,
         "\"description\":{description},\"image_count\":{images}"
-    )
+    )?;
+    write_columns(columns, series.columns.as_slice(), series.repertoire, out)
 }
 
 /// Writes a file as a JSON object.
-fn write_instance<A: Allocator, O: Write>(instance: &Instance<A>, out: &mut O) -> io::Result<()> {
+fn write_instance<A: Allocator, O: Write>(
+    instance: &Instance<A>,
+    columns: &[Column<'_>],
+    out: &mut O,
+) -> io::Result<()> {
     let (number, uid) = (
         JsonText::ascii(instance.number.as_slice()),
         JsonText::ascii(instance.uid.as_slice()),
@@ -72,14 +103,22 @@ fn write_instance<A: Allocator, O: Write>(instance: &Instance<A>, out: &mut O) -
     let path = JsonPath(instance.path.as_str());
     write!(
         out,
-        "{{\"instance\":{uid},\"number\":{number},\"file\":{path}}}"
-    )
+        "{{\"instance\":{uid},\"number\":{number},\"file\":{path}"
+    )?;
+    write_columns(
+        columns,
+        instance.columns.as_slice(),
+        instance.repertoire,
+        out,
+    )?;
+    write!(out, "}}")
 }
 
 /// Writes the member `instances` of a series: the array of its files.
 fn write_instances<A: Allocator + Copy, O: Write>(
     alloc: A,
     series: &Series<A>,
+    columns: &[Column<'_>],
     out: &mut O,
 ) -> Result<(), ProgramError> {
     let instances = series.instances.as_slice();
@@ -88,7 +127,7 @@ fn write_instances<A: Allocator + Copy, O: Write>(
     for place in order_of_instances(alloc, instances)? {
         if let Some(instance) = instances.get(place) {
             separate(is_first, out).map_err(ProgramError::of_output)?;
-            write_instance(instance, out).map_err(ProgramError::of_output)?;
+            write_instance(instance, columns, out).map_err(ProgramError::of_output)?;
             is_first = false;
         }
     }
@@ -107,9 +146,11 @@ fn write_all_series<A: Allocator + Copy, O: Write>(
     for place in order_of_series(alloc, &study.series)? {
         if let Some((uid, series)) = study.series.get_index(place) {
             separate(is_first, out).map_err(ProgramError::of_output)?;
-            write_series(uid.as_slice(), series, out).map_err(ProgramError::of_output)?;
+            write_series(uid.as_slice(), series, options.columns, out).map_err(
+                ProgramError::of_output,
+            )?;
             if options.instances {
-                write_instances(alloc, series, out)?;
+                write_instances(alloc, series, options.columns, out)?;
             }
             write!(out, "}}").map_err(ProgramError::of_output)?;
             is_first = false;
@@ -121,7 +162,7 @@ fn write_all_series<A: Allocator + Copy, O: Write>(
 /// Writes the studies, separated by commas, each with its series and files if these are listed.
 fn write_studies<A: Allocator + Copy, O: Write>(
     alloc: A,
-    grouping: &Grouping<A>,
+    grouping: &Grouping<'_, A>,
     options: ListOptions<'_>,
     out: &mut O,
 ) -> Result<(), ProgramError> {
@@ -130,7 +171,8 @@ fn write_studies<A: Allocator + Copy, O: Write>(
         if let Some((uid, study)) = grouping.studies.get_index(place) {
             let modalities = modalities_of(alloc, study)?;
             separate(is_first, out).map_err(ProgramError::of_output)?;
-            write_study(uid.as_slice(), study, modalities.as_slice(), out).map_err(
+            let modalities = modalities.as_slice();
+            write_study(uid.as_slice(), study, modalities, options.columns, out).map_err(
                 ProgramError::of_output,
             )?;
             if options.has_series() {
@@ -143,16 +185,16 @@ fn write_studies<A: Allocator + Copy, O: Write>(
     Ok(())
 }
 
-/// Writes the JSON object with the members `studies`, an array, and `left_out`, the number of files
+/// Writes the JSON object with the members `studies`, an array, and `omitted`, the number of files
 /// that were left out.
 pub(crate) fn write_json<A: Allocator + Copy, O: Write>(
     alloc: A,
-    grouping: &Grouping<A>,
+    grouping: &Grouping<'_, A>,
     options: ListOptions<'_>,
-    left_out: u64,
+    omitted: u64,
     out: &mut O,
 ) -> Result<(), ProgramError> {
     write!(out, "{{\"studies\":[").map_err(ProgramError::of_output)?;
     write_studies(alloc, grouping, options, out)?;
-    writeln!(out, "],\"left_out\":{left_out}}}").map_err(ProgramError::of_output)
+    writeln!(out, "],\"left_out\":{omitted}}}").map_err(ProgramError::of_output)
 }

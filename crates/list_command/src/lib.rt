@@ -1,6 +1,7 @@
 //! `dcmbox list`: lists the studies of the files in folders.
 #![tactic(auto)]
 
+mod columns;
 mod conditions;
 mod grouping;
 mod json;
@@ -10,5 +11,6 @@ mod order;
 mod studies;
 mod texts;
 
+pub use columns::{Column, MOST_COLUMNS};
 pub use conditions::{Condition, MOST_CONDITIONS};
 pub use listing::{ListOptions, list, list_folders};

@@ -3,7 +3,7 @@ use crate::studies::{ByUid, Instance, Series, Study};
 use std::alloc::{AllocError, Allocator};
 use std::str;
 
-/// What an item is ordered by, first the key and then the UID; and its index.
+/// The sort key, the UID and the index of an item.
 type Rank<'a, K> = (K, &'a [u8], usize);
 
 /// Returns the indices of the items, in order. Fails if memory runs out.
@@ -20,7 +20,7 @@ fn places_of<'a, A: Allocator + Copy, K: Ord + Drop>(
     Ok(order)
 }
 
-/// Returns the integer in a decimal text, or the greatest one if the text is no number.
+/// Returns the integer in a decimal text, or `i64::MAX` if the text is no number.
 fn number_in(text: &[u8]) -> i64 {
     match str::from_utf8(text) {
         Ok(text) => text.trim().parse::<i64>().unwrap_or(i64::MAX),
@@ -73,8 +73,8 @@ pub(crate) fn order_of_instances<A: Allocator + Copy>(
     places_of(alloc, ranks)
 }
 
-/// Returns the modalities of the series of a study in ascending order, each once. Fails if memory runs
-/// out.
+/// Returns the modalities of the series of a study in ascending order, each once. Fails if memory
+/// runs out.
 pub(crate) fn modalities_of<'a, A: Allocator + Copy>(
     alloc: A,
     study: &'a Study<A>,

@@ -7,36 +7,41 @@ use std::alloc::{AllocError, Allocator};
 use std::hash::{BuildHasherDefault, FoldHasher};
 use values::Repertoire;
 
-/// Studies or series by their UIDs, in the order in which these are first seen.
+/// Studies or series by UID, in the order in which their UIDs are first seen.
 pub(crate) type ByUid<T, A> = IndexMap<Vec<u8, A>, T, BuildHasherDefault<FoldHasher>, A>;
 
-/// A file, with the values that are listed of it, without padding; a value that it does not have is
-/// empty.
+/// A file with its listed values, without padding; an absent value is empty.
 #[derive(Drop)]
 pub(crate) struct Instance<A: Allocator> {
     /// SOP Instance UID.
     pub uid: Vec<u8, A>,
     pub number: Vec<u8, A>,
     pub path: String<A>,
+    /// The values of the further columns.
+    pub columns: Vec<Vec<u8, A>, A>,
+    /// The character repertoire of the further columns.
+    pub repertoire: Repertoire,
 }
 
-/// A series, with the values of its first file, without padding; a value that it does not have is
-/// empty.
+/// A series with the values of its first file, without padding; an absent value is empty.
 #[derive(Drop)]
 pub(crate) struct Series<A: Allocator> {
     pub number: Vec<u8, A>,
     pub modality: Vec<u8, A>,
     pub description: Vec<u8, A>,
-    /// The character repertoire of the description.
+    /// The values of the further columns.
+    pub columns: Vec<Vec<u8, A>, A>,
+    /// The character repertoire of the description and the further columns.
     pub repertoire: Repertoire,
-    /// The number of its files.
+    /// The number of files.
     pub images: u64,
-    /// The files of the series, where `list` lists files; else empty.
+    /// The files, if files are listed; else empty.
     pub instances: Vec<Instance<A>, A>,
 }
 
 impl<A: Allocator> Series<A> {
-    /// Counts a file, and keeps it if files are listed. Fails if memory runs out, and at 2^64 files.
+    /// Counts a file, and keeps it if files are listed. Fails if memory runs out, and at 2^64
+    /// files.
     pub(crate) fn add(&mut self, instance: Option<Instance<A>>) -> Result<(), AllocError>
         ensures counted { OnOk result (self.new.images ≡ self.old.images + 1) }
         ensures listed { OnOk result (self.new.instances.items ≡ self.old.instances.items ++ one_or_none instance) }
@@ -50,15 +55,17 @@ impl<A: Allocator> Series<A> {
     }
 }
 
-/// A study, with the values of its first file, without padding; a value that it does not have is empty.
+/// A study with the values of its first file, without padding; an absent value is empty.
 #[derive(Drop)]
 pub(crate) struct Study<A: Allocator> {
     pub date: Vec<u8, A>,
     pub patient_id: Vec<u8, A>,
     pub patient_name: Vec<u8, A>,
-    /// The character repertoire of the patient's ID and name.
+    /// The values of the further columns.
+    pub columns: Vec<Vec<u8, A>, A>,
+    /// The character repertoire of the patient's ID and name and of the further columns.
     pub repertoire: Repertoire,
-    /// Whether a file of it has another Patient ID.
+    /// Whether another file of the study has another Patient ID.
     pub has_several_patients: bool,
     pub series: ByUid<Series<A>, A>,
 }

@@ -5,7 +5,7 @@ use Rattle.metrics.specs.declared.ends.CountedEnd.{CountedEnd}
 use Rattle.metrics.specs.declared.ends.CountedEnd.TheVariants.{Released, Rejected, AbortedByPeer, AbortedByBox, Closed, TimerExpired, Idle, TooLong, Stopping, ConnectionFailed, FileLost, Unknown}
 use Rattle.metrics.specs.declared.ends.EndCounts.{EndCounts}
 
--- with one association more that ended so
+-- the counts with one more association that ended this way
 abbrev pub with_end : CountedEnd → EndCounts → EndCounts
 with_end Released c = record c { released = raised 1 c.released }
 with_end Rejected c = record c { rejected = raised 1 c.rejected }
@@ -20,7 +20,7 @@ with_end ConnectionFailed c = record c { connection_failed = raised 1 c.connecti
 with_end FileLost c = record c { file_lost = raised 1 c.file_lost }
 with_end Unknown c = record c { unknown = raised 1 c.unknown }
 
--- how many associations ended so
+-- how many associations ended this way
 abbrev pub count_at_end : CountedEnd → EndCounts → ℕ
 count_at_end Released c = c.released
 count_at_end Rejected c = c.rejected
@@ -35,7 +35,7 @@ count_at_end ConnectionFailed c = c.connection_failed
 count_at_end FileLost c = c.file_lost
 count_at_end Unknown c = c.unknown
 
--- no association
+-- the counts of no association
 abbrev pub no_ends : EndCounts
 no_ends = record {
   released = 0;

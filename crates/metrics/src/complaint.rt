@@ -1,37 +1,37 @@
-//! What is told of a file that can't be written.
+//! Decides what is logged about a file that cannot be written.
 ghost use Rattle.std.specs.Prelude.{◌≡◌, ◌≢◌, IsSome, None};
 ghost use Rattle.metrics.specs.declared.complaint.News.TheVariants as news;
 
 use std::io::ErrorKind;
 
-/// What is to be told of an attempt to write the file.
+/// What is to be logged about an attempt to write the file.
 #[derive(Clone, Copy, Debug, PartialEq, Eq)]
 pub enum News {
-    /// Nothing that was not told before.
+    /// Nothing new.
     Nothing,
-    /// It failed, and did not before, or for another reason.
+    /// The attempt failed, and the one before did not, or for another reason.
     Fails,
-    /// It succeeded, after it had failed.
+    /// The attempt succeeded, after one had failed.
     Works,
 }
 
-/// Why the file could not be written, as it was told last, if that lasts.
+/// Why the last attempt to write the file failed, or `None` if it succeeded.
 #[derive(Clone, Copy)]
 pub struct Complaint {
     pub failure: Option<ErrorKind>,
 }
 
 impl Complaint {
-    /// Returns that of a file that did not fail.
+    /// Returns the state of a file that has not failed.
     pub fn new() -> Complaint
         ensures { result.failure ≡ None }
     {
         Complaint { failure: None }
     }
 
-    /// Takes note of an attempt: of why it failed, or of `None` where it succeeded. Returns what is to be told of it.
+    /// Records an attempt: why it failed, or `None` if it succeeded. Returns what is to be logged.
     ///
-    /// A failure is told once: again only for another reason, or after it has succeeded.
+    /// A failure is logged once, and again only for another reason or after a success.
     pub fn note(&mut self, failure: Option<ErrorKind>) -> News
         ensures noted { self.new.failure ≡ failure }
         ensures known { self.old.failure ≡ failure → result ≡ news.Nothing }

@@ -1,25 +1,26 @@
-//! What a box has done, in numbers.
+//! Counts what the program has done.
 ghost use Rattle.std.specs.Prelude.{◌≡◌};
 ghost use Rattle.metrics.specs.Counting.{after_answer, after_end, after_refused, after_unanswered, no_counts};
 
 use crate::ends::{CountedEnd, EndCounts};
 use crate::statuses::{CountedStatus, StatusCounts};
 
-/// What a box has done since it began, in numbers, each of which stops at the greatest `u64`.
+/// What the program has done since its start, in numbers, each of which stops at the greatest
+/// `u64`.
 #[derive(Clone, Copy)]
 pub struct Counters {
     /// Associations that have ended.
     pub ends: EndCounts,
-    /// Stores that were asked for.
+    /// C-STOREs that were requested.
     pub stores: StatusCounts,
-    /// Bytes that associations received that have ended.
+    /// Bytes received by associations that have ended.
     pub received: u64,
-    /// Presentation contexts that were refused, of requests that were accepted.
+    /// Presentation contexts that were rejected in accepted requests.
     pub refused_contexts: u64,
 }
 
 impl Counters {
-    /// Returns the numbers of a box that has done nothing.
+    /// Returns the numbers of a program that has done nothing.
     pub fn new() -> Counters
         ensures { result ≡ no_counts }
     {
@@ -52,7 +53,7 @@ impl Counters {
         }
     }
 
-    /// Counts an association that ended so, after it had received so many bytes.
+    /// Counts an association that ended in this way and had received this many bytes.
     pub fn end(&mut self, end: CountedEnd, received: u64)
         ensures { self.new ≡ after_end end received self.old }
     {
@@ -60,21 +61,21 @@ impl Counters {
         self.received = self.received.saturating_add(received);
     }
 
-    /// Counts a store that is answered with a status.
+    /// Counts a C-STORE that is answered with this status.
     pub fn answer(&mut self, status: CountedStatus)
         ensures { self.new ≡ after_answer status self.old }
     {
         self.stores.add(status);
     }
 
-    /// Counts so many stores whose association ended before their reply.
+    /// Counts this many C-STOREs whose association ended before their response.
     pub fn leave_unanswered(&mut self, stores: u64)
         ensures { self.new ≡ after_unanswered stores self.old }
     {
         self.stores.add_without_reply(stores);
     }
 
-    /// Counts so many presentation contexts that were refused.
+    /// Counts this many rejected presentation contexts.
     pub fn refuse_contexts(&mut self, contexts: u64)
         ensures { self.new ≡ after_refused contexts self.old }
     {

@@ -1,17 +1,17 @@
-//! How associations ended, as they are counted.
+//! Counts how associations ended.
 ghost use Rattle.std.specs.Prelude.{◌≡◌};
 ghost use Rattle.metrics.specs.Ends.{count_at_end, with_end};
 
-/// How an association ended, as it is counted.
+/// How an association ended, as the metrics distinguish it.
 #[derive(Clone, Copy, Debug, PartialEq, Eq)]
 pub enum CountedEnd {
-    /// The peer released it.
+    /// The peer released the association.
     Released,
-    /// Its request was rejected.
+    /// The association request was rejected.
     Rejected,
     /// The peer sent an A-ABORT.
     AbortedByPeer,
-    /// It was aborted for what the peer had sent.
+    /// This program aborted the association for what the peer had sent.
     AbortedByBox,
     /// The peer closed the connection.
     Closed,
@@ -19,20 +19,20 @@ pub enum CountedEnd {
     TimerExpired,
     /// The peer was silent for too long.
     Idle,
-    /// It lasted too long.
+    /// The association lasted too long.
     TooLong,
-    /// The box stops.
+    /// The program stops.
     Stopping,
     /// A read or a send failed.
     ConnectionFailed,
-    /// The file of a store was lost after it was committed and before it was settled.
+    /// A stored file was lost after it was committed and before it was settled.
     FileLost,
-    /// None of these was seen.
+    /// No cause was recorded.
     Unknown,
 }
 
 impl CountedEnd {
-    /// Every one, in the order of the file.
+    /// All variants, in the order of the file.
     pub const ALL: [CountedEnd; 12] = [
         CountedEnd::Released,
         CountedEnd::Rejected,
@@ -48,7 +48,7 @@ impl CountedEnd {
         CountedEnd::Unknown,
     ];
 
-    /// Returns the value of its label.
+    /// Returns the value of the label `end` in the metrics file.
     pub fn label(self) -> &'static str {
         match self {
             CountedEnd::Released => "released",
@@ -67,7 +67,7 @@ impl CountedEnd {
     }
 }
 
-/// How many associations ended in which way. Each number stops at the greatest `u64`.
+/// How many associations ended in each way. Each number stops at the greatest `u64`.
 #[derive(Clone, Copy)]
 pub struct EndCounts {
     pub released: u64,
@@ -85,7 +85,7 @@ pub struct EndCounts {
 }
 
 impl EndCounts {
-    /// Counts an association that ended so.
+    /// Counts an association that ended in this way.
     pub fn add(&mut self, end: CountedEnd)
         ensures { self.new ≡ with_end end self.old }
     {
@@ -109,7 +109,7 @@ impl EndCounts {
         }
     }
 
-    /// Returns how many associations ended so.
+    /// Returns how many associations ended in this way.
     pub fn count(&self, end: CountedEnd) -> u64
         ensures { result ≡ count_at_end end self.now }
     {

@@ -1,21 +1,22 @@
-//! Numbers in the text form of Prometheus.
+//! Prints the numbers in the text form of Prometheus.
 use crate::counters::Counters;
 use crate::ends::CountedEnd;
 use crate::statuses::CountedStatus;
 use std::fmt;
 
-/// What the file tells, which is written in the text form of Prometheus (its exposition format, version 0.0.4).
+/// What the metrics file has, printed in the text form of Prometheus (exposition format, version
+/// 0.0.4).
 #[derive(Clone, Copy)]
 pub struct Figures<'a> {
     pub version: &'a str,
-    /// When the program began, in seconds since 1970, if its clock could be read.
+    /// When the program started, in seconds since 1970, if its clock could be read.
     pub started: Option<u64>,
     /// How many connections are open.
     pub open: u64,
     pub counters: Counters,
 }
 
-/// Writes what a metric is: its name, its type and a sentence about it.
+/// Writes the head of a metric: its name, its type and a sentence about it.
 fn write_head<W: fmt::Write>(
     f: &mut fmt::Formatter<W>,
     name: &str,
@@ -26,7 +27,7 @@ fn write_head<W: fmt::Write>(
 }
 
 impl Figures<'_> {
-    /// Writes what the box is, since when, and what it does now.
+    /// Writes the version of the program, its start, and how many connections are open.
     fn write_state<W: fmt::Write>(&self, f: &mut fmt::Formatter<W>) -> fmt::Result {
         write_head(f, "dcmbox_info", "gauge", "The version of the program.")?;
         writeln!(f, "dcmbox_info{{version=\"{}\"}} 1", self.version)?;
@@ -45,7 +46,7 @@ impl Figures<'_> {
         writeln!(f, "{name} {}", self.open)
     }
 
-    /// Writes how many associations ended in which way.
+    /// Writes how many associations ended in each way.
     fn write_ends<W: fmt::Write>(&self, f: &mut fmt::Formatter<W>) -> fmt::Result {
         let name = "dcmbox_associations_total";
         write_head(f, name, "counter", "Associations that have ended, by how.")?;
@@ -56,7 +57,7 @@ impl Figures<'_> {
         Ok(())
     }
 
-    /// Writes how many stores were answered with which status, or not at all.
+    /// Writes how many C-STOREs were answered with each status, and how many not at all.
     fn write_stores<W: fmt::Write>(&self, f: &mut fmt::Formatter<W>) -> fmt::Result {
         let name = "dcmbox_stores_total";
         let help = "Stores by the status of their replies; none is of those without a reply.";

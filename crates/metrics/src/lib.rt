@@ -1,6 +1,6 @@
-//! What a box has done and does, in numbers: they are counted ([`Counters`]), and written from time to time ([`Pace`]) to
-//! a file ([`MetricsFile`]) in the text form of Prometheus ([`Figures`]). Nothing here can change what is received, sent
-//! or filed.
+//! The metrics of the program: they are counted ([`Counters`]), and written from time to time
+//! ([`Pace`]) to a file ([`MetricsFile`]) in the text form of Prometheus ([`Figures`]). Nothing
+//! here can change what is received, sent or stored.
 #![tactic(auto)]
 
 mod complaint;

@@ -1,4 +1,4 @@
-//! The file of numbers.
+//! The metrics file.
 use crate::complaint::{Complaint, News};
 use crate::counters::Counters;
 use crate::ends::CountedEnd;
@@ -12,22 +12,23 @@ use std::io::{self, Write};
 use std::rt::Files;
 use std::time::{Clock, Duration, Instant, SystemTime, UNIX_EPOCH};
 
-/// What is to be told of a file that was to be written.
+/// What is to be logged about an attempt to write the file.
 #[derive(Drop)]
 pub enum WriteReport {
-    /// Nothing that was not told before.
+    /// Nothing new.
     Nothing,
-    /// It could not be written, for this reason.
+    /// The file could not be written, for this reason.
     Fails(io::Error),
-    /// It was written, after it could not be.
+    /// The file was written, after an attempt had failed.
     Works,
 }
 
-/// The file of numbers, with the numbers that it is to have. Whoever counts has a shared reference.
+/// The metrics file, with the numbers for its next write. The parts that count share a reference to
+/// it.
 #[derive(Drop)]
 pub struct MetricsFile {
     path: String,
-    /// What is written first, and then renamed.
+    /// The path of the draft, which is renamed to `path`.
     draft: String,
     version: String,
     started: Option<u64>,
@@ -45,7 +46,8 @@ fn seconds_now<R: Clock>(rt: &R) -> Option<u64> {
 }
 
 impl MetricsFile {
-    /// Returns the file of a program of this version that begins now. Nothing is written yet. Fails if memory runs out.
+    /// Returns the metrics file of a program of this version that starts now. Writes nothing yet.
+    /// Fails if memory runs out.
     pub fn new<R: Clock>(
         rt: &R,
         alloc: Global,
@@ -64,14 +66,14 @@ impl MetricsFile {
         })
     }
 
-    /// Takes note that a number has changed.
+    /// Records that a number has changed.
     fn change(&self) {
         let mut pace = self.pace.get();
         pace.change();
         self.pace.set(pace);
     }
 
-    /// Counts an association that ended so, after it had received so many bytes.
+    /// Counts an association that ended in this way and had received this many bytes.
     pub fn count_end(&self, end: CountedEnd, received: u64) {
         let mut counters = self.counters.get();
         counters.end(end, received);
@@ -79,7 +81,7 @@ impl MetricsFile {
         self.change();
     }
 
-    /// Counts a store that is answered with a status.
+    /// Counts a C-STORE that is answered with this status.
     pub fn count_answer(&self, status: CountedStatus) {
         let mut counters = self.counters.get();
         counters.answer(status);
@@ -87,7 +89,7 @@ impl MetricsFile {
         self.change();
     }
 
-    /// Counts so many stores whose association ended before their reply.
+    /// Counts this many C-STOREs whose association ended before their response.
     pub fn count_unanswered(&self, stores: u64) {
         if stores > 0 {
             let mut counters = self.counters.get();
@@ -97,7 +99,7 @@ impl MetricsFile {
         }
     }
 
-    /// Counts so many presentation contexts that were refused.
+    /// Counts this many rejected presentation contexts.
     pub fn count_refused_contexts(&self, contexts: u64) {
         if contexts > 0 {
             let mut counters = self.counters.get();
@@ -107,19 +109,19 @@ impl MetricsFile {
         }
     }
 
-    /// Takes note of how many connections are open.
+    /// Records how many connections are open.
     pub fn set_open(&self, open: u64) {
         if self.open.replace(open) != open {
             self.change();
         }
     }
 
-    /// Returns how long the file may be left as it is.
-    pub fn left(&self, now: Instant) -> Duration {
-        self.pace.get().left(now)
+    /// Returns how long after `now` the file is due to be written.
+    pub fn remaining(&self, now: Instant) -> Duration {
+        self.pace.get().remaining(now)
     }
 
-    /// Returns the numbers as they are now.
+    /// Returns the current numbers.
     pub fn figures(&self) -> Figures<'_> {
         Figures {
             version: self.version.as_str(),
@@ -129,8 +131,8 @@ impl MetricsFile {
         }
     }
 
-    /// Writes the numbers to a draft beside the file, and gives that its name. What has the draft's path is removed
-    /// first, and is not written to, since it may be a link.
+    /// Writes the numbers to a draft next to the file, and renames the draft to the file's path.
+    /// Whatever has the draft's path is removed first and not written to, since it may be a link.
     fn replace<R: Files + Alloc>(&self, rt: &R) -> io::Result<()> {
         let text = format!(in rt.alloc(); "{}", self.figures())?;
         let draft = self.draft.as_str();
@@ -139,14 +141,14 @@ impl MetricsFile {
         fs::rename(rt, draft, self.path.as_str())
     }
 
-    /// Writes the file, which is replaced as a whole: it is written beside it, with `.new` appended to its name, and
-    /// renamed. Returns what is to be told of it.
+    /// Replaces the file as a whole, due or not: writes a draft next to it, with `.new` appended to
+    /// its path, and renames it. Returns what is to be logged.
     pub fn write<R: Files + Alloc>(&self, rt: &R) -> WriteReport {
         let written = self.replace(rt);
         self.report(written)
     }
 
-    /// Writes the file if it is due. Returns what is to be told of it.
+    /// Writes the file if it is due. Returns what is to be logged.
     pub fn write_due<R: Files + Alloc>(&self, rt: &R, now: Instant) -> WriteReport {
         let mut pace = self.pace.get();
         if !pace.is_due(now) {
@@ -158,7 +160,7 @@ impl MetricsFile {
         self.report(written)
     }
 
-    /// Takes note of whether the file was written, and returns what is to be told of it.
+    /// Records whether the file was written, and returns what is to be logged.
     fn report(&self, written: io::Result<()>) -> WriteReport {
         let mut complaint = self.complaint.get();
         let (news, error) = match written {

@@ -1,18 +1,19 @@
-//! When the file of numbers is due.
+//! Decides when the metrics file is due.
 ghost use Rattle.std.specs.Prelude.{◌≡◌, ◌↔◌, IsTrue, None, Some, not, true};
 ghost use Rattle.std.specs.Duration.{as_nanos};
 ghost use Rattle.std.specs.Time.{instant_nanos};
 
 use std::time::{Duration, Instant};
 
-/// How long the file is left as it is where it is behind the numbers, in seconds.
+/// The seconds between two writes if numbers have changed or the last write failed.
 const BEHIND_SECONDS: u64 = 5;
 
-/// How long it is left as it is where it has them, in seconds.
+/// The seconds between two writes if no number has changed.
 const CURRENT_SECONDS: u64 = 60;
 
-/// When the file of numbers is due: at once, then five seconds after the last time where it is behind the numbers, else a
-/// minute after it, so that its age tells whether the box still runs.
+/// When the metrics file is due to be written: at once; then five seconds after the last attempt if
+/// a number has changed or the attempt failed, else a minute after it, so that the file's age shows
+/// whether the program runs.
 #[derive(Clone, Copy)]
 pub struct Pace {
     tried: Option<Instant>,
@@ -20,7 +21,7 @@ pub struct Pace {
 }
 
 impl Pace {
-    ghost use Rattle.metrics.specs.Due.{pacing_of, time_left};
+    ghost use Rattle.metrics.specs.Due.{pacing_of, time_remaining};
 
     /// Creates the pace of a file that was not written yet.
     pub fn new() -> Pace
@@ -32,14 +33,14 @@ impl Pace {
         }
     }
 
-    /// Notes that a number has changed since the last write.
+    /// Records that a number has changed since the last write.
     pub fn change(&mut self)
         ensures { pacing_of self.new ≡ record (pacing_of self.old) { behind = true } }
     {
         self.is_behind = true;
     }
 
-    /// Notes that a write was tried at this instant, and whether it succeeded.
+    /// Records that a write was tried at this instant, and whether it succeeded.
     pub fn tried(&mut self, now: Instant, is_written: bool)
         ensures { pacing_of self.new ≡ record { tried = Some (instant_nanos now); behind = not is_written } }
     {
@@ -47,9 +48,9 @@ impl Pace {
         self.is_behind = !is_written;
     }
 
-    /// Returns how long it is from `now` until the metrics file is due to be written; zero if it is due.
-    pub fn left(&self, now: Instant) -> Duration
-        ensures { as_nanos result ≡ time_left (pacing_of self.now) (instant_nanos now) }
+    /// Returns the time from `now` until the metrics file is due; zero if it is due.
+    pub fn remaining(&self, now: Instant) -> Duration
+        ensures { as_nanos result ≡ time_remaining (pacing_of self.now) (instant_nanos now) }
     {
         let Some(tried) = self.tried else {
             return Duration::ZERO;
@@ -64,8 +65,8 @@ impl Pace {
 
     /// Returns whether the file is due.
     pub fn is_due(&self, now: Instant) -> bool
-        ensures { IsTrue result ↔ (time_left (pacing_of self.now) (instant_nanos now) ≡ 0) }
+        ensures { IsTrue result ↔ (time_remaining (pacing_of self.now) (instant_nanos now) ≡ 0) }
     {
-        self.left(now).is_zero()
+        self.remaining(now).is_zero()
     }
 }

@@ -1,4 +1,4 @@
-//! The statuses of the replies to stores, as they are counted (PS3.7 annex C, PS3.4 annex B.2.3).
+//! Counts the statuses of responses to C-STOREs (PS3.7 annex C, PS3.4 annex B.2.3).
 ghost use Rattle.std.specs.Prelude.{◌≡◌};
 ghost use Rattle.metrics.specs.Statuses.{count_at_status, more_without_reply, status_of, with_status};
 
@@ -17,7 +17,7 @@ const DATA_SET_MISMATCH: u16 = 0xa900;
 /// Error: cannot understand.
 const CANNOT_UNDERSTAND: u16 = 0xc000;
 
-/// The status of the reply to a store, as it is counted.
+/// The status of the response to a C-STORE, as the metrics distinguish it.
 #[derive(Clone, Copy, Debug, PartialEq, Eq)]
 pub enum CountedStatus {
     /// Success.
@@ -30,12 +30,12 @@ pub enum CountedStatus {
     DataSetMismatch,
     /// Error: cannot understand.
     CannotUnderstand,
-    /// Another status, which a box does not send.
+    /// Any other status; this program sends none.
     Other,
 }
 
 impl CountedStatus {
-    /// Every one, in the order of the file.
+    /// All variants, in the order of the file.
     pub const ALL: [CountedStatus; 6] = [
         CountedStatus::Success,
         CountedStatus::ClassNotSupported,
@@ -45,7 +45,7 @@ impl CountedStatus {
         CountedStatus::Other,
     ];
 
-    /// Returns as which a status is counted.
+    /// Returns the variant that counts this status.
     pub fn of(status: u16) -> CountedStatus
         ensures { result ≡ status_of status }
     {
@@ -59,7 +59,8 @@ impl CountedStatus {
         }
     }
 
-    /// Returns the value of its label: the status in hexadecimal.
+    /// Returns the value of the label `status` in the metrics file: the status in hexadecimal, or
+    /// `other`.
     pub fn label(self) -> &'static str {
         match self {
             CountedStatus::Success => "0000",
@@ -72,7 +73,8 @@ impl CountedStatus {
     }
 }
 
-/// How many stores were answered with which status, and how many got no reply. Each number stops at the greatest `u64`.
+/// How many C-STOREs were answered with each status, and how many got no response. Each number
+/// stops at the greatest `u64`.
 #[derive(Clone, Copy)]
 pub struct StatusCounts {
     pub success: u64,
@@ -81,12 +83,12 @@ pub struct StatusCounts {
     pub data_set_mismatch: u64,
     pub cannot_understand: u64,
     pub other: u64,
-    /// Stores whose association ended before their reply.
+    /// C-STOREs whose association ended before their response.
     pub without_reply: u64,
 }
 
 impl StatusCounts {
-    /// Counts a store that is answered with a status.
+    /// Counts a C-STORE that is answered with this status.
     pub fn add(&mut self, status: CountedStatus)
         ensures { self.new ≡ with_status status self.old }
     {
@@ -108,14 +110,14 @@ impl StatusCounts {
         }
     }
 
-    /// Counts so many stores that got no reply.
+    /// Counts this many C-STOREs that got no response.
     pub fn add_without_reply(&mut self, stores: u64)
         ensures { self.new ≡ more_without_reply stores self.old }
     {
         self.without_reply = self.without_reply.saturating_add(stores);
     }
 
-    /// Returns how many stores were answered with a status.
+    /// Returns how many C-STOREs were answered with this status.
     pub fn count(&self, status: CountedStatus) -> u64
         ensures { result ≡ count_at_status status self.now }
     {

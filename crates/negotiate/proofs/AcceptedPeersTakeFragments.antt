@@ -1,4 +1,4 @@
--- A peer that is accepted takes fragments: its maximum length is 0 or at least 8 (`accepted_maximum`); a test of some
+-- An accepted peer can receive fragments: its maximum length is 0 or at least 8 (`accepted_maximum`); a test of some
 -- item of a list is that of what the items are mapped to (`list_any-map`). Stands on the definitions alone.
 use Rattle.std.proofs.Common.{◌≡◌, ℕ, ◌≤◌, Bool, true, false, not, ◌&&◌, ◌||◌, ◌⊎◌, inl, inr, List, [], ◌∷◌, map, nat_le, if◌then◌else◌, refl, ap, arith}
 use Rattle.std.proofs.lemmas.Bool.Decides.{nat_tests}
@@ -33,6 +33,6 @@ accepts true true false d true h = cc
 accepts true true true false true h = cc
 accepts true true true true true h = cc
 
--- a peer whose request is accepted takes any fragment, or names a maximum length of at least 8
+-- a peer whose request is accepted can receive any fragment, or names a maximum length of at least 8
 pub accepted_maximum : (s : Settings) (r : RequestRecord) → judged s r ≡ Accept → (r.maximum ≡ 0) ⊎ (8 ≤ r.maximum)
 accepted_maximum s r h = not_small r.maximum (accepts _ _ _ _ _ h)

@@ -1,5 +1,5 @@
--- A search for the place of a further storage class finds it (`is_here`), goes on (`not_here`) or ends (`none_here`,
--- `none_left`). Stands on DictionaryDecidesByDefault and the laws of `dictionary`.
+-- A search for the place of a further storage class finds it (`is_here`), continues (`not_here`) or ends (`none_here`,
+-- `none_remaining`). Stands on DictionaryDecidesByDefault and the laws of `dictionary`.
 use Rattle.std.proofs.Common.{◌≡◌, ℕ, suc, ◌+◌, ◌≤◌, Bool, true, false, cond, List, [], ◌∷◌, ◌++◌, length, map, drop, Some, None, slice_get, refl, ap, sym, subst, ◌∙◌, arith}
 use Rattle.std.specs.List.{position_from}
 use Rattle.dictionary.specs.StorageClasses.{storage_classes}
@@ -32,8 +32,8 @@ few_registered : (all : Bool) → length (registered all) ≤ 177
 few_registered true = subst (λ n. n ≤ 177) (sym (length-mapped (λ row. row.uid) storage_classes ∙ length-storage_classes)) (omega arith)
 few_registered false = omega arith
 
-pub none_left : (t : List ℕ → Bool) (c : Config) (n : ℕ) → length c.named.items ≤ 64 → 241 ≤ n → position_from t n (drop n (settings_of c).additional.classes) ≡ None
-none_left t c n named h =
+pub none_remaining : (t : List ℕ → Bool) (c : Config) (n : ℕ) → length c.named.items ≤ 64 → 241 ≤ n → position_from t n (drop n (settings_of c).additional.classes) ≡ None
+none_remaining t c n named h =
     let both = length-append (map (λ u. u.items) c.named.items) (registered c.all_storage) in
     let first = length-mapped (λ u. u.items) c.named.items in
     let last = few_registered c.all_storage in

@@ -78,15 +78,15 @@ context_in-context_rows additional r d id = in_order additional id r.contexts d
 
 -- ---- a table that is filled row by row, when no context is left
 
-whole : (additional : Taken) (r : RequestRecord) (table : List ContextRow) (left : List Proposal) → table ++ filter_map (row_of additional) (map (seen additional) left) ≡ context_rows additional (offered additional r) →
-    left ≡ [] → table ≡ context_rows additional (offered additional r)
-whole additional r table left e none = sym (append-nil table) ∙ ap (λ ps. table ++ filter_map (row_of additional) (map (seen additional) ps)) (sym none) ∙ e
+whole : (additional : Taken) (r : RequestRecord) (table : List ContextRow) (remaining : List Proposal) → table ++ filter_map (row_of additional) (map (seen additional) remaining) ≡ context_rows additional (offered additional r) →
+    remaining ≡ [] → table ≡ context_rows additional (offered additional r)
+whole additional r table remaining e none = sym (append-nil table) ∙ ap (λ ps. table ++ filter_map (row_of additional) (map (seen additional) ps)) (sym none) ∙ e
 
-pub length-table : (additional : Taken) (r : RequestRecord) (table : List ContextRow) (left : List Proposal) → table ++ filter_map (row_of additional) (map (seen additional) left) ≡ context_rows additional (offered additional r) →
-    left ≡ [] → length table ≡ accepted_count (offered additional r)
-length-table additional r table left e none = ap length (whole additional r table left e none) ∙ length-context_rows additional (offered additional r)
+pub length-table : (additional : Taken) (r : RequestRecord) (table : List ContextRow) (remaining : List Proposal) → table ++ filter_map (row_of additional) (map (seen additional) remaining) ≡ context_rows additional (offered additional r) →
+    remaining ≡ [] → length table ≡ accepted_count (offered additional r)
+length-table additional r table remaining e none = ap length (whole additional r table remaining e none) ∙ length-context_rows additional (offered additional r)
 
-pub context_in-table : (additional : Taken) (r : RequestRecord) (table : List ContextRow) (left : List Proposal) → table ++ filter_map (row_of additional) (map (seen additional) left) ≡ context_rows additional (offered additional r) →
-    left ≡ [] → IsDistinct eqb (ids r.contexts) → (id : ℕ) → context_in additional table id ≡ context_of (offered additional r) id
-context_in-table additional r table left e none d id =
-    ap (λ rows. context_in additional rows id) (whole additional r table left e none) ∙ context_in-context_rows additional r d id
+pub context_in-table : (additional : Taken) (r : RequestRecord) (table : List ContextRow) (remaining : List Proposal) → table ++ filter_map (row_of additional) (map (seen additional) remaining) ≡ context_rows additional (offered additional r) →
+    remaining ≡ [] → IsDistinct eqb (ids r.contexts) → (id : ℕ) → context_in additional table id ≡ context_of (offered additional r) id
+context_in-table additional r table remaining e none d id =
+    ap (λ rows. context_in additional rows id) (whole additional r table remaining e none) ∙ context_in-context_rows additional r d id

@@ -10,17 +10,23 @@ use Rattle.negotiate.specs.declared.answer.Answer.TheVariants.{Accept, Reject}
 use Rattle.negotiate.specs.Rejections.{rejected_permanent, service_user, service_provider_acse, no_reason_given, application_context_name_not_supported, calling_ae_title_not_recognized, called_ae_title_not_recognized, protocol_version_not_supported}
 use Rattle.negotiate.specs.Settings.{Settings}
 
+-- whether the texts are equal
+-- e.g. same_bytes (1 ∷ []) (1 ∷ 2 ∷ []) ≡ false
 abbrev pub same_bytes : List ℕ → List ℕ → Bool
 same_bytes a b = pointwise nat_eq a b
 
 -- titles are compared without the spaces at both ends
+-- e.g. same_title (codes "CT1 ") (codes "CT1") ≡ true; same_title (codes "CT1") (codes "CT2") ≡ false
 abbrev pub same_title : List ℕ → List ℕ → Bool
 same_title a b = same_bytes (title_text a) (title_text b)
 
+-- whether a title is one of these
+-- e.g. is_among (codes "MR2" ∷ []) (codes "MR2 ") ≡ true
 abbrev pub is_among : (titles : List (List ℕ)) → (title : List ℕ) → Bool
 is_among titles title = list_any (λ other. same_title other title) titles
 
--- no callers means any
+-- whether this title may call; if there are no callers, any title may
+-- e.g. may_call [] (codes "CT1") ≡ true; may_call (codes "MR2" ∷ []) (codes "CT1") ≡ false
 abbrev pub may_call : (callers : List (List ℕ)) → (calling : List ℕ) → Bool
 may_call callers calling = nat_eq (length callers) 0 || is_among callers calling
 
@@ -28,12 +34,13 @@ may_call callers calling = nat_eq (length callers) 0 || is_among callers calling
 abbrev pub may_be_called : Settings → (called : List ℕ) → Bool
 may_be_called s called = s.any_called || is_among s.called called
 
--- bit 0 is version 1
+-- whether bit 0 is set, for version 1
 abbrev pub has_version_1 : RequestRecord → Bool
 has_version_1 r = nat_eq (r.version % 2) 1
 
--- the first of these that holds. That a maximum length from 1 to 7, in which no fragment fits, is rejected is this
--- product's own profile; so is that the last four are the local user's.
+-- The answer to a request: the first line that fits. That a maximum length from 1 to 7, in which no fragment fits, is
+-- rejected is this product's own profile; so is that the last four rejections are the local user's (law
+-- `engine::another_called_title`).
 abbrev pub judged : Settings → RequestRecord → Answer
 judged s r =
     if not (has_version_1 r) then Reject rejected_permanent service_provider_acse protocol_version_not_supported

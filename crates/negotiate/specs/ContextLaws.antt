@@ -14,7 +14,7 @@ use Rattle.negotiate.specs.Taken.{Taken}
 abbrev pub TableIsOffered : Taken → RequestRecord → Type 0
 TableIsOffered additional r = (id : ℕ) → context_in additional (context_rows additional (offered additional r)) id ≡ context_of (offered additional r) id
 
--- the service that a proposed context names, if it is taken
+-- the service that a proposed context names, if it is accepted
 abbrev pub service_taken : Taken → Proposal → Option Service
 service_taken additional p = service_of (taken_syntax additional.classes p.abstract_syntax)
 

@@ -1,4 +1,5 @@
--- The table of the accepted presentation contexts, which is kept when the request is given up (this product's own profile).
+-- The table of the accepted presentation contexts, which is kept when the request is dropped (this product's own
+-- profile).
 use Rattle.std.specs.Prelude.{ℕ, List, Option, Some, None, nat_eq, option_map, option_and_then, slice_get}
 use Rattle.std.specs.List.{count_by, filter_map, find, position_from}
 use Rattle.element.specs.Uid.{uid_of}
@@ -18,7 +19,7 @@ abbrev pub or_first : Option ℕ → ℕ
 or_first None = 0
 or_first (Some place) = place
 
--- a further storage class stands in a row as its place among those that are taken
+-- the index of an additional storage class among those that are accepted, by which a row names it
 abbrev pub place_of : List (List ℕ) → List ℕ → Option ℕ
 place_of additional uid = position_from (is_text uid) 0 additional
 
@@ -29,7 +30,7 @@ class_in_row additional (service.Additional uid) = row.Additional (or_first (pla
 abbrev pub row_with : Taken → ℕ → Context → ContextRow
 row_with additional id context = record { id = id; class = class_in_row additional context.class; syntax = context.syntax }
 
--- the row of a proposed context, where it is accepted
+-- the row of a proposed context, if it is accepted
 abbrev pub row_of : Taken → Proposal → Option ContextRow
 row_of additional p = option_map (row_with additional p.id) (accepted p)
 
@@ -60,6 +61,6 @@ context_by additional row = context_with row (service_in additional row.class)
 abbrev pub context_in : Taken → List ContextRow → ℕ → Option Context
 context_in additional rows id = option_and_then (context_by additional) (find (λ row. nat_eq row.id id) rows)
 
--- what the room of a table has where no row is
+-- the value of the unused rows of a table
 abbrev pub no_row : ContextRow
 no_row = record { id = 0; class = row.Known Verification; syntax = Implicit }

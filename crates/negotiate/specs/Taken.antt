@@ -1,4 +1,5 @@
--- What is taken beside the dictionary's own classes and the two native transfer syntaxes (this product's own profile).
+-- What is accepted in addition to the dictionary's own classes and the two native transfer syntaxes (this product's own
+-- profile).
 use Rattle.std.specs.Prelude.{ℕ, List, []}
 use Rattle.dictionary.specs.declared.transfer.Transfer.{Transfer}
 
@@ -7,5 +8,6 @@ pub record Taken : Type 0 where
   pub classes : List (List ℕ)
   pub transfers : List Transfer
 
+-- no storage class and no transfer syntax in addition to the dictionary's own
 abbrev pub nothing_additional : Taken
 nothing_additional = record { classes = []; transfers = [] }

@@ -15,11 +15,11 @@ use byteorder::{BigEndian, ByteOrder};
 use dictionary::APPLICATION_CONTEXT;
 use pdu::{Request, item_type, pdu_type};
 
-/// The bytes of an A-ASSOCIATE-AC without the titles and reserved bytes that it repeats, and without
-/// its contexts.
+/// The bytes of an A-ASSOCIATE-AC without its presentation contexts and without the titles and
+/// reserved bytes, which the request gives.
 const BARE: usize = 76;
 
-/// The bytes of a context in it, without the transfer syntax.
+/// The bytes of a presentation context item, without the transfer syntax UID.
 const CONTEXT: usize = 12;
 
 /// The bytes of the longest A-ASSOCIATE-AC: 140, and 35 for each of 128 contexts.
@@ -41,7 +41,8 @@ pub(crate) fn accept_size(config: &Config, request: &Request) -> usize
     size
 }
 
-/// The head of an A-ASSOCIATE-AC of this length, the protocol version and two reserved bytes.
+/// Returns the head of an A-ASSOCIATE-AC of this length, with the protocol version and two reserved
+/// bytes.
 fn head(length: u32) -> [u8; 10]
     ensures { result ≡ 2 ∷ 0 ∷ (be length 4 ++ 0 ∷ 1 ∷ 0 ∷ 0 ∷ []) }
 {
@@ -50,7 +51,7 @@ fn head(length: u32) -> [u8; 10]
     head
 }
 
-/// The bytes of an A-ASSOCIATE-AC of this length before its contexts (PS3.8 section 9.3.3).
+/// Returns the bytes of an A-ASSOCIATE-AC of this length before its contexts (PS3.8 section 9.3.3).
 fn front(request: &Request, length: u32) -> ArrayVec<u8, LONGEST>
     ensures items { result.items ≡ 2 ∷ 0 ∷ (be length 4 ++ before_contexts request.now) }
     ensures size { array_vec_len result ≡ 99 }
@@ -68,7 +69,8 @@ fn front(request: &Request, length: u32) -> ArrayVec<u8, LONGEST>
     front
 }
 
-/// Returns the PDU with the answer to each proposed context after it, in their order.
+/// Appends the answer to each proposed presentation context to the PDU, in the order of the
+/// request.
 fn with_contexts(
     config: &Config,
     mut pdu: ArrayVec<u8, LONGEST>,

@@ -11,7 +11,7 @@ use dictionary::APPLICATION_CONTEXT;
 use element::AeTitle;
 use pdu::Request;
 
-/// How an A-ASSOCIATE-RQ is answered.
+/// The answer to an A-ASSOCIATE-RQ.
 #[derive(Clone, Copy, Debug, PartialEq, Eq)]
 pub enum Answer {
     /// An A-ASSOCIATE-AC (PS3.8 section 9.3.3).
@@ -26,25 +26,25 @@ fn is_among(titles: &[AeTitle], title: AeTitle) -> bool
     titles.contains(&title)
 }
 
-/// Whether an application entity of this title may call.
+/// Returns whether an application entity with this title may call.
 fn may_call(callers: &[AeTitle], calling: AeTitle) -> bool
     ensures { result ≡ spelling.may_call (map (λ t. t.0) callers.now) calling.0 }
 {
     callers.is_empty() || is_among(callers, calling)
 }
 
-/// Whether a request may have this called title.
+/// Returns whether a peer may use this called title.
 fn may_be_called(config: &Config, called: AeTitle) -> bool
     ensures { result ≡ spelling.may_be_called (settings_of config.now) called.0 }
 {
     config.any_called || config.ae == called || is_among(config.also.as_slice(), called)
 }
 
-/// Returns the answer to a request: the rejection of the first of these that fails, or else an
-/// acceptance. The protocol version is 1; the application context is DICOM's; the called title is
-/// one of the receiver's; the calling title may call; and the peer's maximum length leaves room for a
-/// fragment, so it is 0 or at least 8 (this product's own profile). The first rejection is the
-/// service provider's, the others are the local user's.
+/// Returns the answer to a request: the rejection for the first of these rules that it breaks, else
+/// an acceptance. Bit 0 of the protocol version is set; the application context is DICOM's; the
+/// called title is one of the receiver's; the calling title may call; the maximum length is 0 (no
+/// limit) or at least 8, so that a fragment fits (this product's own profile). The first rejection
+/// is the service provider's, the others are the local user's.
 pub fn judge(config: &Config, request: &Request) -> Answer
     ensures { result ≡ judged (settings_of config.now) request.now }
 {
@@ -70,7 +70,7 @@ pub fn judge(config: &Config, request: &Request) -> Answer
     Answer::Accept
 }
 
-/// The local user's rejection for this reason.
+/// Returns the local user's rejection with this reason.
 fn user_rejection(reason: u8) -> Answer
     ensures { result ≡ Answer.Reject rejected_permanent service_user reason }
 {

@@ -8,40 +8,44 @@ use arrayvec::ArrayVec;
 use dictionary::{Transfer, storage_class};
 use element::{AeTitle, Uid};
 
-/// How many called titles can be named that are accepted beside the receiver's own.
+/// The greatest number of called titles that are accepted besides the receiver's own.
 pub const MOST_ALSO: usize = 15;
 
-/// How many additional storage classes can be named that are taken.
+/// The greatest number of additional storage classes that can be named.
 pub const MOST_NAMED: usize = 64;
 
-/// How many additional storage classes can be taken: those that are named, and the 177 of the standard.
+/// The greatest number of additional storage classes: those that are named, and the 177 of the
+/// standard.
 const MOST_FURTHER: usize = MOST_NAMED + 177;
 
-/// How many additional transfer syntaxes can be taken: those of the dictionary in which Pixel Data is encapsulated.
+/// The greatest number of additional transfer syntaxes: those of the dictionary that encapsulate
+/// Pixel Data.
 const MOST_TRANSFERS: usize = 24;
 
-/// The settings of the receiver: who may associate with it, and how much it accepts.
+/// The settings of the receiver: who may associate with it, and what it accepts.
 #[derive(Drop)]
 pub struct Config {
-    /// Its own title; the called title of a request has to be this one, or one of those below.
+    /// The title of the receiver. A called title must be this one or one that the next two fields
+    /// accept.
     pub ae: AeTitle,
     /// Further called titles that are accepted.
     pub also: ArrayVec<AeTitle, MOST_ALSO>,
     /// Whether any called title is accepted.
     pub any_called: bool,
-    /// The calling titles that are accepted; if there are none, any is.
+    /// The calling titles that are accepted; without any, every title is accepted.
     callers: Option<Vec<AeTitle>>,
-    /// The maximum length of a P-DATA-TF PDU that it accepts, in bytes, as it announces it
+    /// The maximum length in bytes of a P-DATA-TF PDU that the receiver accepts and announces
     /// (PS3.8 annex D.1); at least 1024.
     pub max_pdu: u32,
-    /// The maximum length of a data set that it accepts, in bytes; from 1024 to 2^48.
+    /// The maximum length in bytes of a data set that the receiver accepts; from 1024 to 2^48.
     pub max_data: u64,
-    /// Whether every storage class of the standard is taken (PS3.4 Table B.5-1), those that are retired (PS3.6
-    /// annex A) among them, and not the dictionary's own alone.
+    /// Whether every storage class of the standard is accepted (PS3.4 Table B.5-1, and the retired
+    /// ones of PS3.6 annex A), not only those of the dictionary.
     pub all_storage: bool,
-    /// Additional storage classes that are taken, by the text of their unique identifiers.
+    /// Additional storage classes that are accepted, by the text of their UIDs.
     pub named: ArrayVec<ArrayVec<u8, 64>, MOST_NAMED>,
-    /// Additional transfer syntaxes that are taken, beside Explicit and Implicit VR Little Endian.
+    /// Additional transfer syntaxes that are accepted, besides Explicit and Implicit VR Little
+    /// Endian.
     pub transfers: ArrayVec<Transfer, MOST_TRANSFERS>,
     pub ghost least_pdu: { 1024 ≤ max_pdu },
     pub ghost least_data: { 1024 ≤ max_data },
@@ -50,7 +54,7 @@ pub struct Config {
     pub ghost few_transfers: { array_vec_len transfers ≤ 24 },
 }
 
-/// A copy of a text.
+/// Copies a text.
 fn text_of(bytes: &[u8]) -> ArrayVec<u8, 64>
     requires { length bytes.now ≤ 64 }
     ensures { result.items ≡ bytes.now }
@@ -61,7 +65,7 @@ fn text_of(bytes: &[u8]) -> ArrayVec<u8, 64>
     text
 }
 
-/// The texts of identifiers.
+/// Copies the texts of UIDs.
 fn texts_of(uids: &[Uid]) -> ArrayVec<ArrayVec<u8, 64>, MOST_NAMED>
     requires few { length uids.now ≤ 64 }
     ensures texts { map (λ t. t.items) result.items ≡ uids.now }
@@ -69,14 +73,14 @@ fn texts_of(uids: &[Uid]) -> ArrayVec<ArrayVec<u8, 64>, MOST_NAMED>
 {
     let mut texts = ArrayVec::new();
     for uid in uids {
-        // For its contract, by which the prover knows that the text fits: it is an identifier.
+        // By the contract of `len`, the text fits.
         let _ = uid.len();
         texts.push(text_of(uid.as_bytes()));
     }
     texts
 }
 
-/// A copy of a list of transfer syntaxes.
+/// Copies a list of transfer syntaxes.
 fn copied_transfers(transfers: &[Transfer]) -> ArrayVec<Transfer, MOST_TRANSFERS>
     requires few { length transfers.now ≤ 24 }
     ensures transfers { result.items ≡ transfers.now }
@@ -88,7 +92,7 @@ fn copied_transfers(transfers: &[Transfer]) -> ArrayVec<Transfer, MOST_TRANSFERS
     copies
 }
 
-/// Whether the list has this transfer syntax.
+/// Returns whether the list has this transfer syntax.
 fn is_among(transfers: &[Transfer], transfer: Transfer) -> bool
     ensures { result ≡ list_any (is_text_of (transfer_uid transfer)) transfers.now }
 {
@@ -127,7 +131,7 @@ impl Config {
         }
     }
 
-    /// Returns the settings with these calling titles accepted alone, or any if there are none.
+    /// Returns the settings with only these calling titles accepted, or all if there are none.
     pub fn with_callers(mut self, callers: Vec<AeTitle>) -> Config
         ensures { settings_of result ≡ record (settings_of self) { callers = map (λ t. t.0) callers.items } }
     {
@@ -135,7 +139,8 @@ impl Config {
         self
     }
 
-    /// Returns the settings with these called titles accepted beside its own, or any.
+    /// Returns the settings with these called titles accepted besides the receiver's own, or all
+    /// with `any_called`.
     pub fn with_called(mut self, also: ArrayVec<AeTitle, MOST_ALSO>, any_called: bool) -> Config
         ensures { settings_of result ≡ record (settings_of self) { called = self.ae.0 ∷ map (λ t. t.0) also.items; any_called = any_called } }
     {
@@ -144,8 +149,8 @@ impl Config {
         self
     }
 
-    /// Returns the settings with these storage classes taken beside the dictionary's own: every one of the
-    /// standard's table or none, and those that are named.
+    /// Returns the settings with these storage classes accepted besides the dictionary's own: those
+    /// that are named, and with `all_storage` all of the standard's table.
     pub fn with_storage(mut self, all_storage: bool, named: &[Uid]) -> Config
         requires few { length named.now ≤ 64 }
         ensures { settings_of result ≡ record (settings_of self) { additional = record { classes = named.now ++ registered all_storage; transfers = self.transfers.items } } }
@@ -155,7 +160,8 @@ impl Config {
         self
     }
 
-    /// Returns the settings with these transfer syntaxes taken beside Explicit and Implicit VR Little Endian.
+    /// Returns the settings with these transfer syntaxes accepted besides Explicit and Implicit VR
+    /// Little Endian.
     pub fn with_transfers(mut self, transfers: &[Transfer]) -> Config
         requires few { length transfers.now ≤ 24 }
         ensures { settings_of result ≡ record (settings_of self) { additional = record (settings_of self).additional { transfers = transfers.now } } }
@@ -164,7 +170,7 @@ impl Config {
         self
     }
 
-    /// Returns the calling titles that are accepted; if there are none, any is.
+    /// Returns the calling titles that are accepted; without any, all are.
     pub fn callers(&self) -> &[AeTitle]
         ensures { map (λ t. t.0) result.now ≡ (settings_of self.now).callers }
     {
@@ -174,14 +180,15 @@ impl Config {
         }
     }
 
-    /// Returns whether a transfer syntax is taken.
+    /// Returns whether a transfer syntax is accepted.
     pub(crate) fn takes(&self, transfer: Transfer) -> bool
         ensures { result ≡ is_taken (settings_of self.now).additional.transfers (Some transfer) }
     {
         !transfer.is_encapsulated() || is_among(self.transfers.as_slice(), transfer)
     }
 
-    /// Returns the text of the additional storage class of this place, first those that are named.
+    /// Returns the text of the additional storage class with this index, named ones first, or
+    /// `None`.
     pub(crate) fn additional(&self, place: usize) -> Option<&[u8]>
         ensures { option_map (λ u. u.now) result ≡ slice_get (settings_of self.now).additional.classes place }
     {
@@ -198,7 +205,7 @@ impl Config {
         }
     }
 
-    /// Returns the place of an additional storage class that is taken.
+    /// Returns the index of an additional storage class, or `None` if it is not accepted.
     pub(crate) fn place(&self, uid: &Uid) -> Option<u8>
         ensures { result ≡ place_of (settings_of self.now).additional.classes uid.now }
     {

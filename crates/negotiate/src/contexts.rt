@@ -7,8 +7,8 @@ use crate::config::Config;
 use crate::proposals::{Context, accepted};
 use pdu::Request;
 
-/// Returns the accepted context with this ID of a request that `judge` accepts, or `None` if the
-/// request proposes no context with this ID or it is rejected.
+/// Returns the accepted context with this ID of a request that `judge` accepts, or `None` if that
+/// context is not proposed or is rejected.
 pub fn context(config: &Config, request: &Request, id: u8) -> Option<Context>
     ensures { result ≡ spelling.context_of (spelling.offered (settings_of config.now).additional request.now) id }
 {

@@ -12,7 +12,7 @@ use byteorder::{BigEndian, ByteOrder};
 use dictionary::{IMPLEMENTATION_CLASS_UID, IMPLEMENTATION_VERSION_NAME};
 use pdu::{Proposal, item_type};
 
-/// Appends bytes to a room in which they fit.
+/// Appends bytes to an array that has capacity for them.
 pub(crate) fn extend<const N: usize>(room: &mut ArrayVec<u8, N>, bytes: &[u8])
     requires { array_vec_len room.old + length bytes.now ≤ N }
     ensures { room.new.items ≡ room.old.items ++ bytes.now }
@@ -20,7 +20,7 @@ pub(crate) fn extend<const N: usize>(room: &mut ArrayVec<u8, N>, bytes: &[u8])
     let _ = room.try_extend_from_slice(bytes);
 }
 
-/// Appends an item to a room in which it fits.
+/// Appends an item to an array that has capacity for it.
 pub(crate) fn extend_by_item<const N: usize>(room: &mut ArrayVec<u8, N>, kind: u8, content: &[u8])
     requires short { length content.now < 65536 }
     requires fits { array_vec_len room.old + (length content.now + 4) ≤ N }
@@ -32,7 +32,7 @@ pub(crate) fn extend_by_item<const N: usize>(room: &mut ArrayVec<u8, N>, kind: u
     extend(room, content);
 }
 
-/// The answer to a proposed presentation context (PS3.8 section 9.3.3.2).
+/// Returns the answer to a proposed presentation context (PS3.8 section 9.3.3.2).
 pub(crate) fn context_item(config: &Config, proposal: &Proposal) -> ArrayVec<u8, 64>
     ensures items { result.items ≡ context_text (seen (settings_of config.now).additional proposal.now) }
     ensures short { array_vec_len result ≤ 35 }
@@ -52,7 +52,7 @@ pub(crate) fn context_item(config: &Config, proposal: &Proposal) -> ArrayVec<u8,
     item
 }
 
-/// The user information of the receiver (PS3.8 section 9.3.3.3).
+/// Returns the user information item of the receiver (PS3.8 section 9.3.3.3).
 pub(crate) fn user_item(max_pdu: u32) -> ArrayVec<u8, 64>
     ensures items { result.items ≡ user_text max_pdu }
     ensures size { array_vec_len result ≡ 41 }

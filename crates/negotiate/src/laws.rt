@@ -1,4 +1,4 @@
-//! Laws of the definitions, each the contract of a function that does nothing.
+//! Lemmas on the definitions, each stated as the contract of a function with an empty body.
 ghost use Rattle.std.specs.Prelude.{◌≡◌, ◌≤◌, ◌⊎◌, ℕ, List, Some, None, [], eqb, length, nat_eq, option_map, option_and_then};
 ghost use Rattle.std.specs.List.{IsDistinct, find};
 ghost use Rattle.dictionary.specs.Classes.{class_of};
@@ -26,23 +26,23 @@ use crate::rejection::{
     SERVICE_USER, TRANSIENT,
 };
 
-/// The table of a request has its accepted contexts, and nothing else: a row for each of them, and
-/// under each presentation context ID what the request has there.
+/// The table of a request has one row for each accepted context and no other. Looking up a
+/// presentation context ID gives the same in the table as in the request.
 pub fn table_has_the_accepted_contexts()
     ensures contexts { (additional : Taken) (r : RequestRecord) → IsDistinct eqb (ids r.contexts) → TableIsOffered additional r }
     ensures count { (additional : Taken) (r : RequestRecord) → length (context_rows additional r) ≡ accepted_count r }
 {}
 
-/// Where nothing additional is taken, the dictionary's classes alone decide: on the result of each
-/// proposed context, and on the context that is accepted under an ID.
+/// Without additional classes or transfer syntaxes, the dictionary's classes alone determine the
+/// result of each proposed context and the context that is accepted under an ID.
 pub fn by_default_the_dictionary_decides()
     ensures result { (p : Proposal) → result_of (seen nothing_additional p) ≡ result_by (class_of p.abstract_syntax) (chosen p.transfer_syntaxes) }
     ensures context { (r : RequestRecord) (id : ℕ) →
         context_of (offered nothing_additional r) id ≡ option_and_then accepted_by_default (find (λ p. nat_eq p.id id) r.contexts) }
 {}
 
-/// Where no additional transfer syntax is taken, the two native ones alone decide, whatever a request proposes: on the
-/// result of each context, on the context that is accepted, and on the transfer syntax that the answer carries.
+/// Without additional transfer syntaxes, the two native ones alone determine the result of each
+/// proposed context, the context that is accepted and the transfer syntax that the answer carries.
 pub fn by_default_the_native_syntaxes_decide()
     ensures result { (additional : Taken) (p : Proposal) → additional.transfers ≡ [] → result_of (seen additional p) ≡ result_by (service_taken additional p) (chosen p.transfer_syntaxes) }
     ensures context { (additional : Taken) (p : Proposal) → additional.transfers ≡ [] →
@@ -51,28 +51,30 @@ pub fn by_default_the_native_syntaxes_decide()
         carried (seen additional p) ≡ carried_by (service_taken additional p) (option_map native (chosen p.transfer_syntaxes)) }
 {}
 
-/// Where a context proposes a native transfer syntax, none of the additional ones is chosen, whatever is taken.
+/// If a context proposes a native transfer syntax, no additional one is chosen, whatever the
+/// settings accept.
 pub fn native_syntaxes_are_preferred()
     ensures { (additional : Taken) (p : Proposal) (s : Syntax) → chosen p.transfer_syntaxes ≡ Some s → agreed (seen additional p).transfer_syntaxes ≡ Some (native s) }
 {}
 
-/// A peer whose request is accepted takes fragments: its maximum length is 0, for none, or at least 8.
+/// The maximum length of a peer whose request is accepted allows fragments: it is 0 (no limit) or
+/// at least 8.
 pub fn accepted_peers_take_fragments()
     ensures { (s : Settings) (r : RequestRecord) → judged s r ≡ Accept → (r.maximum ≡ 0) ⊎ (8 ≤ r.maximum) }
 {}
 
-/// An A-ASSOCIATE-AC has 4,620 bytes at most: 140, and 35 for each of at most 128 contexts.
+/// An A-ASSOCIATE-AC has at most 4,620 bytes: 140, and 35 for each of at most 128 contexts.
 pub fn acceptances_are_short()
     ensures { (s : Settings) (body : List ℕ) → IsBytes body → request_fault body ≡ None → length (accept_text s (request_record body)) ≤ longest_accept }
 {}
 
-/// The default settings are those of the definitions.
+/// The default settings equal those of the definitions.
 pub fn defaults_are_named()
     ensures max_pdu { Config.DEFAULT_MAX_PDU ≡ default_max_pdu }
     ensures max_data { Config.DEFAULT_MAX_DATA ≡ default_max_data }
 {}
 
-/// The numbers of rejections are those of the definitions.
+/// The numbers in rejections equal those of the definitions.
 pub fn rejections_are_named()
     ensures permanent { PERMANENT ≡ spelling.rejected_permanent }
     ensures transient { TRANSIENT ≡ spelling.rejected_transient }

@@ -1,4 +1,4 @@
-//! Which proposed presentation contexts are accepted.
+//! Decides which proposed presentation contexts are accepted.
 ghost use Rattle.std.specs.Prelude.{◌≡◌};
 ghost use Rattle.negotiate.specs.Contexts as spelling;
 ghost use Rattle.negotiate.specs.Settings.{settings_of};
@@ -13,7 +13,7 @@ use pdu::Proposal;
 pub enum Service {
     /// A class of the dictionary: Verification, or one of eleven storage classes.
     Known(Class),
-    /// An additional storage class, which the settings take.
+    /// An additional storage class that the settings accept.
     Additional(Uid),
 }
 
@@ -35,8 +35,8 @@ const ABSTRACT_SYNTAX_NOT_SUPPORTED: u8 = 3;
 /// Result: transfer-syntaxes-not-supported.
 const TRANSFER_SYNTAXES_NOT_SUPPORTED: u8 = 4;
 
-/// Returns the native transfer syntax that is chosen from those that a context proposes: Explicit before
-/// Implicit VR Little Endian, and no other.
+/// Returns the native transfer syntax to choose from those that a context proposes: Explicit VR
+/// Little Endian, else Implicit VR Little Endian, else `None`.
 fn chosen_syntax(proposal: &Proposal) -> Option<Syntax>
     ensures { result ≡ spelling.chosen proposal.now.transfer_syntaxes }
 {
@@ -55,7 +55,7 @@ fn chosen_syntax(proposal: &Proposal) -> Option<Syntax>
     }
 }
 
-/// Returns the first transfer syntax that a context proposes and that is taken.
+/// Returns the first proposed transfer syntax of a context that the settings accept.
 fn first_taken(config: &Config, proposal: &Proposal) -> Option<Transfer>
     ensures { result ≡ spelling.first_known (spelling.taken_transfers (settings_of config.now).additional.transfers proposal.now.transfer_syntaxes) }
 {
@@ -69,8 +69,8 @@ fn first_taken(config: &Config, proposal: &Proposal) -> Option<Transfer>
     None
 }
 
-/// Returns the transfer syntax that is chosen from those that a context proposes: a native one before any
-/// other, and then the first of its list that is taken.
+/// Returns the transfer syntax to choose from those that a context proposes: a native one if there
+/// is one, else the first that the settings accept.
 fn agreed_transfer(config: &Config, proposal: &Proposal) -> Option<Transfer>
     ensures { result ≡ spelling.agreed (spelling.taken_transfers (settings_of config.now).additional.transfers proposal.now.transfer_syntaxes) }
 {
@@ -80,7 +80,7 @@ fn agreed_transfer(config: &Config, proposal: &Proposal) -> Option<Transfer>
     }
 }
 
-/// Returns the service that an abstract syntax names, if it is taken.
+/// Returns the service that an abstract syntax names, if it is accepted.
 fn taken_service(config: &Config, bytes: &[u8]) -> Option<Service>
     ensures { result ≡ spelling.service_of (spelling.taken_syntax (settings_of config.now).additional.classes bytes.now) }
 {
@@ -96,7 +96,7 @@ fn taken_service(config: &Config, bytes: &[u8]) -> Option<Service>
     }
 }
 
-/// Returns the context if it is accepted.
+/// Returns the context, or `None` if it is rejected.
 pub(crate) fn accepted(config: &Config, proposal: &Proposal) -> Option<Context>
     ensures { result ≡ spelling.accepted (spelling.seen (settings_of config.now).additional proposal.now) }
 {

@@ -1,4 +1,4 @@
-//! The numbers of an A-ASSOCIATE-RJ (PS3.8 section 9.3.4, Table 9-21).
+//! The numbers in an A-ASSOCIATE-RJ (PS3.8 section 9.3.4, Table 9-21).
 
 /// Result: rejected-permanent.
 pub const PERMANENT: u8 = 1;

@@ -1,4 +1,4 @@
-//! The accepted presentation contexts, kept without their request.
+//! The table of accepted presentation contexts.
 ghost use Rattle.std.specs.Prelude.{◌≡◌, [], ℕ};
 ghost use Rattle.arrayvec.specs.ArrayVec.{array_vec_len};
 ghost use Rattle.negotiate.specs.Contexts as spelling;
@@ -13,17 +13,16 @@ use dictionary::{Class, Transfer};
 use element::Uid;
 use pdu::Request;
 
-/// The service of a row, in two bytes.
+/// The service of a row of the table, in two bytes.
 #[derive(Clone, Copy, Debug, PartialEq, Eq)]
 pub enum RowClass {
     /// A class of the dictionary.
     Known(Class),
-    /// An additional storage class, by its place among those that the settings take.
+    /// An additional storage class, by its index among those that the settings accept.
     Additional(u8),
 }
 
-/// An accepted presentation context, as a row of the table that outlives the request. It counts as
-/// 4 bytes.
+/// An accepted presentation context, as a row of the table. It counts as 4 bytes of held memory.
 #[derive(Clone, Copy, Debug, PartialEq, Eq)]
 pub struct ContextRow {
     /// The presentation context ID.
@@ -39,7 +38,7 @@ impl Default for ContextRow {
 
     ghost is_default = { λ row. row ≡ no_row };
 
-    /// A row of no context: presentation context IDs are odd, and this one is 0.
+    /// Returns a row that matches no context: its ID is 0, and presentation context IDs are odd.
     fn default() -> ContextRow {
         ContextRow {
             id: 0,
@@ -49,7 +48,7 @@ impl Default for ContextRow {
     }
 }
 
-/// A place, where there is one.
+/// Returns the index, or 0 without one.
 fn first(place: Option<u8>) -> u8
     ensures { result ≡ rows.or_first place }
 {
@@ -59,7 +58,7 @@ fn first(place: Option<u8>) -> u8
     }
 }
 
-/// The service as it stands in a row.
+/// Returns the service as a row has it.
 fn class_in_row(config: &Config, class: &Service) -> RowClass
     ensures { result ≡ rows.class_in_row (settings_of config.now).additional class.now }
 {
@@ -69,8 +68,8 @@ fn class_in_row(config: &Config, class: &Service) -> RowClass
     }
 }
 
-/// Fills an empty table with a row for each accepted context of the request, in the request's order.
-/// A request proposes at most 128 contexts, so there is always room.
+/// Fills an empty table with a row for each accepted context of the request, in the request's
+/// order. A request proposes at most 128 contexts, so they fit.
 pub fn compact(config: &Config, request: &Request, table: &mut ArrayVec<ContextRow, 128>)
     requires { table.old.items ≡ [] }
     ensures rows { table.new.items ≡ context_rows (settings_of config.now).additional (spelling.offered (settings_of config.now).additional request.now) }
@@ -89,7 +88,7 @@ pub fn compact(config: &Config, request: &Request, table: &mut ArrayVec<ContextR
     }
 }
 
-/// The service of a row.
+/// Returns the service of a row, or `None` if its index is invalid.
 fn service_in(config: &Config, class: RowClass) -> Option<Service>
     ensures { result ≡ rows.service_in (settings_of config.now).additional class }
 {

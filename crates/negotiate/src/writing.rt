@@ -9,10 +9,10 @@ use crate::answer::{Answer, judge};
 use crate::config::Config;
 use pdu::{Request, Wire, WireFailed, write_reject};
 
-/// The bytes of an A-ASSOCIATE-RJ.
+/// The size of an A-ASSOCIATE-RJ in bytes.
 const REJECT: usize = 10;
 
-/// Returns how many bytes the answer to the request has, which `write_answer` sends.
+/// Returns the size in bytes of the answer to the request that `write_answer` sends.
 pub fn answer_size(config: &Config, request: &Request) -> usize
     ensures { result ≡ length (answer_bytes (settings_of config.now) request.now) }
 {

@@ -31,26 +31,26 @@ header_need h bytes back u v spells same eight =
     is_need Explicit u (Size (length bytes)) (size_six u v (omega (arith, eight)) (subst (λ z. NeedIs Explicit (u ++ v) z) whole (need_is Explicit (u ++ v))))
 
 -- fewer than eight bytes are left
-pub short_front : (left : ℕ) (rest : List ℕ) → length rest < 8 → NoHeader left rest
-short_front left rest few h bytes back spells same within =
+pub short_front : (remaining : ℕ) (rest : List ℕ) → length rest < 8 → NoHeader remaining rest
+short_front remaining rest few h bytes back spells same within =
     let size : length rest ≡ length bytes + length back = ap length same ∙ length-append bytes back in
     absurd (omega (arith, size, few, spelled_long spells))
 
 -- the first eight bytes begin no header
-pub no_front : (left : ℕ) (front rest : List ℕ) → length front ≡ 8 → ((size : ℕ) → need Explicit front ≡ Size size → ⊥) → NoHeader left (front ++ rest)
-no_front left front rest eight none h bytes back spells same within =
+pub no_front : (remaining : ℕ) (front rest : List ℕ) → length front ≡ 8 → ((size : ℕ) → need Explicit front ≡ Size size → ⊥) → NoHeader remaining (front ++ rest)
+no_front remaining front rest eight none h bytes back spells same within =
     absurd (none (length bytes) (header_need h bytes back front rest spells same eight))
 
 -- the header has more bytes than it may have
-pub long_front : (left size : ℕ) (front rest : List ℕ) → length front ≡ 8 → need Explicit front ≡ Size size → left < size → NoHeader left (front ++ rest)
-long_front left size front rest eight is more h bytes back spells same within =
+pub long_front : (remaining size : ℕ) (front rest : List ℕ) → length front ≡ 8 → need Explicit front ≡ Size size → remaining < size → NoHeader remaining (front ++ rest)
+long_front remaining size front rest eight is more h bytes back spells same within =
     let sizes : Size size ≡ Size (length bytes) = sym is ∙ header_need h bytes back front rest spells same eight in
     let whole : size ≡ length bytes = cc in
     absurd (omega (arith, whole, more, within))
 
 -- fewer bytes follow than the header has
-pub short_back : (left size : ℕ) (front rest : List ℕ) → length front ≡ 8 → need Explicit front ≡ Size size → 8 + length rest < size → NoHeader left (front ++ rest)
-short_back left size front rest eight is few h bytes back spells same within =
+pub short_back : (remaining size : ℕ) (front rest : List ℕ) → length front ≡ 8 → need Explicit front ≡ Size size → 8 + length rest < size → NoHeader remaining (front ++ rest)
+short_back remaining size front rest eight is few h bytes back spells same within =
     let sizes : Size size ≡ Size (length bytes) = sym is ∙ header_need h bytes back front rest spells same eight in
     let whole : size ≡ length bytes = cc in
     let all : length front + length rest ≡ length bytes + length back = sym (length-append front rest) ∙ (ap length same ∙ length-append bytes back) in

@@ -20,11 +20,11 @@ last_of last [] = last
 last_of last (e ∷ es) = last_of e.number es
 
 -- the part of a group that was read, and what is left of it
-pub record Grouped (size left last : ℕ) (found : Found) (old now : Option (List ℕ)) : Type 0 where
+pub record Grouped (size remaining last : ℕ) (found : Found) (old now : Option (List ℕ)) : Type 0 where
   pub text : List ℕ
   pub elements : List MetaElement
   pub taken : Consumes old now text
-  pub counted : length text + left ≡ size
+  pub counted : length text + remaining ≡ size
   pub spelled : MetaElements 0 elements text
   pub ends : last_of 0 elements ≡ last
   pub is : IsFound found elements
@@ -72,9 +72,9 @@ noted_then : (n number : ℕ) (uid held : Option (List ℕ)) (l : ℕ) (es : Lis
     → number ≡ e.number → uid ≡ uid_of e.value → held ≡ uid_at n es → (if nat_eq number n then uid else held) ≡ uid_at n (es ++ e ∷ [])
 noted_then n number uid held l es b e spelled above same is before = rw (same, is, before) (sym (uid_then n l es b e spelled above))
 
-pub grouped_then : (size left last : ℕ) (found : Found) (e : Element) (old mid new : Option (List ℕ)) → Grouped size left last found old mid → ElementRead last left e mid new
-    → Grouped size (left - e.size) e.number (noted e.number e.uid found) old new
-grouped_then size left last found e old mid new so_far more =
+pub grouped_then : (size remaining last : ℕ) (found : Found) (e : Element) (old mid new : Option (List ℕ)) → Grouped size remaining last found old mid → ElementRead last remaining e mid new
+    → Grouped size (remaining - e.size) e.number (noted e.number e.uid found) old new
+grouped_then size remaining last found e old mid new so_far more =
     let x : MetaElement = meta_element_of more.header more.value in
     let text = so_far.text in
     let above : last_of 0 so_far.elements < more.header.tag.1 = omega (arith, so_far.ends, more.is.rises) in
@@ -108,15 +108,15 @@ rest_elements l _ _ _ c _ (element_then {h = h} {hb = hb} {v = v} {es = es} {b =
     let values = same_front v w (b ++ c) d sizes after.1 in
     rest_elements h.tag.1 es gs b c d rest (subst (λ z. MetaElements z.tag.1 gs d) (sym header.0) more) (sym values.1)
 
-pub no_first : (last left : ℕ) (fs : List MetaElement) (c rest back : List ℕ) → 0 < left → length c ≡ left → rest ≡ c ++ back → NoElement last left rest → ¬ MetaElements last fs c
-no_first last left _ _ rest back some count same none no_more = absurd (omega (arith, some, count))
-no_first last left _ _ rest back some count same none (element_then {h = h} {hb = hb} {v = v} {b = b} spells group rises even size more) =
+pub no_first : (last remaining : ℕ) (fs : List MetaElement) (c rest back : List ℕ) → 0 < remaining → length c ≡ remaining → rest ≡ c ++ back → NoElement last remaining rest → ¬ MetaElements last fs c
+no_first last remaining _ _ rest back some count same none no_more = absurd (omega (arith, some, count))
+no_first last remaining _ _ rest back some count same none (element_then {h = h} {hb = hb} {v = v} {b = b} spells group rises even size more) =
     let regroup : (hb ++ (v ++ b)) ++ back ≡ (hb ++ v) ++ (b ++ back) = simp append_assoc refl in
     let sum : length (hb ++ (v ++ b)) ≡ length hb + (length v + length b) = simp length-append refl in
     none h hb v (b ++ back) (record { spells = spells; group = group; rises = rises; even = even; size = size }) (same ∙ regroup) (omega (arith, count, sum))
 
-pub no_group : (size left last : ℕ) (found : Found) (old mid : Option (List ℕ)) (so_far : Grouped size left last found old mid) (rest : List ℕ) → 0 < left → NoElement last left rest → NoGroup size (so_far.text ++ rest)
-no_group size left last found old mid so_far rest some none gs group back same count spelled =
+pub no_group : (size remaining last : ℕ) (found : Found) (old mid : Option (List ℕ)) (so_far : Grouped size remaining last found old mid) (rest : List ℕ) → 0 < remaining → NoElement last remaining rest → NoGroup size (so_far.text ++ rest)
+no_group size remaining last found old mid so_far rest some none gs group back same count spelled =
     let text = so_far.text in
     let n : ℕ = length so_far.text in
     let front : length so_far.text ≡ length (take n group) = omega (arith, length-take n group, count, so_far.counted) in
@@ -124,5 +124,5 @@ no_group size left last found old mid so_far rest some none gs group back same c
     let parts = same_front so_far.text (take n group) rest (drop n group ++ back) front (same ∙ (sym whole ∙ append_assoc (take n group) (drop n group) back)) in
     let all : group ≡ so_far.text ++ drop n group = sym (take-append-drop n group) ∙ ap (λ z. z ++ drop n group) (sym parts.0) in
     let more = rest_elements 0 so_far.elements gs so_far.text (drop n group) group so_far.spelled spelled all in
-    let left_size : length (drop n group) ≡ left = omega (arith, length-drop n group, count, so_far.counted) in
-    no_first last left more.0 (drop n group) rest back some left_size parts.1 none (subst (λ z. MetaElements z more.0 (drop n group)) so_far.ends more.1)
+    let remaining_size : length (drop n group) ≡ remaining = omega (arith, length-drop n group, count, so_far.counted) in
+    no_first last remaining more.0 (drop n group) rest back some remaining_size parts.1 none (subst (λ z. MetaElements z more.0 (drop n group)) so_far.ends more.1)

@@ -33,27 +33,27 @@ same_header last header h bytes front value rest back spells is same =
     one_spelling Explicit header h bytes front rest (value ++ back) spells is.spells (same ∙ append_assoc front value back)
 
 -- the header is none of the next element
-pub not_next : (last left : ℕ) (header : Header) (bytes rest : List ℕ) → SpellsHeader Explicit header bytes → false ≡ is_next header last → NoElement last left (bytes ++ rest)
-not_next last left header bytes rest spells not h front value back is same within =
+pub not_next : (last remaining : ℕ) (header : Header) (bytes rest : List ℕ) → SpellsHeader Explicit header bytes → false ≡ is_next header last → NoElement last remaining (bytes ++ rest)
+not_next last remaining header bytes rest spells not h front value back is same within =
     let header_same = same_header last header h bytes front value rest back spells is same in
     absurd (let both : false ≡ true = not ∙ (ap (λ z. is_next z last) header_same.0 ∙ next_is last h front value is) in cc)
 
 -- its value does not fit
-pub long_value : (last left size : ℕ) (header : Header) (bytes rest : List ℕ) → SpellsHeader Explicit header bytes → length bytes ≡ size → left < size + header.length → NoElement last left (bytes ++ rest)
-long_value last left size header bytes rest spells count more h front value back is same within =
+pub long_value : (last remaining size : ℕ) (header : Header) (bytes rest : List ℕ) → SpellsHeader Explicit header bytes → length bytes ≡ size → remaining < size + header.length → NoElement last remaining (bytes ++ rest)
+long_value last remaining size header bytes rest spells count more h front value back is same within =
     let header_same = same_header last header h bytes front value rest back spells is same in
     let lengths : header.length ≡ h.length = ap (λ z. z.length) header_same.0 in
     absurd (omega (arith, lengths, header_same.1, is.size, count, more, within))
 
 -- the bytes end in its value
-pub short_value : (last left : ℕ) (header : Header) (bytes rest : List ℕ) → SpellsHeader Explicit header bytes → length rest < header.length → NoElement last left (bytes ++ rest)
-short_value last left header bytes rest spells few h front value back is same within =
+pub short_value : (last remaining : ℕ) (header : Header) (bytes rest : List ℕ) → SpellsHeader Explicit header bytes → length rest < header.length → NoElement last remaining (bytes ++ rest)
+short_value last remaining header bytes rest spells few h front value back is same within =
     let header_same = same_header last header h bytes front value rest back spells is same in
     let lengths : header.length ≡ h.length = ap (λ z. z.length) header_same.0 in
     let all : length bytes + length rest ≡ (length front + length value) + length back = sym (length-append bytes rest) ∙ (ap length same ∙ (length-append (front ++ value) back ∙ ap (λ z. z + length back) (length-append front value))) in
     absurd (omega (arith, lengths, header_same.1, is.size, all, few))
 
 -- no header, no element
-pub no_header : (last left : ℕ) (rest : List ℕ) → NoHeader left rest → NoElement last left rest
-no_header last left rest none h front value back is same within =
+pub no_header : (last remaining : ℕ) (rest : List ℕ) → NoHeader remaining rest → NoElement last remaining rest
+no_header last remaining rest none h front value back is same within =
     none h front (value ++ back) is.spells (same ∙ append_assoc front value back) (omega (arith, within))

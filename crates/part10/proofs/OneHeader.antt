@@ -58,19 +58,19 @@ fronts_same : (p q g h : List ℕ) → p ≡ q → g ≡ h → p ++ codes "DICM"
 fronts_same p q g h e f = λ i. e i ++ codes "DICM" ++ length_element (length (f i)) ++ f i
 
 pub one_header : OneHeader
-one_header file said told has also =
+one_header file said reported has also =
     let a = has.spelled in
     let b = also.spelled in
-    let all = sym (parted said file has) ∙ parted told file also in
+    let all = sym (parted said file has) ∙ parted reported file also in
     let preambles = same_front a.preamble b.preamble _ _ (a.preamble_size ∙ sym b.preamble_size) all in
     let counts = (same_front (codes "DICM") (codes "DICM") _ _ refl preambles.1).1 in
     let after = same_front (length_element (length a.group)) (length_element (length b.group)) _ _ (length_size (length a.group) ∙ sym (length_size (length b.group))) counts in
     let sizes : length a.group ≡ length b.group = same_length (length a.group) (length b.group) a.group_size b.group_size after.0 in
     let groups : a.group ≡ b.group = (same_front a.group b.group has.back also.back sizes after.1).0 in
     let same : a.elements ≡ b.elements = one_elements 0 0 a.elements b.elements a.group b.group a.spelled b.spelled groups in
-    let class : said.class ≡ told.class = some_same _ _ (sym a.class ∙ (ap (uid_at 0x0002) same ∙ b.class)) in
-    let instance : said.instance ≡ told.instance = some_same _ _ (sym a.instance ∙ (ap (uid_at 0x0003) same ∙ b.instance)) in
-    let syntax : said.syntax ≡ told.syntax = some_same _ _ (sym a.syntax ∙ (ap (uid_at 0x0010) same ∙ b.syntax)) in (
+    let class : said.class ≡ reported.class = some_same _ _ (sym a.class ∙ (ap (uid_at 0x0002) same ∙ b.class)) in
+    let instance : said.instance ≡ reported.instance = some_same _ _ (sym a.instance ∙ (ap (uid_at 0x0003) same ∙ b.instance)) in
+    let syntax : said.syntax ≡ reported.syntax = some_same _ _ (sym a.syntax ∙ (ap (uid_at 0x0010) same ∙ b.syntax)) in (
       λ i. record { class = class i; instance = instance i; syntax = syntax i },
       a.whole ∙ (fronts_same a.preamble b.preamble a.group b.group preambles.0 groups ∙ sym b.whole),
     )

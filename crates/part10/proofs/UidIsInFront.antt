@@ -8,10 +8,10 @@ use Rattle.element.specs.Padding.{is_padding, is_empty, kept_before, without_tra
 use Rattle.element.specs.Uid.{is_uid, is_uid_character, uid_of, if_uid}
 
 -- the part of a value that was read, and what is left of it
-pub record Padded (size left : ℕ) (padding : Bool) (old now : Option (List ℕ)) : Type 0 where
+pub record Padded (size remaining : ℕ) (padding : Bool) (old now : Option (List ℕ)) : Type 0 where
   pub text : List ℕ
   pub taken : Consumes old now text
-  pub counted : length text + left ≡ size
+  pub counted : length text + remaining ≡ size
   pub is : padding ≡ is_empty (without_trailing is_padding text)
 
 onto_kept : (x : ℕ) (rest : List ℕ) → is_empty rest ≡ false → kept_before is_padding x rest ≡ x ∷ rest

@@ -22,6 +22,7 @@ pub record MetaElement : Type 0 where
   pub number : ℕ
   pub value : List ℕ
 
+-- the first element of a text, and the bytes after it
 abbrev pub meta_element_of : Header → List ℕ → MetaElement
 meta_element_of h v = record { number = h.tag.1; value = v }
 
@@ -70,6 +71,7 @@ pub record HasMeta (said : MetaValues) (file : List ℕ) : Type 0 where
   pub whole : file ≡ front ++ back
   pub spelled : SpellsMeta said front
 
+-- the file has the prefix DICM after 128 bytes
 abbrev pub HasLetters : List ℕ → Type 0
 HasLetters file = take 4 (drop 128 file) ≡ codes "DICM"
 
@@ -111,7 +113,7 @@ FailsToRead NotPart10 old = IfSome old (λ file. MetaFaultOf file NotPart10)
 FailsToRead BadMeta old = IfSome old (λ file. MetaFaultOf file BadMeta)
 FailsToRead OtherSyntax old = IfSome old (λ file. MetaFaultOf file OtherSyntax)
 
--- the same if each transfer syntax of the dictionary is supported
+-- ---- the same if each transfer syntax of the dictionary is supported
 
 -- the file has a file header with a transfer syntax that is not in the dictionary
 abbrev pub NamesNone : List ℕ → Type 0
@@ -132,7 +134,7 @@ IsTaken file = (said : MetaValues) × HasMeta said file × ((s : Syntax) × (sai
 
 -- a file determines its file header: what it says and where it ends
 abbrev pub OneHeader : Type 0
-OneHeader = (file : List ℕ) (said told : MetaValues) (has : HasMeta said file) (also : HasMeta told file) → (said ≡ told) × (has.front ≡ also.front)
+OneHeader = (file : List ℕ) (said reported : MetaValues) (has : HasMeta said file) (also : HasMeta reported file) → (said ≡ reported) × (has.front ≡ also.front)
 
 -- every file is accepted or has a fault
 abbrev pub TakenOrFaulty : Type 0

@@ -7,16 +7,18 @@ pub record Shelf : Type 0 where
   pub files : List (List ℕ)
   pub draft : List ℕ
 
--- the state of a filing: its contents, if they are known; whether there is a draft; the number of failed calls
+-- the state of a filing as contracts see it: its contents, if they are known; whether there is a draft; the number of
+-- failed calls
 pub record Store : Type 0 where
-  pub told : Option Shelf
+  pub reported : Option Shelf
   pub has_draft : Bool
   pub failures : ℕ
 
--- the contents after this step, if they are known
-abbrev pub told_after : (Shelf → Shelf) → Option Shelf → Option Shelf
-told_after step None = None
-told_after step (Some shelf) = Some (step shelf)
+-- the contents of a filing after this step, if they are known
+-- e.g. reported_after without_draft None ≡ None
+abbrev pub reported_after : (Shelf → Shelf) → Option Shelf → Option Shelf
+reported_after step None = None
+reported_after step (Some shelf) = Some (step shelf)
 
 -- the contents with an empty draft, or none
 abbrev pub without_draft : Shelf → Shelf
@@ -32,11 +34,11 @@ committed shelf = record { files = shelf.files ++ shelf.draft ∷ []; draft = []
 
 -- the state of a filing after this step of its contents, with a draft (true) or without one
 abbrev pub stepped : (Shelf → Shelf) → Bool → Store → Store
-stepped step drafting store = record { told = told_after step store.told; has_draft = drafting; failures = store.failures }
+stepped step drafting store = record { reported = reported_after step store.reported; has_draft = drafting; failures = store.failures }
 
 -- the state of a filing after a failed call: no draft, the same files, one more failure
 abbrev pub failed : Store → Store
-failed store = record { told = told_after without_draft store.told; has_draft = false; failures = store.failures + 1 }
+failed store = record { reported = reported_after without_draft store.reported; has_draft = false; failures = store.failures + 1 }
 
 -- the state after a call with this result: for `Ok` that after the step, with a draft or without one; for `Err` that
 -- after a failed call
@@ -50,12 +52,15 @@ pub record MemoryState : Type 0 where
   pub draft : Option (List ℕ)
   pub failures : ℕ
 
+-- these bytes, or none if there are none
+-- e.g. or_nothing None ≡ []
 abbrev pub or_nothing : Option (List ℕ) → List ℕ
 or_nothing None = []
 or_nothing (Some bytes) = bytes
 
+-- the state of a filing over memory or over a folder, as the state of any filing: its contents are known
 abbrev pub store_of : MemoryState → Store
-store_of kept = record { told = Some (record { files = kept.files; draft = or_nothing kept.draft }); has_draft = is_some kept.draft; failures = kept.failures }
+store_of kept = record { reported = Some (record { files = kept.files; draft = or_nothing kept.draft }); has_draft = is_some kept.draft; failures = kept.failures }
 
 -- a new filing: no file, no draft, no failed call
 abbrev pub nothing_filed : MemoryState

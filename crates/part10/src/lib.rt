@@ -1,5 +1,5 @@
-//! DICOM files (PS3.10 section 7.1): their File Meta Information, and the storage that received files
-//! go to, as a trait and in memory.
+//! DICOM files (PS3.10 section 7.1): their File Meta Information, and the storage for received
+//! files, as a trait and in memory.
 #![tactic(auto)]
 
 mod filing;

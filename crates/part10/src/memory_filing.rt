@@ -8,7 +8,7 @@ use element::count::Count;
 use std::alloc::Allocator;
 use std::marker::Model;
 
-/// A [`Filing`] that stores files in memory. A call fails if the allocator refuses the memory.
+/// A [`Filing`] that stores files in memory. A call fails if the allocator does.
 #[derive(Drop)]
 pub struct MemoryFiling<A: Allocator + Copy> {
     alloc: A,
@@ -48,7 +48,7 @@ impl<A: Allocator + Copy> MemoryFiling<A> {
         self.files.as_slice()
     }
 
-    /// Drops the draft and counts one failure.
+    /// Drops the draft and counts a failure.
     fn fail(&mut self)
         ensures files { self.new.files ≡ self.old.files }
         ensures draft { self.new.draft ≡ None }
@@ -92,17 +92,17 @@ impl<A: Allocator + Copy> Filing for MemoryFiling<A> {
     }
 }
 
-/// Nothing waits: each commit is settled at once.
+/// No commit is ever pending: each is settled at once.
 impl<A: Allocator + Copy> Settling for MemoryFiling<A> {
     ghost use Rattle.std.specs.Prelude.{false, true};
 
     type Synced = ();
 
-    ghost waits = { λ f. false };
+    ghost has_pending = { λ f. false };
 
     ghost covers = { λ f synced. true };
 
-    fn waits(&self) -> bool {
+    fn has_pending(&self) -> bool {
         false
     }
 

@@ -11,7 +11,7 @@ pub struct Meta {
     pub instance: Uid,
     /// Transfer Syntax UID (0002,0010), that of the data set.
     pub syntax: Transfer,
-    /// Source Application Entity Title (0002,0016), the title of the sender. Not written if it is all
-    /// spaces.
+    /// Source Application Entity Title (0002,0016), the title of the sender. Not written if it is
+    /// all spaces.
     pub calling: AeTitle,
 }

@@ -1,21 +1,22 @@
-//! Why File Meta Information cannot be read.
+//! The faults of File Meta Information.
 ghost use Rattle.std.specs.Prelude.{◌≡◌};
 ghost use Rattle.part10.specs.MetaText.{fault_name, fault_number};
 
 use std::fmt;
 
-/// Why the File Meta Information of a file cannot be read (PS3.10 section 7.1). Each variant has a
-/// number that is printed.
+/// Why the File Meta Information of a file is rejected (PS3.10 section 7.1). The number of each
+/// variant is printed.
 #[derive(Clone, Copy, Debug, PartialEq, Eq)]
 pub enum MetaFault {
     /// 50: the file has no prefix `DICM` after the preamble of 128 bytes.
     NotPart10,
-    /// 51: group 0002 does not begin with File Meta Information Group Length, does not end where that
-    /// says, or has an element out of order, of odd or undefined length, or of another group; or the
-    /// SOP class, SOP instance or transfer syntax UID is missing or invalid.
+    /// 51: group 0002 does not begin with File Meta Information Group Length, does not end where
+    /// that says, or has an element that is invalid, out of order, of odd or undefined length, or
+    /// of another group; or the SOP class, SOP instance or transfer syntax UID is missing or
+    /// invalid.
     BadMeta,
     /// 53: the transfer syntax is not accepted: `read_meta` accepts the two native ones,
-    /// `read_any_meta` all of the dictionary.
+    /// `read_any_meta` each one of the dictionary.
     OtherSyntax,
     /// 54: a read of the file failed.
     ReadFailed,
@@ -34,7 +35,7 @@ impl MetaFault {
         }
     }
 
-    /// Returns the name of the fault, that of the variant.
+    /// Returns the printed name of the fault, which is that of the variant.
     pub fn name(self) -> &'static str
         ensures { result.now ≡ fault_name self }
     {

@@ -19,7 +19,7 @@ use element::interrupted::read_retrying;
 use element::{AeTitle, Header, Need, Syntax, Tag, Uid, need, read_header, unpadded};
 use std::io::Read;
 
-/// Fills the buffer from the reader, and returns how many bytes were read: fewer than its size only at
+/// Fills the buffer from the reader. Returns the number of bytes read, less than its size only at
 /// the end of the input. Fails with `ReadFailed`.
 fn fill<R: Read>(input: &mut R, room: &mut [u8]) -> Result<usize, MetaFault>
     ensures size { length room.new ≡ length room.old }
@@ -54,14 +54,14 @@ fn read_whole<R: Read>(input: &mut R, room: &mut [u8]) -> Result<(), MetaFault>
     Ok(())
 }
 
-/// Returns whether the bytes equal this text.
+/// Returns whether `bytes` equals `text`.
 fn is_text(bytes: &[u8], text: &[u8]) -> bool
     ensures { result ≡ bytes_eq bytes.now text.now }
 {
     bytes == text
 }
 
-/// Reads the preamble of 128 bytes and the prefix `DICM`. Fails with `NotPart10` if the prefix is
+/// Reads the preamble of 128 bytes and the prefix `DICM`. Fails with `NotPart10` if they are
 /// missing, or with `ReadFailed`.
 fn read_letters<R: Read>(input: &mut R) -> Result<(), MetaFault>
     ensures read { OnOk result (part.Reads (R.remaining input.old) (R.remaining input.new) part.IsPrefix) }
@@ -78,7 +78,7 @@ fn read_letters<R: Read>(input: &mut R) -> Result<(), MetaFault>
     Ok(())
 }
 
-/// Returns the little endian number in four bytes.
+/// Returns the little endian number of four bytes.
 fn read_number(bytes: &[u8]) -> u32
     requires { length bytes.now ≡ 4 }
     ensures { le result 4 ≡ bytes.now }
@@ -86,8 +86,9 @@ fn read_number(bytes: &[u8]) -> u32
     LittleEndian::read_u32(bytes)
 }
 
-/// Reads File Meta Information Group Length (0002,0000), and returns its value: the number of bytes of
-/// the group after it. Fails with `BadMeta` if the input begins otherwise, or with `ReadFailed`.
+/// Reads File Meta Information Group Length (0002,0000) and returns its value: the number of bytes
+/// of the group after this element. Fails with `BadMeta` if the input does not begin with it, or
+/// with `ReadFailed`.
 fn read_group_size<R: Read>(input: &mut R) -> Result<u32, MetaFault>
     ensures read { IfOk result (λ n. Consumes (R.remaining input.old) (R.remaining input.new) (length_element n)) }
     ensures range { IfOk result (λ n. n < 2 ^ 32) }
@@ -111,19 +112,19 @@ fn joined(front: &[u8; 8], back: &[u8]) -> ArrayVec<u8, 12>
     whole
 }
 
-/// Reads the header of an element in Explicit VR, and returns it with its size in bytes. Fails with
-/// `BadMeta` if it is invalid or longer than `left` bytes, or with `ReadFailed`.
+/// Reads the header of an element in Explicit VR. Returns it with its size in bytes. Fails with
+/// `BadMeta` if it is invalid or longer than `remaining` bytes, or with `ReadFailed`.
 #[tactic(auto, using(crate::proofs::EightBytesGiveSize::need_bounds, crate::proofs::EightBytesGiveSize::whole_at))]
-fn read_short_header<R: Read>(input: &mut R, left: u32) -> Result<(Header, u32), MetaFault>
-    ensures read { IfOk result (λ r. part.HeaderRead left r.0 r.1 (R.remaining input.old) (R.remaining input.new)) }
-    ensures none { IfErr result (λ fault. part.Breaks fault (R.remaining input.old) (part.NoHeader left)) }
+fn read_short_header<R: Read>(input: &mut R, remaining: u32) -> Result<(Header, u32), MetaFault>
+    ensures read { IfOk result (λ r. part.HeaderRead remaining r.0 r.1 (R.remaining input.old) (R.remaining input.new)) }
+    ensures none { IfErr result (λ fault. part.Breaks fault (R.remaining input.old) (part.NoHeader remaining)) }
 {
     let mut front = [0; 8];
     read_whole(input, &mut front)?;
     let Need::Size(size) = need(Syntax::Explicit, &front) else {
         return Err(MetaFault::BadMeta);
     };
-    if size > left as usize {
+    if size > remaining as usize {
         return Err(MetaFault::BadMeta);
     }
     let mut back = [0; 4];
@@ -140,26 +141,27 @@ fn are_padding(bytes: &[u8]) -> bool
     unpadded(bytes).is_empty()
 }
 
-/// Reads this many bytes, and returns whether all are padding. Fails with `BadMeta` if the input ends
+/// Reads `size` bytes and returns whether all are padding. Fails with `BadMeta` if the input ends
 /// before, or with `ReadFailed`.
 fn read_padding<R: Read>(input: &mut R, size: u32) -> Result<bool, MetaFault>
     ensures read { IfOk result (λ is_padding. part.Reads (R.remaining input.old) (R.remaining input.new) (part.IsPart size is_padding)) }
     ensures short { IfErr result (λ fault. part.Breaks fault (R.remaining input.old) (λ rest. length rest < size)) }
 {
     let mut room = [0; 64];
-    let mut left = size;
+    let mut remaining = size;
     let mut is_padding = true;
-    while left > 0 {
-        let part = left.min(64);
+    while remaining > 0 {
+        let part = remaining.min(64);
         let bytes = &mut room[..part as usize];
         read_whole(input, bytes)?;
         is_padding &= are_padding(bytes);
-        left -= part;
+        remaining -= part;
     }
     Ok(is_padding)
 }
 
-/// Reads a value of this size to its end, and returns the UID in it, or `None` if it is no valid UID.
+/// Reads a value of `size` bytes. Returns the UID in it, or `None` if it is not valid. Fails with
+/// `BadMeta` if the input ends before, or with `ReadFailed`.
 fn read_value<R: Read>(input: &mut R, size: u32) -> Result<Option<Uid>, MetaFault>
     ensures read { IfOk result (λ uid. part.Reads (R.remaining input.old) (R.remaining input.new) (part.IsValue size uid)) }
     ensures short { IfErr result (λ fault. part.Breaks fault (R.remaining input.old) (λ rest. length rest < size)) }
@@ -179,14 +181,14 @@ fn read_value<R: Read>(input: &mut R, size: u32) -> Result<Option<Uid>, MetaFaul
 #[derive(Drop)]
 struct Element {
     number: u16,
-    /// The size of its header and its value, in bytes.
+    /// The size of its header and value together, in bytes.
     size: u32,
-    /// The UID in its value, if it is a valid one.
+    /// The UID in its value, or `None` if it is not valid.
     uid: Option<Uid>,
 }
 
-/// Returns whether the header is that of an element of group 0002 with an element number above `last`,
-/// and with an even, and so defined, length.
+/// Returns whether the header is that of an element of group 0002 with an element number above
+/// `last` and an even, hence defined, length.
 fn is_next(header: Header, last: u16) -> bool
     ensures { result ≡ part.is_next header last }
 {
@@ -194,19 +196,19 @@ fn is_next(header: Header, last: u16) -> bool
     group == 2 && last < number && header.length % 2 == 0
 }
 
-/// Reads an element of group 0002 with an element number above `last`, of at most `left` bytes with its
-/// header. Fails with `BadMeta` if none is there, or with `ReadFailed`.
-fn read_element<R: Read>(input: &mut R, last: u16, left: u32) -> Result<Element, MetaFault>
-    ensures read { IfOk result (λ e. part.ElementRead last left e (R.remaining input.old) (R.remaining input.new)) }
-    ensures none { IfErr result (λ fault. part.Breaks fault (R.remaining input.old) (part.NoElement last left)) }
+/// Reads an element of group 0002 with an element number above `last`, of at most `remaining` bytes with
+/// its header. Fails with `BadMeta` if there is none, or with `ReadFailed`.
+fn read_element<R: Read>(input: &mut R, last: u16, remaining: u32) -> Result<Element, MetaFault>
+    ensures read { IfOk result (λ e. part.ElementRead last remaining e (R.remaining input.old) (R.remaining input.new)) }
+    ensures none { IfErr result (λ fault. part.Breaks fault (R.remaining input.old) (part.NoElement last remaining)) }
 {
-    let (header, size) = read_short_header(input, left)?;
+    let (header, size) = read_short_header(input, remaining)?;
     let number = header.tag.1;
     let length = header.length;
     if !is_next(header, last) {
         return Err(MetaFault::BadMeta);
     }
-    if length > left - size {
+    if length > remaining - size {
         return Err(MetaFault::BadMeta);
     }
     let uid = read_value(input, length)?;
@@ -217,8 +219,8 @@ fn read_element<R: Read>(input: &mut R, last: u16, left: u32) -> Result<Element,
     })
 }
 
-/// The UIDs that File Meta Information must have, as far as they were found: SOP class, SOP instance
-/// and transfer syntax.
+/// The required UIDs of File Meta Information that were read so far: SOP class, SOP instance and
+/// transfer syntax.
 #[derive(Drop)]
 struct Found {
     class: Option<Uid>,
@@ -237,7 +239,7 @@ impl Found {
         }
     }
 
-    /// Records the UID of the element, if it is one of the three.
+    /// Stores the UID of an element that is one of the three.
     fn note(&mut self, element: Element)
         ensures { self.new ≡ part.noted element.number element.uid self.old }
     {
@@ -249,8 +251,8 @@ impl Found {
         }
     }
 
-    /// Returns the contents of the File Meta Information. Fails with `BadMeta` if one of the three is
-    /// missing, or with `OtherSyntax` if the transfer syntax is not in the dictionary.
+    /// Returns the contents of the File Meta Information. Fails with `BadMeta` if a required UID is
+    /// missing or invalid, or with `OtherSyntax` if the transfer syntax is not in the dictionary.
     fn meta(self) -> Result<Meta, MetaFault>
         ensures { part.IsMeta self result }
     {
@@ -267,33 +269,35 @@ impl Found {
     }
 }
 
-/// Reads the elements of group 0002 after its length: `size` bytes of them.
+/// Reads the `size` bytes of group 0002 after its length element. Fails with `BadMeta` if they are
+/// invalid, or with `ReadFailed`.
 fn read_group<R: Read>(input: &mut R, size: u32) -> Result<Found, MetaFault>
     ensures read { IfOk result (λ found. part.GroupRead size found (R.remaining input.old) (R.remaining input.new)) }
     ensures none { IfErr result (λ fault. part.Breaks fault (R.remaining input.old) (part.NoGroup size)) }
 {
     let mut found = Found::none();
     let mut last = 0;
-    let mut left = size;
-    while left > 0 {
-        let element = read_element(input, last, left)?;
+    let mut remaining = size;
+    while remaining > 0 {
+        let element = read_element(input, last, remaining)?;
         last = element.number;
-        left -= element.size;
+        remaining -= element.size;
         found.note(element);
     }
     Ok(found)
 }
 
 /// Reads the preamble, the prefix and the File Meta Information at the start of the input (PS3.10
-/// section 7.1), and no byte after it.
+/// section 7.1), and no byte after them.
 ///
-/// Any preamble is accepted. Group 0002 must begin with its length, end where that says, have strictly
-/// ascending tags and even, defined lengths, and contain the SOP class, the SOP instance and a transfer
-/// syntax of the dictionary. Other elements are skipped. Source Application Entity Title is not read:
-/// `calling` is all spaces. The memory is fixed, whatever a length says.
+/// Any preamble is accepted. Group 0002 must begin with its length, end where that says, have
+/// strictly ascending tags and even, defined lengths, and contain the SOP class, the SOP instance
+/// and a transfer syntax of the dictionary. Other elements are skipped. Source Application Entity
+/// Title is not read: `calling` is all spaces. The memory used is fixed, whatever the lengths in
+/// the file.
 ///
-/// Fails as [`MetaFault`] says. After `OtherSyntax` exactly the File Meta Information was read; after
-/// any other error the position of the reader is unspecified.
+/// Fails with a [`MetaFault`]. After `OtherSyntax` exactly the File Meta Information was read;
+/// after any other error the position of the reader is unspecified.
 pub fn read_any_meta<R: Read>(input: &mut R) -> Result<Meta, MetaFault>
     ensures header { IfOk result (λ meta. TakesMeta (meta_values_of meta) (R.remaining input.old) (R.remaining input.new)) }
     ensures calling { IfOk result (λ meta. meta.calling.0 ≡ replicate 16 32) }
@@ -306,8 +310,8 @@ pub fn read_any_meta<R: Read>(input: &mut R) -> Result<Meta, MetaFault>
 }
 
 /// Reads the File Meta Information at the start of the input as [`read_any_meta`] does, but accepts
-/// only the two native transfer syntaxes, Implicit and Explicit VR Little Endian. Any other one is
-/// `OtherSyntax`, after which exactly the File Meta Information was read.
+/// only the two native transfer syntaxes, Implicit and Explicit VR Little Endian. Any other fails
+/// with `OtherSyntax`, after exactly the File Meta Information was read.
 pub fn read_meta<R: Read>(input: &mut R) -> Result<Meta, MetaFault>
     ensures header { IfOk result (λ meta. TakesMeta (meta_values_of meta) (R.remaining input.old) (R.remaining input.new)) }
     ensures native { IfOk result (λ meta. meta.syntax ≡ native (syntax_in meta.syntax)) }

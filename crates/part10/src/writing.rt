@@ -31,7 +31,7 @@ fn put_header(head: &mut Head, number: u16, vr: Vr, size: u32)
     ensures items { head.new.items ≡ head.old.items ++ header_bytes (record { tag = record { 0 = 2; 1 = number }; vr = Some vr; length = size }) }
     ensures letters { length vr ≡ 2 }
 {
-    // `letters` ensures that there are two.
+    // `letters` ensures that the VR has two letters.
     vr.letters();
     let header = Header {
         tag: Tag(0x0002, number),
@@ -43,8 +43,8 @@ fn put_header(head: &mut Head, number: u16, vr: Vr, size: u32)
     put(head, &room[..len]);
 }
 
-/// Appends an element of group 0002 with a VR whose length field has two bytes. The value is padded to
-/// an even length.
+/// Appends an element of group 0002 whose VR has a length field of two bytes. Pads the value to an
+/// even length with `padding`.
 fn put_element(head: &mut Head, number: u16, vr: Vr, value: &[u8], padding: u8)
     requires room { array_vec_len head.old + length value.now + 12 ≤ 512 }
     requires short { is_short_vr vr ≡ true }
@@ -69,8 +69,8 @@ fn put_uid(head: &mut Head, number: u16, text: &[u8])
     put_element(head, number, Vr::UI, text, 0);
 }
 
-/// Returns the elements File Meta Information Version, Media Storage SOP Class UID, Media Storage SOP
-/// Instance UID and Transfer Syntax UID, at most 240 bytes.
+/// Returns the elements File Meta Information Version, Media Storage SOP Class UID, Media Storage
+/// SOP Instance UID and Transfer Syntax UID, at most 240 bytes.
 #[tactic(auto, using(crate::proofs::Bounds::transfer_uid_short), unfolding(element::specs::Vr::is_short, crate::specs::File::identity_elements))]
 fn identity_elements(meta: &Meta) -> Head
     ensures items { result.items ≡ file.identity_elements meta.now }
@@ -81,7 +81,7 @@ fn identity_elements(meta: &Meta) -> Head
     let mut group = Head::new();
     put_header(&mut group, 0x0001, Vr::OB, 2);
     put(&mut group, &[0, 1]);
-    // `len` ensures that an identifier has at most 64 bytes.
+    // `len` ensures that a UID has at most 64 bytes.
     meta.class.len();
     put_uid(&mut group, 0x0002, meta.class.as_bytes());
     meta.instance.len();
@@ -101,7 +101,7 @@ fn put_implementation(group: &mut Head)
     put_element(group, 0x0013, Vr::SH, IMPLEMENTATION_VERSION_NAME, b' ');
 }
 
-/// Appends Source Application Entity Title, unless the title is all spaces.
+/// Appends Source Application Entity Title, unless `calling` is all spaces.
 #[tactic(auto, using(crate::proofs::Bounds::title_text_short), unfolding(element::specs::Vr::is_short, crate::specs::File::title_element))]
 fn put_title(group: &mut Head, calling: AeTitle)
     requires room { array_vec_len group.old ≤ 330 }
@@ -147,8 +147,8 @@ fn file_header(meta: &Meta) -> Head
     head
 }
 
-/// Returns the bytes of a file before its data set (PS3.10 section 7.1), at most 512: a preamble of 128
-/// zero bytes, the prefix `DICM`, and the File Meta Information in Explicit VR Little Endian.
+/// Returns the bytes of a file before its data set (PS3.10 section 7.1), at most 512: a preamble of
+/// 128 zero bytes, the prefix `DICM`, and the File Meta Information in Explicit VR Little Endian.
 pub fn meta_bytes(meta: &Meta) -> ArrayVec<u8, 512>
     ensures bytes { result.items ≡ file.head meta.now }
     ensures reads_back { SpellsMeta (meta_values_of meta.now) result.items }

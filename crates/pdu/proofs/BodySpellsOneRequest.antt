@@ -11,24 +11,24 @@ use Rattle.pdu.specs.declared.fault.PduFault.{PduFault}
 use Rattle.pdu.specs.declared.fault.PduFault.TheVariants.{BadLength}
 use Rattle.pdu.specs.Record.{RequestRecord, ids}
 use Rattle.pdu.specs.Pieces.{joined}
-use Rattle.pdu.specs.Items.{items_of, left_over, of_kind, first_or_none, item_content, identifier, proposal_of, proposals, four_or_none, maximum_in, request_record}
+use Rattle.pdu.specs.Items.{items_of, remainder, of_kind, first_or_none, item_content, identifier, proposal_of, proposals, four_or_none, maximum_in, request_record}
 use Rattle.pdu.specs.Request.{One, InformationText, ContextTexts, RequestText, IsRequest}
 use Rattle.pdu.specs.Refusal.{information_part_fault, items_fault, request_fault, as_result}
 use Rattle.pdu.proofs.ContextIdsAreFew.{bytes_past, bytes_each, bytes_kind}
-use Rattle.pdu.proofs.FaultlessPartsAreSpelled.{whole_is, items_joined, left_joined, one_from, one_length, one_first, information_text, information_fits, information_is}
+use Rattle.pdu.proofs.FaultlessPartsAreSpelled.{whole_is, items_joined, remaining_joined, one_from, one_length, one_first, information_text, information_fits, information_is}
 use Rattle.pdu.proofs.FaultlessItemsFit.{Fit, IsFresh, fit_faultless, faultless_fits}
 use Rattle.pdu.proofs.ItemsSpellTheContexts.{ids_odd, texts_from, texts_are, texts_fit, kinds_are, proposals_are, distinct_from, distinct_back}
 
 -- ---- no fault: the request that is read
 
 record Faultless (text : List ℕ) : Type 0 where
-  pub nothing : left_over text ≡ []
+  pub nothing : remainder text ≡ []
   pub fits : Fit [] (items_of text)
 
 faultless_is : (text : List ℕ) → items_fault text ≡ None → Faultless text
 unfolding items_fault
 faultless_is text none =
-    let h = faultless_fits [] (items_of text) (left_over text) none (record { application = omega arith; information = omega arith }) in
+    let h = faultless_fits [] (items_of text) (remainder text) none (record { application = omega arith; information = omega arith }) in
     record { nothing = h.0; fits = h.1 }
 
 record Laid (b : List ℕ) : Type 0 where
@@ -164,7 +164,7 @@ unfolding items_fault
 request_fits r b t =
     let p = placed r b t in
     let is : items_of (drop 68 b) ≡ t.items = ap items_of p.items ∙ items_joined t.items t.each in
-    let nothing : left_over (drop 68 b) ≡ [] = ap left_over p.items ∙ left_joined t.items t.each in
+    let nothing : remainder (drop 68 b) ≡ [] = ap remainder p.items ∙ remaining_joined t.items t.each in
     rw (le-ltb (length b) 68 p.long, is, nothing) (fit_faultless [] t.items (fits r b t))
 
 pub request_is : (r : RequestRecord) (b : List ℕ) → RequestText r b → r ≡ request_record b

@@ -19,7 +19,7 @@ use Rattle.pdu.specs.Events.{Token, OfBody, OfFragment, Completes, tokens, Repor
 use Rattle.pdu.specs.Deframing.{Inside, IsOver, AtHead, AtBody, in_body, after_body, AtPdvHead, AtLeftover, AfterPdv, over, leftover, another, AtFragment, in_fragment, after_fragment, At, Took, AreInner, Skip, no_frame, end_alone, skipped}
 use Rattle.pdu.specs.Steps.{skip_of}
 use Rattle.pdu.proofs.FramesAreUnique.{new_nothing, rest_alone}
-use Rattle.pdu.proofs.DeframerFollowsTheStream.{Now, Silent, head_comes, body_comes, end_due, over_rest, none_at, pdv_head_over, pdv_head_tokens_are, pdv_bad, pdv_good, fragment_comes, value_due, after_rest}
+use Rattle.pdu.proofs.DeframerFollowsTheStream.{Now, Silent, head_arrives, body_arrives, end_due, over_rest, none_at, pdv_head_over, pdv_head_tokens_are, pdv_bad, pdv_good, fragment_arrives, value_due, after_rest}
 
 -- a mark that was due
 pub took_due : (new : Position) (r : List ℕ) (due later : List Mark) (m : Mark) (e : Event) → due ≡ m ∷ later → Reports [] (Some e) (Completes m ∷ []) → rest_of r ≡ r → At new r later → Took new r due [] (Some e)
@@ -83,21 +83,21 @@ head_reported : (new : Position) (bytes r c : List ℕ) (due : List Mark) → At
 head_reported new bytes r c due a six values other =
     let k = frame_kind (bytes ++ c) in
     let n = frame_length (bytes ++ c) in
-    let h = head_comes bytes r c due a six in
-    let tell = λ (now : Now (At new) r c (Head k n ∷ [])). took_mark new r due c (Head k n) (event.PduHead (pdu_head_of (bytes ++ c))) a.none_due h.tokens_are now (record { mark = Head k n; one = refl; same = refl }) in
-    let in_body_then = λ (none : k ≡ 4 → n ≡ 0). tell (now_as (AtBody k n) (At new) r c (Head k n ∷ []) (λ t later b. subst (λ (p : Position). At p t later) (sym (other none)) b) (h.body none)) in
+    let h = head_arrives bytes r c due a six in
+    let report = λ (now : Now (At new) r c (Head k n ∷ [])). took_mark new r due c (Head k n) (event.PduHead (pdu_head_of (bytes ++ c))) a.none_due h.tokens_are now (record { mark = Head k n; one = refl; same = refl }) in
+    let in_body_then = λ (none : k ≡ 4 → n ≡ 0). report (now_as (AtBody k n) (At new) r c (Head k n ∷ []) (λ t later b. subst (λ (p : Position). At p t later) (sym (other none)) b) (h.body none)) in
     elim (cases_Bool (nat_eq k 4)) [
       | inl is ↦ elim (cases_lt 0 n) [
-        | inl some ↦ tell (now_as (AtPdvHead n []) (At new) r c (Head k n ∷ []) (values (eqb-true k 4 is) some) (h.data_comes (eqb-true k 4 is) some))
+        | inl some ↦ report (now_as (AtPdvHead n []) (At new) r c (Head k n ∷ []) (values (eqb-true k 4 is) some) (h.data_arrives (eqb-true k 4 is) some))
         | inr none ↦ in_body_then (λ e. omega arith)
       ]
       | inr is ↦ in_body_then (λ e. absurd (let wrong : nat_eq 4 4 ≡ false = ap (λ (x : ℕ). nat_eq x 4) (sym e) ∙ is in cc))
     ]
 
-pub head_told : (new : Position) (head : PduHead) (v bytes r c : List ℕ) (due : List Mark) → AtHead bytes r due → v ≡ bytes ++ c → length v ≡ 6 → head ≡ pdu_head_of v
+pub head_is_reported : (new : Position) (head : PduHead) (v bytes r c : List ℕ) (due : List Mark) → AtHead bytes r due → v ≡ bytes ++ c → length v ≡ 6 → head ≡ pdu_head_of v
     → (head.kind ≡ 4 → 0 < head.length → (t : List ℕ) (later : List Mark) → AtPdvHead head.length [] t later → At new t later)
     → ((head.kind ≡ 4 → head.length ≡ 0) → new ≡ position.Body head.kind head.length) → Took new r due c (Some (event.PduHead head))
-head_told new head v bytes r c due a v_is six is values other =
+head_is_reported new head v bytes r c due a v_is six is values other =
     let e : pdu_head_of (bytes ++ c) ≡ head = ap pdu_head_of (sym v_is) ∙ sym is in
     subst (λ (h : PduHead). (h.kind ≡ 4 → 0 < h.length → (t : List ℕ) (later : List Mark) → AtPdvHead h.length [] t later → At new t later)
     → ((h.kind ≡ 4 → h.length ≡ 0) → new ≡ position.Body h.kind h.length) → Took new r due c (Some (event.PduHead h))) e
@@ -108,10 +108,10 @@ took_silent new P r due c none s f = took_none new r due c none s.tokens_are s.m
 
 -- ---- in a body
 
-pub body_ended : (new : Position) (kind left : ℕ) (r : List ℕ) (due : List Mark) → left ≡ 0 → AtBody kind left r due → ((t : List ℕ) → t ≡ [] → At new t []) → Took new r due [] (Some (event.PduEnd kind))
-body_ended new kind left r due none a at =
-    let o = end_due kind left r due none a in
-    took_due new r due [] (End kind o.body) (event.PduEnd kind) o.due_is (record { mark = End kind o.body; one = refl; same = refl }) (over_rest kind left r due o) (at r o.rest)
+pub body_ended : (new : Position) (kind remaining : ℕ) (r : List ℕ) (due : List Mark) → remaining ≡ 0 → AtBody kind remaining r due → ((t : List ℕ) → t ≡ [] → At new t []) → Took new r due [] (Some (event.PduEnd kind))
+body_ended new kind remaining r due none a at =
+    let o = end_due kind remaining r due none a in
+    took_due new r due [] (End kind o.body) (event.PduEnd kind) o.due_is (record { mark = End kind o.body; one = refl; same = refl }) (over_rest kind remaining r due o) (at r o.rest)
 
 -- where no byte comes
 still : (new : Position) (r : List ℕ) (due : List Mark) → due ≡ [] → rest_of r ≡ r → At new r due → Took new r due [] None
@@ -119,131 +119,131 @@ still new r due none rest at =
     took_none new r due [] none (sym (ap (map Completes) (new_nothing r))) (new_nothing r)
     (subst (λ (t : List ℕ). At new t []) (sym (ap rest_of (append-nil r) ∙ rest)) (subst (λ (d : List Mark). At new r d) none at))
 
-pub body_still : (kind left : ℕ) (r : List ℕ) (due : List Mark) → 0 < left → AtBody kind left r due → Took (position.Body kind left) r due [] None
-body_still kind left r due some (in_body lt i none) = still (position.Body kind left) r due none (rest_alone r i.rest) (in_body lt i none)
-body_still kind left r due some (after_body o) = absurd (omega (arith, o.none_left))
+pub body_still : (kind remaining : ℕ) (r : List ℕ) (due : List Mark) → 0 < remaining → AtBody kind remaining r due → Took (position.Body kind remaining) r due [] None
+body_still kind remaining r due some (in_body lt i none) = still (position.Body kind remaining) r due none (rest_alone r i.rest) (in_body lt i none)
+body_still kind remaining r due some (after_body o) = absurd (omega (arith, o.none_remaining))
 
-pub body_part : (e : Event) (kind left n : ℕ) (r c : List ℕ) (due : List Mark) → 0 < left → AtBody kind left r due → length c ≤ left → n ≡ left - length c → Reports c (Some e) (map OfBody c) → Took (position.Body kind n) r due c (Some e)
-body_part e kind left n r c due some a le is reports =
-    let p = body_comes kind left r c due some a le in
+pub body_part : (e : Event) (kind remaining n : ℕ) (r c : List ℕ) (due : List Mark) → 0 < remaining → AtBody kind remaining r due → length c ≤ remaining → n ≡ remaining - length c → Reports c (Some e) (map OfBody c) → Took (position.Body kind n) r due c (Some e)
+body_part e kind remaining n r c due some a le is reports =
+    let p = body_arrives kind remaining r c due some a le in
     took_part (position.Body kind n) r due c e (map OfBody c) p.none_due p.tokens_are (subst (λ (m : ℕ). Now (AtBody kind m) r c []) (sym is) p.now) reports
 
 -- ---- in the head of a presentation data value
 
-pub pdv_head_ended : (new : Position) (left : ℕ) (bytes r c : List ℕ) (due : List Mark) → AtPdvHead left bytes r due → length (bytes ++ c) < 6 → length c ≡ left → ((t : List ℕ) → t ≡ [] → At new t []) → Took new r due c (Some (event.PduEnd 4))
-pdv_head_ended new left bytes r c due a lt all at =
-    let o = pdv_head_over left bytes r c due a lt all in
+pub pdv_head_ended : (new : Position) (remaining : ℕ) (bytes r c : List ℕ) (due : List Mark) → AtPdvHead remaining bytes r due → length (bytes ++ c) < 6 → length c ≡ remaining → ((t : List ℕ) → t ≡ [] → At new t []) → Took new r due c (Some (event.PduEnd 4))
+pdv_head_ended new remaining bytes r c due a lt all at =
+    let o = pdv_head_over remaining bytes r c due a lt all in
     took_mark new r due c (End 4 o.body) (event.PduEnd 4) a.none_due o.tokens_are (record { later = []; marks = o.marks; at = at (rest_of (r ++ c)) o.rest }) (record { mark = End 4 o.body; one = refl; same = refl })
 
-pdv_reported : (found : Position × Event) (left l : ℕ) (bytes r c : List ℕ) (due : List Mark) → AtPdvHead left bytes r due → length (bytes ++ c) ≡ 6 → length c ≤ left → l ≡ left - length c
+pdv_reported : (found : Position × Event) (remaining l : ℕ) (bytes r c : List ℕ) (due : List Mark) → AtPdvHead remaining bytes r due → length (bytes ++ c) ≡ 6 → length c ≤ remaining → l ≡ remaining - length c
     → ((big_number 4 (bytes ++ c) < 2) ⊎ (l + 2 < big_number 4 (bytes ++ c)) → found ≡ (position.Body 4 l, event.BadPdv))
     → (2 ≤ big_number 4 (bytes ++ c) → big_number 4 (bytes ++ c) ≤ l + 2 → found ≡ (position.Fragment l (big_number 4 (bytes ++ c) - 2), event.PdvHead (pdv_head_of (bytes ++ c))))
     → Took found.0 r due c (Some found.1)
-pdv_reported found left l bytes r c due a six le is bad good =
+pdv_reported found remaining l bytes r c due a six le is bad good =
     let b = bytes ++ c in
     let n = big_number 4 b in
-    let ts = pdv_head_tokens_are left bytes r c due a six le in
-    let tell_bad = λ (why : (n < 2) ⊎ (l + 2 < n)).
-    (let why_too : (n < 2) ⊎ ((left - length c) + 2 < n) = elim why [ inl x ↦ inl x | inr x ↦ inr (omega arith) ] in
-    let now = subst (λ (m : ℕ). Now (AtBody 4 m) r c (BadPdv ∷ [])) (sym is) (pdv_bad left bytes r c due a six le why_too) in
+    let ts = pdv_head_tokens_are remaining bytes r c due a six le in
+    let report_bad = λ (why : (n < 2) ⊎ (l + 2 < n)).
+    (let why_too : (n < 2) ⊎ ((remaining - length c) + 2 < n) = elim why [ inl x ↦ inl x | inr x ↦ inr (omega arith) ] in
+    let now = subst (λ (m : ℕ). Now (AtBody 4 m) r c (BadPdv ∷ [])) (sym is) (pdv_bad remaining bytes r c due a six le why_too) in
     subst (λ (f : Position × Event). Took f.0 r due c (Some f.1)) (sym (bad why))
     (took_mark (position.Body 4 l) r due c BadPdv event.BadPdv a.none_due ts now (record { mark = BadPdv; one = refl; same = refl }))) in
     elim (cases_lt n 2) [
-      | inl x ↦ tell_bad (inl x)
+      | inl x ↦ report_bad (inl x)
       | inr two ↦ elim (cases_lt (l + 2) n) [
-        | inl x ↦ tell_bad (inr x)
+        | inl x ↦ report_bad (inr x)
         | inr fits ↦
-            let now = subst (λ (m : ℕ). Now (AtFragment m (n - 2)) r c (head_mark b ∷ [])) (sym is) (pdv_good left bytes r c due a six le two (omega arith)) in
+            let now = subst (λ (m : ℕ). Now (AtFragment m (n - 2)) r c (head_mark b ∷ [])) (sym is) (pdv_good remaining bytes r c due a six le two (omega arith)) in
             subst (λ (f : Position × Event). Took f.0 r due c (Some f.1)) (sym (good two fits))
             (took_mark (position.Fragment l (n - 2)) r due c (head_mark b) (event.PdvHead (pdv_head_of b)) a.none_due ts now (record { mark = head_mark b; one = refl; same = refl }))
       ]
     ]
 
-pub pdv_told : (found : Position × Event) (head : PdvHead) (left l : ℕ) (v bytes r c : List ℕ) (due : List Mark) → AtPdvHead left bytes r due → v ≡ bytes ++ c → length v ≡ 6 → head ≡ pdv_head_of v → length c ≤ left → l ≡ left - length c
+pub pdv_is_reported : (found : Position × Event) (head : PdvHead) (remaining l : ℕ) (v bytes r c : List ℕ) (due : List Mark) → AtPdvHead remaining bytes r due → v ≡ bytes ++ c → length v ≡ 6 → head ≡ pdv_head_of v → length c ≤ remaining → l ≡ remaining - length c
     → ((head.length < 2) ⊎ (l + 2 < head.length) → found ≡ (position.Body 4 l, event.BadPdv))
     → (2 ≤ head.length → head.length ≤ l + 2 → found ≡ (position.Fragment l (head.length - 2), event.PdvHead head)) → Took found.0 r due c (Some found.1)
-pdv_told found head left l v bytes r c due a v_is six is le l_is bad good =
+pdv_is_reported found head remaining l v bytes r c due a v_is six is le l_is bad good =
     let e : pdv_head_of (bytes ++ c) ≡ head = ap pdv_head_of (sym v_is) ∙ sym is in
     subst (λ (h : PdvHead). ((h.length < 2) ⊎ (l + 2 < h.length) → found ≡ (position.Body 4 l, event.BadPdv))
     → (2 ≤ h.length → h.length ≤ l + 2 → found ≡ (position.Fragment l (h.length - 2), event.PdvHead h)) → Took found.0 r due c (Some found.1)) e
-    (pdv_reported found left l bytes r c due a (ap length (sym v_is) ∙ six) le l_is) bad good
+    (pdv_reported found remaining l bytes r c due a (ap length (sym v_is) ∙ six) le l_is) bad good
 
 -- ---- in a fragment
 
-after_at : (new : Position) (left : ℕ) (r : List ℕ) (due : List Mark) → AfterPdv left r due → (left ≡ 0 → new ≡ position.Body 4 0) → (is_leftover left ≡ true → new ≡ position.Leftover left)
-    → (0 < left → is_leftover left ≡ false → (t : List ℕ) (later : List Mark) → AtPdvHead left [] t later → At new t later) → At new r due
-after_at new left r due (over o) none some more = subst (λ (p : Position). At p r due) (sym (none o.none_left)) (after_body (record { none_left = refl; rest = o.rest; body = o.body; due_is = o.due_is }))
-after_at new left r due (leftover t a) none some more = subst (λ (p : Position). At p r due) (sym (some t)) a
-after_at new left r due (another lt t a) none some more = more lt t r due a
+after_at : (new : Position) (remaining : ℕ) (r : List ℕ) (due : List Mark) → AfterPdv remaining r due → (remaining ≡ 0 → new ≡ position.Body 4 0) → (is_leftover remaining ≡ true → new ≡ position.Leftover remaining)
+    → (0 < remaining → is_leftover remaining ≡ false → (t : List ℕ) (later : List Mark) → AtPdvHead remaining [] t later → At new t later) → At new r due
+after_at new remaining r due (over o) none some more = subst (λ (p : Position). At p r due) (sym (none o.none_remaining)) (after_body (record { none_remaining = refl; rest = o.rest; body = o.body; due_is = o.due_is }))
+after_at new remaining r due (leftover t a) none some more = subst (λ (p : Position). At p r due) (sym (some t)) a
+after_at new remaining r due (another lt t a) none some more = more lt t r due a
 
-pub value_ended : (new : Position) (left more : ℕ) (r : List ℕ) (due : List Mark) → more ≡ 0 → AtFragment left more r due → (left ≡ 0 → new ≡ position.Body 4 0) → (is_leftover left ≡ true → new ≡ position.Leftover left)
-    → (0 < left → is_leftover left ≡ false → (t : List ℕ) (later : List Mark) → AtPdvHead left [] t later → At new t later) → Took new r due [] (Some event.PdvEnd)
-value_ended new left more r due zero a none some again =
-    let v = value_due left more r due zero a in
-    took_due new r due v.later (Pdv v.context v.control v.fragment) event.PdvEnd v.due_is (record { mark = Pdv v.context v.control v.fragment; one = refl; same = refl }) (after_rest left r v.later v.next) (after_at new left r v.later v.next none some again)
+pub value_ended : (new : Position) (remaining more : ℕ) (r : List ℕ) (due : List Mark) → more ≡ 0 → AtFragment remaining more r due → (remaining ≡ 0 → new ≡ position.Body 4 0) → (is_leftover remaining ≡ true → new ≡ position.Leftover remaining)
+    → (0 < remaining → is_leftover remaining ≡ false → (t : List ℕ) (later : List Mark) → AtPdvHead remaining [] t later → At new t later) → Took new r due [] (Some event.PdvEnd)
+value_ended new remaining more r due zero a none some again =
+    let v = value_due remaining more r due zero a in
+    took_due new r due v.later (Pdv v.context v.control v.fragment) event.PdvEnd v.due_is (record { mark = Pdv v.context v.control v.fragment; one = refl; same = refl }) (after_rest remaining r v.later v.next) (after_at new remaining r v.later v.next none some again)
 
-pub fragment_still : (left more : ℕ) (r : List ℕ) (due : List Mark) → 0 < more → AtFragment left more r due → Took (position.Fragment left more) r due [] None
-fragment_still left more r due some (in_fragment lt f) = still (position.Fragment left more) r due f.none_due (rest_alone r f.inside.rest) (in_fragment lt f)
-fragment_still left more r due some (after_fragment zero a) = absurd (omega arith)
+pub fragment_still : (remaining more : ℕ) (r : List ℕ) (due : List Mark) → 0 < more → AtFragment remaining more r due → Took (position.Fragment remaining more) r due [] None
+fragment_still remaining more r due some (in_fragment lt f) = still (position.Fragment remaining more) r due f.none_due (rest_alone r f.inside.rest) (in_fragment lt f)
+fragment_still remaining more r due some (after_fragment zero a) = absurd (omega arith)
 
-pub fragment_part_told : (e : Event) (left more l m : ℕ) (r c : List ℕ) (due : List Mark) → 0 < more → more ≤ left → AtFragment left more r due → length c ≤ more → l ≡ left - length c → m ≡ more - length c → Reports c (Some e) (map OfFragment c) → Took (position.Fragment l m) r due c (Some e)
-fragment_part_told e left more l m r c due some fits a le l_is m_is reports =
-    let p = fragment_comes left more r c due some fits a le in
-    let now = subst (λ (x : ℕ). Now (AtFragment x m) r c []) (sym l_is) (subst (λ (x : ℕ). Now (AtFragment (left - length c) x) r c []) (sym m_is) p.now) in
+pub fragment_part_reported : (e : Event) (remaining more l m : ℕ) (r c : List ℕ) (due : List Mark) → 0 < more → more ≤ remaining → AtFragment remaining more r due → length c ≤ more → l ≡ remaining - length c → m ≡ more - length c → Reports c (Some e) (map OfFragment c) → Took (position.Fragment l m) r due c (Some e)
+fragment_part_reported e remaining more l m r c due some fits a le l_is m_is reports =
+    let p = fragment_arrives remaining more r c due some fits a le in
+    let now = subst (λ (x : ℕ). Now (AtFragment x m) r c []) (sym l_is) (subst (λ (x : ℕ). Now (AtFragment (remaining - length c) x) r c []) (sym m_is) p.now) in
     took_part (position.Fragment l m) r due c e (map OfFragment c) p.none_due p.tokens_are now reports
 
-pub leftover_told : (left : ℕ) (r : List ℕ) (due : List Mark) → AtLeftover left r due → Took (position.Body 4 left) r due [] (Some event.Leftover)
-leftover_told left r due a =
-    took_due (position.Body 4 left) r due [] Leftover event.Leftover a.due_is (record { mark = Leftover; one = refl; same = refl }) (rest_alone r a.inside.rest) (in_body a.some a.inside refl)
+pub leftover_reported : (remaining : ℕ) (r : List ℕ) (due : List Mark) → AtLeftover remaining r due → Took (position.Body 4 remaining) r due [] (Some event.Leftover)
+leftover_reported remaining r due a =
+    took_due (position.Body 4 remaining) r due [] Leftover event.Leftover a.due_is (record { mark = Leftover; one = refl; same = refl }) (rest_alone r a.inside.rest) (in_body a.some a.inside refl)
 
-pub over_told : (new : Position) (kind left n : ℕ) (piece r : List ℕ) (due : List Mark) → IsOver kind left r due → n ≡ 0 → ((t : List ℕ) → t ≡ [] → At new t []) → Took new r due (take n piece) (Some (event.PduEnd kind))
-over_told new kind left n piece r due o zero at =
-    subst (λ (k : ℕ). Took new r due (take k piece) (Some (event.PduEnd kind))) (sym zero) (body_ended new kind left r due o.none_left (after_body o) at)
+pub over_reported : (new : Position) (kind remaining n : ℕ) (piece r : List ℕ) (due : List Mark) → IsOver kind remaining r due → n ≡ 0 → ((t : List ℕ) → t ≡ [] → At new t []) → Took new r due (take n piece) (Some (event.PduEnd kind))
+over_reported new kind remaining n piece r due o zero at =
+    subst (λ (k : ℕ). Took new r due (take k piece) (Some (event.PduEnd kind))) (sym zero) (body_ended new kind remaining r due o.none_remaining (after_body o) at)
 
 pub empty_at : (bytes : List ℕ) → bytes ≡ [] → (t : List ℕ) → t ≡ [] → AtHead bytes t []
 empty_at bytes e t f = subst (λ (b : List ℕ). AtHead b t []) (sym e) (none_at t f)
 
 -- ---- a frame that is skipped
 
-skip_inside : (kind left : ℕ) (r : List ℕ) (due : List Mark) (s : Spot) → AreInner due → Inside kind left r s → Skip (position.Skipped kind left) r due
-skip_inside kind left r due s are i = skipped are (omega (arith, i.left_is, i.rest i.headed), i.rest, i.headed, i.kind_is, i.left_is)
+skip_inside : (kind remaining : ℕ) (r : List ℕ) (due : List Mark) (s : Spot) → AreInner due → Inside kind remaining r s → Skip (position.Skipped kind remaining) r due
+skip_inside kind remaining r due s are i = skipped are (omega (arith, i.remaining_is, i.rest i.headed), i.rest, i.headed, i.kind_is, i.remaining_is)
 
 none_inner : (due : List Mark) → due ≡ [] → AreInner due
 none_inner due none = subst AreInner (sym none) tt
 
-skip_over : (kind left : ℕ) (r : List ℕ) (before due later : List Mark) → AreInner before → (0 < length before → kind ≡ 4) → due ≡ before ++ later → IsOver kind left r later → Skip (position.Skipped kind left) r due
-skip_over kind left r before due later are only is o =
-    end_alone before kind o.body are only (is ∙ ap (λ (ms : List Mark). before ++ ms) o.due_is) (record { none_left = o.none_left; rest = o.rest; body = o.body; due_is = refl })
+skip_over : (kind remaining : ℕ) (r : List ℕ) (before due later : List Mark) → AreInner before → (0 < length before → kind ≡ 4) → due ≡ before ++ later → IsOver kind remaining r later → Skip (position.Skipped kind remaining) r due
+skip_over kind remaining r before due later are only is o =
+    end_alone before kind o.body are only (is ∙ ap (λ (ms : List Mark). before ++ ms) o.due_is) (record { none_remaining = o.none_remaining; rest = o.rest; body = o.body; due_is = refl })
 
-pub skip_body : (kind left : ℕ) (r : List ℕ) (due : List Mark) → AtBody kind left r due → Skip (position.Skipped kind left) r due
-skip_body kind left r due (in_body lt i none) = skip_inside kind left r due Plain (none_inner due none) i
-skip_body kind left r due (after_body o) = skip_over kind left r [] due due tt (λ lt. absurd (omega arith)) refl o
+pub skip_body : (kind remaining : ℕ) (r : List ℕ) (due : List Mark) → AtBody kind remaining r due → Skip (position.Skipped kind remaining) r due
+skip_body kind remaining r due (in_body lt i none) = skip_inside kind remaining r due Plain (none_inner due none) i
+skip_body kind remaining r due (after_body o) = skip_over kind remaining r [] due due tt (λ lt. absurd (omega arith)) refl o
 
-pub skip_pdv_head : (left : ℕ) (bytes r : List ℕ) (due : List Mark) → AtPdvHead left bytes r due → Skip (position.Skipped 4 left) r due
-skip_pdv_head left bytes r due a = skip_inside 4 left r due _ (none_inner due a.none_due) a.inside
+pub skip_pdv_head : (remaining : ℕ) (bytes r : List ℕ) (due : List Mark) → AtPdvHead remaining bytes r due → Skip (position.Skipped 4 remaining) r due
+skip_pdv_head remaining bytes r due a = skip_inside 4 remaining r due _ (none_inner due a.none_due) a.inside
 
-pub skip_leftover : (left : ℕ) (r : List ℕ) (due : List Mark) → AtLeftover left r due → Skip (position.Skipped 4 left) r due
-skip_leftover left r due a = skip_inside 4 left r due Plain (subst AreInner (sym a.due_is) (tt, tt)) a.inside
+pub skip_leftover : (remaining : ℕ) (r : List ℕ) (due : List Mark) → AtLeftover remaining r due → Skip (position.Skipped 4 remaining) r due
+skip_leftover remaining r due a = skip_inside 4 remaining r due Plain (subst AreInner (sym a.due_is) (tt, tt)) a.inside
 
-pub skip_fragment : (left more : ℕ) (r : List ℕ) (due : List Mark) → AtFragment left more r due → Skip (position.Skipped 4 left) r due
-skip_fragment left more r due (in_fragment lt f) = skip_inside 4 left r due _ (none_inner due f.none_due) f.inside
-skip_fragment left more r due (after_fragment zero a) = go a.next
+pub skip_fragment : (remaining more : ℕ) (r : List ℕ) (due : List Mark) → AtFragment remaining more r due → Skip (position.Skipped 4 remaining) r due
+skip_fragment remaining more r due (in_fragment lt f) = skip_inside 4 remaining r due _ (none_inner due f.none_due) f.inside
+skip_fragment remaining more r due (after_fragment zero a) = go a.next
   where
     with_value : AreInner a.later → AreInner due
     with_value are = subst AreInner (sym a.due_is) (tt, are)
 
-    go : AfterPdv left r a.later → Skip (position.Skipped 4 left) r due
-    go (over o) = skip_over 4 left r (Pdv a.context a.control a.fragment ∷ []) due a.later (tt, tt) (λ lt. refl) a.due_is o
-    go (leftover t l) = skip_inside 4 left r due _ (with_value (subst AreInner (sym l.due_is) (tt, tt))) l.inside
-    go (another lt t p) = skip_inside 4 left r due _ (with_value (none_inner a.later p.none_due)) p.inside
+    go : AfterPdv remaining r a.later → Skip (position.Skipped 4 remaining) r due
+    go (over o) = skip_over 4 remaining r (Pdv a.context a.control a.fragment ∷ []) due a.later (tt, tt) (λ lt. refl) a.due_is o
+    go (leftover t l) = skip_inside 4 remaining r due _ (with_value (subst AreInner (sym l.due_is) (tt, tt))) l.inside
+    go (another lt t p) = skip_inside 4 remaining r due _ (with_value (none_inner a.later p.none_due)) p.inside
 
-pub skip_again : (kind left : ℕ) (r : List ℕ) (due : List Mark) → IsOver kind left r due → Skip (position.Skipped kind left) r due
-skip_again kind left r due o = skip_over kind left r [] due due tt (λ lt. absurd (omega arith)) refl o
+pub skip_again : (kind remaining : ℕ) (r : List ℕ) (due : List Mark) → IsOver kind remaining r due → Skip (position.Skipped kind remaining) r due
+skip_again kind remaining r due o = skip_over kind remaining r [] due due tt (λ lt. absurd (omega arith)) refl o
 
 pub skip_at : (q : Position) (r : List ℕ) (due : List Mark) → At q r due → Skip (skip_of q) r due
 skip_at (position.Head bytes) r due a = no_frame a.short a.none_due (record { short = a.short; bytes_are = a.bytes_are; none_due = refl })
-skip_at (position.Body kind left) r due a = skip_body kind left r due a
-skip_at (position.PdvHead left bytes) r due a = skip_pdv_head left bytes.items r due a
-skip_at (position.Fragment left more) r due a = skip_fragment left more r due a
-skip_at (position.Leftover left) r due a = skip_leftover left r due a
-skip_at (position.Skipped kind left) r due a = skip_again kind left r due a
+skip_at (position.Body kind remaining) r due a = skip_body kind remaining r due a
+skip_at (position.PdvHead remaining bytes) r due a = skip_pdv_head remaining bytes.items r due a
+skip_at (position.Fragment remaining more) r due a = skip_fragment remaining more r due a
+skip_at (position.Leftover remaining) r due a = skip_leftover remaining r due a
+skip_at (position.Skipped kind remaining) r due a = skip_again kind remaining r due a

@@ -1,4 +1,4 @@
--- A call of a deframer takes as much of a body or a fragment as is there (`longest_body`, `longest_fragment`), and of
+-- A call of a deframer consumes as much of a body or a fragment as is there (`longest_body`, `longest_fragment`), and of
 -- a head what is due (`longest_head`, `longest_pdv_head`). Stands on EachPartIsMarked.
 use Rattle.std.proofs.Common.{◌≡◌, ℕ, ◌-◌, min, List, [], ◌∷◌, length, sym, ap, subst, ◌∙◌, arith}
 use Rattle.pdu.specs.Marks.{Pdv, Leftover, End, pdv_size}
@@ -14,15 +14,15 @@ longest_head bytes r there taken a =
       fragment = λ part p le. absurd (let wrong : Opening ≡ InPdv part = sym e ∙ p in cc);
     }
 
-pub longest_body : (kind left : ℕ) (r : List ℕ) (there taken : ℕ) → taken ≡ min there left → AtBody kind left r [] → Longest r there taken
-longest_body kind left r there taken is (in_body lt i none) = record {
-  body = λ p. is ∙ ap (λ (n : ℕ). min there n) i.left_is;
+pub longest_body : (kind remaining : ℕ) (r : List ℕ) (there taken : ℕ) → taken ≡ min there remaining → AtBody kind remaining r [] → Longest r there taken
+longest_body kind remaining r there taken is (in_body lt i none) = record {
+  body = λ p. is ∙ ap (λ (n : ℕ). min there n) i.remaining_is;
   fragment = λ part p le. absurd (let wrong : Plain ≡ InPdv part = sym i.spot_is ∙ p in cc);
 }
-longest_body kind left r there taken is (after_body o) = absurd (let wrong : [] ≡ End kind o.body ∷ [] = o.due_is in cc)
+longest_body kind remaining r there taken is (after_body o) = absurd (let wrong : [] ≡ End kind o.body ∷ [] = o.due_is in cc)
 
-pub longest_pdv_head : (left : ℕ) (bytes r : List ℕ) (there taken : ℕ) → AtPdvHead left bytes r [] → Longest r there taken
-longest_pdv_head left bytes r there taken a =
+pub longest_pdv_head : (remaining : ℕ) (bytes r : List ℕ) (there taken : ℕ) → AtPdvHead remaining bytes r [] → Longest r there taken
+longest_pdv_head remaining bytes r there taken a =
     let e : spot r ≡ InPdv bytes = a.inside.spot_is in
     record {
       body = λ p. absurd (let wrong : InPdv bytes ≡ Plain = sym e ∙ p in cc);
@@ -32,8 +32,8 @@ longest_pdv_head left bytes r there taken a =
           absurd (omega (arith, ap length here, a.short, le));
     }
 
-pub longest_fragment : (left more : ℕ) (r : List ℕ) (there taken : ℕ) → taken ≡ min there more → AtFragment left more r [] → Longest r there taken
-longest_fragment left more r there taken is (in_fragment lt f) =
+pub longest_fragment : (remaining more : ℕ) (r : List ℕ) (there taken : ℕ) → taken ≡ min there more → AtFragment remaining more r [] → Longest r there taken
+longest_fragment remaining more r there taken is (in_fragment lt f) =
     let e : spot r ≡ InPdv f.part = f.inside.spot_is in
     record {
       body = λ p. absurd (let wrong : InPdv f.part ≡ Plain = sym e ∙ p in cc);
@@ -43,10 +43,10 @@ longest_fragment left more r there taken is (in_fragment lt f) =
           let more_is : more ≡ pdv_size f.part - length f.part = omega (arith, f.more_is) in
           is ∙ ap (λ (n : ℕ). min there n) (subst (λ (b : List ℕ). more ≡ pdv_size b - length b) here more_is);
     }
-longest_fragment left more r there taken is (after_fragment zero a) = absurd (let wrong : [] ≡ Pdv a.context a.control a.fragment ∷ a.later = a.due_is in cc)
+longest_fragment remaining more r there taken is (after_fragment zero a) = absurd (let wrong : [] ≡ Pdv a.context a.control a.fragment ∷ a.later = a.due_is in cc)
 
-pub longest_leftover : (left : ℕ) (r : List ℕ) (there taken : ℕ) → AtLeftover left r [] → Longest r there taken
-longest_leftover left r there taken a = absurd (let wrong : [] ≡ Leftover ∷ [] = a.due_is in cc)
+pub longest_leftover : (remaining : ℕ) (r : List ℕ) (there taken : ℕ) → AtLeftover remaining r [] → Longest r there taken
+longest_leftover remaining r there taken a = absurd (let wrong : [] ≡ Leftover ∷ [] = a.due_is in cc)
 
-pub longest_over : (kind left : ℕ) (r : List ℕ) (there taken : ℕ) → IsOver kind left r [] → Longest r there taken
-longest_over kind left r there taken o = absurd (let wrong : [] ≡ End kind o.body ∷ [] = o.due_is in cc)
+pub longest_over : (kind remaining : ℕ) (r : List ℕ) (there taken : ℕ) → IsOver kind remaining r [] → Longest r there taken
+longest_over kind remaining r there taken o = absurd (let wrong : [] ≡ End kind o.body ∷ [] = o.due_is in cc)

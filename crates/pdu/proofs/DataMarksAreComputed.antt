@@ -47,7 +47,7 @@ bad_later room bytes more b =
 data Is (room : ℕ) (bytes : List ℕ) : Type 0 where
   is_headless : length bytes < 6 → Is room bytes
   is_bad : IsBadHead room bytes → Is room bytes
-  is_begun : IsGoodHead room bytes → length bytes < pdv_size bytes → Is room bytes
+  is_started : IsGoodHead room bytes → length bytes < pdv_size bytes → Is room bytes
   is_whole : IsGoodHead room bytes → pdv_size bytes ≤ length bytes → Is room bytes
 
 front_is : (room : ℕ) (bytes : List ℕ) → Is room bytes
@@ -59,7 +59,7 @@ front_is room bytes =
         | inr b ↦ elim (cases_lt room (pdv_size bytes)) [
           | inl c ↦ is_bad (record { headed = a; why = inr c })
           | inr c ↦ elim (cases_lt (length bytes) (pdv_size bytes)) [
-            | inl d ↦ is_begun (record { headed = a; least = b; fits = c }) d
+            | inl d ↦ is_started (record { headed = a; least = b; fits = c }) d
             | inr d ↦ is_whole (record { headed = a; least = b; fits = c }) d
           ]
         ]
@@ -80,8 +80,8 @@ at_bad k room bytes b =
           rw (le-ltb (length bytes) 6 b.headed, le-ltb (big_number 4 bytes) 2 x, lt-ltb room (pdv_size bytes) past) refl
     ]
 
-at_begun : (k room : ℕ) (bytes : List ℕ) → IsGoodHead room bytes → length bytes < pdv_size bytes → pdvs_in (suc k) room bytes ≡ record { marks = head_mark bytes ∷ []; spot = Within room bytes }
-at_begun k room bytes g d = rw (le-ltb (length bytes) 6 g.headed, le-ltb (big_number 4 bytes) 2 g.least, le-ltb room (pdv_size bytes) g.fits, lt-ltb (length bytes) (pdv_size bytes) d) refl
+at_started : (k room : ℕ) (bytes : List ℕ) → IsGoodHead room bytes → length bytes < pdv_size bytes → pdvs_in (suc k) room bytes ≡ record { marks = head_mark bytes ∷ []; spot = Within room bytes }
+at_started k room bytes g d = rw (le-ltb (length bytes) 6 g.headed, le-ltb (big_number 4 bytes) 2 g.least, le-ltb room (pdv_size bytes) g.fits, lt-ltb (length bytes) (pdv_size bytes) d) refl
 
 at_whole : (k room : ℕ) (bytes : List ℕ) → IsGoodHead room bytes → pdv_size bytes ≤ length bytes
     → pdvs_in (suc k) room bytes ≡ with_pdv bytes (if is_leftover (room - pdv_size bytes) then record { marks = Leftover ∷ []; spot = Dropped } else pdvs_in k (room - pdv_size bytes) (drop (pdv_size bytes) bytes))
@@ -106,7 +106,7 @@ marked_in (suc k) room bytes le =
     elim (front_is room bytes) [
       | is_headless a ↦ subst (MarkedAs room bytes) (sym (at_headless k room bytes a)) (too_short a)
       | is_bad b ↦ subst (MarkedAs room bytes) (sym (at_bad k room bytes b)) (bad b)
-      | is_begun g d ↦ subst (MarkedAs room bytes) (sym (at_begun k room bytes g d)) (unfinished g d)
+      | is_started g d ↦ subst (MarkedAs room bytes) (sym (at_started k room bytes g d)) (unfinished g d)
       | is_whole g d ↦
           let n = pdv_size bytes in
           let later : MarkedAs (room - n) (drop n bytes) (pdvs_in k (room - n) (drop n bytes)) = marked_in k (room - n) (drop n bytes) (omega (arith, g.headed, length-drop n bytes)) in
@@ -130,7 +130,7 @@ computes zero le (whole_and_leftover g d t) = absurd (omega (arith, g.headed))
 computes zero le (whole_and_more g d t later) = absurd (omega (arith, g.headed))
 computes (suc k) {room} {bytes} le (too_short a) = at_headless k room bytes a
 computes (suc k) {room} {bytes} le (bad b) = at_bad k room bytes b
-computes (suc k) {room} {bytes} le (unfinished g d) = at_begun k room bytes g d
+computes (suc k) {room} {bytes} le (unfinished g d) = at_started k room bytes g d
 computes (suc k) {room} {bytes} le (whole_and_leftover g d t) = at_leftover k room bytes g d t
 computes (suc k) {room} {bytes} le (whole_and_more g d t later) =
     at_more k room bytes g d t ∙ ap (with_pdv bytes) (computes k (omega (arith, g.headed, length-drop (pdv_size bytes) bytes)) later)

@@ -21,16 +21,16 @@ pub just_whole : (room : ℕ) (bytes : List ℕ) → IsGoodHead room bytes → p
     → Marked room bytes (head_mark bytes ∷ pdv_mark bytes ∷ leftover_marks (room - length bytes)) (leftover_at (room - length bytes))
 just_whole room bytes g e =
     let enough : pdv_size bytes ≤ length bytes = omega arith in
-    let left : room - pdv_size bytes ≡ room - length bytes = ap (λ (n : ℕ). room - n) e in
+    let remaining : room - pdv_size bytes ≡ room - length bytes = ap (λ (n : ℕ). room - n) e in
     elim (cases_Bool (is_leftover (room - length bytes))) [
-      | inl t ↦ rw t (whole_and_leftover g enough (ap is_leftover left ∙ t))
+      | inl t ↦ rw t (whole_and_leftover g enough (ap is_leftover remaining ∙ t))
       | inr t ↦
           let nothing : drop (pdv_size bytes) bytes ≡ [] = drop_all (pdv_size bytes) bytes (omega arith) in
           let short : Marked (room - length bytes) [] [] (Within (room - length bytes) []) = too_short (omega arith) in
           let later : Marked (room - pdv_size bytes) (drop (pdv_size bytes) bytes) [] (Within (room - length bytes) []) =
-          subst (λ (r : ℕ). Marked r (drop (pdv_size bytes) bytes) [] (Within (room - length bytes) [])) (sym left)
+          subst (λ (r : ℕ). Marked r (drop (pdv_size bytes) bytes) [] (Within (room - length bytes) [])) (sym remaining)
           (subst (λ (b : List ℕ). Marked (room - length bytes) b [] (Within (room - length bytes) [])) (sym nothing) short) in
-          rw t (whole_and_more g enough (ap is_leftover left ∙ t) later)
+          rw t (whole_and_more g enough (ap is_leftover remaining ∙ t) later)
     ]
 
 -- the marks that a chunk adds to an unfinished value
@@ -40,18 +40,18 @@ new_is_drop room bytes piece old new e f = rw (e, f) refl
 
 -- ---- in the head of a PDU
 
-begun_short : (r : List ℕ) → length r < 6 → unfinished_marks r ≡ []
-begun_short r lt = rw (lt-ltb (length r) 6 lt) refl
+started_short : (r : List ℕ) → length r < 6 → unfinished_marks r ≡ []
+started_short r lt = rw (lt-ltb (length r) 6 lt) refl
 
-begun_long : (r : List ℕ) → 6 ≤ length r → unfinished_marks r ≡ Head (frame_kind r) (frame_length r) ∷ inner_marks r
-begun_long r le = rw (le-ltb (length r) 6 le) refl
+started_long : (r : List ℕ) → 6 ≤ length r → unfinished_marks r ≡ Head (frame_kind r) (frame_length r) ∷ inner_marks r
+started_long r le = rw (le-ltb (length r) 6 le) refl
 
 pub head_within : (r c : List ℕ) → length (r ++ c) < 6 → (new_marks r c ≡ []) × (rest_of (r ++ c) ≡ r ++ c)
 head_within r c lt =
     let p : IsRest r = λ le. absurd (omega (arith, length-append r c)) in
     let q : IsRest (r ++ c) = λ le. absurd (omega arith) in
     let h = chunk_within r c p q in
-    (h.0 ∙ rw (begun_short r (omega (arith, length-append r c)), begun_short (r ++ c) lt) refl, h.1)
+    (h.0 ∙ rw (started_short r (omega (arith, length-append r c)), started_short (r ++ c) lt) refl, h.1)
 
 inner_none : (b : Bool) (room : ℕ) (bytes : List ℕ) → bytes ≡ [] → (if b then pdv_marks room bytes else []) ≡ []
 unfolding pdv_marks
@@ -68,7 +68,7 @@ head_whole r c lt e some =
     let p : IsRest r = λ le. absurd (omega arith) in
     let q : IsRest (r ++ c) = λ le. omega arith in
     let h = chunk_within r c p q in
-    (h.0 ∙ rw (begun_short r lt, begun_long (r ++ c) (omega arith), no_inner (r ++ c) e) refl, h.1)
+    (h.0 ∙ rw (started_short r lt, started_long (r ++ c) (omega arith), no_inner (r ++ c) e) refl, h.1)
 
 -- the chunk makes the head whole, and with it a PDU without a body
 pub head_ends : (r c : List ℕ) → length r < 6 → length (r ++ c) ≡ 6 → frame_length (r ++ c) ≡ 0
@@ -78,7 +78,7 @@ head_ends r c lt e none =
     let w : IsFrame (r ++ c) = record { headed = omega arith; filled = omega arith } in
     let h = chunk_ends r c p w in
     let empty : drop 6 (r ++ c) ≡ [] = drop_all 6 (r ++ c) (omega arith) in
-    (h.0 ∙ rw (begun_short r lt, no_inner (r ++ c) e, empty) refl, h.1)
+    (h.0 ∙ rw (started_short r lt, no_inner (r ++ c) e, empty) refl, h.1)
 
 -- ---- in the body of a PDU that is not P-DATA-TF
 
@@ -91,7 +91,7 @@ other_within r c le kind p q =
     let long : 6 ≤ length (r ++ c) = omega (arith, length-append r c) in
     let kind_too : nat_eq (frame_kind (r ++ c)) 4 ≡ false = ap (λ (k : ℕ). nat_eq k 4) s.kind ∙ kind in
     let h = chunk_within r c p q in
-    (h.0 ∙ rw (begun_long r le, begun_long (r ++ c) long, other_inner r kind, other_inner (r ++ c) kind_too) refl, h.1)
+    (h.0 ∙ rw (started_long r le, started_long (r ++ c) long, other_inner r kind, other_inner (r ++ c) kind_too) refl, h.1)
 
 pub other_ends : (r c : List ℕ) → 6 ≤ length r → nat_eq (frame_kind r) 4 ≡ false → IsRest r → IsFrame (r ++ c)
     → (new_marks r c ≡ End (frame_kind r) (drop 6 r ++ c) ∷ []) × (rest_of (r ++ c) ≡ [])
@@ -99,7 +99,7 @@ other_ends r c le kind p w =
     let s = same_frame r c le in
     let kind_too : nat_eq (frame_kind (r ++ c)) 4 ≡ false = ap (λ (k : ℕ). nat_eq k 4) s.kind ∙ kind in
     let h = chunk_ends r c p w in
-    (h.0 ∙ rw (begun_long r le, other_inner r kind, other_inner (r ++ c) kind_too, s.kind, s.body) refl, h.1)
+    (h.0 ∙ rw (started_long r le, other_inner r kind, other_inner (r ++ c) kind_too, s.kind, s.body) refl, h.1)
 
 -- ---- in the body of P-DATA-TF
 
@@ -114,7 +114,7 @@ data_within r c le kind p q =
     let long : 6 ≤ length (r ++ c) = omega (arith, length-append r c) in
     let kind_too : nat_eq (frame_kind (r ++ c)) 4 ≡ true = ap (λ (k : ℕ). nat_eq k 4) s.kind ∙ kind in
     let h = chunk_within r c p q in
-    (h.0 ∙ rw (begun_long r le, begun_long (r ++ c) long, data_inner r kind, data_inner (r ++ c) kind_too, s.n, s.body) refl, h.1)
+    (h.0 ∙ rw (started_long r le, started_long (r ++ c) long, data_inner r kind, data_inner (r ++ c) kind_too, s.n, s.body) refl, h.1)
 
 drop_between : (xs ys zs : List Mark) → drop (length xs) ((xs ++ ys) ++ zs) ≡ drop (length xs) (xs ++ ys) ++ zs
 drop_between xs ys zs = simp append_assoc (drop-append_seam xs (ys ++ zs) ∙ ap (λ (ms : List Mark). ms ++ zs) (sym (drop-append_seam xs ys)))
@@ -131,4 +131,4 @@ data_ends r c le kind p w =
     let last = End (frame_kind r) (drop 6 r ++ c) ∷ [] in
     let split : drop (length old) (pdv_marks (frame_length r) (drop 6 r ++ c) ++ last) ≡ drop (length old) (pdv_marks (frame_length r) (drop 6 r ++ c)) ++ last =
     ap (λ (ms : List Mark). drop (length old) (ms ++ last)) g.1 ∙ drop_between old g.0 last ∙ ap (λ (ms : List Mark). drop (length old) ms ++ last) (sym g.1) in
-    (h.0 ∙ rw (begun_long r le, data_inner r kind, data_inner (r ++ c) kind_too, s.kind, s.n, s.body) split, h.1)
+    (h.0 ∙ rw (started_long r le, data_inner r kind, data_inner (r ++ c) kind_too, s.kind, s.n, s.body) split, h.1)

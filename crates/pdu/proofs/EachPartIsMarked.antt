@@ -8,8 +8,8 @@ use Rattle.byteorder.specs.Endian.{big_number}
 use Rattle.pdu.specs.Frames.{IsRest}
 use Rattle.pdu.specs.Marks.{Mark, Head, BadPdv, End, pdv_size, head_mark, pdv_mark, is_leftover, frame_kind, frame_length, pdv_marks}
 use Rattle.pdu.specs.Pdvs.{DataSpot, Dropped, Within, Marked, too_short, bad, unfinished, data_spot, new_pdv_marks}
-use Rattle.pdu.specs.Spot.{Opening, Plain, InPdv, spot_of, spot, room_left}
-use Rattle.pdu.specs.Parts.{IsInData, IsUnfinishedPdv, in_head, in_fragment, leftover_marks, leftover_spot, body_spot, end_mark, GoesOn, Comes}
+use Rattle.pdu.specs.Spot.{Opening, Plain, InPdv, spot_of, spot, room_remaining}
+use Rattle.pdu.specs.Parts.{IsInData, IsUnfinishedPdv, in_head, in_fragment, leftover_marks, leftover_spot, body_spot, end_mark, Continues, Arrives}
 use Rattle.pdu.proofs.DataMarksAreComputed.{same_head, marks_are, spot_is}
 use Rattle.pdu.proofs.LaterDependsOnSpot.{begins_within, within_later, dropped_later}
 use Rattle.pdu.proofs.FramesAreUnique.{same_frame}
@@ -29,12 +29,12 @@ spot_other : (r : List ℕ) → 6 ≤ length r → nat_eq (frame_kind r) 4 ≡ f
 unfolding spot
 spot_other r le kind = rw (le-ltb (length r) 6 le, kind) refl
 
--- a value has begun: the frame is a P-DATA, its head is there, and it stands within the value
+-- a value has started: the frame is a P-DATA, its head is there, and it stands within the value
 pub record WithinPdv (r : List ℕ) (room : ℕ) (b : List ℕ) : Type 0 where
   pub headed : 6 ≤ length r
   pub kind : nat_eq (frame_kind r) 4 ≡ true
   pub stands : data_spot (frame_length r) (drop 6 r) ≡ Within room b
-  pub room_is : room ≡ room_left r + length b
+  pub room_is : room ≡ room_remaining r + length b
   pub is : IsUnfinishedPdv room b
 
 pdv_of : (s : DataSpot) (b : List ℕ) → spot_of s ≡ InPdv b → (room : ℕ) × (s ≡ Within room b)
@@ -64,7 +64,7 @@ within_pdv r b p e =
       ]
     ]
 
-pub unfinished_pdv : (r b : List ℕ) → IsRest r → spot r ≡ InPdv b → IsUnfinishedPdv (room_left r + length b) b
+pub unfinished_pdv : (r b : List ℕ) → IsRest r → spot r ≡ InPdv b → IsUnfinishedPdv (room_remaining r + length b) b
 unfinished_pdv r b p e = let v = within_pdv r b p e in rw (← v.1.room_is) v.1.is
 
 pub in_data : (r b : List ℕ) → IsRest r → spot r ≡ InPdv b → IsInData r
@@ -72,7 +72,7 @@ in_data r b p e = let v = within_pdv r b p e in record { headed = v.1.headed; ki
 
 -- ---- in the head of a frame
 
-pub head_part : (r c : List ℕ) → length (r ++ c) < 6 → GoesOn r c [] Opening
+pub head_part : (r c : List ℕ) → length (r ++ c) < 6 → Continues r c [] Opening
 head_part r c lt = let h = head_within r c lt in record { marks = h.0; rest = h.1; spot_is = spot_opening (r ++ c) lt }
 
 -- with just its head a frame stands where its body begins
@@ -87,9 +87,9 @@ spot_headed f e =
       | inr t ↦ spot_other f (omega arith) t ∙ rw t refl
     ]
 
-pub head_done : (r c : List ℕ) → length r < 6 → length (r ++ c) ≡ 6 → Comes r c (Head (frame_kind (r ++ c)) (frame_length (r ++ c)) ∷ []) (body_spot (frame_kind (r ++ c)))
+pub head_done : (r c : List ℕ) → length r < 6 → length (r ++ c) ≡ 6 → Arrives r c (Head (frame_kind (r ++ c)) (frame_length (r ++ c)) ∷ []) (body_spot (frame_kind (r ++ c)))
 head_done r c lt e = record {
-  goes_on = λ q.
+  continues = λ q.
       let more : 1 ≤ frame_length (r ++ c) = omega (arith, q (omega arith)) in
       let h = head_whole r c lt e more in
       record { marks = h.0; rest = h.1; spot_is = spot_headed (r ++ c) e };
@@ -112,21 +112,21 @@ data_stands r c s le kind e =
     spot_data (r ++ c) (omega (arith, length-append r c)) kind_too ∙ ap spot_of (rw (same.n, same.body) e)
 
 -- what the bytes of a P-DATA do, from the marks inside it
-data_comes : (r c : List ℕ) (ms : List Mark) (s : DataSpot) → IsRest r → 6 ≤ length r → nat_eq (frame_kind r) 4 ≡ true
-    → new_pdv_marks (frame_length r) (drop 6 r) c ≡ ms → data_spot (frame_length r) (drop 6 r ++ c) ≡ s → Comes r c ms (spot_of s)
-data_comes r c ms s p le kind new stands = record {
-  goes_on = λ q. let h = data_within r c le kind p q in record { marks = h.0 ∙ new; rest = h.1; spot_is = data_stands r c s le kind stands };
+data_arrives : (r c : List ℕ) (ms : List Mark) (s : DataSpot) → IsRest r → 6 ≤ length r → nat_eq (frame_kind r) 4 ≡ true
+    → new_pdv_marks (frame_length r) (drop 6 r) c ≡ ms → data_spot (frame_length r) (drop 6 r ++ c) ≡ s → Arrives r c ms (spot_of s)
+data_arrives r c ms s p le kind new stands = record {
+  continues = λ q. let h = data_within r c le kind p q in record { marks = h.0 ∙ new; rest = h.1; spot_is = data_stands r c s le kind stands };
   ends = λ w.
       let h = data_ends r c le kind p w in
       record { marks = h.0 ∙ ap (λ (m : Mark). new_pdv_marks (frame_length r) (drop 6 r) c ++ m ∷ []) (same_end r c le) ∙ ap (λ (xs : List Mark). xs ++ end_mark (r ++ c) ∷ []) new; rest = h.1 };
 }
 
-other_comes : (r c : List ℕ) → IsRest r → 6 ≤ length r → nat_eq (frame_kind r) 4 ≡ false → Comes r c [] Plain
-other_comes r c p le kind =
+other_arrives : (r c : List ℕ) → IsRest r → 6 ≤ length r → nat_eq (frame_kind r) 4 ≡ false → Arrives r c [] Plain
+other_arrives r c p le kind =
     let same = same_frame r c le in
     let kind_too : nat_eq (frame_kind (r ++ c)) 4 ≡ false = ap (λ (k : ℕ). nat_eq k 4) same.kind ∙ kind in
     record {
-      goes_on = λ q. let h = other_within r c le kind p q in record { marks = h.0; rest = h.1; spot_is = spot_other (r ++ c) (omega (arith, length-append r c)) kind_too };
+      continues = λ q. let h = other_within r c le kind p q in record { marks = h.0; rest = h.1; spot_is = spot_other (r ++ c) (omega (arith, length-append r c)) kind_too };
       ends = λ w. let h = other_ends r c le kind p w in record { marks = h.0 ∙ ap (λ (m : Mark). m ∷ []) (same_end r c le); rest = h.1 };
     }
 
@@ -134,54 +134,54 @@ plain_of : (s : DataSpot) → spot_of s ≡ Plain → s ≡ Dropped
 plain_of Dropped e = refl
 plain_of (Within room c) e = absurd cc
 
-pub plain_part : (r c : List ℕ) → IsRest r → spot r ≡ Plain → Comes r c [] Plain
+pub plain_part : (r c : List ℕ) → IsRest r → spot r ≡ Plain → Arrives r c [] Plain
 plain_part r c p e =
     elim (cases_lt (length r) 6) [
       | inl lt ↦ let wrong : Opening ≡ Plain = sym (spot_opening r lt) ∙ e in absurd cc
       | inr le ↦ elim (cases_Bool (nat_eq (frame_kind r) 4)) [
         | inl t ↦
             let d = dropped_later (frame_length r) (drop 6 r) c (plain_of (data_spot (frame_length r) (drop 6 r)) (sym (spot_data r le t) ∙ e)) in
-            data_comes r c [] Dropped p le t d.new d.spot
-        | inr t ↦ other_comes r c p le t
+            data_arrives r c [] Dropped p le t d.new d.spot
+        | inr t ↦ other_arrives r c p le t
       ]
     ]
 
 -- ---- in a value
 
--- what the part does inside the value that has begun
-pdv_comes : (r c b : List ℕ) (room : ℕ) (old new : List Mark) (s : DataSpot) → IsRest r → WithinPdv r room b
-    → pdv_marks room b ≡ old → Marked room (b ++ c) new s → Comes r c (drop (length old) new) (spot_of s)
-pdv_comes r c b room old new s p v was now =
+-- what the part does inside the value that has started
+pdv_arrives : (r c b : List ℕ) (room : ℕ) (old new : List Mark) (s : DataSpot) → IsRest r → WithinPdv r room b
+    → pdv_marks room b ≡ old → Marked room (b ++ c) new s → Arrives r c (drop (length old) new) (spot_of s)
+pdv_arrives r c b room old new s p v was now =
     let l = within_later (frame_length r) (drop 6 r) room b c v.stands in
-    data_comes r c (drop (length old) new) s p v.headed v.kind (l.new ∙ new_is_drop room b c old new was (marks_are now)) (l.spot ∙ spot_is now)
+    data_arrives r c (drop (length old) new) s p v.headed v.kind (l.new ∙ new_is_drop room b c old new was (marks_are now)) (l.spot ∙ spot_is now)
 
 headless_marks : (room : ℕ) (b : List ℕ) → length b < 6 → pdv_marks room b ≡ []
 headless_marks room b lt = marks_are (too_short lt)
 
-begun_is : (room : ℕ) (b : List ℕ) → IsUnfinishedPdv room b → 6 ≤ length b → pdv_marks room b ≡ head_mark b ∷ []
-begun_is room b (in_head lt) le = absurd (omega arith)
-begun_is room b (in_fragment h two fits short) le = marks_are (unfinished (record { headed = h; least = two; fits = fits }) short)
+started_is : (room : ℕ) (b : List ℕ) → IsUnfinishedPdv room b → 6 ≤ length b → pdv_marks room b ≡ head_mark b ∷ []
+started_is room b (in_head lt) le = absurd (omega arith)
+started_is room b (in_fragment h two fits short) le = marks_are (unfinished (record { headed = h; least = two; fits = fits }) short)
 
-pub pdv_head_part : (r c b : List ℕ) → IsRest r → spot r ≡ InPdv b → length (b ++ c) < 6 → Comes r c [] (InPdv (b ++ c))
+pub pdv_head_part : (r c b : List ℕ) → IsRest r → spot r ≡ InPdv b → length (b ++ c) < 6 → Arrives r c [] (InPdv (b ++ c))
 pdv_head_part r c b p e lt =
     let v = within_pdv r b p e in
-    pdv_comes r c b v.0 [] [] (Within v.0 (b ++ c)) p v.1 (headless_marks v.0 b (omega (arith, length-append b c)))
+    pdv_arrives r c b v.0 [] [] (Within v.0 (b ++ c)) p v.1 (headless_marks v.0 b (omega (arith, length-append b c)))
     (too_short lt)
 
 pub pdv_head_bad : (r c b : List ℕ) → IsRest r → spot r ≡ InPdv b → length b < 6 → length (b ++ c) ≡ 6
-    → (big_number 4 (b ++ c) < 2) ⊎ (room_left r + length b < pdv_size (b ++ c)) → Comes r c (BadPdv ∷ []) Plain
+    → (big_number 4 (b ++ c) < 2) ⊎ (room_remaining r + length b < pdv_size (b ++ c)) → Arrives r c (BadPdv ∷ []) Plain
 pdv_head_bad r c b p e lt six why =
     let v = within_pdv r b p e in
-    let is : room_left r + length b ≡ v.0 = sym v.1.room_is in
+    let is : room_remaining r + length b ≡ v.0 = sym v.1.room_is in
     let why_too : (big_number 4 (b ++ c) < 2) ⊎ (v.0 < pdv_size (b ++ c)) = elim why [ inl x ↦ inl x | inr x ↦ inr (omega (arith, is)) ] in
-    pdv_comes r c b v.0 [] (BadPdv ∷ []) Dropped p v.1 (headless_marks v.0 b lt) (bad (record { headed = omega arith; why = why_too }))
+    pdv_arrives r c b v.0 [] (BadPdv ∷ []) Dropped p v.1 (headless_marks v.0 b lt) (bad (record { headed = omega arith; why = why_too }))
 
 pub pdv_head_done : (r c b : List ℕ) → IsRest r → spot r ≡ InPdv b → length b < 6 → length (b ++ c) ≡ 6 → 2 < big_number 4 (b ++ c)
-    → pdv_size (b ++ c) ≤ room_left r + length b → Comes r c (head_mark (b ++ c) ∷ []) (InPdv (b ++ c))
+    → pdv_size (b ++ c) ≤ room_remaining r + length b → Arrives r c (head_mark (b ++ c) ∷ []) (InPdv (b ++ c))
 pdv_head_done r c b p e lt six two fits =
     let v = within_pdv r b p e in
     let fits_too : pdv_size (b ++ c) ≤ v.0 = omega (arith, v.1.room_is) in
-    pdv_comes r c b v.0 [] (head_mark (b ++ c) ∷ []) (Within v.0 (b ++ c)) p v.1 (headless_marks v.0 b lt)
+    pdv_arrives r c b v.0 [] (head_mark (b ++ c) ∷ []) (Within v.0 (b ++ c)) p v.1 (headless_marks v.0 b lt)
     (unfinished (record { headed = omega arith; least = omega arith; fits = fits_too }) (omega arith))
 
 leftover_is : (room : ℕ) → spot_of (leftover_at room) ≡ leftover_spot room
@@ -191,24 +191,24 @@ leftover_is room =
       | inr t ↦ rw t refl
     ]
 
-room_after : (r c b : List ℕ) (room : ℕ) → WithinPdv r room b → length c ≤ room_left r → room - length (b ++ c) ≡ room_left r - length c
+room_after : (r c b : List ℕ) (room : ℕ) → WithinPdv r room b → length c ≤ room_remaining r → room - length (b ++ c) ≡ room_remaining r - length c
 room_after r c b room v le = omega (arith, v.room_is, length-append b c)
 
-pdv_ends : (r c b : List ℕ) (room : ℕ) (old : List Mark) → IsRest r → WithinPdv r room b → length c ≤ room_left r → pdv_marks room b ≡ old → 6 ≤ length (b ++ c) → 2 ≤ big_number 4 (b ++ c)
-    → pdv_size (b ++ c) ≡ length (b ++ c) → Comes r c (drop (length old) (head_mark (b ++ c) ∷ pdv_mark (b ++ c) ∷ leftover_marks (room_left r - length c))) (leftover_spot (room_left r - length c))
+pdv_ends : (r c b : List ℕ) (room : ℕ) (old : List Mark) → IsRest r → WithinPdv r room b → length c ≤ room_remaining r → pdv_marks room b ≡ old → 6 ≤ length (b ++ c) → 2 ≤ big_number 4 (b ++ c)
+    → pdv_size (b ++ c) ≡ length (b ++ c) → Arrives r c (drop (length old) (head_mark (b ++ c) ∷ pdv_mark (b ++ c) ∷ leftover_marks (room_remaining r - length c))) (leftover_spot (room_remaining r - length c))
 pdv_ends r c b room old p v le was six two size =
     let fits : pdv_size (b ++ c) ≤ room = omega (arith, v.room_is, length-append b c) in
     let one = just_whole room (b ++ c) (record { headed = six; least = two; fits = fits }) size in
-    let h = pdv_comes r c b room old _ _ p v was one in
-    rw (← leftover_is (room_left r - length c), ← room_after r c b room v le) h
+    let h = pdv_arrives r c b room old _ _ p v was one in
+    rw (← leftover_is (room_remaining r - length c), ← room_after r c b room v le) h
 
-pub pdv_head_whole : (r c b : List ℕ) → IsRest r → spot r ≡ InPdv b → length c ≤ room_left r → length b < 6 → length (b ++ c) ≡ 6 → big_number 4 (b ++ c) ≡ 2
-    → Comes r c (head_mark (b ++ c) ∷ pdv_mark (b ++ c) ∷ leftover_marks (room_left r - length c)) (leftover_spot (room_left r - length c))
+pub pdv_head_whole : (r c b : List ℕ) → IsRest r → spot r ≡ InPdv b → length c ≤ room_remaining r → length b < 6 → length (b ++ c) ≡ 6 → big_number 4 (b ++ c) ≡ 2
+    → Arrives r c (head_mark (b ++ c) ∷ pdv_mark (b ++ c) ∷ leftover_marks (room_remaining r - length c)) (leftover_spot (room_remaining r - length c))
 pdv_head_whole r c b p e le lt six two =
     let v = within_pdv r b p e in
     pdv_ends r c b v.0 [] p v.1 le (headless_marks v.0 b lt) (omega arith) (omega arith) (omega arith)
 
-pub fragment_part : (r c b : List ℕ) → IsRest r → spot r ≡ InPdv b → 6 ≤ length b → length (b ++ c) < pdv_size b → Comes r c [] (InPdv (b ++ c))
+pub fragment_part : (r c b : List ℕ) → IsRest r → spot r ≡ InPdv b → 6 ≤ length b → length (b ++ c) < pdv_size b → Arrives r c [] (InPdv (b ++ c))
 fragment_part r c b p e six lt =
     let v = within_pdv r b p e in
     let s = same_head b c six in
@@ -220,12 +220,12 @@ fragment_part r c b p e six lt =
           let two_too : 2 ≤ big_number 4 (b ++ c) = omega (arith, s.number) in
           let fits_too : pdv_size (b ++ c) ≤ v.0 = omega (arith, s.number) in
           let short_too : length (b ++ c) < pdv_size (b ++ c) = omega (arith, s.number) in
-          pdv_comes r c b v.0 (head_mark b ∷ []) (head_mark (b ++ c) ∷ []) (Within v.0 (b ++ c)) p v.1 (begun_is v.0 b v.1.is six)
+          pdv_arrives r c b v.0 (head_mark b ∷ []) (head_mark (b ++ c) ∷ []) (Within v.0 (b ++ c)) p v.1 (started_is v.0 b v.1.is six)
           (unfinished (record { headed = long; least = two_too; fits = fits_too }) short_too)
     ]
 
-pub fragment_done : (r c b : List ℕ) → IsRest r → spot r ≡ InPdv b → length c ≤ room_left r → 6 ≤ length b → length (b ++ c) ≡ pdv_size b
-    → Comes r c (pdv_mark (b ++ c) ∷ leftover_marks (room_left r - length c)) (leftover_spot (room_left r - length c))
+pub fragment_done : (r c b : List ℕ) → IsRest r → spot r ≡ InPdv b → length c ≤ room_remaining r → 6 ≤ length b → length (b ++ c) ≡ pdv_size b
+    → Arrives r c (pdv_mark (b ++ c) ∷ leftover_marks (room_remaining r - length c)) (leftover_spot (room_remaining r - length c))
 fragment_done r c b p e le six size =
     let v = within_pdv r b p e in
     let s = same_head b c six in
@@ -233,5 +233,5 @@ fragment_done r c b p e le six size =
     elim h [
       | in_head short ↦ absurd (omega arith)
       | in_fragment six_too two fits short ↦
-          pdv_ends r c b v.0 (head_mark b ∷ []) p v.1 le (begun_is v.0 b v.1.is six) (omega (arith, length-append b c)) (omega (arith, s.number)) (omega (arith, s.number))
+          pdv_ends r c b v.0 (head_mark b ∷ []) p v.1 le (started_is v.0 b v.1.is six) (omega (arith, length-append b c)) (omega (arith, s.number)) (omega (arith, s.number))
     ]

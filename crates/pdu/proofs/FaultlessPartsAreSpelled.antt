@@ -8,7 +8,7 @@ use Rattle.std.specs.List.{AllByRecursion}
 use Rattle.element.specs.Padding.{is_empty}
 use Rattle.pdu.specs.declared.fault.PduFault.TheVariants.{BadLength, BadItem, BadContextId}
 use Rattle.pdu.specs.Pieces.{IsWholePiece, joined, pieces_of}
-use Rattle.pdu.specs.Items.{item, items_of, left_over, of_kind, first_or_none, item_content, parts, is_context, four_or_none}
+use Rattle.pdu.specs.Items.{item, items_of, remainder, of_kind, first_or_none, item_content, parts, is_context, four_or_none}
 use Rattle.pdu.specs.Request.{One, MaximumText, InformationText}
 use Rattle.pdu.specs.Refusal.{are_whole_items, is_maximum, information_part_fault, has_syntaxes, id_of, context_part_fault}
 use Rattle.pdu.proofs.PiecesAreUnique.{pieces_unique, pieces_split}
@@ -20,17 +20,17 @@ pub items_joined : (fs : List (List ℕ)) → AllByRecursion (IsWholePiece item)
 unfolding items_of
 items_joined fs all = ap (λ (p : List (List ℕ) × List ℕ). p.0) (pieces_unique item item_reads (joined fs) fs [] (record { whole = sym (append-nil (joined fs)); each = all; partial = λ h. absurd (omega arith) }))
 
-pub left_joined : (fs : List (List ℕ)) → AllByRecursion (IsWholePiece item) fs → left_over (joined fs) ≡ []
-unfolding left_over
-left_joined fs all = ap (λ (p : List (List ℕ) × List ℕ). p.1) (pieces_unique item item_reads (joined fs) fs [] (record { whole = sym (append-nil (joined fs)); each = all; partial = λ h. absurd (omega arith) }))
+pub remaining_joined : (fs : List (List ℕ)) → AllByRecursion (IsWholePiece item) fs → remainder (joined fs) ≡ []
+unfolding remainder
+remaining_joined fs all = ap (λ (p : List (List ℕ) × List ℕ). p.1) (pieces_unique item item_reads (joined fs) fs [] (record { whole = sym (append-nil (joined fs)); each = all; partial = λ h. absurd (omega arith) }))
 
--- what a text is that has nothing left over
+-- what a text is that has nothing remaining
 pub record Whole (text : List ℕ) : Type 0 where
   pub whole : text ≡ joined (items_of text)
   pub each : AllByRecursion (IsWholePiece item) (items_of text)
 
-pub whole_is : (text : List ℕ) → left_over text ≡ [] → Whole text
-unfolding items_of left_over
+pub whole_is : (text : List ℕ) → remainder text ≡ [] → Whole text
+unfolding items_of remainder
 whole_is text none =
     let h = pieces_split item item_reads text in
     record { whole = h.whole ∙ ap (λ (r : List ℕ). joined (pieces_of item text).0 ++ r) none ∙ append-nil (joined (pieces_of item text).0); each = h.each }
@@ -40,7 +40,7 @@ empty_is [] e = refl
 empty_is (x ∷ xs) e = absurd cc
 
 pub whole_joined : (text : List ℕ) (fs : List (List ℕ)) → text ≡ joined fs → AllByRecursion (IsWholePiece item) fs → are_whole_items text ≡ true
-whole_joined text fs e all = ap is_empty (ap left_over e ∙ left_joined fs all)
+whole_joined text fs e all = ap is_empty (ap remainder e ∙ remaining_joined fs all)
 
 -- ---- one of a list
 
@@ -93,7 +93,7 @@ information_fine text e =
 pub information_text : (i : List ℕ) → information_part_fault (item_content i) ≡ None → InformationText (four_or_none (item_content (first_or_none (of_kind 0x51 (items_of (item_content i)))))) i
 information_text i e =
     let f = information_fine (item_content i) e in
-    let w = whole_is (item_content i) (empty_is (left_over (item_content i)) f.whole) in
+    let w = whole_is (item_content i) (empty_is (remainder (item_content i)) f.whole) in
     record { parts = items_of (item_content i); whole = w.whole; each = w.each; maximum_is = maximum_text (of_kind 0x51 (items_of (item_content i))) f.maximum }
 
 parts_are : (text : List ℕ) (fs : List (List ℕ)) → text ≡ joined fs → AllByRecursion (IsWholePiece item) fs → items_of text ≡ fs

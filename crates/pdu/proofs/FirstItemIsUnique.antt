@@ -1,11 +1,11 @@
--- A text begins with one whole item (`begins_with`, `begins_cut`), or with none (`begins_short`, `begins_begun`).
+-- A text begins with one whole item (`begins_with`, `begins_cut`), or with none (`begins_short`, `begins_started`).
 -- Stands on PiecesAreUnique.
 use Rattle.std.proofs.Common.{◌≡◌, ℕ, ◌+◌, ◌<◌, ◌≤◌, List, [], ◌∷◌, ◌++◌, length, take, drop, refl, sym, ap, subst, arith}
 use Rattle.std.proofs.lemmas.List.{length-append, take-append-drop}
 use Rattle.std.specs.List.{AllByRecursion}
 use Rattle.byteorder.specs.Endian.{big_number}
 use Rattle.pdu.specs.Pieces.{IsWholePiece, joined, pieces_of}
-use Rattle.pdu.specs.Items.{item, items_of, left_over, Begins, BeginsNone}
+use Rattle.pdu.specs.Items.{item, items_of, remainder, Begins, BeginsNone}
 use Rattle.pdu.proofs.PiecesAreUnique.{Reads, pieces_none, pieces_next, cut_whole, whole_length, pieces_split}
 
 same_said : (t u : List ℕ) → 4 ≤ length t → big_number 2 (drop 2 (t ++ u)) ≡ big_number 2 (drop 2 t)
@@ -19,19 +19,19 @@ pub item_reads : Reads item
 item_reads = record { some = omega arith; same = same_said }
 
 pub begins_short : (b : List ℕ) → length b < 4 → BeginsNone b
-unfolding items_of left_over
+unfolding items_of remainder
 begins_short b h =
     let e = pieces_none item item_reads b (λ le. absurd (omega arith)) in
     record { items = ap (λ (p : List (List ℕ) × List ℕ). p.0) e; rest = ap (λ (p : List (List ℕ) × List ℕ). p.1) e }
 
-pub begins_begun : (b : List ℕ) → length b < 4 + big_number 2 (drop 2 b) → BeginsNone b
-unfolding items_of left_over
-begins_begun b h =
+pub begins_started : (b : List ℕ) → length b < 4 + big_number 2 (drop 2 b) → BeginsNone b
+unfolding items_of remainder
+begins_started b h =
     let e = pieces_none item item_reads b (λ _. h) in
     record { items = ap (λ (p : List (List ℕ) × List ℕ). p.0) e; rest = ap (λ (p : List (List ℕ) × List ℕ). p.1) e }
 
 pub begins_with : (f t : List ℕ) → IsWholePiece item f → Begins (f ++ t) f t
-unfolding items_of left_over
+unfolding items_of remainder
 begins_with f t w =
     let e = pieces_next item item_reads f t w in
     record {

@@ -46,7 +46,7 @@ pub marks_at : (s : List ℕ) (fs : List (List ℕ)) (r : List ℕ) → Splits s
 unfolding marks
 marks_at s fs r h = rw (frames_at s fs r h, rest_at s fs r h) refl
 
--- ---- a stream that goes on: what comes later depends on the rest alone
+-- ---- a stream that continues: what comes later depends on the rest alone
 
 pub marks_later : (s p : List ℕ) (fs : List (List ℕ)) (r : List ℕ) → Splits s fs r → marks (s ++ p) ≡ flat_map whole_marks fs ++ marks (r ++ p)
 marks_later s p fs r h =
@@ -63,7 +63,7 @@ pub new_later : (s p : List ℕ) (fs : List (List ℕ)) (r : List ℕ) → Split
 unfolding new_marks
 new_later s p fs r h = rw (marks_at s fs r h, marks_later s p fs r h) (drop_past (flat_map whole_marks fs) (unfinished_marks r) (marks (r ++ p)))
 
--- ---- a begun frame keeps its marks
+-- ---- a unfinished frame keeps its marks
 
 inner_grows : (f more : List ℕ) → 6 ≤ length f → Grows (inner_marks f) (inner_marks (f ++ more))
 inner_grows f more h =
@@ -75,8 +75,8 @@ inner_grows f more h =
       | inr t ↦ ([], rw (s.kind, t) refl)
     ]
 
-begun_grows : (r more : List ℕ) → Grows (unfinished_marks r) (unfinished_marks (r ++ more))
-begun_grows r more =
+started_grows : (r more : List ℕ) → Grows (unfinished_marks r) (unfinished_marks (r ++ more))
+started_grows r more =
     elim (cases_lt (length r) 6) [
       | inl lt ↦ (unfinished_marks (r ++ more), rw (lt-ltb (length r) 6 lt) refl)
       | inr le ↦
@@ -89,22 +89,22 @@ begun_grows r more =
           (g.0, now ∙ ap (λ (m : Mark). m ∷ inner_marks (r ++ more)) heads ∙ ap (λ (ms : List Mark). Head (frame_kind r) (frame_length r) ∷ ms) g.1 ∙ ap (λ (ms : List Mark). ms ++ g.0) (sym before))
     ]
 
--- the marks of a whole frame are those of it as a begun one, and its end
+-- the marks of a whole frame are those of it as an unfinished one, and its end
 whole_is : (f : List ℕ) → IsFrame f → whole_marks f ≡ unfinished_marks f ++ End (frame_kind f) (drop 6 f) ∷ []
 whole_is f w = let le : 6 ≤ length f = w.headed in rw (le-ltb (length f) 6 le) refl
 
-pub begun_first : (r p : List ℕ) → IsRest r → Grows (unfinished_marks r) (marks (r ++ p))
-begun_first r p partial =
+pub started_first : (r p : List ℕ) → IsRest r → Grows (unfinished_marks r) (marks (r ++ p))
+started_first r p partial =
     let h = frames_split (r ++ p) in
     go (frames_of (r ++ p)) (rest_of (r ++ p)) h
   where
     go : (fs : List (List ℕ)) (t : List ℕ) → Splits (r ++ p) fs t → Grows (unfinished_marks r) (marks (r ++ p))
     go [] t h =
-        let g = begun_grows r p in
+        let g = started_grows r p in
         (g.0, marks_at (r ++ p) [] t h ∙ ap unfinished_marks (sym h.whole) ∙ g.1)
     go (f ∷ fs) t h =
         let q = rest_begins frame frame_reads r p f (joined fs ++ t) partial h.each.0 (h.whole ∙ simp append_assoc) in
-        let g = begun_grows r q.0 in
+        let g = started_grows r q.0 in
         let rest = (End (frame_kind f) (drop 6 f) ∷ []) ++ (flat_map whole_marks fs ++ unfinished_marks t) in (
           g.0 ++ rest,
           marks_at (r ++ p) (f ∷ fs) t h
@@ -118,7 +118,7 @@ marks_grow s p =
     let h = frames_split s in
     let fs = frames_of s in
     let r = rest_of s in
-    let g = begun_first r p h.partial in
+    let g = started_first r p h.partial in
     let new : new_marks s p ≡ g.0 = new_later s p fs r h ∙ ap (drop (length (unfinished_marks r))) g.1 ∙ drop-append_seam (unfinished_marks r) g.0 in
     marks_later s p fs r h ∙ ap (λ (ms : List Mark). flat_map whole_marks fs ++ ms) g.1 ∙ rw (marks_at s fs r h, new) (simp append_assoc)
 

@@ -8,7 +8,7 @@ use Rattle.std.specs.List.{AllByRecursion, IsDistinct}
 use Rattle.element.specs.Numbers.{IsBytes}
 use Rattle.pdu.specs.Record.{Proposal, ids}
 use Rattle.pdu.specs.Pieces.{joined}
-use Rattle.pdu.specs.Items.{items_of, left_over, is_kind, of_kind, first_or_none, identifier, syntaxes, parts, proposal_of, proposals}
+use Rattle.pdu.specs.Items.{items_of, remainder, is_kind, of_kind, first_or_none, identifier, syntaxes, parts, proposal_of, proposals}
 use Rattle.pdu.specs.Request.{ContextText, ContextTexts, IsContextId}
 use Rattle.pdu.specs.Refusal.{id_of, context_part_fault}
 use Rattle.pdu.proofs.FaultlessPartsAreSpelled.{context_fine, fine_context, whole_is, empty_is, whole_joined, items_joined, one_from, one_length, one_first}
@@ -34,7 +34,7 @@ pub context_text : (i : List ℕ) → context_part_fault i ≡ None → ContextT
 context_text i none =
     let f = context_fine i none in
     let long : 8 ≤ length i = leb-true 8 (length i) (and_parts (is_kind 0x20 i) (nat_le 8 (length i)) f.context).1 in
-    let w = whole_is (drop 8 i) (empty_is (left_over (drop 8 i)) f.whole) in
+    let w = whole_is (drop 8 i) (empty_is (remainder (drop 8 i)) f.whole) in
     let s = and_parts (nat_eq (length (of_kind 0x30 (parts i))) 1) (not (nat_eq (length (of_kind 0x40 (parts i))) 0)) f.syntaxes in
     let some : length (of_kind 0x40 (parts i)) ≡ 0 → ⊥ = eqb-false (length (of_kind 0x40 (parts i))) 0 (not-true (nat_eq (length (of_kind 0x40 (parts i))) 0) s.1) in
     record {

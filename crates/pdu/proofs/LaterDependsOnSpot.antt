@@ -12,7 +12,7 @@ use Rattle.pdu.proofs.DataMarksAreComputed.{head_stays, pdv_stays, size_later, g
 record Later (room : ℕ) (bytes more : List ℕ) : Type 0 where
   pub good : IsGoodHead room (bytes ++ more)
   pub enough : pdv_size (bytes ++ more) ≤ length (bytes ++ more)
-  pub left : room - pdv_size (bytes ++ more) ≡ room - pdv_size bytes
+  pub remaining : room - pdv_size (bytes ++ more) ≡ room - pdv_size bytes
   pub rest : drop (pdv_size (bytes ++ more)) (bytes ++ more) ≡ drop (pdv_size bytes) bytes ++ more
   pub head : head_mark (bytes ++ more) ≡ head_mark bytes
   pub pdv : pdv_mark (bytes ++ more) ≡ pdv_mark bytes
@@ -23,7 +23,7 @@ whole_later room bytes more g d =
     record {
       good = good_later room bytes more g;
       enough = omega (arith, size, length-append bytes more);
-      left = ap (λ (n : ℕ). room - n) size;
+      remaining = ap (λ (n : ℕ). room - n) size;
       rest = ap (λ (n : ℕ). drop n (bytes ++ more)) size ∙ drop-append-le (pdv_size bytes) bytes more d;
       head = head_stays bytes more g.headed;
       pdv = pdv_stays bytes more g.headed g.least d;
@@ -40,15 +40,15 @@ pub more_later : (room : ℕ) (bytes more : List ℕ) (ns : List Mark) (t : Data
 more_later room bytes more ns t g d none m =
     let l = whole_later room bytes more g d in
     let moved : Marked (room - pdv_size (bytes ++ more)) (drop (pdv_size (bytes ++ more)) (bytes ++ more)) ns t =
-    subst (λ (r : ℕ). Marked r (drop (pdv_size (bytes ++ more)) (bytes ++ more)) ns t) (sym l.left)
+    subst (λ (r : ℕ). Marked r (drop (pdv_size (bytes ++ more)) (bytes ++ more)) ns t) (sym l.remaining)
     (subst (λ (b : List ℕ). Marked (room - pdv_size bytes) b ns t) (sym l.rest) m) in
-    same_front room bytes more ns t l (whole_and_more l.good l.enough (ap is_leftover l.left ∙ none) moved)
+    same_front room bytes more ns t l (whole_and_more l.good l.enough (ap is_leftover l.remaining ∙ none) moved)
 
 leftover_later : (room : ℕ) (bytes more : List ℕ) → IsGoodHead room bytes → pdv_size bytes ≤ length bytes → is_leftover (room - pdv_size bytes) ≡ true
     → Marked room (bytes ++ more) (head_mark bytes ∷ pdv_mark bytes ∷ Leftover ∷ []) Dropped
 leftover_later room bytes more g d some =
     let l = whole_later room bytes more g d in
-    same_front room bytes more (Leftover ∷ []) Dropped l (whole_and_leftover l.good l.enough (ap is_leftover l.left ∙ some))
+    same_front room bytes more (Leftover ∷ []) Dropped l (whole_and_leftover l.good l.enough (ap is_leftover l.remaining ∙ some))
 
 -- ---- once dropped
 
@@ -83,7 +83,7 @@ continues {room} {bytes} {r = r} {q = q} (whole_and_more {later = later} g d t m
 continues_at : (room : ℕ) (bytes : List ℕ) (r : ℕ) (q : List ℕ) → data_spot room bytes ≡ Within r q → Continues room bytes (pdv_marks room bytes) r q
 continues_at room bytes r q e = continues (subst (Marked room bytes (pdv_marks room bytes)) e (marked room bytes))
 
--- what has begun is less than a whole value, and has the room that is left
+-- what has started is less than a whole value, and has the room that is left
 pub record UnfinishedAt (room : ℕ) (bytes : List ℕ) (r : ℕ) (q : List ℕ) : Type 0 where
   pub room_is : r + length bytes ≡ room + length q
   pub is : IsUnfinishedPdv r q

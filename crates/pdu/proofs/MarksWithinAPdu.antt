@@ -1,4 +1,4 @@
--- Further bytes of a frame whose head came before have marks within it alone, and where they complete it, its end
+-- Further bytes of a frame whose head was before have marks within it alone, and where they complete it, its end
 -- (`marks_within`). Stands on DataMarksAreComputed, EachChunkIsMarked and FramesAreUnique.
 use Rattle.std.proofs.Common.{◌≡◌, ℕ, zero, suc, ◌≤◌, nat_eq, List, [], ◌∷◌, ◌++◌, length, drop, sym, ap, subst, ◌∙◌, inl, inr}
 use Rattle.std.proofs.lemmas.Bool.{cases_Bool}
@@ -39,7 +39,7 @@ marks_within r c rest headed =
     elim (cases_Bool (nat_eq (frame_kind r) 4)) [
       | inl t ↦
           record {
-            goes_on = λ q. subst AreInner (sym (data_within r c headed t rest q).0) (new_inner (frame_length r) (drop 6 r) c);
+            continues = λ q. subst AreInner (sym (data_within r c headed t rest q).0) (new_inner (frame_length r) (drop 6 r) c);
             ends = λ w. record {
               inner = new_pdv_marks (frame_length r) (drop 6 r) c;
               are_inner = new_inner (frame_length r) (drop 6 r) c;
@@ -49,7 +49,7 @@ marks_within r c rest headed =
           }
       | inr t ↦
           record {
-            goes_on = λ q. subst AreInner (sym (other_within r c headed t rest q).0) tt;
+            continues = λ q. subst AreInner (sym (other_within r c headed t rest q).0) tt;
             ends = λ w. record { inner = []; are_inner = tt; marks = (other_ends r c headed t rest w).0 ∙ ap (λ (m : Mark). m ∷ []) (end_is r c headed); rest = (other_ends r c headed t rest w).1 };
           }
     ]

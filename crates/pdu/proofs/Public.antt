@@ -18,8 +18,8 @@ use Rattle.pdu.specs.Events.{OfBody, OfFragment, marks_among, ReportsMark}
 use Rattle.pdu.specs.Deframing.{At, Took, Skip, MarksWithin}
 use Rattle.pdu.specs.Steps.{skip_of}
 use Rattle.pdu.specs.Marks.{Mark, Head, BadPdv, pdv_size, head_mark, pdv_mark, frame_kind, frame_length, new_marks}
-use Rattle.pdu.specs.Spot.{Opening, Plain, InPdv, spot, room_left}
-use Rattle.pdu.specs.Parts.{SameFrame, SameHead, IsInData, IsUnfinishedPdv, GoesOn, Comes, leftover_marks, leftover_spot, body_spot}
+use Rattle.pdu.specs.Spot.{Opening, Plain, InPdv, spot, room_remaining}
+use Rattle.pdu.specs.Parts.{SameFrame, SameHead, IsInData, IsUnfinishedPdv, Continues, Arrives, leftover_marks, leftover_spot, body_spot}
 use Rattle.pdu.proofs.SendsAllOrFront as sending
 use Rattle.pdu.proofs.BodySpellsOneRequest as requests
 use Rattle.pdu.proofs.ContextIdsAreFew as ids
@@ -101,38 +101,38 @@ spot_opening = parts.spot_opening
 pub in_data : (r b : List ℕ) → IsRest r → spot r ≡ InPdv b → IsInData r
 in_data = parts.in_data
 
-pub unfinished_pdv : (r b : List ℕ) → IsRest r → spot r ≡ InPdv b → IsUnfinishedPdv (room_left r + length b) b
+pub unfinished_pdv : (r b : List ℕ) → IsRest r → spot r ≡ InPdv b → IsUnfinishedPdv (room_remaining r + length b) b
 unfinished_pdv = parts.unfinished_pdv
 
-pub head_part : (r c : List ℕ) → length (r ++ c) < 6 → GoesOn r c [] Opening
+pub head_part : (r c : List ℕ) → length (r ++ c) < 6 → Continues r c [] Opening
 head_part = parts.head_part
 
-pub head_done : (r c : List ℕ) → length r < 6 → length (r ++ c) ≡ 6 → Comes r c (Head (frame_kind (r ++ c)) (frame_length (r ++ c)) ∷ []) (body_spot (frame_kind (r ++ c)))
+pub head_done : (r c : List ℕ) → length r < 6 → length (r ++ c) ≡ 6 → Arrives r c (Head (frame_kind (r ++ c)) (frame_length (r ++ c)) ∷ []) (body_spot (frame_kind (r ++ c)))
 head_done = parts.head_done
 
-pub plain_part : (r c : List ℕ) → IsRest r → spot r ≡ Plain → Comes r c [] Plain
+pub plain_part : (r c : List ℕ) → IsRest r → spot r ≡ Plain → Arrives r c [] Plain
 plain_part = parts.plain_part
 
-pub pdv_head_part : (r c b : List ℕ) → IsRest r → spot r ≡ InPdv b → length (b ++ c) < 6 → Comes r c [] (InPdv (b ++ c))
+pub pdv_head_part : (r c b : List ℕ) → IsRest r → spot r ≡ InPdv b → length (b ++ c) < 6 → Arrives r c [] (InPdv (b ++ c))
 pdv_head_part = parts.pdv_head_part
 
 pub pdv_head_bad : (r c b : List ℕ) → IsRest r → spot r ≡ InPdv b → length b < 6 → length (b ++ c) ≡ 6
-    → (big_number 4 (b ++ c) < 2) ⊎ (room_left r + length b < pdv_size (b ++ c)) → Comes r c (BadPdv ∷ []) Plain
+    → (big_number 4 (b ++ c) < 2) ⊎ (room_remaining r + length b < pdv_size (b ++ c)) → Arrives r c (BadPdv ∷ []) Plain
 pdv_head_bad = parts.pdv_head_bad
 
 pub pdv_head_done : (r c b : List ℕ) → IsRest r → spot r ≡ InPdv b → length b < 6 → length (b ++ c) ≡ 6 → 2 < big_number 4 (b ++ c)
-    → pdv_size (b ++ c) ≤ room_left r + length b → Comes r c (head_mark (b ++ c) ∷ []) (InPdv (b ++ c))
+    → pdv_size (b ++ c) ≤ room_remaining r + length b → Arrives r c (head_mark (b ++ c) ∷ []) (InPdv (b ++ c))
 pdv_head_done = parts.pdv_head_done
 
-pub pdv_head_whole : (r c b : List ℕ) → IsRest r → spot r ≡ InPdv b → length c ≤ room_left r → length b < 6 → length (b ++ c) ≡ 6 → big_number 4 (b ++ c) ≡ 2
-    → Comes r c (head_mark (b ++ c) ∷ pdv_mark (b ++ c) ∷ leftover_marks (room_left r - length c)) (leftover_spot (room_left r - length c))
+pub pdv_head_whole : (r c b : List ℕ) → IsRest r → spot r ≡ InPdv b → length c ≤ room_remaining r → length b < 6 → length (b ++ c) ≡ 6 → big_number 4 (b ++ c) ≡ 2
+    → Arrives r c (head_mark (b ++ c) ∷ pdv_mark (b ++ c) ∷ leftover_marks (room_remaining r - length c)) (leftover_spot (room_remaining r - length c))
 pdv_head_whole = parts.pdv_head_whole
 
-pub fragment_part : (r c b : List ℕ) → IsRest r → spot r ≡ InPdv b → 6 ≤ length b → length (b ++ c) < pdv_size b → Comes r c [] (InPdv (b ++ c))
+pub fragment_part : (r c b : List ℕ) → IsRest r → spot r ≡ InPdv b → 6 ≤ length b → length (b ++ c) < pdv_size b → Arrives r c [] (InPdv (b ++ c))
 fragment_part = parts.fragment_part
 
-pub fragment_done : (r c b : List ℕ) → IsRest r → spot r ≡ InPdv b → length c ≤ room_left r → 6 ≤ length b → length (b ++ c) ≡ pdv_size b
-    → Comes r c (pdv_mark (b ++ c) ∷ leftover_marks (room_left r - length c)) (leftover_spot (room_left r - length c))
+pub fragment_done : (r c b : List ℕ) → IsRest r → spot r ≡ InPdv b → length c ≤ room_remaining r → 6 ≤ length b → length (b ++ c) ≡ pdv_size b
+    → Arrives r c (pdv_mark (b ++ c) ∷ leftover_marks (room_remaining r - length c)) (leftover_spot (room_remaining r - length c))
 fragment_done = parts.fragment_done
 
 -- ---- what a deframer's call reports, as marks

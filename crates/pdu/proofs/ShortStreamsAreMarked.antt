@@ -25,21 +25,21 @@ good_at_once = refl
 pub does_not_wait : marks good_then_bad ≡ Head 4 14 ∷ End 4 (drop 6 good_then_bad) ∷ [] → ⊥
 does_not_wait e = let other : good_then_bad_marks ≡ Head 4 14 ∷ End 4 (drop 6 good_then_bad) ∷ [] = sym good_before_bad ∙ e in cc
 
-pub one_left : marks (empty_pdv 7) ≡ Head 4 7 ∷ PdvHead 2 1 2 ∷ Pdv 1 2 [] ∷ Leftover ∷ []
+pub one_remaining : marks (empty_pdv 7) ≡ Head 4 7 ∷ PdvHead 2 1 2 ∷ Pdv 1 2 [] ∷ Leftover ∷ []
 unfolding marks frames_of rest_of pieces_of pdv_marks
-one_left = refl
+one_remaining = refl
 
-pub five_left : marks (empty_pdv 11) ≡ Head 4 11 ∷ PdvHead 2 1 2 ∷ Pdv 1 2 [] ∷ Leftover ∷ []
+pub five_remaining : marks (empty_pdv 11) ≡ Head 4 11 ∷ PdvHead 2 1 2 ∷ Pdv 1 2 [] ∷ Leftover ∷ []
 unfolding marks frames_of rest_of pieces_of pdv_marks
-five_left = refl
+five_remaining = refl
 
 pub five_dropped : marks (empty_pdv 11 ++ 1 ∷ 2 ∷ 3 ∷ 4 ∷ 5 ∷ []) ≡ Head 4 11 ∷ PdvHead 2 1 2 ∷ Pdv 1 2 [] ∷ Leftover ∷ End 4 (drop 6 (empty_pdv 11) ++ 1 ∷ 2 ∷ 3 ∷ 4 ∷ 5 ∷ []) ∷ []
 unfolding marks frames_of rest_of pieces_of pdv_marks
 five_dropped = refl
 
-pub six_left : marks (empty_pdv 12) ≡ Head 4 12 ∷ PdvHead 2 1 2 ∷ Pdv 1 2 [] ∷ []
+pub six_remaining : marks (empty_pdv 12) ≡ Head 4 12 ∷ PdvHead 2 1 2 ∷ Pdv 1 2 [] ∷ []
 unfolding marks frames_of rest_of pieces_of pdv_marks
-six_left = refl
+six_remaining = refl
 
 pub passes_the_frame : marks past_the_end ≡ Head 4 6 ∷ BadPdv ∷ End 4 (drop 6 past_the_end) ∷ []
 unfolding marks frames_of rest_of pieces_of pdv_marks

@@ -7,7 +7,7 @@ use Rattle.std.proofs.lemmas.Bool.{cases_Bool, lt-ltb, le-ltb}
 use Rattle.std.specs.Prelude.{nat_lt}
 use Rattle.pdu.specs.Frames.{IsRest, rest_of}
 use Rattle.pdu.specs.Marks.{Mark, new_marks, pdv_size}
-use Rattle.pdu.specs.Spot.{Spot, Opening, Plain, InPdv, spot, room_left}
+use Rattle.pdu.specs.Spot.{Spot, Opening, Plain, InPdv, spot, room_remaining}
 use Rattle.pdu.specs.Events.{Token, OfBody, OfFragment, Completes, lent, tokens, marks_among}
 use Rattle.pdu.proofs.FramesAreUnique.{same_frame, new_nothing, new_then, new_rest, rest_is_rest, rest_alone, rest_rest}
 use Rattle.pdu.proofs.DataMarksAreComputed.{same_head}
@@ -80,7 +80,7 @@ record Part (give : List ℕ → List Token) (In : List ℕ → ℕ → Type 0) 
   pub lending : Lending give
   pub here : (r : List ℕ) (n b : ℕ) → In r (suc n) → lent (spot (rest_of r)) (b ∷ []) ≡ give (b ∷ [])
   pub silent : (r : List ℕ) (n b : ℕ) → In r (suc (suc n)) → new_marks r (b ∷ []) ≡ []
-  pub goes_on : (r : List ℕ) (n b : ℕ) → In r (suc (suc n)) → In (r ++ b ∷ []) (suc n)
+  pub continues : (r : List ℕ) (n b : ℕ) → In r (suc (suc n)) → In (r ++ b ∷ []) (suc n)
 
 part_tokens : (give : List ℕ → List Token) (In : List ℕ → ℕ → Type 0) → Part give In → (r c : List ℕ) → In r (length c)
     → tokens r c ≡ give c ++ map Completes (new_marks r c)
@@ -91,7 +91,7 @@ part_tokens give In part r (b ∷ []) i =
 part_tokens give In part r (b ∷ d ∷ c) i =
     let n = length c in
     let none = part.silent r n b i in
-    let later = part_tokens give In part (r ++ b ∷ []) (d ∷ c) (part.goes_on r n b i) in
+    let later = part_tokens give In part (r ++ b ∷ []) (d ∷ c) (part.continues r n b i) in
     let both : new_marks r (b ∷ d ∷ c) ≡ new_marks (r ++ b ∷ []) (d ∷ c) = new_then r (b ∷ []) (d ∷ c) ∙ ap (λ (ms : List Mark). ms ++ new_marks (r ++ b ∷ []) (d ∷ c)) none in
     ap (λ (ts : List Token). ts ++ (map Completes (new_marks r (b ∷ [])) ++ tokens (r ++ b ∷ []) (d ∷ c))) (part.here r (suc n) b i)
     ∙ ap (λ (ms : List Mark). give (b ∷ []) ++ (map Completes ms ++ tokens (r ++ b ∷ []) (d ∷ c))) none
@@ -102,11 +102,11 @@ part_tokens give In part r (b ∷ d ∷ c) i =
 abbrev nothing : List ℕ → List Token
 nothing bytes = []
 
--- a frame goes on with fewer bytes than it lacks
-pub still_rest : (r c : List ℕ) → IsRest r → 6 ≤ length r → length c < room_left r → IsRest (r ++ c)
+-- a frame continues with fewer bytes than it lacks
+pub still_rest : (r c : List ℕ) → IsRest r → 6 ≤ length r → length c < room_remaining r → IsRest (r ++ c)
 still_rest r c p h lt = let s = same_frame r c h in λ le. omega (arith, s.n, length-append r c)
 
-pub room_after_part : (r c : List ℕ) → 6 ≤ length r → room_left (r ++ c) ≡ room_left r - length c
+pub room_after_part : (r c : List ℕ) → 6 ≤ length r → room_remaining (r ++ c) ≡ room_remaining r - length c
 room_after_part r c h = let s = same_frame r c h in omega (arith, s.n, length-append r c)
 
 -- ---- in the head of a frame
@@ -122,7 +122,7 @@ head_part_is = record {
       let rest : IsRest r = λ le. absurd (omega arith) in
       ap (λ (x : Spot). lent x (b ∷ [])) (ap spot (rest_alone r rest) ∙ spot_opening r lt);
   silent = λ r n b i. let lt : length (r ++ b ∷ []) < 6 = omega (arith, i.short, length-append r (b ∷ [])) in (head_part r (b ∷ []) lt).marks;
-  goes_on = λ r n b i. record { short = omega (arith, i.short, length-append r (b ∷ [])) };
+  continues = λ r n b i. record { short = omega (arith, i.short, length-append r (b ∷ [])) };
 }
 
 pub head_tokens : (r c : List ℕ) → length r + length c ≤ 6 → tokens r c ≡ map Completes (new_marks r c)
@@ -134,16 +134,16 @@ record InBody (r : List ℕ) (n : ℕ) : Type 0 where
   pub rest : IsRest r
   pub headed : 6 ≤ length r
   pub spot_is : spot r ≡ Plain
-  pub fits : n ≤ room_left r
+  pub fits : n ≤ room_remaining r
 
 body_part_is : Part (map OfBody) InBody
 body_part_is = record {
   lending = record { none = refl; more = λ b bytes. refl };
   here = λ r n b i. ap (λ (x : Spot). lent x (b ∷ [])) (ap spot (rest_alone r i.rest) ∙ i.spot_is);
-  silent = λ r n b i. let q = still_rest r (b ∷ []) i.rest i.headed (omega (arith, i.fits)) in ((plain_part r (b ∷ []) i.rest i.spot_is).goes_on q).marks;
-  goes_on = λ r n b i.
+  silent = λ r n b i. let q = still_rest r (b ∷ []) i.rest i.headed (omega (arith, i.fits)) in ((plain_part r (b ∷ []) i.rest i.spot_is).continues q).marks;
+  continues = λ r n b i.
       let q = still_rest r (b ∷ []) i.rest i.headed (omega (arith, i.fits)) in
-      let g = (plain_part r (b ∷ []) i.rest i.spot_is).goes_on q in
+      let g = (plain_part r (b ∷ []) i.rest i.spot_is).continues q in
       record {
         rest = q;
         headed = omega (arith, i.headed, length-append r (b ∷ []));
@@ -152,7 +152,7 @@ body_part_is = record {
       };
 }
 
-pub body_tokens : (r c : List ℕ) → IsRest r → 6 ≤ length r → spot r ≡ Plain → length c ≤ room_left r → tokens r c ≡ map OfBody c ++ map Completes (new_marks r c)
+pub body_tokens : (r c : List ℕ) → IsRest r → 6 ≤ length r → spot r ≡ Plain → length c ≤ room_remaining r → tokens r c ≡ map OfBody c ++ map Completes (new_marks r c)
 body_tokens r c rest h s le = part_tokens (map OfBody) InBody body_part_is r c (record { rest = rest; headed = h; spot_is = s; fits = le })
 
 -- ---- in the head of a presentation data value
@@ -163,7 +163,7 @@ record InPdvHead (r : List ℕ) (n : ℕ) : Type 0 where
   pub part : List ℕ
   pub spot_is : spot r ≡ InPdv part
   pub short : length part + n ≤ 6
-  pub fits : n ≤ room_left r
+  pub fits : n ≤ room_remaining r
 
 pdv_head_part_is : Part nothing InPdvHead
 pdv_head_part_is = record {
@@ -174,11 +174,11 @@ pdv_head_part_is = record {
   silent = λ r n b i.
       let q = still_rest r (b ∷ []) i.rest i.headed (omega (arith, i.fits)) in
       let lt : length (i.part ++ b ∷ []) < 6 = omega (arith, i.short, length-append i.part (b ∷ [])) in
-      ((pdv_head_part r (b ∷ []) i.part i.rest i.spot_is lt).goes_on q).marks;
-  goes_on = λ r n b i.
+      ((pdv_head_part r (b ∷ []) i.part i.rest i.spot_is lt).continues q).marks;
+  continues = λ r n b i.
       let q = still_rest r (b ∷ []) i.rest i.headed (omega (arith, i.fits)) in
       let lt : length (i.part ++ b ∷ []) < 6 = omega (arith, i.short, length-append i.part (b ∷ [])) in
-      let g = (pdv_head_part r (b ∷ []) i.part i.rest i.spot_is lt).goes_on q in
+      let g = (pdv_head_part r (b ∷ []) i.part i.rest i.spot_is lt).continues q in
       record {
         rest = q;
         headed = omega (arith, i.headed, length-append r (b ∷ []));
@@ -189,7 +189,7 @@ pdv_head_part_is = record {
       };
 }
 
-pub pdv_head_tokens : (r c b : List ℕ) → IsRest r → 6 ≤ length r → spot r ≡ InPdv b → length b + length c ≤ 6 → length c ≤ room_left r → tokens r c ≡ map Completes (new_marks r c)
+pub pdv_head_tokens : (r c b : List ℕ) → IsRest r → 6 ≤ length r → spot r ≡ InPdv b → length b + length c ≤ 6 → length c ≤ room_remaining r → tokens r c ≡ map Completes (new_marks r c)
 pdv_head_tokens r c b rest h s short le = part_tokens nothing InPdvHead pdv_head_part_is r c (record { rest = rest; headed = h; part = b; spot_is = s; short = short; fits = le })
 
 -- ---- in a fragment
@@ -201,7 +201,7 @@ record InFragment (r : List ℕ) (n : ℕ) : Type 0 where
   pub spot_is : spot r ≡ InPdv part
   pub long : 6 ≤ length part
   pub more : n + length part ≤ pdv_size part
-  pub fits : n ≤ room_left r
+  pub fits : n ≤ room_remaining r
 
 fragment_part_is : Part (map OfFragment) InFragment
 fragment_part_is = record {
@@ -212,11 +212,11 @@ fragment_part_is = record {
   silent = λ r n b i.
       let q = still_rest r (b ∷ []) i.rest i.headed (omega (arith, i.fits)) in
       let lt : length (i.part ++ b ∷ []) < pdv_size i.part = omega (arith, i.more, length-append i.part (b ∷ [])) in
-      ((fragment_part r (b ∷ []) i.part i.rest i.spot_is i.long lt).goes_on q).marks;
-  goes_on = λ r n b i.
+      ((fragment_part r (b ∷ []) i.part i.rest i.spot_is i.long lt).continues q).marks;
+  continues = λ r n b i.
       let q = still_rest r (b ∷ []) i.rest i.headed (omega (arith, i.fits)) in
       let lt : length (i.part ++ b ∷ []) < pdv_size i.part = omega (arith, i.more, length-append i.part (b ∷ [])) in
-      let g = (fragment_part r (b ∷ []) i.part i.rest i.spot_is i.long lt).goes_on q in
+      let g = (fragment_part r (b ∷ []) i.part i.rest i.spot_is i.long lt).continues q in
       let s = same_head i.part (b ∷ []) i.long in
       record {
         rest = q;
@@ -229,5 +229,5 @@ fragment_part_is = record {
       };
 }
 
-pub fragment_tokens : (r c b : List ℕ) → IsRest r → 6 ≤ length r → spot r ≡ InPdv b → 6 ≤ length b → length c + length b ≤ pdv_size b → length c ≤ room_left r → tokens r c ≡ map OfFragment c ++ map Completes (new_marks r c)
+pub fragment_tokens : (r c b : List ℕ) → IsRest r → 6 ≤ length r → spot r ≡ InPdv b → 6 ≤ length b → length c + length b ≤ pdv_size b → length c ≤ room_remaining r → tokens r c ≡ map OfFragment c ++ map Completes (new_marks r c)
 fragment_tokens r c b rest h s long more le = part_tokens (map OfFragment) InFragment fragment_part_is r c (record { rest = rest; headed = h; part = b; spot_is = s; long = long; more = more; fits = le })

@@ -9,7 +9,7 @@ use Rattle.pdu.specs.Pdvs.{Within, Marked, too_short, IsGoodHead, IsPdv, pdv_siz
 use Rattle.pdu.proofs.DataMarksAreComputed.{marks_are}
 use Rattle.pdu.proofs.LaterDependsOnSpot.{more_later}
 
--- nothing is left over after the last value, and no value is that short
+-- nothing is remaining after the last value, and no value is that short
 fits_values : (vs : List (List ℕ)) → AllByRecursion IsPdv vs → is_leftover (length (joined vs)) ≡ false
 fits_values [] all = refl
 fits_values (v ∷ vs) all =
@@ -26,12 +26,12 @@ values_are (v ∷ vs) all =
     let filled : length v ≡ n = all.0.filled in
     let total = length-append v (joined vs) in
     let g : IsGoodHead room v = record { headed = long; least = omega arith; fits = omega (arith, total) } in
-    let left : room - n ≡ length (joined vs) = omega (arith, total) in
+    let remaining : room - n ≡ length (joined vs) = omega (arith, total) in
     let nothing : drop n v ≡ [] = drop_all n v (omega arith) in
     let rest : Marked (room - n) (drop n v ++ joined vs) (marks_of_values vs) (Within 0 []) =
-    subst (λ (r : ℕ). Marked r (drop n v ++ joined vs) (marks_of_values vs) (Within 0 [])) (sym left)
+    subst (λ (r : ℕ). Marked r (drop n v ++ joined vs) (marks_of_values vs) (Within 0 [])) (sym remaining)
     (subst (λ (b : List ℕ). Marked (length (joined vs)) (b ++ joined vs) (marks_of_values vs) (Within 0 [])) (sym nothing) (values_are vs all.1)) in
-    more_later room v (joined vs) (marks_of_values vs) (Within 0 []) g (omega arith) (ap is_leftover left ∙ fits_values vs all.1) rest
+    more_later room v (joined vs) (marks_of_values vs) (Within 0 []) g (omega arith) (ap is_leftover remaining ∙ fits_values vs all.1) rest
 
 pub values_marked : (vs : List (List ℕ)) → AllByRecursion IsPdv vs → pdv_marks (length (joined vs)) (joined vs) ≡ marks_of_values vs
 values_marked vs all = marks_are (values_are vs all)

@@ -11,22 +11,21 @@ use Rattle.pdu.specs.Types.{p_data_tf}
 use Rattle.pdu.specs.Sizes.{head_size, pdv_head_size}
 use Rattle.pdu.specs.Frames.{IsFrame, IsRest, rest_of}
 use Rattle.pdu.specs.Marks.{Mark, Head, Pdv, Leftover, End, pdv_size, is_leftover, frame_kind, new_marks}
-use Rattle.pdu.specs.Spot.{Spot, Opening, Plain, InPdv, spot, room_left}
+use Rattle.pdu.specs.Spot.{Spot, Opening, Plain, InPdv, spot, room_remaining}
 use Rattle.pdu.specs.Parts.{end_mark}
 use Rattle.pdu.specs.Events.{Token, Completes, tokens, Reports}
 
--- r are the first bytes of a PDU of this type, its head included; `left` bytes of it are still to come, and r ends at
--- the spot s
-pub record Inside (kind left : ℕ) (r : List ℕ) (s : Spot) : Type 0 where
+-- r are the first bytes of a PDU of this type, its head included; `remaining` bytes of it remain, and r ends at the spot s
+pub record Inside (kind remaining : ℕ) (r : List ℕ) (s : Spot) : Type 0 where
   pub rest : IsRest r
   pub headed : head_size ≤ length r
   pub kind_is : frame_kind r ≡ kind
-  pub left_is : left ≡ room_left r
+  pub remaining_is : remaining ≡ room_remaining r
   pub spot_is : spot r ≡ s
 
 -- a PDU of this type is complete, and the mark of its end is due
-pub record IsOver (kind left : ℕ) (r : List ℕ) (due : List Mark) : Type 0 where
-  pub none_left : left ≡ 0
+pub record IsOver (kind remaining : ℕ) (r : List ℕ) (due : List Mark) : Type 0 where
+  pub none_remaining : remaining ≡ 0
   pub rest : r ≡ []
   pub body : List ℕ
   pub due_is : due ≡ End kind body ∷ []
@@ -36,56 +35,56 @@ pub record AtHead (bytes r : List ℕ) (due : List Mark) : Type 0 where
   pub bytes_are : bytes ≡ r
   pub none_due : due ≡ []
 
-pub data AtBody (kind left : ℕ) (r : List ℕ) (due : List Mark) : Type 0 where
-  in_body : 0 < left → Inside kind left r Plain → due ≡ [] → AtBody kind left r due
-  after_body : IsOver kind left r due → AtBody kind left r due
+pub data AtBody (kind remaining : ℕ) (r : List ℕ) (due : List Mark) : Type 0 where
+  in_body : 0 < remaining → Inside kind remaining r Plain → due ≡ [] → AtBody kind remaining r due
+  after_body : IsOver kind remaining r due → AtBody kind remaining r due
 
-pub record AtPdvHead (left : ℕ) (bytes r : List ℕ) (due : List Mark) : Type 0 where
-  pub inside : Inside p_data_tf left r (InPdv bytes)
+pub record AtPdvHead (remaining : ℕ) (bytes r : List ℕ) (due : List Mark) : Type 0 where
+  pub inside : Inside p_data_tf remaining r (InPdv bytes)
   pub short : length bytes < pdv_head_size
   pub none_due : due ≡ []
 
-pub record AtLeftover (left : ℕ) (r : List ℕ) (due : List Mark) : Type 0 where
-  pub inside : Inside p_data_tf left r Plain
-  pub some : 0 < left
+pub record AtLeftover (remaining : ℕ) (r : List ℕ) (due : List Mark) : Type 0 where
+  pub inside : Inside p_data_tf remaining r Plain
+  pub some : 0 < remaining
   pub due_is : due ≡ Leftover ∷ []
 
--- the position after a presentation data value: the end of the PDU, bytes left over, or the head of another value
-pub data AfterPdv (left : ℕ) (r : List ℕ) (due : List Mark) : Type 0 where
-  over : IsOver p_data_tf left r due → AfterPdv left r due
-  leftover : is_leftover left ≡ true → AtLeftover left r due → AfterPdv left r due
-  another : 0 < left → is_leftover left ≡ false → AtPdvHead left [] r due → AfterPdv left r due
+-- the position after a presentation data value: the end of the PDU, leftover bytes, or the head of another value
+pub data AfterPdv (remaining : ℕ) (r : List ℕ) (due : List Mark) : Type 0 where
+  over : IsOver p_data_tf remaining r due → AfterPdv remaining r due
+  leftover : is_leftover remaining ≡ true → AtLeftover remaining r due → AfterPdv remaining r due
+  another : 0 < remaining → is_leftover remaining ≡ false → AtPdvHead remaining [] r due → AfterPdv remaining r due
 
-pub record InFragment (left more : ℕ) (r : List ℕ) (due : List Mark) : Type 0 where
+pub record InFragment (remaining more : ℕ) (r : List ℕ) (due : List Mark) : Type 0 where
   pub part : List ℕ
-  pub inside : Inside p_data_tf left r (InPdv part)
+  pub inside : Inside p_data_tf remaining r (InPdv part)
   pub headed : pdv_head_size ≤ length part
   pub more_is : more + length part ≡ pdv_size part
   pub none_due : due ≡ []
 
-pub record AfterFragment (left : ℕ) (r : List ℕ) (due : List Mark) : Type 0 where
+pub record AfterFragment (remaining : ℕ) (r : List ℕ) (due : List Mark) : Type 0 where
   pub context : ℕ
   pub control : ℕ
   pub fragment : List ℕ
   pub later : List Mark
   pub due_is : due ≡ Pdv context control fragment ∷ later
-  pub next : AfterPdv left r later
+  pub next : AfterPdv remaining r later
 
-pub data AtFragment (left more : ℕ) (r : List ℕ) (due : List Mark) : Type 0 where
-  in_fragment : 0 < more → InFragment left more r due → AtFragment left more r due
-  after_fragment : more ≡ 0 → AfterFragment left r due → AtFragment left more r due
+pub data AtFragment (remaining more : ℕ) (r : List ℕ) (due : List Mark) : Type 0 where
+  in_fragment : 0 < more → InFragment remaining more r due → AtFragment remaining more r due
+  after_fragment : more ≡ 0 → AfterFragment remaining r due → AtFragment remaining more r due
 
 -- the position is that at the end of the bytes r of an unfinished PDU, with these marks due
 abbrev pub At : Position → List ℕ → List Mark → Type 0
 At (position.Head bytes) r due = AtHead bytes.items r due
-At (position.Body kind left) r due = AtBody kind left r due
-At (position.PdvHead left bytes) r due = AtPdvHead left bytes.items r due
-At (position.Fragment left more) r due = AtFragment left more r due
-At (position.Leftover left) r due = AtLeftover left r due
-At (position.Skipped kind left) r due = IsOver kind left r due
+At (position.Body kind remaining) r due = AtBody kind remaining r due
+At (position.PdvHead remaining bytes) r due = AtPdvHead remaining bytes.items r due
+At (position.Fragment remaining more) r due = AtFragment remaining more r due
+At (position.Leftover remaining) r due = AtLeftover remaining r due
+At (position.Skipped kind remaining) r due = IsOver kind remaining r due
 
--- A call took some bytes and returned an event or none: the marks that were due and the tokens of the bytes are what
--- the event reports and the marks that are due then. No byte is taken while a mark is due.
+-- A call consumed some bytes and returned an event or none: the marks that were due and the tokens of the bytes are
+-- what the event reports and the marks that are due then. No byte is consumed while a mark is due.
 pub record Took (new : Position) (r : List ℕ) (due : List Mark) (taken : List ℕ) (e : Option Event) : Type 0 where
   pub reported : List Token
   pub later : List Mark
@@ -95,22 +94,22 @@ pub record Took (new : Position) (r : List ℕ) (due : List Mark) (taken : List 
   pub prompt : 0 < length taken → due ≡ []
   pub at_once : e ≡ None → later ≡ []
 
--- Of a body or a fragment, a call takes all bytes that the piece has of it.
+-- Of a body or a fragment, a call consumes all bytes that the piece has of it.
 pub record Longest (r : List ℕ) (there taken : ℕ) : Type 0 where
-  pub body : spot r ≡ Plain → taken ≡ min there (room_left r)
+  pub body : spot r ≡ Plain → taken ≡ min there (room_remaining r)
   pub fragment : (part : List ℕ) → spot r ≡ InPdv part → pdv_head_size ≤ length part → taken ≡ min there (pdv_size part - length part)
 
 -- ---- a PDU that is skipped
 
 -- the position is inside a PDU that is skipped, of which the bytes r were read
 abbrev pub SkipsAt : Position → List ℕ → Type 0
-SkipsAt (position.Skipped kind left) r = (0 < left) × IsRest r × (head_size ≤ length r) × (frame_kind r ≡ kind) × (left ≡ room_left r)
+SkipsAt (position.Skipped kind remaining) r = (0 < remaining) × IsRest r × (head_size ≤ length r) × (frame_kind r ≡ kind) × (remaining ≡ room_remaining r)
 SkipsAt other r = ⊥
 
--- what a call does that takes these bytes of a PDU that is skipped: the PDU is still unfinished, or its end is
+-- what a call does that consumes these bytes of a PDU that is skipped: the PDU is still unfinished, or its end is
 -- reported
 pub data Skipped (new : Position) (r taken : List ℕ) (e : Option Event) : Type 0 where
-  goes_on : e ≡ None → SkipsAt new (r ++ taken) → Skipped new r taken e
+  continues : e ≡ None → SkipsAt new (r ++ taken) → Skipped new r taken e
   ends : e ≡ Some (event.PduEnd (frame_kind r)) → IsFrame (r ++ taken) → At new [] [] → Skipped new r taken e
 
 -- a mark inside a PDU: neither its head nor its end
@@ -131,7 +130,7 @@ pub record EndsWithin (r c : List ℕ) : Type 0 where
   pub rest : rest_of (r ++ c) ≡ []
 
 pub record MarksWithin (r c : List ℕ) : Type 0 where
-  pub goes_on : IsRest (r ++ c) → AreInner (new_marks r c)
+  pub continues : IsRest (r ++ c) → AreInner (new_marks r c)
   pub ends : IsFrame (r ++ c) → EndsWithin r c
 
 -- What `Deframer::skip_frame` does: nothing before the head of a PDU is complete; of a complete PDU the mark of the
@@ -146,7 +145,7 @@ pub data Skip (new : Position) (r : List ℕ) (due : List Mark) : Type 0 where
 
 abbrev pub bytes_held : Position → ℕ
 bytes_held (position.Head bytes) = array_vec_len bytes
-bytes_held (position.PdvHead left bytes) = array_vec_len bytes
+bytes_held (position.PdvHead remaining bytes) = array_vec_len bytes
 bytes_held other = 0
 
 abbrev pub unfinished_pdv_head : Spot → ℕ

@@ -56,7 +56,7 @@ pub record Lends (part bytes : List ℕ) (all ts : List Token) : Type 0 where
   pub some : 0 < length bytes
   pub lent : ts ≡ all
 
--- of these bytes, the ones that were taken, the event reports these tokens: one mark, or the bytes themselves
+-- of these bytes, the ones that were consumed, the event reports these tokens: one mark, or the bytes themselves
 abbrev pub Reports : List ℕ → Option Event → List Token → Type 0
 Reports taken None ts = ts ≡ []
 Reports taken (Some (event.Body part)) ts = Lends part.now taken (map OfBody taken) ts

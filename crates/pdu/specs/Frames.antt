@@ -3,11 +3,12 @@
 use Rattle.std.specs.Prelude.{ℕ, List, drop}
 use Rattle.byteorder.specs.Endian.{big_number}
 use Rattle.pdu.specs.Sizes.{head_size}
-use Rattle.pdu.specs.Pieces.{Layout, pieces_of}
+use Rattle.pdu.specs.Pieces.{PieceLayout, pieces_of}
 use Rattle.pdu.specs.Pieces as pieces
 
 -- the layout of a PDU: one byte type, one reserved, four bytes length, and a body of that length
-abbrev pub frame : Layout
+-- e.g. frame.body (1 ∷ 0 ∷ 0 ∷ 0 ∷ 0 ∷ 4 ∷ []) ≡ 4
+abbrev pub frame : PieceLayout
 frame = record { head = head_size; body = λ text. big_number 4 (drop 2 text) }
 
 abbrev pub IsFrame : List ℕ → Type 0
@@ -21,9 +22,12 @@ IsRest r = pieces.IsPartial frame r
 abbrev pub Splits : List ℕ → List (List ℕ) → List ℕ → Type 0
 Splits stream frames rest = pieces.Splits frame stream frames rest
 
--- the whole PDUs of a stream; `rest_of` has the bytes after them
+-- the whole PDUs of a stream
+-- e.g. frames_of (5 ∷ 0 ∷ 0 ∷ 0 ∷ 0 ∷ 0 ∷ 7 ∷ 0 ∷ []) ≡ (5 ∷ 0 ∷ 0 ∷ 0 ∷ 0 ∷ 0 ∷ []) ∷ []
 unfoldable pub frames_of : List ℕ → List (List ℕ)
 frames_of stream = (pieces_of frame stream).0
 
+-- the bytes of a stream after its whole PDUs: those of the unfinished PDU
+-- e.g. rest_of (5 ∷ 0 ∷ 0 ∷ 0 ∷ 0 ∷ 0 ∷ 7 ∷ 0 ∷ []) ≡ 7 ∷ 0 ∷ []
 unfoldable pub rest_of : List ℕ → List ℕ
 rest_of stream = (pieces_of frame stream).1

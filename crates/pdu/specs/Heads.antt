@@ -11,10 +11,12 @@ abbrev pub pdu_head_of : List ℕ → PduHead
 pdu_head_of b = record { kind = get_or b 0 0; length = big_number 4 (drop 2 b) }
 
 -- bit 0 of a control byte: the fragment is of a command; else of a data set
+-- e.g. is_command 3 ≡ true; is_command 2 ≡ false
 abbrev pub is_command : ℕ → Bool
 is_command control = nat_eq (control % 2) 1
 
 -- bit 1 of a control byte: the fragment is the last one. Bits 2 to 7 are ignored
+-- e.g. is_last 2 ≡ true; is_last 1 ≡ false
 abbrev pub is_last : ℕ → Bool
 is_last control = nat_eq (control / 2 % 2) 1
 

@@ -13,7 +13,7 @@ pub mod Marks
 pub mod Spot
 pub mod Parts
 pub mod PartLaws
-pub mod Left
+pub mod Remaining
 pub mod Events
 pub mod Examples
 pub mod Deframing

@@ -12,7 +12,7 @@ pub data IsUnfinishedPdv (room : ℕ) (b : List ℕ) : Type 0 where
   in_head : length b < pdv_head_size → IsUnfinishedPdv room b
   in_fragment : pdv_head_size ≤ length b → pdv_least ≤ pdv_length b → pdv_size b ≤ room → length b < pdv_size b → IsUnfinishedPdv room b
 
--- the marks after a presentation data value that leaves `room` bytes of its PDU: one to five are left over
+-- the marks after a presentation data value after which `room` bytes of its PDU remain: one to five are leftover
 abbrev pub leftover_marks : ℕ → List Mark
 leftover_marks room = if is_leftover room then Leftover ∷ [] else []
 
@@ -26,7 +26,7 @@ abbrev pub end_mark : List ℕ → Mark
 end_mark f = End (frame_kind f) (frame_body f)
 
 -- after the bytes r of a PDU the bytes c have these marks and leave the PDU unfinished, at the spot s
-pub record GoesOn (r c : List ℕ) (ms : List Mark) (s : Spot) : Type 0 where
+pub record Continues (r c : List ℕ) (ms : List Mark) (s : Spot) : Type 0 where
   pub marks : new_marks r c ≡ ms
   pub rest : rest_of (r ++ c) ≡ r ++ c
   pub spot_is : spot (r ++ c) ≡ s
@@ -37,9 +37,9 @@ pub record Ends (r c : List ℕ) (ms : List Mark) : Type 0 where
   pub rest : rest_of (r ++ c) ≡ []
 
 -- after the bytes r of a PDU the bytes c have these marks; the PDU is then unfinished, at the spot s, or it is
--- complete, and the mark of its end comes last
-pub record Comes (r c : List ℕ) (ms : List Mark) (s : Spot) : Type 0 where
-  pub goes_on : IsRest (r ++ c) → GoesOn r c ms s
+-- complete, and the mark of its end is the last
+pub record Arrives (r c : List ℕ) (ms : List Mark) (s : Spot) : Type 0 where
+  pub continues : IsRest (r ++ c) → Continues r c ms s
   pub ends : IsFrame (r ++ c) → Ends r c ms
 
 -- the head of a PDU does not depend on the bytes after it

@@ -4,7 +4,7 @@ use Rattle.std.specs.Prelude.{◌≡◌, ℕ, ◌+◌, ◌≤◌, List, length, 
 use Rattle.std.specs.Io.KnownBytes.{append_known}
 use Rattle.pdu.specs.declared.wire.WireFailed.{WireFailed}
 
--- the bytes sent so far, if the wire can tell them, and the number of failed sends
+-- the bytes sent so far, if they are known, and the number of failed sends
 pub record Line : Type 0 where
   pub sent : Option (List ℕ)
   pub failures : ℕ

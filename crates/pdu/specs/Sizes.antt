@@ -21,7 +21,7 @@ short_body = 4
 abbrev pub request_head_size : ℕ
 request_head_size = 68
 
--- an AE title
+-- how many bytes an AE title has
 abbrev pub title_size : ℕ
 title_size = 16
 
@@ -29,6 +29,6 @@ title_size = 16
 abbrev pub item_head_size : ℕ
 item_head_size = 4
 
--- that of a proposed context, with its ID and three reserved bytes
+-- the size of the head of a proposed presentation context item: that of an item, with its ID and three reserved bytes
 abbrev pub context_head_size : ℕ
 context_head_size = 8

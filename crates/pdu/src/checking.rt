@@ -8,8 +8,8 @@ use crate::fault::PduFault;
 use crate::item::{Item, content_in, count_of, first_item, is_whole};
 use crate::item_type;
 
-/// Which items a request has had so far, as far as the check of the next ones depends on them: an
-/// application context, user information, a proposed presentation context, and the IDs of these.
+/// The items of a request that were checked so far: whether there was an application context, user
+/// information and a proposed presentation context, and the presentation context IDs.
 #[derive(Drop)]
 pub struct ItemsSoFar {
     application: bool,
@@ -33,8 +33,9 @@ impl ItemsSoFar {
         }
     }
 
-    /// Checks the next item and records it. Of several faults the one with the smallest number is returned. Items other
-    /// than application context, proposed context and user information are ignored.
+    /// Checks the next item and records it. If it has several faults, returns the one with the
+    /// smallest number. Items other than application context, proposed presentation context and
+    /// user information are ignored.
     #[tactic(auto, unfolding(crate::specs::Refusal::item_fault))]
     pub fn check_item(&mut self, item: Item<'_>) -> Result<(), PduFault>
         ensures fault { (before : List (List ℕ)) → Knows self.old before → result ≡ as_result (item_fault before item.entry.bytes.now) }
@@ -48,7 +49,7 @@ impl ItemsSoFar {
         }
     }
 
-    /// Checks that the application context item is the first one; a second one is `BadItem`.
+    /// Checks that this application context item is the first; a second one is `BadItem`.
     fn check_application(&mut self, item: Item<'_>) -> Result<(), PduFault>
         requires { kind item.bytes.now ≡ application_context_item }
         ensures fault { (before : List (List ℕ)) → Knows self.old before → result ≡ as_result (application_fault before) }
@@ -61,7 +62,7 @@ impl ItemsSoFar {
         Ok(())
     }
 
-    /// Checks the user information item: its sub-items, and that it is the first one. A second one is
+    /// Checks the sub-items of a user information item, and that it is the first; a second one is
     /// `BadItem`.
     fn check_information(&mut self, item: Item<'_>) -> Result<(), PduFault>
         requires { kind item.bytes.now ≡ user_information_item }
@@ -76,8 +77,8 @@ impl ItemsSoFar {
         Ok(())
     }
 
-    /// Checks the item of a proposed presentation context: its contents, and that its ID is new. An ID
-    /// that an earlier item has is `DoubleContext`.
+    /// Checks the contents of a proposed presentation context item, and that no earlier item has
+    /// its ID, which is `DoubleContext`.
     fn check_context(&mut self, item: Item<'_>) -> Result<(), PduFault>
         requires { kind item.bytes.now ≡ proposed_context_item }
         ensures fault { (before : List (List ℕ)) → Knows self.old before → result ≡ as_result (context_fault before item.entry.bytes.now) }
@@ -93,8 +94,8 @@ impl ItemsSoFar {
         Ok(())
     }
 
-    /// Checks the end of the items: bytes after the last whole item are `BadLength`; an absent
-    /// application context, proposed presentation context or user information is `Missing`.
+    /// Checks that the items are complete: bytes after the last whole item are `BadLength`; a
+    /// missing application context, proposed presentation context or user information is `Missing`.
     pub fn check_end(&self, rest: &[u8]) -> Result<(), PduFault>
         ensures { (before : List (List ℕ)) → Knows self.now before → result ≡ as_result (ending_fault before rest.now) }
     {
@@ -124,9 +125,10 @@ fn check_information_parts(parts: &[u8]) -> Result<(), PduFault>
     }
 }
 
-/// Checks the contents of a proposed presentation context (PS3.8 section 9.3.2.2). Without its ID and
-/// three reserved bytes, or with a sub-item that passes the end, it is `BadLength`; without exactly one
-/// abstract syntax and at least one transfer syntax `BadItem`; with an even ID `BadContextId`.
+/// Checks the contents of a proposed presentation context (PS3.8 section 9.3.2.2). Without its ID
+/// and three reserved bytes, or with a sub-item that passes the end, it is `BadLength`; without
+/// exactly one abstract syntax and at least one transfer syntax, `BadItem`; with an even ID,
+/// `BadContextId`.
 fn check_context_parts(item: Item<'_>) -> Result<(), PduFault>
     requires { kind item.bytes.now ≡ proposed_context_item }
     ensures { result ≡ as_result (context_part_fault item.entry.bytes.now) }
@@ -150,7 +152,7 @@ fn check_context_parts(item: Item<'_>) -> Result<(), PduFault>
     Ok(())
 }
 
-/// Checks the items of a request in their order, and then that none is missing. The error is the first
+/// Checks the items of a request in order, and then that none is missing. The error is the first
 /// fault.
 pub fn check_items(text: &[u8]) -> Result<(), PduFault>
     ensures { result ≡ as_result (items_fault text.now) }

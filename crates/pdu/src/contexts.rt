@@ -6,18 +6,18 @@ ghost use Rattle.pdu.specs.Items.{items_of, proposals};
 use crate::item::Items;
 use crate::proposal::Proposal;
 
-/// An iterator over the presentation contexts that a request proposes, in their order.
+/// An iterator over the presentation contexts that a request proposes, in order.
 #[derive(Clone, Copy)]
 pub struct Contexts<'a> {
     items: Items<'a>,
 }
 
 impl<'a> Contexts<'a> {
-    ghost use Rattle.pdu.specs.Left.{proposals_left};
+    ghost use Rattle.pdu.specs.Remaining.{proposals_remaining};
 
-    /// Returns the iterator over the proposed presentation contexts among the items in these bytes.
+    /// Returns an iterator over the proposed presentation contexts among the items in these bytes.
     pub(crate) fn of(text: &'a [u8]) -> Contexts<'a>
-        ensures { proposals_left result ≡ proposals (items_of text.now) }
+        ensures { proposals_remaining result ≡ proposals (items_of text.now) }
     {
         Contexts {
             items: Items::of(text),
@@ -28,11 +28,11 @@ impl<'a> Contexts<'a> {
 impl<'a> Iterator for Contexts<'a> {
     type Item = Proposal<'a>;
 
-    ghost use Rattle.pdu.specs.Left.{proposals_left};
+    ghost use Rattle.pdu.specs.Remaining.{proposals_remaining};
 
-    ghost next_gives = { YieldsFirst proposals_left };
+    ghost next_gives = { YieldsFirst proposals_remaining };
 
-    ghost remaining = { item_count proposals_left };
+    ghost remaining = { item_count proposals_remaining };
 
     fn next(&mut self) -> Option<Proposal<'a>> {
         while let Some(item) = self.items.next() {

@@ -1,7 +1,7 @@
-//! Divides a stream of PDUs, which comes in pieces of any size, into events.
+//! Divides a stream of PDUs, received in chunks of any size, into events.
 ghost use Rattle.std.specs.Prelude.{◌≡◌, ◌≤◌, ◌<◌, ◌-◌, ◌+◌, ◌*◌, ◌++◌, ◌⊎◌, [], ℕ, List, length, take, Option, None, Some, IfSome};
 ghost use Rattle.pdu.specs.Deframing.{bytes_held};
-ghost use Rattle.pdu.specs.machine.Positions.{left_least, left_of, fragment_due};
+ghost use Rattle.pdu.specs.machine.Positions.{remaining_least, remaining_of, fragment_due};
 
 mod fields;
 
@@ -10,14 +10,15 @@ use crate::pdu_type::P_DATA_TF;
 use crate::position::{Position, find};
 use arrayvec::ArrayVec;
 
-/// Divides a stream of PDUs into events (PS3.8 section 9.3). It allocates nothing: bodies and fragments
-/// are slices of the pieces that it is given, and of an unfinished head it holds at most five bytes.
+/// Divides a stream of PDUs into events (PS3.8 section 9.3). It allocates nothing: bytes of bodies
+/// and fragments are returned as slices of the received chunks, and only an unfinished head, at
+/// most five bytes, is held.
 #[derive(Drop)]
 pub struct Deframer {
     position: Position,
     ghost short: { bytes_held position < 6 },
-    ghost some: { 0 < left_least position },
-    ghost within: { fragment_due position ≤ left_of position },
+    ghost some: { 0 < remaining_least position },
+    ghost within: { fragment_due position ≤ remaining_of position },
 }
 
 impl Deframer {
@@ -36,9 +37,9 @@ impl Deframer {
         }
     }
 
-    /// Reads the first bytes of the piece. Returns how many, and the next event; `None` only where the
-    /// whole piece is read and completes nothing. Some events take no byte, so call it until it returns
-    /// `None`.
+    /// Reads the first bytes of `piece`. Returns their number and the next event, or `None` if all
+    /// of `piece` is read and completes nothing. Some events read no byte, so call this until it
+    /// returns `None`.
     pub fn next<'p>(&mut self, piece: &'p [u8]) -> (usize, Option<Event<'p>>)
         ensures within { result.0 ≤ length piece.now }
         ensures used_up { result.1 ≡ None → result.0 ≡ length piece.now }
@@ -57,27 +58,28 @@ impl Deframer {
         }
     }
 
-    /// Skips the rest of the PDU whose head was the last `PduHead` event: `PduEnd` is the next event.
-    /// Does nothing between PDUs.
+    /// Skips the rest of the PDU whose head was the last `PduHead` event: `PduEnd` is the next
+    /// event. Does nothing between PDUs.
     pub fn skip_frame(&mut self)
         ensures skip { (r : List ℕ) (due : List Mark) → IsAt self.old r due → Skip (position_of self.new) r due }
         ensures skips { (r : List ℕ) → Skips self.old r → Skips self.new r }
         ensures fewer { events_due (position_of self.new) ≤ events_due (position_of self.old) }
         ensures moves { position_of self.new ≡ skip_of (position_of self.old) }
     {
-        // An arm for each position, as the proof answers each for itself.
-        let (kind, left) = match &self.position {
+        // One arm for each position, as the proof treats each by itself.
+        let (kind, remaining) = match &self.position {
             Position::Head(_) => return,
-            Position::Body { kind, left } => (*kind, *left),
-            Position::PdvHead { left, .. } => (P_DATA_TF, *left),
-            Position::Fragment { left, .. } => (P_DATA_TF, *left),
-            Position::Leftover { left } => (P_DATA_TF, *left),
-            Position::Skipped { kind, left } => (*kind, *left),
+            Position::Body { kind, remaining } => (*kind, *remaining),
+            Position::PdvHead { remaining, .. } => (P_DATA_TF, *remaining),
+            Position::Fragment { remaining, .. } => (P_DATA_TF, *remaining),
+            Position::Leftover { remaining } => (P_DATA_TF, *remaining),
+            Position::Skipped { kind, remaining } => (*kind, *remaining),
         };
-        self.position = Position::Skipped { kind, left };
+        self.position = Position::Skipped { kind, remaining };
     }
 
-    /// Returns the type of the PDU whose body is reported by `Event::Body`, or 0 outside such a body.
+    /// Returns the type of the PDU whose body is being reported as `Event::Body`, or 0 outside such
+    /// a body.
     pub fn kind(&self) -> u8
         ensures { result ≡ body_kind (position_of self.now) }
     {
@@ -88,22 +90,23 @@ impl Deframer {
         }
     }
 
-    /// Returns how many bytes are missing from the unfinished part of the stream: a head, a body, a
-    /// fragment, or a PDU that is skipped. It is 0 if `next` returns an event before it reads a byte.
+    /// Returns the number of bytes missing from the unfinished part of the stream: a head, a body,
+    /// a fragment, or a skipped PDU. It is 0 if `next` returns an event before it reads a byte.
     pub fn due(&self) -> usize
         ensures { result ≡ bytes_due (position_of self.now) }
     {
         match &self.position {
             Position::Head(bytes) => 6 - bytes.len(),
-            Position::Body { left, .. } => *left as usize,
-            Position::PdvHead { left, bytes } => (*left as usize).min(6 - bytes.len()),
+            Position::Body { remaining, .. } => *remaining as usize,
+            Position::PdvHead { remaining, bytes } => (*remaining as usize).min(6 - bytes.len()),
             Position::Fragment { more, .. } => *more as usize,
             Position::Leftover { .. } => 0,
-            Position::Skipped { left, .. } => *left as usize,
+            Position::Skipped { remaining, .. } => *remaining as usize,
         }
     }
 
-    /// Returns how many received bytes are held: those of an unfinished head, at most five.
+    /// Returns the number of received bytes that are held: those of an unfinished head, at most
+    /// five.
     pub fn held(&self) -> usize
         ensures held { (r : List ℕ) (due : List Mark) → IsAt self.now r due → result ≡ unfinished_heads r }
         ensures skipping { (r : List ℕ) → Skips self.now r → result ≡ 0 }

@@ -1,24 +1,24 @@
-//! Why an A-ASSOCIATE-RQ is invalid.
+//! The faults of an A-ASSOCIATE-RQ.
 ghost use Rattle.std.specs.Prelude.{◌≡◌};
 
 use std::fmt;
 
-/// Why an A-ASSOCIATE-RQ is invalid.
+/// Why an A-ASSOCIATE-RQ is invalid. Each fault has a number.
 #[derive(Clone, Copy, Debug, PartialEq, Eq)]
 pub enum PduFault {
-    /// 31: a body of fewer than 68 bytes, an item or sub-item that passes the end of the body or item
-    /// around it, one to three bytes after the last item, or a proposed presentation context without
-    /// its ID and reserved bytes.
+    /// 31: a body of fewer than 68 bytes, an item or sub-item that passes the end of the body or
+    /// item around it, one to three bytes after the last item, or a proposed presentation context
+    /// without its ID and reserved bytes.
     BadLength,
     /// 32: a second application context, user information or maximum length, a maximum length that
-    /// is not of four bytes, or a proposed context without exactly one abstract syntax and at least
-    /// one transfer syntax.
+    /// is not of four bytes, or a proposed presentation context without exactly one abstract syntax
+    /// and at least one transfer syntax.
     BadItem,
     /// 33: an even presentation context ID.
     BadContextId,
     /// 34: the presentation context ID of an earlier proposed presentation context.
     DoubleContext,
-    /// 35: no application context, no proposed context or no user information.
+    /// 35: no application context, no proposed presentation context or no user information.
     Missing,
 }
 
@@ -38,7 +38,7 @@ impl PduFault {
         }
     }
 
-    /// Returns the name of the fault, that of the variant.
+    /// Returns the name of the fault, which is that of the variant.
     pub fn name(self) -> &'static str
         ensures { result.now ≡ fault_name self }
     {

@@ -13,16 +13,19 @@ pub struct PduHead {
     pub length: u32,
 }
 
-/// The head of a presentation data value, its first six bytes (PS3.8 section 9.3.5.1 and annex E.2).
+/// The head of a presentation data value, its first six bytes (PS3.8 section 9.3.5.1 and annex
+/// E.2).
 #[derive(Clone, Copy, Debug, PartialEq, Eq)]
 pub struct PdvHead {
-    /// The number of bytes that follow this field: context ID, control byte and fragment.
+    /// The number of bytes that follow this field: context ID, message control header and fragment.
     pub length: u32,
     /// The presentation context ID.
     pub context: u8,
-    /// Whether the fragment is part of a command, else of a data set: bit 0 of the control byte.
+    /// Whether the fragment is part of a command set, else of a data set: bit 0 of the message
+    /// control header.
     pub command: bool,
-    /// Whether the fragment is the last one: bit 1 of the control byte. Bits 2 to 7 are ignored.
+    /// Whether the fragment is the last one: bit 1 of the message control header. Bits 2 to 7 are
+    /// ignored.
     pub last: bool,
 }
 
@@ -37,8 +40,8 @@ pub fn read_pdu_head(bytes: &[u8; 6]) -> PduHead
     }
 }
 
-/// Reads the head of a presentation data value: its length in big endian, its context and its
-/// control byte.
+/// Reads the head of a presentation data value: its length in big endian, its presentation context
+/// ID and its message control header.
 pub fn read_pdv_head(bytes: &[u8; 6]) -> PdvHead
     ensures { result ≡ pdv_head_of bytes.now }
 {

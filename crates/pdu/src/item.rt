@@ -3,12 +3,12 @@ ghost use Rattle.std.specs.Prelude.{◌≡◌, ◌≤◌, length, MatchOption};
 ghost use Rattle.std.specs.Iterator.{YieldsFirstBy, item_count};
 ghost use Rattle.pdu.specs.Items as spelling;
 ghost use Rattle.element.specs.Padding.{is_empty};
-ghost use Rattle.pdu.specs.Items.{item, items_of, left_over, Begins, BeginsNone};
+ghost use Rattle.pdu.specs.Items.{item, items_of, remainder, Begins, BeginsNone};
 
 use crate::item_type;
 use byteorder::{BigEndian, ByteOrder};
 
-/// Returns the length of an item's content in bytes, from its head.
+/// Returns the length of an item's content in bytes, from its head of four bytes.
 fn content_length(head: &[u8]) -> u16
     requires { 4 ≤ length head.now }
     ensures { result ≡ item.body head.now }
@@ -16,8 +16,8 @@ fn content_length(head: &[u8]) -> u16
     BigEndian::read_u16(&head[2..])
 }
 
-/// A whole item or sub-item of an association request: one byte type, one reserved, two bytes length,
-/// then the content (PS3.8 section 9.3.2).
+/// A whole item or sub-item of an association request: one byte type, one reserved, two bytes
+/// length, then the content (PS3.8 section 9.3.2).
 #[derive(Clone, Copy)]
 pub struct Item<'a> {
     bytes: &'a [u8],
@@ -32,14 +32,14 @@ impl<'a> Item<'a> {
         self.bytes[0]
     }
 
-    /// Returns all bytes of the item, including its head of four.
+    /// Returns all bytes of the item, including its head of four bytes.
     pub fn bytes(self) -> &'a [u8]
         ensures { result.now ≡ self.entry.bytes.now }
     {
         self.bytes
     }
 
-    /// Returns whether the item is a proposed presentation context and has its ID and three reserved
+    /// Returns whether the item is a proposed presentation context with its ID and three reserved
     /// bytes.
     pub fn is_context(self) -> bool
         ensures { result ≡ spelling.is_context self.entry.bytes.now }
@@ -47,7 +47,7 @@ impl<'a> Item<'a> {
         self.kind() == item_type::PROPOSED_CONTEXT && self.bytes.len() >= 8
     }
 
-    /// Returns the content of the item, which follows the head.
+    /// Returns the content of the item: the bytes after its head.
     pub fn content(self) -> &'a [u8]
         ensures { result.now ≡ spelling.item_content self.entry.bytes.now }
     {
@@ -55,14 +55,14 @@ impl<'a> Item<'a> {
     }
 }
 
-/// An iterator over the whole items at the front of some bytes, in their order.
+/// An iterator over the whole items at the front of some bytes, in order.
 #[derive(Clone, Copy)]
 pub struct Items<'a> {
     rest: &'a [u8],
 }
 
 impl<'a> Items<'a> {
-    /// Returns the iterator over the items of these bytes.
+    /// Returns an iterator over the items of these bytes.
     pub fn of(text: &'a [u8]) -> Items<'a>
         ensures { items_of result.rest.now ≡ items_of text.now }
     {
@@ -72,7 +72,7 @@ impl<'a> Items<'a> {
 
 /// Returns the first item and the bytes after it, or `None` if the bytes do not begin with a whole
 /// item.
-#[tactic(auto, using(crate::proofs::FirstItemIsUnique::begins_short, crate::proofs::FirstItemIsUnique::begins_begun, crate::proofs::FirstItemIsUnique::begins_cut))]
+#[tactic(auto, using(crate::proofs::FirstItemIsUnique::begins_short, crate::proofs::FirstItemIsUnique::begins_started, crate::proofs::FirstItemIsUnique::begins_cut))]
 pub fn first_item<'a>(text: &'a [u8]) -> Option<(Item<'a>, &'a [u8])>
     ensures { MatchOption result (BeginsNone text.now) (λ p. Begins text.now p.0.bytes.now p.1.now) }
 {
@@ -105,7 +105,7 @@ impl<'a> Iterator for Items<'a> {
     }
 }
 
-/// Returns the content of the first item of this type, or an empty slice if there is none.
+/// Returns the content of the first item of type `kind`, or an empty slice if there is none.
 pub fn content_in<'a>(kind: u8, text: &'a [u8]) -> &'a [u8]
     ensures { result.now ≡ spelling.content_in kind (items_of text.now) }
 {
@@ -117,7 +117,7 @@ pub fn content_in<'a>(kind: u8, text: &'a [u8]) -> &'a [u8]
     &[]
 }
 
-/// Returns the number of items of this type.
+/// Returns the number of items of type `kind`.
 pub fn count_of(kind: u8, text: &[u8]) -> usize
     ensures { result ≡ length (spelling.of_kind kind (items_of text.now)) }
 {
@@ -132,7 +132,7 @@ pub fn count_of(kind: u8, text: &[u8]) -> usize
 
 /// Returns whether the bytes are whole items and nothing else.
 pub fn is_whole(text: &[u8]) -> bool
-    ensures { result ≡ is_empty (left_over text.now) }
+    ensures { result ≡ is_empty (remainder text.now) }
 {
     let mut rest = text;
     while let Some((_, more)) = first_item(rest) {

@@ -1,5 +1,5 @@
-//! The types of the items and sub-items of an A-ASSOCIATE-RQ and an A-ASSOCIATE-AC, as they stand in
-//! the first byte of each (PS3.8 sections 9.3.2 and 9.3.3, annex D.1; PS3.7 annex D.3.3.2).
+//! The types of the items and sub-items of an A-ASSOCIATE-RQ and an A-ASSOCIATE-AC: the first byte
+//! of each (PS3.8 sections 9.3.2 and 9.3.3, annex D.1; PS3.7 annex D.3.3.2).
 
 /// Application context.
 pub const APPLICATION_CONTEXT: u8 = 0x10;
@@ -7,7 +7,7 @@ pub const APPLICATION_CONTEXT: u8 = 0x10;
 /// A presentation context that a request proposes.
 pub const PROPOSED_CONTEXT: u8 = 0x20;
 
-/// A presentation context in the answer to a request.
+/// A presentation context in an A-ASSOCIATE-AC.
 pub const ANSWERED_CONTEXT: u8 = 0x21;
 
 /// Abstract syntax, in a proposed presentation context.

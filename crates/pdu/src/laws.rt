@@ -1,6 +1,6 @@
 //! Lemmas on the definitions of this crate, each stated as the contract of a function with an empty
-//! body. A mark is what a byte of a stream completes: the head or the end of a PDU or of a presentation
-//! data value. A frame is a PDU as a part of the stream.
+//! body. A mark is what a byte of a stream completes: the head or the end of a PDU or of a
+//! presentation data value. A frame is a PDU as a part of the stream.
 ghost use Rattle.std.specs.Prelude.{◌≡◌, eqb, ◌≤◌, ◌++◌, [], ◌∷◌, ℕ, List, length, take, drop, Option, Result, Ok, Err};
 ghost use Rattle.std.specs.List.{AllByRecursion, IsDistinct};
 ghost use Rattle.std.specs.Io.KnownBytes.{append_known};
@@ -69,15 +69,15 @@ pub fn ids_are_few()
     ensures { (ns : List ℕ) → AllByRecursion IsContextId ns → IsDistinct eqb ns → length ns ≤ 128 }
 {}
 
-/// A body has no fault exactly if it is the encoding of a request, and then it is that of the request
-/// that `read_request` returns.
+/// A body without a fault is the encoding of a request, the one that `read_request` returns; and an
+/// encoding of a request has no fault.
 pub fn body_without_fault_is_a_request()
     ensures text { (b : List ℕ) → request_fault b ≡ None → RequestText (request_record b) b }
     ensures none { (r : RequestRecord) (b : List ℕ) → RequestText r b → request_fault b ≡ None }
 {}
 
-/// Sending two byte strings one after the other is sending them joined. Sending none changes nothing,
-/// and if the first send fails, so does the whole.
+/// Two sends have the same effect as one send of the concatenated bytes. Sending no bytes changes
+/// nothing, and if the first send fails, so does the whole.
 pub fn sends_are_joined()
     ensures known_nothing { (old : Option (List ℕ)) → append_known old [] ≡ old }
     ensures known { (old : Option (List ℕ)) (a b : List ℕ) → append_known (append_known old a) b ≡ append_known old (a ++ b) }
@@ -87,7 +87,8 @@ pub fn sends_are_joined()
     ensures both { (a b : List ℕ) (result : Result (Unit {0}) wire.WireFailed) (old now new : Line) → Sends a (Ok tt) old now → Sends b result now new → Sends (a ++ b) result old new }
 {}
 
-/// Every stream of bytes is a list of whole PDUs and a rest shorter than a PDU (PS3.8 section 9.3.1).
+/// Every stream of bytes is a list of whole PDUs and a rest that is shorter than a PDU (PS3.8
+/// section 9.3.1).
 pub fn stream_has_frames()
     ensures { (s : List ℕ) → Splits s (frames_of s) (rest_of s) }
 {}
@@ -102,7 +103,7 @@ pub fn marks_only_grow()
     ensures { (s p : List ℕ) → marks (s ++ p) ≡ marks s ++ new_marks s p }
 {}
 
-/// The marks of a stream do not depend on how it is cut into pieces.
+/// The marks of a stream do not depend on how it is divided into chunks.
 pub fn marks_do_not_show_the_cut()
     ensures { (s : List ℕ) (ps qs : List (List ℕ)) → joined ps ≡ joined qs → marks_by s ps ≡ marks_by s qs }
 {}
@@ -113,51 +114,51 @@ pub fn rests_are_unfinished()
     ensures alone { (r : List ℕ) → IsRest r → rest_of r ≡ r }
 {}
 
-/// An empty piece has no marks, and two pieces together have the marks of the first and then those of
-/// the second.
+/// An empty chunk has no marks. Two chunks together have the marks of the first, followed by those
+/// of the second.
 pub fn pieces_mark_one_after_another()
     ensures nothing { (s : List ℕ) → new_marks s [] ≡ [] }
     ensures both { (s p q : List ℕ) → new_marks s (p ++ q) ≡ new_marks s p ++ new_marks (s ++ p) q }
 {}
 
-/// The marks of further bytes depend on the unfinished PDU alone.
+/// The marks of further bytes depend only on the unfinished PDU before them.
 pub fn marks_depend_on_the_rest()
     ensures marks { (s p : List ℕ) → new_marks s p ≡ new_marks (rest_of s) p }
     ensures rest { (s p : List ℕ) → rest_of (s ++ p) ≡ rest_of (rest_of s ++ p) }
 {}
 
-/// The bytes of a P-DATA-TF PDU after its head determine their marks and the position inside the PDU
-/// after them: those that `pdv_marks` and `data_spot` compute (PS3.8 section 9.3.5 and annex E.2).
+/// The bytes of a P-DATA-TF PDU after its head determine their marks and the position inside the
+/// PDU after them, which `pdv_marks` and `data_spot` compute (PS3.8 section 9.3.5 and annex E.2).
 pub fn marks_of_data_are_one()
     ensures some { (room : ℕ) (bytes : List ℕ) → Marked room bytes (pdv_marks room bytes) (data_spot room bytes) }
     ensures marks { (room : ℕ) (bytes : List ℕ) (ms : List Mark) (s : DataSpot) → Marked room bytes ms s → pdv_marks room bytes ≡ ms }
     ensures spot { (room : ℕ) (bytes : List ℕ) (ms : List Mark) (s : DataSpot) → Marked room bytes ms s → data_spot room bytes ≡ s }
 {}
 
-/// In a P-DATA-TF PDU of whole presentation data values alone, each value has two marks, its head and
-/// its end (PS3.8 section 9.3.5).
+/// In a P-DATA-TF PDU that consists of whole presentation data values, each value has two marks,
+/// its head and its end (PS3.8 section 9.3.5).
 pub fn whole_values_are_marked()
     ensures { (vs : List (List ℕ)) → AllByRecursion IsPdv vs → pdv_marks (length (joined vs)) (joined vs) ≡ marks_of_values vs }
 {}
 
-/// Example: the first mark of an HTTP request is the head of a PDU of unrecognized type, at its sixth
-/// byte.
+/// Example: the first mark of an HTTP request is the head of a PDU of unrecognized type, at its
+/// sixth byte.
 pub fn bytes_that_are_no_pdu()
     ensures sixth { marks no_pdu ≡ Head 0x47 0x54202F20 ∷ [] }
     ensures fifth { marks (take 5 no_pdu) ≡ [] }
 {}
 
-/// Example: the mark of a valid presentation data value is at its last byte, though the next one in the
-/// same PDU is invalid. A receiver that waits for the whole PDU would have other marks.
+/// Example: a valid presentation data value has its mark at its last byte, though the next value in
+/// the same PDU is invalid. A receiver that waits for the whole PDU would have other marks.
 pub fn a_good_value_before_a_bad_one()
     ensures whole { marks good_then_bad ≡ good_then_bad_marks }
     ensures at_once { marks (take 14 good_then_bad) ≡ good_marks }
     ensures no_waiting { marks good_then_bad ≡ Head 4 14 ∷ End 4 (drop 6 good_then_bad) ∷ [] → ⊥ }
 {}
 
-/// Examples: one to five bytes after a presentation data value are left over and dropped; six may be
-/// the head of another.
-pub fn bytes_left_over()
+/// Examples: one to five bytes after a presentation data value have the mark `Leftover` and are
+/// dropped; six bytes may be the head of another value.
+pub fn bytes_that_remain()
     ensures one { marks (empty_pdv 7) ≡ Head 4 7 ∷ PdvHead 2 1 2 ∷ Pdv 1 2 [] ∷ Leftover ∷ [] }
     ensures five { marks (empty_pdv 11) ≡ Head 4 11 ∷ PdvHead 2 1 2 ∷ Pdv 1 2 [] ∷ Leftover ∷ [] }
     ensures dropped { marks (empty_pdv 11 ++ 1 ∷ 2 ∷ 3 ∷ 4 ∷ 5 ∷ []) ≡ Head 4 11 ∷ PdvHead 2 1 2 ∷ Pdv 1 2 [] ∷ Leftover ∷ End 4 (drop 6 (empty_pdv 11) ++ 1 ∷ 2 ∷ 3 ∷ 4 ∷ 5 ∷ []) ∷ [] }
@@ -169,8 +170,7 @@ pub fn a_value_past_its_frame()
     ensures { marks past_the_end ≡ Head 4 6 ∷ BadPdv ∷ End 4 (drop 6 past_the_end) ∷ [] }
 {}
 
-/// Example: of two PDUs, of which only the head of the second was received, the marks are a head, an
-/// end and a head.
+/// Example: the marks of a whole PDU and the head of a second one are a head, an end and a head.
 pub fn two_frames()
     ensures { marks release_twice ≡ Head 5 4 ∷ End 5 (0 ∷ 0 ∷ 0 ∷ 0 ∷ []) ∷ Head 5 4 ∷ [] }
 {}

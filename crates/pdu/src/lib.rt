@@ -1,5 +1,5 @@
-//! Protocol data units (PDUs) of the upper layer: their layouts, the division of a received stream into
-//! PDUs, association requests, and the [`Wire`] on which PDUs are sent (PS3.8 section 9.3).
+//! Protocol data units (PDUs) of the upper layer: their layouts, the division of a received stream
+//! into PDUs, association requests, and the [`Wire`] on which PDUs are sent (PS3.8 section 9.3).
 #![tactic(auto)]
 
 mod checking;

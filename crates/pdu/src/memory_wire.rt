@@ -7,8 +7,8 @@ use element::count::Count;
 use std::alloc::Allocator;
 use std::marker::Model;
 
-/// A [`Wire`] that appends the sent bytes to a vector. A send fails if the allocator refuses the
-/// memory, and has sent none of its bytes then.
+/// A [`Wire`] that appends the sent bytes to a vector. A send fails if the allocator does, and has
+/// then sent no byte.
 #[derive(Drop)]
 pub struct MemoryWire<A: Allocator> {
     bytes: Vec<u8, A>,

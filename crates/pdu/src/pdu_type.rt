@@ -1,4 +1,4 @@
-//! The types of PDUs, as they stand in the first byte of each (PS3.8 sections 9.3.2 to 9.3.8).
+//! The types of PDUs: the first byte of each (PS3.8 sections 9.3.2 to 9.3.8).
 
 /// A-ASSOCIATE-RQ.
 pub const A_ASSOCIATE_RQ: u8 = 0x01;

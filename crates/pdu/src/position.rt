@@ -1,4 +1,4 @@
-//! The position of a deframer in its stream of PDUs, and the event that the next bytes give there.
+//! The position of a deframer in its stream of PDUs, and the event that the next bytes complete.
 ghost use Rattle.std.specs.Prelude.{◌≡◌, ◌≤◌, ◌<◌, ◌-◌, ◌+◌, ◌*◌, ◌++◌, ◌⊎◌, min, [], ℕ, List, length, take, Option, None, Some, IfSome, MatchOption, true, false};
 ghost use Rattle.arrayvec.specs.ArrayVec.{array_vec_len};
 ghost use Rattle.pdu.specs.declared.event.Event.TheVariants as event;
@@ -16,29 +16,43 @@ use crate::head::{PduHead, PdvHead, read_pdu_head, read_pdv_head};
 use crate::pdu_type::P_DATA_TF;
 use arrayvec::ArrayVec;
 
-/// The position of a deframer in its stream of PDUs. A count of zero says that the PDU or the fragment
-/// is complete and that the event of its end is the next.
+/// The position of a deframer in its stream of PDUs. If a count is 0, the PDU or fragment is
+/// complete, and the event of its end is next.
 #[derive(Drop)]
 pub(crate) enum Position {
-    /// In the head of a PDU, with the bytes of it that were received: none to five.
+    /// In the head of a PDU, with the none to five bytes of it that were received.
     Head(ArrayVec<u8, 6>),
     /// In the body of a PDU other than P-DATA-TF, or in the rest of a P-DATA-TF after an invalid
-    /// presentation data value or bytes left over. Of the PDU `left` bytes are still to come.
-    Body { kind: u8, left: u32 },
-    /// In the head of a presentation data value, with the bytes of it that were received. Of the
-    /// P-DATA-TF `left` bytes are still to come.
-    PdvHead { left: u32, bytes: ArrayVec<u8, 6> },
-    /// In a fragment of which `more` bytes are still to come, and `left` of the P-DATA-TF.
-    Fragment { left: u32, more: u32 },
-    /// After a presentation data value, where one to five bytes of the P-DATA-TF are left, before the
-    /// event `Leftover`.
-    Leftover { left: u32 },
-    /// In a PDU that is skipped, of which `left` bytes are still to come.
-    Skipped { kind: u8, left: u32 },
+    /// presentation data value or leftover bytes. `remaining` bytes of the PDU are missing.
+    Body {
+        kind: u8,
+        remaining: u32,
+    },
+    /// In the head of a presentation data value, with the bytes of it that were received. `remaining`
+    /// bytes of the P-DATA-TF are missing.
+    PdvHead {
+        remaining: u32,
+        bytes: ArrayVec<u8, 6>,
+    },
+    /// In a fragment, of which `more` bytes are missing; `remaining` bytes of the P-DATA-TF are missing.
+    Fragment {
+        remaining: u32,
+        more: u32,
+    },
+    /// After a presentation data value, when one to five bytes of the P-DATA-TF are missing and the
+    /// event `Leftover` is next.
+    Leftover {
+        remaining: u32,
+    },
+    /// In a PDU that is skipped, of which `remaining` bytes are missing.
+    Skipped {
+        kind: u8,
+        remaining: u32,
+    },
 }
 
-/// Appends the first bytes of a piece to an unfinished head, until it has six, at most `most` of them.
-/// Returns how many.
+/// Appends the first bytes of `piece` to an unfinished head, at most `most` and up to six in all.
+/// Returns the number of bytes appended.
 fn fill(bytes: &mut ArrayVec<u8, 6>, most: usize, piece: &[u8]) -> usize
     requires short { array_vec_len bytes.old < 6 }
     ensures within { result ≤ length piece.now }
@@ -81,56 +95,56 @@ fn after_head(head: PduHead) -> Position
 {
     if head.kind == P_DATA_TF && head.length > 0 {
         return Position::PdvHead {
-            left: head.length,
+            remaining: head.length,
             bytes: ArrayVec::new(),
         };
     }
     Position::Body {
         kind: head.kind,
-        left: head.length,
+        remaining: head.length,
     }
 }
 
-/// Returns the position after a presentation data value; `left` bytes of its PDU are still to come.
-fn after_pdv(left: u32) -> Position
-    ensures over { left ≡ 0 → result ≡ position.Body 4 0 }
-    ensures leftover { spelling.is_leftover left ≡ true → result ≡ position.Leftover left }
-    ensures another { 0 < left → spelling.is_leftover left ≡ false → (r : List ℕ) (due : List Mark) → AtPdvHead left [] r due → At result r due }
+/// Returns the position after a presentation data value, when `remaining` bytes of its PDU are missing.
+fn after_pdv(remaining: u32) -> Position
+    ensures over { remaining ≡ 0 → result ≡ position.Body 4 0 }
+    ensures leftover { spelling.is_leftover remaining ≡ true → result ≡ position.Leftover remaining }
+    ensures another { 0 < remaining → spelling.is_leftover remaining ≡ false → (r : List ℕ) (due : List Mark) → AtPdvHead remaining [] r due → At result r due }
     ensures sound { IsSound result }
     ensures follows { FollowsPdv result }
     ensures few { events_due result ≤ 2 }
 {
-    match left {
+    match remaining {
         0 => Position::Body {
             kind: P_DATA_TF,
-            left,
+            remaining,
         },
-        1..=5 => Position::Leftover { left },
+        1..=5 => Position::Leftover { remaining },
         _ => Position::PdvHead {
-            left,
+            remaining,
             bytes: ArrayVec::new(),
         },
     }
 }
 
-/// Returns the position after the head of a presentation data value, and the event of the head, valid
-/// or not; `left` bytes of its PDU are still to come.
-fn after_pdv_head<'p>(head: PdvHead, left: u32) -> (Position, Event<'p>)
-    ensures bad { (head.length < 2) ⊎ (left + 2 < head.length) → result ≡ (position.Body 4 left, event.BadPdv) }
-    ensures good { 2 ≤ head.length → head.length ≤ left + 2 → result ≡ (position.Fragment left (head.length - 2), event.PdvHead head) }
+/// Returns the position after the head of a presentation data value, and the event of the head,
+/// valid or not, when `remaining` bytes of its PDU are missing.
+fn after_pdv_head<'p>(head: PdvHead, remaining: u32) -> (Position, Event<'p>)
+    ensures bad { (head.length < 2) ⊎ (remaining + 2 < head.length) → result ≡ (position.Body 4 remaining, event.BadPdv) }
+    ensures good { 2 ≤ head.length → head.length ≤ remaining + 2 → result ≡ (position.Fragment remaining (head.length - 2), event.PdvHead head) }
     ensures sound { IsSound result.0 }
-    ensures follows { FollowsPdvHead head left result.1 result.0 }
+    ensures follows { FollowsPdvHead head remaining result.1 result.0 }
 {
-    if head.length < 2 || head.length - 2 > left {
+    if head.length < 2 || head.length - 2 > remaining {
         let kind = P_DATA_TF;
-        return (Position::Body { kind, left }, Event::BadPdv);
+        return (Position::Body { kind, remaining }, Event::BadPdv);
     }
     let more = head.length - 2;
-    (Position::Fragment { left, more }, Event::PdvHead(head))
+    (Position::Fragment { remaining, more }, Event::PdvHead(head))
 }
 
-/// Reads bytes of the head of a PDU. Returns how many, and where they complete it, the new position and
-/// the event.
+/// Reads bytes of the head of a PDU. Returns their number and, if they complete the head, the new
+/// position and the event.
 fn take_head<'p>(
     bytes: &mut ArrayVec<u8, 6>,
     piece: &'p [u8],
@@ -151,27 +165,27 @@ fn take_head<'p>(
     }
 }
 
-/// Reads bytes of the head of a presentation data value. Returns how many, and where they complete it
-/// or end the PDU inside it, the new position and the event.
+/// Reads bytes of the head of a presentation data value. Returns their number and, if they complete
+/// the head or the PDU ends inside it, the new position and the event.
 fn take_pdv_head<'p>(
-    left: &mut u32,
+    remaining: &mut u32,
     bytes: &mut ArrayVec<u8, 6>,
     piece: &'p [u8],
 ) -> (usize, Option<(Position, Event<'p>)>)
     requires short { array_vec_len bytes.old < 6 }
-    requires some { 0 < left.old }
+    requires some { 0 < remaining.old }
     ensures within { result.0 ≤ length piece.now }
     ensures used_up { result.1 ≡ None → result.0 ≡ length piece.now }
     ensures short { result.1 ≡ None → array_vec_len bytes.new < 6 }
-    ensures some { result.1 ≡ None → 0 < left.new }
+    ensures some { result.1 ≡ None → 0 < remaining.new }
     ensures sound { IfSome result.1 (λ found. IsSound found.0) }
-    ensures finds { (r : List ℕ) (due : List Mark) → AtPdvHead left.old bytes.old.items r due → Finds (position.PdvHead left.new bytes.new) r due (take result.0 piece.now) result.1 }
-    ensures steps { StepsTo (position.PdvHead left.old bytes.old) (position.PdvHead left.new bytes.new) result.0 (take result.0 piece.now) result.1 }
-    ensures fewer { IfSome result.1 (λ found. events_due found.0 < events_due (position.PdvHead left.old bytes.old) + 4 * result.0) }
+    ensures finds { (r : List ℕ) (due : List Mark) → AtPdvHead remaining.old bytes.old.items r due → Finds (position.PdvHead remaining.new bytes.new) r due (take result.0 piece.now) result.1 }
+    ensures steps { StepsTo (position.PdvHead remaining.old bytes.old) (position.PdvHead remaining.new bytes.new) result.0 (take result.0 piece.now) result.1 }
+    ensures fewer { IfSome result.1 (λ found. events_due found.0 < events_due (position.PdvHead remaining.old bytes.old) + 4 * result.0) }
 {
-    let count = fill(bytes, *left as usize, piece);
-    let rest = *left - count as u32;
-    *left = rest;
+    let count = fill(bytes, *remaining as usize, piece);
+    let rest = *remaining - count as u32;
+    *remaining = rest;
     if let Some(head) = pdv_head(bytes) {
         return (count, Some(after_pdv_head(head, rest)));
     }
@@ -184,18 +198,22 @@ fn take_pdv_head<'p>(
     (count, None)
 }
 
-/// Reads bytes of a body. Returns how many, and the new position with the event: the bytes, or the end
-/// of the PDU if `left` is 0. There is no event if the piece is empty.
-fn take_body<'p>(kind: u8, left: u32, piece: &'p [u8]) -> (usize, Option<(Position, Event<'p>)>)
+/// Reads bytes of a body. Returns their number, the new position and the event: the bytes, or the
+/// end of the PDU if `remaining` is 0. Otherwise an empty `piece` has no event.
+fn take_body<'p>(
+    kind: u8,
+    remaining: u32,
+    piece: &'p [u8],
+) -> (usize, Option<(Position, Event<'p>)>)
     ensures within { result.0 ≤ length piece.now }
     ensures used_up { result.1 ≡ None → result.0 ≡ length piece.now }
     ensures sound { IfSome result.1 (λ found. IsSound found.0) }
-    ensures longest { result.0 ≡ min (length piece.now) left }
-    ensures finds { (r : List ℕ) (due : List Mark) → AtBody kind left r due → Finds (position.Body kind left) r due (take result.0 piece.now) result.1 }
-    ensures steps { StepsTo (position.Body kind left) (position.Body kind left) result.0 (take result.0 piece.now) result.1 }
-    ensures fewer { IfSome result.1 (λ found. events_due found.0 < events_due (position.Body kind left) + 4 * result.0) }
+    ensures longest { result.0 ≡ min (length piece.now) remaining }
+    ensures finds { (r : List ℕ) (due : List Mark) → AtBody kind remaining r due → Finds (position.Body kind remaining) r due (take result.0 piece.now) result.1 }
+    ensures steps { StepsTo (position.Body kind remaining) (position.Body kind remaining) result.0 (take result.0 piece.now) result.1 }
+    ensures fewer { IfSome result.1 (λ found. events_due found.0 < events_due (position.Body kind remaining) + 4 * result.0) }
 {
-    if left == 0 {
+    if remaining == 0 {
         return (
             0,
             Some((Position::Head(ArrayVec::new()), Event::PduEnd(kind))),
@@ -204,69 +222,72 @@ fn take_body<'p>(kind: u8, left: u32, piece: &'p [u8]) -> (usize, Option<(Positi
     if piece.is_empty() {
         return (0, None);
     }
-    let count = piece.len().min(left as usize);
-    let left = left - count as u32;
+    let count = piece.len().min(remaining as usize);
+    let remaining = remaining - count as u32;
     (
         count,
-        Some((Position::Body { kind, left }, Event::Body(&piece[..count]))),
+        Some((
+            Position::Body { kind, remaining },
+            Event::Body(&piece[..count]),
+        )),
     )
 }
 
-/// Reads bytes of a fragment. Returns how many, and the new position with the event: the bytes, or the
-/// end of the presentation data value if `more` is 0. There is no event if the piece is empty.
+/// Reads bytes of a fragment. Returns their number, the new position and the event: the bytes, or
+/// the end of the presentation data value if `more` is 0. Otherwise an empty `piece` has no event.
 fn take_fragment<'p>(
-    left: u32,
+    remaining: u32,
     more: u32,
     piece: &'p [u8],
 ) -> (usize, Option<(Position, Event<'p>)>)
-    requires fits { more ≤ left }
+    requires fits { more ≤ remaining }
     ensures within { result.0 ≤ length piece.now }
     ensures used_up { result.1 ≡ None → result.0 ≡ length piece.now }
     ensures sound { IfSome result.1 (λ found. IsSound found.0) }
     ensures longest { result.0 ≡ min (length piece.now) more }
-    ensures finds { (r : List ℕ) (due : List Mark) → AtFragment left more r due → Finds (position.Fragment left more) r due (take result.0 piece.now) result.1 }
-    ensures steps { StepsTo (position.Fragment left more) (position.Fragment left more) result.0 (take result.0 piece.now) result.1 }
-    ensures fewer { IfSome result.1 (λ found. events_due found.0 < events_due (position.Fragment left more) + 4 * result.0) }
+    ensures finds { (r : List ℕ) (due : List Mark) → AtFragment remaining more r due → Finds (position.Fragment remaining more) r due (take result.0 piece.now) result.1 }
+    ensures steps { StepsTo (position.Fragment remaining more) (position.Fragment remaining more) result.0 (take result.0 piece.now) result.1 }
+    ensures fewer { IfSome result.1 (λ found. events_due found.0 < events_due (position.Fragment remaining more) + 4 * result.0) }
 {
     if more == 0 {
-        return (0, Some((after_pdv(left), Event::PdvEnd)));
+        return (0, Some((after_pdv(remaining), Event::PdvEnd)));
     }
     if piece.is_empty() {
         return (0, None);
     }
     let count = piece.len().min(more as usize);
-    let left = left - count as u32;
+    let remaining = remaining - count as u32;
     let more = more - count as u32;
     (
         count,
         Some((
-            Position::Fragment { left, more },
+            Position::Fragment { remaining, more },
             Event::Fragment(&piece[..count]),
         )),
     )
 }
 
-/// Reads bytes of a PDU that is skipped. Returns how many, and after the last one, the new position
-/// with the event of the PDU's end.
+/// Reads bytes of a skipped PDU. Returns their number and, after the last byte, the new position
+/// and the event of the PDU's end.
 fn take_skipped<'p>(
     kind: u8,
-    left: &mut u32,
+    remaining: &mut u32,
     piece: &'p [u8],
 ) -> (usize, Option<(Position, Event<'p>)>)
     ensures within { result.0 ≤ length piece.now }
     ensures used_up { result.1 ≡ None → result.0 ≡ length piece.now }
     ensures sound { IfSome result.1 (λ found. IsSound found.0) }
-    ensures counts { left.new + result.0 ≡ left.old }
-    ensures finds { (r : List ℕ) (due : List Mark) → IsOver kind left.old r due → Finds (position.Skipped kind left.new) r due (take result.0 piece.now) result.1 }
-    ensures steps { StepsTo (position.Skipped kind left.old) (position.Skipped kind left.new) result.0 (take result.0 piece.now) result.1 }
-    ensures fewer { IfSome result.1 (λ found. events_due found.0 < events_due (position.Skipped kind left.old) + 4 * result.0) }
-    ensures goes_on { 0 < left.new → result.1 ≡ None }
-    ensures ends { left.new ≡ 0 → IfSome result.1 (λ found. (found.1 ≡ event.PduEnd kind) × At found.0 [] []) }
-    ensures told { left.new ≡ 0 → result.1 ≡ None → ⊥ }
+    ensures counts { remaining.new + result.0 ≡ remaining.old }
+    ensures finds { (r : List ℕ) (due : List Mark) → IsOver kind remaining.old r due → Finds (position.Skipped kind remaining.new) r due (take result.0 piece.now) result.1 }
+    ensures steps { StepsTo (position.Skipped kind remaining.old) (position.Skipped kind remaining.new) result.0 (take result.0 piece.now) result.1 }
+    ensures fewer { IfSome result.1 (λ found. events_due found.0 < events_due (position.Skipped kind remaining.old) + 4 * result.0) }
+    ensures continues { 0 < remaining.new → result.1 ≡ None }
+    ensures ends { remaining.new ≡ 0 → IfSome result.1 (λ found. (found.1 ≡ event.PduEnd kind) × At found.0 [] []) }
+    ensures reported { remaining.new ≡ 0 → result.1 ≡ None → ⊥ }
 {
-    let count = piece.len().min(*left as usize);
-    let rest = *left - count as u32;
-    *left = rest;
+    let count = piece.len().min(*remaining as usize);
+    let rest = *remaining - count as u32;
+    *remaining = rest;
     if rest == 0 {
         return (
             count,
@@ -276,9 +297,9 @@ fn take_skipped<'p>(
     (count, None)
 }
 
-/// Reads the first bytes of a piece. Returns how many, and the event with the position after it. If
-/// there is no event, the new position is in `place` instead.
-#[tactic(auto, using(crate::proofs::CallFollowsTheMarks::leftover_told, crate::proofs::CallTakesTheLongest::longest_head, crate::proofs::CallTakesTheLongest::longest_body, crate::proofs::CallTakesTheLongest::longest_pdv_head, crate::proofs::CallTakesTheLongest::longest_fragment, crate::proofs::CallTakesTheLongest::longest_leftover, crate::proofs::CallTakesTheLongest::longest_over))]
+/// Reads the first bytes of `piece`. Returns their number, and the next event with the position
+/// after it. Without an event, `place` is updated to the new position instead.
+#[tactic(auto, using(crate::proofs::CallFollowsTheMarks::leftover_reported, crate::proofs::CallTakesTheLongest::longest_head, crate::proofs::CallTakesTheLongest::longest_body, crate::proofs::CallTakesTheLongest::longest_pdv_head, crate::proofs::CallTakesTheLongest::longest_fragment, crate::proofs::CallTakesTheLongest::longest_leftover, crate::proofs::CallTakesTheLongest::longest_over))]
 pub(crate) fn find<'p>(
     place: &mut Position,
     piece: &'p [u8],
@@ -296,14 +317,17 @@ pub(crate) fn find<'p>(
 {
     match place {
         Position::Head(bytes) => take_head(bytes, piece),
-        Position::Body { kind, left } => take_body(*kind, *left, piece),
-        Position::PdvHead { left, bytes } => take_pdv_head(left, bytes, piece),
-        Position::Fragment { left, more } => take_fragment(*left, *more, piece),
-        Position::Leftover { left } => {
+        Position::Body { kind, remaining } => take_body(*kind, *remaining, piece),
+        Position::PdvHead { remaining, bytes } => take_pdv_head(remaining, bytes, piece),
+        Position::Fragment { remaining, more } => take_fragment(*remaining, *more, piece),
+        Position::Leftover { remaining } => {
             let kind = P_DATA_TF;
-            let left = *left;
-            (0, Some((Position::Body { kind, left }, Event::Leftover)))
+            let remaining = *remaining;
+            (
+                0,
+                Some((Position::Body { kind, remaining }, Event::Leftover)),
+            )
         }
-        Position::Skipped { kind, left } => take_skipped(*kind, left, piece),
+        Position::Skipped { kind, remaining } => take_skipped(*kind, remaining, piece),
     }
 }

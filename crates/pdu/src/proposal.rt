@@ -8,8 +8,8 @@ use crate::syntaxes::TransferSyntaxes;
 use element::unpadded;
 use std::marker::Model;
 
-/// A presentation context that a request proposes (PS3.8 section 9.3.2.2). It borrows from the body of
-/// the request.
+/// A presentation context that a request proposes (PS3.8 section 9.3.2.2), which borrows from the
+/// body of the request.
 #[derive(Drop)]
 pub struct Proposal<'a> {
     id: u8,
@@ -27,7 +27,7 @@ impl<'a> Model for Proposal<'a> {
 }
 
 impl<'a> Proposal<'a> {
-    /// Returns the presentation context of this item of type 20H.
+    /// Returns the presentation context in an item of type 20H.
     pub(crate) fn of(item: Item<'a>) -> Proposal<'a>
         requires { is_context item.bytes.now ≡ true }
         ensures { result ≡ proposal_of item.entry.bytes.now }
@@ -55,11 +55,11 @@ impl<'a> Proposal<'a> {
         self.abstract_name
     }
 
-    ghost use Rattle.pdu.specs.Left.{syntaxes_left};
+    ghost use Rattle.pdu.specs.Remaining.{syntaxes_remaining};
 
-    /// Returns an iterator over the transfer syntaxes in their order.
+    /// Returns an iterator over the proposed transfer syntaxes, in order.
     pub fn transfer_syntaxes(&self) -> TransferSyntaxes<'a>
-        ensures { syntaxes_left result ≡ self.now.transfer_syntaxes }
+        ensures { syntaxes_remaining result ≡ self.now.transfer_syntaxes }
     {
         TransferSyntaxes::of(self.parts)
     }

@@ -1,4 +1,4 @@
-//! Association requests.
+//! Reads association requests.
 ghost use Rattle.std.specs.Prelude.{◌≡◌, ◌≤◌, ◌+◌, length, take, drop, List, ℕ, IfOk, IfErr, OnErr, None};
 ghost use Rattle.pdu.specs.Items.{request_record, maximum_in, items_of};
 ghost use Rattle.pdu.specs.Record.{RequestRecord};
@@ -14,7 +14,7 @@ use byteorder::{BigEndian, ByteOrder};
 use element::{AeTitle, unpadded};
 use std::marker::Model;
 
-/// A valid A-ASSOCIATE-RQ (PS3.8 section 9.3.2). It borrows from the body of the PDU.
+/// A valid A-ASSOCIATE-RQ (PS3.8 section 9.3.2), which borrows from the body of the PDU.
 #[derive(Drop)]
 pub struct Request<'a> {
     version: u16,
@@ -40,17 +40,17 @@ impl<'a> Model for Request<'a> {
 }
 
 impl<'a> Request<'a> {
-    /// Does nothing. Its contract states what the type guarantees: there are 32 reserved bytes, and the
-    /// presentation context IDs are odd and distinct, so that there are at most 128 contexts.
+    /// Does nothing. Its contract states what the type guarantees: 32 reserved bytes, and
+    /// presentation context IDs that are odd and distinct, hence at most 128 contexts.
     pub fn keeps(&self)
         ensures request { IsRequest self.now }
         ensures few { length self.now.contexts ≤ 128 }
     {
-        // The prover looks up what the type guarantees where one of its fields is named.
+        // The prover uses the guarantee of a type where a field is named.
         let _ = &self.reserved;
     }
 
-    /// Returns the protocol version, whose bit 0 stands for version 1.
+    /// Returns the protocol version, a bit field whose bit 0 means version 1.
     pub fn version(&self) -> u16
         ensures { result ≡ self.now.version }
     {
@@ -86,18 +86,18 @@ impl<'a> Request<'a> {
         self.application_context
     }
 
-    ghost use Rattle.pdu.specs.Left.{proposals_left};
+    ghost use Rattle.pdu.specs.Remaining.{proposals_remaining};
 
     /// Returns an iterator over the proposed presentation contexts in their order, at most 128.
     pub fn contexts(&self) -> Contexts<'a>
-        ensures value { proposals_left result ≡ self.now.contexts }
+        ensures value { proposals_remaining result ≡ self.now.contexts }
         ensures few { length self.now.contexts ≤ 128 }
     {
         Contexts::of(self.items)
     }
 
-    /// Returns the maximum length of a P-DATA-TF PDU that the peer receives, in bytes. It is 0 where the
-    /// request has no maximum length, or one of 0, which stands for no limit.
+    /// Returns the greatest length of a P-DATA-TF PDU that the peer receives, in bytes. It is 0, no
+    /// limit, if the request has no maximum length or one of 0.
     pub fn maximum(&self) -> u32
         ensures { result ≡ self.now.maximum }
     {
@@ -108,8 +108,8 @@ impl<'a> Request<'a> {
 /// The number of bytes in the body of an A-ASSOCIATE-RQ before its first item.
 const BEFORE_ITEMS: usize = 68;
 
-/// Reads the body of an A-ASSOCIATE-RQ (PS3.8 section 9.3.2), the bytes after the head of the PDU. It
-/// allocates nothing, and its time is linear in the body. If the body is invalid, the error is the
+/// Reads the body of an A-ASSOCIATE-RQ (PS3.8 section 9.3.2), the bytes after the head of the PDU.
+/// Allocates nothing and takes time linear in the body. If the body is invalid, the error is the
 /// first fault, in the order of its items.
 pub fn read_request(body: &[u8]) -> Result<Request<'_>, PduFault>
     ensures record { IfOk result (λ r. r ≡ request_record body.now) }
@@ -144,7 +144,7 @@ fn view<'a>(body: &'a [u8]) -> Request<'a>
     }
 }
 
-/// Returns the AE title in the 16 bytes from this offset on.
+/// Returns the AE title in the 16 bytes at the offset `place`.
 fn title_at(body: &[u8], place: usize) -> AeTitle
     requires { place + 16 ≤ length body.now }
     ensures { result.0 ≡ take 16 (drop place body.now) }

@@ -7,7 +7,7 @@ use crate::item::Items;
 use crate::item_type;
 use element::unpadded;
 
-/// An iterator over the transfer syntaxes of a proposed presentation context in their order, without
+/// An iterator over the transfer syntaxes of a proposed presentation context, in order, without
 /// trailing zero bytes and spaces.
 #[derive(Clone, Copy)]
 pub struct TransferSyntaxes<'a> {
@@ -15,11 +15,11 @@ pub struct TransferSyntaxes<'a> {
 }
 
 impl<'a> TransferSyntaxes<'a> {
-    ghost use Rattle.pdu.specs.Left.{syntaxes_left};
+    ghost use Rattle.pdu.specs.Remaining.{syntaxes_remaining};
 
-    /// Returns the iterator over the transfer syntaxes among the sub-items in these bytes.
+    /// Returns an iterator over the transfer syntaxes among the sub-items in these bytes.
     pub(crate) fn of(text: &'a [u8]) -> TransferSyntaxes<'a>
-        ensures { syntaxes_left result ≡ syntaxes (items_of text.now) }
+        ensures { syntaxes_remaining result ≡ syntaxes (items_of text.now) }
     {
         TransferSyntaxes {
             items: Items::of(text),
@@ -30,11 +30,11 @@ impl<'a> TransferSyntaxes<'a> {
 impl<'a> Iterator for TransferSyntaxes<'a> {
     type Item = &'a [u8];
 
-    ghost use Rattle.pdu.specs.Left.{syntaxes_left};
+    ghost use Rattle.pdu.specs.Remaining.{syntaxes_remaining};
 
-    ghost next_gives = { YieldsFirstRef syntaxes_left };
+    ghost next_gives = { YieldsFirstRef syntaxes_remaining };
 
-    ghost remaining = { item_count syntaxes_left };
+    ghost remaining = { item_count syntaxes_remaining };
 
     fn next(&mut self) -> Option<&'a [u8]> {
         while let Some(item) = self.items.next() {

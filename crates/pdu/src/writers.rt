@@ -11,7 +11,7 @@ use arrayvec::ArrayVec;
 use byteorder::{BigEndian, ByteOrder};
 
 /// The greatest size in bytes of a P-DATA-TF PDU that is sent with one call of `Wire::send`. Every
-/// response message of this product fits: its longest elements are two UIDs of 64 bytes.
+/// PDU of a response of this product fits: its longest elements are two UIDs of 64 bytes.
 const ONE_SEND: usize = 512;
 
 /// Returns the ten bytes of a PDU with this type and a body of four bytes.
@@ -48,8 +48,8 @@ pub fn write_abort<W: Wire>(source: u8, reason: u8, wire: &mut W) -> Result<(), 
     wire.send(&short_pdu(pdu_type::A_ABORT, [0, 0, source, reason]))
 }
 
-/// Returns the heads of a P-DATA-TF PDU and of its one presentation data value, twelve bytes, for a
-/// fragment of this length.
+/// Returns the heads, twelve bytes together, of a P-DATA-TF PDU and of its only presentation data
+/// value, for a fragment of this length.
 fn data_head(context: u8, command: bool, last: bool, length: u32) -> [u8; 12]
     requires { length + 6 < 2 ^ 32 }
     ensures { result ≡ p_data_tf ∷ 0 ∷ (be (length + 6) 4 ++ (be (length + 2) 4 ++ context ∷ control_of command last ∷ [])) }
@@ -63,16 +63,16 @@ fn data_head(context: u8, command: bool, last: bool, length: u32) -> [u8; 12]
     head
 }
 
-/// Returns the message control header of a presentation data value (PS3.8 annex E.2): bit 0 is set for
-/// a command, bit 1 for the last fragment.
+/// Returns the message control header of a presentation data value (PS3.8 annex E.2): bit 0 is set
+/// for a command, bit 1 for the last fragment.
 fn control(command: bool, last: bool) -> u8
     ensures { result ≡ control_of command last }
 {
     u8::from(command) + if last { 2 } else { 0 }
 }
 
-/// Sends two byte strings, with one call of `Wire::send` if together they have at most `ONE_SEND`
-/// bytes, else with two. If the first call fails, the second is not made.
+/// Sends two byte strings, with one call of `Wire::send` if they have at most `ONE_SEND` bytes
+/// together, otherwise with two. If the first call fails, the second is not made.
 #[tactic(auto, using(crate::proofs::SendsAllOrFront::sends_then, crate::proofs::SendsAllOrFront::sends_part))]
 fn send_both<W: Wire>(front: &[u8], back: &[u8], wire: &mut W) -> Result<(), WireFailed>
     ensures sends { Sends (front.now ++ back.now) result (W.line wire.old) (W.line wire.new) }
@@ -89,10 +89,10 @@ fn send_both<W: Wire>(front: &[u8], back: &[u8], wire: &mut W) -> Result<(), Wir
     wire.send(room.as_slice())
 }
 
-/// Sends a P-DATA-TF with one presentation data value (PS3.8 section 9.3.5): a fragment of a command
-/// set (`command`) or else a data set, the last one of it or not. A PDU of at most 512 bytes is one
-/// send, a longer one two. The fragment must be shorter than 2^32 - 6 bytes, as the length field of the
-/// PDU has four bytes.
+/// Sends a P-DATA-TF with one presentation data value (PS3.8 section 9.3.5): a fragment of a
+/// command set (`command`) or otherwise of a data set, and whether it is the `last` one. A PDU of
+/// at most 512 bytes is sent with one call, a longer one with two. The fragment must be shorter
+/// than 2^32 - 6 bytes, as the length field of the PDU has four bytes.
 pub fn write_data<W: Wire>(
     context: u8,
     command: bool,

@@ -3,7 +3,6 @@ ghost use Rattle.std.specs.Prelude.{◌<◌};
 
 use crate::hexadecimal;
 use arguments::Replay;
-use connection::{COMMAND, DEPTH, REQUEST, VALUES};
 use engine::{ListSource, ListedInput, Report, run};
 use failures::{Failure, ProgramError, read_whole};
 use folder_filing::FolderFiling;
@@ -11,12 +10,13 @@ use folders::open_folder;
 use negotiate::Config;
 use part10::Filing;
 use pdu::MemoryWire;
+use service::{COMMAND, DEPTH, REQUEST, VALUES};
 use std::alloc::{AllocError, Allocator, Global};
 use std::io::{BufWriter, Read, Write};
 use std::{fs, io};
 
-/// Returns the inputs of a recording: its bytes in pieces of `cut` bytes, then the close of the
-/// transport connection.
+/// Returns the inputs of a recording: its bytes in chunks of `cut` bytes, then the close of the
+/// transport connection. Fails if memory runs out.
 fn inputs_of<'a, A: Allocator>(
     alloc: A,
     recording: &'a [u8],
@@ -32,8 +32,8 @@ fn inputs_of<'a, A: Allocator>(
     Ok(inputs)
 }
 
-/// Runs an association with these inputs, a wire in memory and the filing. Writes the sent bytes in
-/// hexadecimal, and returns the state in which the association ended.
+/// Runs an association with these inputs, an in-memory wire and the filing. Writes the sent bytes
+/// in hexadecimal, and returns the final state of the association.
 fn replay_inputs<A: Allocator + Copy, F: Filing, O: Write>(
     alloc: A,
     inputs: &[ListedInput<'_>],
@@ -58,7 +58,7 @@ fn replay_inputs<A: Allocator + Copy, F: Filing, O: Write>(
     Ok(report)
 }
 
-/// Runs an association with a recording in pieces of `cut` bytes, as [`replay_inputs`] does.
+/// Runs an association with a recording in chunks of `cut` bytes, as [`replay_inputs`] does.
 fn replay_recording<A: Allocator + Copy, F: Filing, O: Write>(
     alloc: A,
     recording: &[u8],
@@ -73,12 +73,12 @@ fn replay_recording<A: Allocator + Copy, F: Filing, O: Write>(
     replay_inputs(alloc, inputs.as_slice(), config, filing, out)
 }
 
-/// Runs an association with the recording in the input, in pieces of `cut` bytes, with a wire in memory
-/// and the filing. Writes the sent bytes in hexadecimal, and returns the state in which the association
-/// ended.
+/// Runs an association with the recording that `input` has, in chunks of `cut` bytes, with an
+/// in-memory wire and the filing. Writes the sent bytes in hexadecimal, and returns the final state
+/// of the association.
 ///
-/// Fails if the recording cannot be read, the output cannot be written, or memory runs out. If it runs
-/// out for the sent bytes, nothing is written.
+/// Fails if the recording cannot be read, the output cannot be written, or memory runs out. If it
+/// runs out for the sent bytes, nothing is written.
 pub fn replay_over<A: Allocator + Copy, R: Read, F: Filing, O: Write>(
     alloc: A,
     input: &mut R,
@@ -93,8 +93,8 @@ pub fn replay_over<A: Allocator + Copy, R: Read, F: Filing, O: Write>(
     replay_recording(alloc, recording.as_slice(), cut, config, filing, out)
 }
 
-/// Runs the recording, and writes the sent bytes and a last line: the state of the association, the
-/// number of held bytes and of stored files.
+/// Runs the recording. Writes the sent bytes and a last line: the state of the association, and the
+/// numbers of held bytes and of stored files.
 fn write_replay<R: Read, O: Write>(
     alloc: Global,
     settings: &Replay,
@@ -107,7 +107,7 @@ fn write_replay<R: Read, O: Write>(
     writeln!(out, "{standing} held {held} files {files}").map_err(ProgramError::of_output)
 }
 
-/// Runs the recording over a folder, and prints the sent bytes and the last line to the standard output.
+/// Runs the recording into a folder. Prints the sent bytes and the last line to standard output.
 fn print_replay<R: Read>(
     rt: &HostRuntime,
     settings: &Replay,
@@ -119,10 +119,11 @@ fn print_replay<R: Read>(
     out.flush().map_err(ProgramError::of_output)
 }
 
-/// Runs an association with the recorded file of the settings, or with standard input, for which `-`
-/// stands. Prints the sent bytes in hexadecimal, and the state in which it ended.
+/// Runs an association with the recorded file of the settings, or with standard input if that is
+/// `-`. Prints the sent bytes in hexadecimal, and the final state of the association.
 ///
-/// Fails if the file or the folder cannot be opened, the output cannot be written, or memory runs out.
+/// Fails if the file or the folder cannot be opened, the recording cannot be read, the output
+/// cannot be written, or memory runs out.
 pub fn replay(rt: &HostRuntime, settings: &Replay) -> Result<(), ProgramError> {
     if settings.file == "-" {
         return print_replay(rt, settings, &mut rt.stdin());

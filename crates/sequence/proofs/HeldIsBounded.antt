@@ -11,15 +11,15 @@ use Rattle.sequence.specs.Open.{last_of}
 use Rattle.sequence.specs.Wanted.{Values, room_of, rooms, kept_of, size_of_values}
 use Rattle.sequence.specs.Within.{FitRooms}
 use Rattle.sequence.specs.Rules.{Limits}
-use Rattle.sequence.specs.Walk.{Told}
+use Rattle.sequence.specs.Walk.{Report}
 use Rattle.sequence.specs.Laws.{HeldHasABound}
 use Rattle.sequence.specs.machine.Machine.{Mode, Heading, Reading, Stopped, run, start}
 use Rattle.sequence.specs.machine.Keeping.{keeps, with_value}
-use Rattle.sequence.specs.machine.Reported.{header_in, told_in}
+use Rattle.sequence.specs.machine.Reported.{header_in, reported_in}
 use Rattle.sequence.specs.machine.Standing.{Reaches, at_root, into_sequence, into_item, IsFit, BeginsIn, an_element, a_fragment, IsReading, StandsIn}
 use Rattle.sequence.proofs.MachineStands.HeaderParts.{part_short}
 use Rattle.sequence.proofs.MachineStands.HeaderTaken.{inside_kept}
-use Rattle.sequence.proofs.MachineReports.AnyText.{stands, tells}
+use Rattle.sequence.proofs.MachineReports.AnyText.{stands, reports}
 use Rattle.sequence.proofs.OneReading.OneReport.{one_telling}
 
 -- ---- the rooms of the wanted tags above `last`
@@ -62,10 +62,10 @@ all_above last (w ∷ ws) = omega (arith, some_of (nat_lt last (number w.tag)) w
 
 -- ---- the values of rising tags
 
-kept_value : (ws : List Want) (last t left : ℕ) (v : List ℕ) (more : Values) (o : Option ℕ) → room_of ws t ≡ o → last < t → ((room : ℕ) → room_of ws t ≡ Some room → length v ≤ room)
-    → size_of_values more + left ≤ above t ws → size_of_values (if is_some o then (t, v) ∷ more else more) + left ≤ above last ws
-kept_value ws last t left v more None e lt fit le = omega (arith, le, fewer_above last t ws (omega (arith, lt)))
-kept_value ws last t left v more (Some room) e lt fit le = omega (arith, fit room e, le, room_above last t room ws lt e)
+kept_value : (ws : List Want) (last t remaining : ℕ) (v : List ℕ) (more : Values) (o : Option ℕ) → room_of ws t ≡ o → last < t → ((room : ℕ) → room_of ws t ≡ Some room → length v ≤ room)
+    → size_of_values more + remaining ≤ above t ws → size_of_values (if is_some o then (t, v) ∷ more else more) + remaining ≤ above last ws
+kept_value ws last t remaining v more None e lt fit le = omega (arith, le, fewer_above last t ws (omega (arith, lt)))
+kept_value ws last t remaining v more (Some room) e lt fit le = omega (arith, fit room e, le, room_above last t room ws lt e)
 
 -- those of a data set leave the rooms of the tags after it
 kept_small : {s : Coding} {last : ℕ} {es : Elements} {b : List ℕ} (ws : List Want) → DataSet s last es b → FitRooms ws es → size_of_values (kept_of ws es) + above (last_of last es) ws ≤ above last ws
@@ -92,10 +92,10 @@ size_with : (values : Values) (one : ℕ × List ℕ) → size_of_values (values
 size_with [] one = omega arith
 size_with (a ∷ values) one = omega (arith, size_with values one)
 
-begun_small : (lim : Limits) (fs : List Scope) (last t n : ℕ) (v : List ℕ) (whole : Values) → size_of_values whole + still last fs lim.wanted ≤ rooms lim.wanted → last < t → IsFit lim.wanted fs t n → length v ≤ n
+started_small : (lim : Limits) (fs : List Scope) (last t n : ℕ) (v : List ℕ) (whole : Values) → size_of_values whole + still last fs lim.wanted ≤ rooms lim.wanted → last < t → IsFit lim.wanted fs t n → length v ≤ n
     → size_of_values (with_value lim fs t v whole) ≤ rooms lim.wanted
-begun_small lim (f ∷ fs) last t n v whole le lt fit few = omega (arith, le)
-begun_small lim [] last t n v whole le lt fit few = by (room_of lim.wanted t) refl
+started_small lim (f ∷ fs) last t n v whole le lt fit few = omega (arith, le)
+started_small lim [] last t n v whole le lt fit few = by (room_of lim.wanted t) refl
   where
     by : (o : Option ℕ) → room_of lim.wanted t ≡ o → size_of_values (if true && is_some o then whole ++ (t, v) ∷ [] else whole) ≤ rooms lim.wanted
     by None e = omega (arith, le)
@@ -105,7 +105,7 @@ reading_small : (s : Coding) (lim : Limits) (values : Values) (f : Scope) (fs : 
 reading_small s lim values f fs n b r = by r.begins
   where
     by : BeginsIn lim.wanted r.round fs r.h r.hb → size_of_values values ≤ rooms lim.wanted
-    by (an_element here el sh fits) = omega (arith, ap size_of_values r.kept, begun_small lim fs r.round.last (number r.h.tag) r.h.length r.v r.whole (reached_small r.reaches) el.rising fits (let size = r.size in omega (arith, size)))
+    by (an_element here el sh fits) = omega (arith, ap size_of_values r.kept, started_small lim fs r.round.last (number r.h.tag) r.h.length r.v r.whole (reached_small r.reaches) el.rising fits (let size = r.size in omega (arith, size)))
     by (a_fragment here it) = omega (arith, ap size_of_values (r.kept ∙ inside_kept lim (number r.h.tag) r.v r.whole r.reaches here), reached_small r.reaches)
 
 mode_small : (s : Coding) (lim : Limits) (values : Values) (f : Scope) (fs : List Scope) (p : ℕ) (m : Mode) (b : List ℕ) → StandsIn s lim values f fs p m b → header_in m + size_of_values values + 16 * length fs ≤ 12 + rooms lim.wanted + 16 * lim.depth
@@ -114,8 +114,8 @@ mode_small s lim values f fs p (Reading t n) b h = omega (arith, reading_small s
 mode_small s lim values f fs p (Stopped rule place t) b h = omega (arith, reached_small h.due.reaches, h.due.levels.deep)
 
 pub held_has_a_bound : HeldHasABound
-held_has_a_bound s lim b told bytes h =
+held_has_a_bound s lim b reported bytes h =
     let st = run lim (start s) b in
     let values = keeps lim (start s) [] b in
-    let same : told ≡ told_in lim st values = one_telling s lim b told (told_in lim st values) h (tells s lim b bytes) in
-    omega (arith, ap (λ (x : Told). x.held) same, mode_small s lim values st.top st.below st.place st.mode b (stands s lim b bytes))
+    let same : reported ≡ reported_in lim st values = one_telling s lim b reported (reported_in lim st values) h (reports s lim b bytes) in
+    omega (arith, ap (λ (x : Report). x.held) same, mode_small s lim values st.top st.below st.place st.mode b (stands s lim b bytes))

@@ -1,19 +1,19 @@
 -- The theorem of this crate, and which folder proves which step of it; each folder's file says what its files prove.
 --
--- A walker that took the bytes b, in whatever pieces, stands at b (`StandsAt`, specs/Taken): it has refused with the first fault
+-- A walker that consumed the bytes b, in whatever pieces, stands at b (`StandsAt`, specs/Taken): it has refused with the first fault
 -- of b, or b has none and the walker reports and holds what the definitions say of b. `Walker::new` stands at no bytes, `step`
--- goes from b to b and what it took (clause `stands`), and `finish` is `Ok` exactly where b is a whole data set within its
+-- goes from b to b and what it consumed (clause `stands`), and `finish` is `Ok` exactly where b is a whole data set within its
 -- limits.
 --
 -- Four things are tied to each other:
 --
 --   the text      which bytes spell which tree (`DataSet`), which fronts have which open levels (`Open`), which rule breaks
---                 first (`FirstFault`), what there is to report and to hold (`Tells`, `Holds`); all in specs/
+--                 first (`FirstFault`), what there is to report and to hold (`Reports`, `Holds`); all in specs/
 --   a stand       the same of a state: its levels, its header or value, its wanted values (`Stands`, specs/machine/Standing)
---   the machine   takes one byte after another: `run lim (start s) b` (specs/machine/Machine), and what is kept, `keeps`
+--   the machine   consumes one byte after another: `run lim (start s) b` (specs/machine/Machine), and what is kept, `keeps`
 --   the walker    the fields of the code as a state of the machine: `state_of w` (specs/machine/State)
 --
---   MachineStands     from each text that it took to one byte more
+--   MachineStands     from each text that it consumed to one byte more
 --   GrammarLeads      the machine goes over what is spelled, and stops at what breaks a rule
 --   MachineReports    so it reports and holds what there is to report and to hold
 --   OneReading        a text has one of each

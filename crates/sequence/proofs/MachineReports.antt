@@ -1,4 +1,4 @@
--- What the machine reports and holds of a text is what there is to report and to hold: `AnyText.tells`, `HeldIsState.walks`.
+-- What the machine reports and holds of a text is what there is to report and to hold: `AnyText.reports`, `HeldIsState.walks`.
 --
 -- FrontAtText    where the machine stands there is a front, whose path is its levels
 -- AnyText        it stands at any text, reports what is to be reported, and stops at the first fault

@@ -1,8 +1,8 @@
--- A walker stands at the bytes that it took, whatever the pieces, and returns what there is to return: `StepTakes`.
+-- A walker stands at the bytes that it consumed, whatever the pieces, and returns what there is to return: `StepTakes`.
 --
 -- WalkerStands     a walker whose state is the machine's after b stands at b
 -- StepReports      what a step returns of a header, of a value and of a fault
--- StepTakes        what it takes and returns is what `Answers` and `TakesMost` say
+-- StepTakes        what it consumes and returns is what `Answers` and `TakesMost` say
 -- FaultStays       a first fault and a refusal are for good
 -- RefusedStands    a walker that refused has taken whatever comes after
 pub mod WalkerStands

@@ -10,7 +10,7 @@ abbrev pub coding_of : Syntax → Coding
 coding_of syntaxes.Implicit = Implicit
 coding_of syntaxes.Explicit = Explicit
 
--- the layout of headers: with a VR (Explicit) or without (Implicit)
+-- the layout of headers in an encoding: with a VR (Explicit) or without (Implicit)
 abbrev pub layout : Coding → Syntax
 layout Implicit = syntaxes.Implicit
 layout Explicit = syntaxes.Explicit
@@ -24,7 +24,7 @@ is_native Explicit = true
 is_native Encapsulated = false
 is_native Fragments = false
 
--- whether items contain bytes instead of elements: they are fragments of encapsulated Pixel Data
+-- whether the items of an encoding contain bytes instead of elements: they are fragments of encapsulated Pixel Data
 abbrev pub has_fragments : Coding → Bool
 has_fragments Implicit = false
 has_fragments Explicit = false

@@ -11,7 +11,7 @@ use Rattle.sequence.specs.declared.stage.Stage.{Stage}
 use Rattle.sequence.specs.declared.stage.Stage.TheVariants.{Heading, Value, Stopped}
 use Rattle.sequence.specs.declared.wanted.Want.{Want}
 use Rattle.sequence.specs.Wanted.{Values}
-use Rattle.sequence.specs.Holding.{Pending, header_begun, value_due}
+use Rattle.sequence.specs.Holding.{Pending, header_started, value_due}
 
 -- the encoding of a level, from the number in its field
 abbrev pub coding_by : ℕ → Coding
@@ -47,7 +47,7 @@ stored (w ∷ ws) (n ∷ lengths) bytes = if is_absent n then stored ws lengths 
 -- whether the walker is inside a wanted value
 abbrev pub is_kept : Stage → Bool
 is_kept Heading = false
-is_kept (Value tag left kept) = kept
+is_kept (Value tag remaining kept) = kept
 is_kept (Stopped fault) = false
 
 abbrev pub but_last : Values → Values
@@ -55,17 +55,17 @@ but_last [] = []
 but_last (one ∷ []) = []
 but_last (one ∷ two ∷ values) = one ∷ but_last (two ∷ values)
 
--- the values that are whole: `begun` says that the last one is not
-abbrev pub told_values : Bool → Values → Values
-told_values begun values = if begun then but_last values else values
+-- the values that are whole: `started` says that the last one is not
+abbrev pub reported_values : Bool → Values → Values
+reported_values started values = if started then but_last values else values
 
 abbrev pub fault_by : Stage → Option Fault
 fault_by Heading = None
-fault_by (Value tag left kept) = None
+fault_by (Value tag remaining kept) = None
 fault_by (Stopped fault) = Some fault
 
 -- the unfinished header or value; after a fault, a header without bytes
 abbrev pub pending_by : Stage → List ℕ → Pending
-pending_by Heading header = header_begun header
-pending_by (Value tag left kept) header = value_due tag left
-pending_by (Stopped fault) header = header_begun header
+pending_by Heading header = header_started header
+pending_by (Value tag remaining kept) header = value_due tag remaining
+pending_by (Stopped fault) header = header_started header

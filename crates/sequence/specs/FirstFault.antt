@@ -9,10 +9,11 @@ use Rattle.sequence.specs.Tree.{Elements, DataSet}
 use Rattle.sequence.specs.Open.{PathEntry, Tail, in_header, in_value, Open}
 use Rattle.sequence.specs.Rules.{Limits, broken, no_tag}
 
--- the number of bytes left in the innermost level of defined length; none where there is no such level
+-- the number of bytes that remain in the innermost level of defined length; none where there is no such level
+-- e.g. near_of [] ≡ None
 abbrev pub near_of : List PathEntry → Option ℕ
 near_of [] = None
-near_of (e ∷ path) = if is_some e.left then e.left else near_of path
+near_of (e ∷ path) = if is_some e.remaining then e.remaining else near_of path
 
 -- the context of a header that follows a text of `place` bytes with these open levels and last tag
 abbrev pub spot_behind : Coding → List PathEntry → ℕ → ℕ → Spot
@@ -20,7 +21,7 @@ spot_behind s [] last place = record { syntax = s; in_sequence = false; open_end
 spot_behind s (e ∷ path) last place = record {
   syntax = e.syntax;
   in_sequence = e.in_sequence;
-  open_ended = is_none e.left;
+  open_ended = is_none e.remaining;
   near = near_of (e ∷ path);
   last = e.last;
   depth = length (e ∷ path);
@@ -54,6 +55,8 @@ pub record FirstFault (s : Coding) (lim : Limits) (b p u : List ℕ) (rule : ℕ
   pub first : (q v more : List ℕ) (n : ℕ) (t : Tag) → b ≡ (q ++ v) ++ more → Breaks s lim q v n t → IsNoLater p u q v
 
 -- the tag of the unfinished value, or of the unfinished header if at least four of its bytes are there
+-- e.g. tag_of_tail (in_header (8 ∷ 0 ∷ 22 ∷ 0 ∷ 85 ∷ [])) ≡ record { 0 = 8; 1 = 22 }
+-- e.g. tag_of_tail (in_header (8 ∷ 0 ∷ [])) ≡ no_tag
 abbrev pub tag_of_tail : Tail → Tag
 tag_of_tail (in_header t) = if nat_le 4 (length t) then tag_at t else no_tag
 tag_of_tail (in_value h v) = h.tag

@@ -15,12 +15,12 @@ use Rattle.sequence.specs.FirstFault.{IsUnbroken, FirstFault}
 -- the position of the end of a level that still lacks so many bytes after n; none where its length is undefined
 abbrev pub stop_at : ℕ → Option ℕ → Option ℕ
 stop_at n None = None
-stop_at n (Some left) = Some (n + left)
+stop_at n (Some remaining) = Some (n + remaining)
 
 -- the level of a path entry after n bytes: it has the position of its end instead of the number of bytes that it
 -- lacks
 abbrev pub scope_at : ℕ → PathEntry → Scope
-scope_at n e = record { in_sequence = e.in_sequence; syntax = e.syntax; stop = stop_at n e.left; last = e.last }
+scope_at n e = record { in_sequence = e.in_sequence; syntax = e.syntax; stop = stop_at n e.remaining; last = e.last }
 
 -- the levels of a path, the innermost first, and after them the data set itself, which has no end
 abbrev pub levels_at : ℕ → List PathEntry → Coding → ℕ → List Scope
@@ -29,24 +29,24 @@ levels_at n (e ∷ path) s last = scope_at n e ∷ levels_at n path s last
 
 -- the level with the tag of this header as its last one, if it is that of an element; a fragment has no tag of its
 -- own
-abbrev pub begun_in : Scope → Header → Scope
-begun_in f h = if is_marker h.tag then f else record f { last = number h.tag }
+abbrev pub started_in : Scope → Header → Scope
+started_in f h = if is_marker h.tag then f else record f { last = number h.tag }
 
 -- the levels, with the tag of the unfinished value as the last one of the innermost level
-abbrev pub with_begun : Tail → List Scope → List Scope
-with_begun (in_header t) levels = levels
-with_begun (in_value h v) [] = []
-with_begun (in_value h v) (f ∷ levels) = begun_in f h ∷ levels
+abbrev pub with_started : Tail → List Scope → List Scope
+with_started (in_header t) levels = levels
+with_started (in_value h v) [] = []
+with_started (in_value h v) (f ∷ levels) = started_in f h ∷ levels
 
 -- the unfinished header or value
 pub data Pending : Type 0 where
   -- a header, with the bytes of it that were read
-  header_begun : List ℕ → Pending
+  header_started : List ℕ → Pending
   -- the value of this tag, of which so many bytes are still to be read
   value_due : Tag → ℕ → Pending
 
 abbrev pub pending_of : Tail → Pending
-pending_of (in_header t) = header_begun t
+pending_of (in_header t) = header_started t
 pending_of (in_value h v) = value_due h.tag (h.length - length v)
 
 -- the wanted values of the data set itself, the last one possibly unfinished
@@ -63,7 +63,7 @@ pub record Holding : Type 0 where
 
 -- the state after a front of n bytes
 abbrev pub holding_of : Coding → List Want → ℕ → Elements → List PathEntry → ℕ → Tail → Holding
-holding_of s ws n es path last tail = record { levels = with_begun tail (levels_at n path s last); pending = pending_of tail; values = values_at ws es path tail }
+holding_of s ws n es path last tail = record { levels = with_started tail (levels_at n path s last); pending = pending_of tail; values = values_at ws es path tail }
 
 -- the state of a walker that has read the bytes b
 pub data Holds (s : Coding) (lim : Limits) (b : List ℕ) : Holding → Type 0 where

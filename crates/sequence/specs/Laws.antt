@@ -19,7 +19,7 @@ use Rattle.sequence.specs.Wanted.{rooms, level_size}
 use Rattle.sequence.specs.FirstFault.{IsUnbroken, FirstFault}
 use Rattle.sequence.specs.declared.walker.Walker.{Walker}
 use Rattle.sequence.specs.Taken.{StandsAt, fault_of}
-use Rattle.sequence.specs.Walk.{Told, Tells}
+use Rattle.sequence.specs.Walk.{Report, Reports}
 use Rattle.sequence.specs.Holding.{Holding, Holds}
 
 -- the first fault of a text is also the first fault of every text that extends it
@@ -28,7 +28,7 @@ FaultStays = (s : Coding) (lim : Limits) (b more p u : List ℕ) (rule : ℕ) (t
 
 -- what a walker reports after a fault stays the same, whatever bytes follow
 abbrev pub RefusalStays : Type 0
-RefusalStays = (s : Coding) (lim : Limits) (b more : List ℕ) (told : Told) (fault : Fault) → IsBytes (b ++ more) → told.fault ≡ Some fault → Tells s lim b told → Tells s lim (b ++ more) told
+RefusalStays = (s : Coding) (lim : Limits) (b more : List ℕ) (reported : Report) (fault : Fault) → IsBytes (b ++ more) → reported.fault ≡ Some fault → Reports s lim b reported → Reports s lim (b ++ more) reported
 
 -- the state of a walker that has found a fault is also its state after any further bytes
 abbrev pub RefusedStands : Type 0
@@ -48,18 +48,18 @@ OnePath =
 abbrev pub EndsAreNested : Type 0
 EndsAreNested =
     (s : Coding) (b : List ℕ) (es : Elements) (path inside between around : List PathEntry) (inner outer : PathEntry) (last n k : ℕ) (tail : Tail)
-    → Open s b es path last tail → path ≡ inside ++ inner ∷ (between ++ outer ∷ around) → inner.left ≡ Some n → outer.left ≡ Some k → n ≤ k
+    → Open s b es path last tail → path ≡ inside ++ inner ∷ (between ++ outer ∷ around) → inner.remaining ≡ Some n → outer.remaining ≡ Some k → n ≤ k
 
 -- some level of the path has undefined length
 pub data HasOpenEnded : List PathEntry → Type 0 where
-  this_one : {e : PathEntry} {path : List PathEntry} → e.left ≡ None → HasOpenEnded (e ∷ path)
+  this_one : {e : PathEntry} {path : List PathEntry} → e.remaining ≡ None → HasOpenEnded (e ∷ path)
   one_round : {e : PathEntry} {path : List PathEntry} → HasOpenEnded path → HasOpenEnded (e ∷ path)
 
 -- an open level of defined length that lacks no byte has a level of undefined length inside it
 abbrev pub WholeHasOpenInside : Type 0
 WholeHasOpenInside =
     (s : Coding) (b : List ℕ) (es : Elements) (path inside around : List PathEntry) (e : PathEntry) (last : ℕ) (tail : Tail)
-    → Open s b es path last tail → path ≡ inside ++ e ∷ around → e.left ≡ Some 0 → HasOpenEnded inside
+    → Open s b es path last tail → path ≡ inside ++ e ∷ around → e.remaining ≡ Some 0 → HasOpenEnded inside
 
 -- a text has one first fault at most
 abbrev pub OneFault : Type 0
@@ -68,12 +68,12 @@ OneFault = (s : Coding) (lim : Limits) (b p p2 u u2 : List ℕ) (rule rule2 : �
 
 -- a text determines what a walker reports after it
 abbrev pub OneTelling : Type 0
-OneTelling = (s : Coding) (lim : Limits) (b : List ℕ) (told told2 : Told) → Tells s lim b told → Tells s lim b told2 → told ≡ told2
+OneTelling = (s : Coding) (lim : Limits) (b : List ℕ) (reported reported2 : Report) → Reports s lim b reported → Reports s lim b reported2 → reported ≡ reported2
 
 -- the bytes that a walker holds after a text are at most the 12 of a header, the greatest sizes of the wanted values,
 -- and 16 for each level that may be open
 abbrev pub HeldHasABound : Type 0
-HeldHasABound = (s : Coding) (lim : Limits) (b : List ℕ) (told : Told) → IsBytes b → Tells s lim b told → told.held ≤ 12 + rooms lim.wanted + level_size * lim.depth
+HeldHasABound = (s : Coding) (lim : Limits) (b : List ℕ) (reported : Report) → IsBytes b → Reports s lim b reported → reported.held ≤ 12 + rooms lim.wanted + level_size * lim.depth
 
 -- a text determines the state of a walker after it
 abbrev pub OneHolding : Type 0
@@ -81,7 +81,7 @@ OneHolding = (s : Coding) (lim : Limits) (b : List ℕ) (held held2 : Holding) �
 
 -- the definition of a walker's report covers every text
 abbrev pub SomeTelling : Type 0
-SomeTelling = (s : Coding) (lim : Limits) (b : List ℕ) → IsBytes b → (told : Told) × Tells s lim b told
+SomeTelling = (s : Coding) (lim : Limits) (b : List ℕ) → IsBytes b → (reported : Report) × Reports s lim b reported
 
 -- the empty text breaks no rule
 abbrev pub NothingIsUnbroken : Type 0
@@ -91,7 +91,7 @@ NothingIsUnbroken = (s : Coding) (lim : Limits) → IsUnbroken s lim []
 abbrev pub NoHeader : Type 0
 NoHeader = (s : Coding) → IsUnfinishedHeader s []
 
--- a header takes at least eight bytes
+-- a header has at least eight bytes
 abbrev pub LeastHeader : Type 0
 LeastHeader = (s : Coding) (b : List ℕ) (k : ℕ) → need (layout s) b ≡ Size k → 8 ≤ k
 

@@ -13,13 +13,19 @@ use Rattle.sequence.specs.declared.shape.Shape.TheVariants.{Value, Sequence, Not
 abbrev pub undefined_length : ℕ
 undefined_length = 0xffffffff
 
+-- whether the length is the undefined length, FFFFFFFFH
+-- e.g. is_undefined 0xffffffff ≡ true; is_undefined 8 ≡ false
 abbrev pub is_undefined : ℕ → Bool
 is_undefined n = nat_eq n undefined_length
 
+-- whether the VR has these two letters
+-- e.g. is_vr (codes "SQ") (codes "SQ") ≡ true
 abbrev pub is_vr : List ℕ → List ℕ → Bool
 is_vr letters vr = nat_eq (get_or vr 0 0) (get_or letters 0 0) && nat_eq (get_or vr 1 0) (get_or letters 1 0)
 
 -- what follows a header in Explicit, by its VR and whether its length is undefined
+-- e.g. explicit_shape (codes "SQ") false ≡ Sequence Explicit; explicit_shape (codes "UN") true ≡ Sequence Implicit
+-- e.g. explicit_shape (codes "OW") true ≡ NotAllowed
 abbrev pub explicit_shape : List ℕ → Bool → Shape
 explicit_shape vr undefined =
     if is_vr (codes "SQ") vr then Sequence Explicit
@@ -39,6 +45,8 @@ encapsulated_shape t vr undefined =
     else explicit_shape vr undefined)
 
 -- what follows a header in Implicit, by the VR of its tag in the dictionary
+-- e.g. implicit_shape None true ≡ Sequence Implicit; implicit_shape (Some (codes "UI")) true ≡ NotAllowed
+-- e.g. implicit_shape None false ≡ Value
 abbrev pub implicit_shape : Option (List ℕ) → Bool → Shape
 implicit_shape None undefined = if undefined then Sequence Implicit else Value
 implicit_shape (Some vr) undefined =
@@ -48,6 +56,7 @@ implicit_shape (Some vr) undefined =
 
 -- what follows a header, by the encoding, the header's tag and VR, the dictionary's VR, and whether the length is
 -- undefined
+-- e.g. shape_by Explicit (record { 0 = 0x0008; 1 = 0x0018 }) (Some (codes "UI")) None false ≡ Value
 abbrev pub shape_by : Coding → Tag → Option (List ℕ) → Option (List ℕ) → Bool → Shape
 shape_by Explicit t (Some vr) known undefined = explicit_shape vr undefined
 shape_by Explicit t None known undefined = NotAllowed
@@ -56,6 +65,6 @@ shape_by Encapsulated t None known undefined = NotAllowed
 shape_by Fragments t vr known undefined = NotAllowed
 shape_by Implicit t vr known undefined = implicit_shape known undefined
 
--- what follows this header of an element, in this encoding
+-- what follows this header of an element, in this encoding (law `sequence::unknown_content`)
 abbrev pub shape : Coding → Header → Shape
 shape s h = shape_by s h.tag h.vr (vr_of h.tag) (is_undefined h.length)

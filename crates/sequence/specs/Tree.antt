@@ -9,22 +9,25 @@ use Rattle.element.specs.Header.{number, is_marker, tag_bytes, SpellsHeader, ite
 use Rattle.sequence.specs.Shape.{undefined_length, shape}
 use Rattle.sequence.specs.declared.shape.Shape.TheVariants.{Value, Sequence}
 
--- a data set is a list of elements, a sequence a list of items, and encapsulated Pixel Data one of fragments
+-- a data set as a tree: a list of elements, each a value, or a sequence with its items
 mutual
   pub data Elements : Type 0 where
     no_elements : Elements
     value : Header → List ℕ → Elements → Elements
     sequence : Header → Items → Elements → Elements
 
+  -- a sequence as a tree: a list of items, each with a data set of its own
   pub data Items : Type 0 where
     no_items : Items
     item : Header → Elements → Items → Items
     fragment : Header → List ℕ → Items → Items
 
 -- a delimitation, the header of length 0 with its tag
+-- e.g. delimitation (record { 0 = 0xfffe; 1 = 0xe0dd }) ≡ 254 ∷ 255 ∷ 221 ∷ 224 ∷ 0 ∷ 0 ∷ 0 ∷ 0 ∷ []
 abbrev pub delimitation : Tag → List ℕ
 delimitation t = tag_bytes t ++ le 0 4
 
+-- the number is even
 abbrev pub IsEven : ℕ → Type 0
 IsEven n = n % 2 ≡ 0
 

@@ -9,7 +9,7 @@ use Rattle.sequence.specs.Wanted.{Values, kept_of, held_of}
 use Rattle.sequence.specs.Rules.{Limits}
 use Rattle.sequence.specs.FirstFault.{IsUnbroken, FirstFault}
 
-pub record Told : Type 0 where
+pub record Report : Type 0 where
   -- the fault, if any
   pub fault : Option Fault
   -- the number of open levels: sequences and items
@@ -22,15 +22,15 @@ pub record Told : Type 0 where
   pub kept : Values
 
 -- what a walker reports that has read the bytes b
-pub data Tells (s : Coding) (lim : Limits) (b : List ℕ) : Told → Type 0 where
+pub data Reports (s : Coding) (lim : Limits) (b : List ℕ) : Report → Type 0 where
   -- b breaks no rule: the report describes b
   going : {es : Elements} {path : List PathEntry} {last : ℕ} {tail : Tail}
       → IsUnbroken s lim b → Open s b es path last tail
-      → Tells s lim b (record { fault = None; levels = length path; place = length b; held = held_of lim.wanted es path tail; kept = kept_of lim.wanted es })
+      → Reports s lim b (record { fault = None; levels = length path; place = length b; held = held_of lim.wanted es path tail; kept = kept_of lim.wanted es })
   -- p ++ u is the shortest front of b that breaks a rule: the report has this fault, and else describes p
   refused : {p u : List ℕ} {rule : ℕ} {tag : Tag} {es : Elements} {path : List PathEntry} {last : ℕ}
       → FirstFault s lim b p u rule tag → Open s p es path last (in_header [])
-      → Tells s lim b (record {
+      → Reports s lim b (record {
         fault = Some (record { number = rule; place = length p; tag = tag });
         levels = length path;
         place = length (p ++ u);

@@ -1,16 +1,16 @@
-//! The [`Step`] that a walker's step returns.
+//! Converts what a walker read into the [`Step`] that it returns.
 ghost use Rattle.std.specs.Prelude.{◌≡◌};
-ghost use Rattle.sequence.specs.machine.Made.{header_told, made_told, value_told};
+ghost use Rattle.sequence.specs.machine.Made.{header_reported, made_reported, value_reported};
 
 use crate::broken::same_tag;
 use crate::stage::Stage;
 use crate::step::Step;
 use element::{Header, Tag};
 
-/// Returns the result of a step that took bytes of a header. `made` is the header that these bytes
+/// Returns the result of a step that read bytes of a header. `made` is the header that these bytes
 /// completed, if any; `stage` is the walker's stage after the step.
 pub fn header_step<'p>(stage: Stage, made: Option<Header>) -> Step<'p>
-    ensures { result ≡ header_told stage made }
+    ensures { result ≡ header_reported stage made }
 {
     // One arm for each line of the definition: the proof goes through them one by one.
     match stage {
@@ -20,9 +20,10 @@ pub fn header_step<'p>(stage: Stage, made: Option<Header>) -> Step<'p>
     }
 }
 
-/// Returns the result of a step that broke no rule: the completed header, by its tag, or `Step::More`.
+/// Returns the result of a step that broke no rule: the completed header, by its tag, or
+/// `Step::More`.
 fn made_step<'p>(made: Option<Header>) -> Step<'p>
-    ensures { result ≡ made_told made }
+    ensures { result ≡ made_reported made }
 {
     match made {
         None => Step::More,
@@ -38,10 +39,10 @@ fn made_step<'p>(made: Option<Header>) -> Step<'p>
     }
 }
 
-/// Returns the result of a step that took the bytes `run` of a value. The end of the value may break a
-/// rule, if no header fits after it before the end of a level: then `stage` has the fault.
+/// Returns the result of a step that consumed the bytes `run` of a value. `stage`, the walker's stage
+/// after it, has a fault if the value ended and no header fits before the end of a level.
 pub fn value_step<'p>(stage: Stage, run: &'p [u8]) -> Step<'p>
-    ensures { value_told stage run.now result }
+    ensures { value_reported stage run.now result }
 {
     // One arm for each line of the definition: the proof goes through them one by one.
     match stage {

@@ -1,4 +1,4 @@
-//! Checks the rules of a data set against a header, or the first bytes of one.
+//! Checks a header, or its first bytes, against the rules of a data set.
 ghost use Rattle.std.specs.Prelude.{◌≡◌, ◌<◌, ◌≤◌, ◌^◌, ◌+◌, ◌%◌, length, nat_le, nat_lt, nat_eq, ◌&&◌, not, None, IsTrue};
 ghost use Rattle.element.specs.Header.{is_marker};
 ghost use Rattle.sequence.specs.Shape.{is_undefined};
@@ -14,26 +14,26 @@ use crate::spot::{Bounds, Spot};
 use crate::wanted::Wanted;
 use element::{Header, Need, Rule, Tag, need, read_header, read_tag};
 
-/// Returns whether two tags are the same.
+/// Returns whether two tags are equal.
 pub fn same_tag(a: Tag, b: Tag) -> bool
     ensures { result ≡ rules.same_tag a b }
 {
     a.0 == b.0 && a.1 == b.1
 }
 
-/// Returns whether `count` more bytes would pass the nearest end of a level of defined length. `near`
-/// is the number of bytes left before that end, `None` where all open levels have undefined length.
+/// Returns whether `count` more bytes would pass the nearest end of a level of defined length.
+/// `near` is the number of bytes up to that end, `None` if all open levels have undefined length.
 pub fn passes(near: Option<u64>, count: u64) -> bool
     ensures { result ≡ rules.passes near count }
 {
     match near {
         None => false,
-        Some(left) => left < count,
+        Some(remaining) => remaining < count,
     }
 }
 
-/// Returns `Overrun` if a header has to follow and fewer than its 8 bytes are left before the nearest
-/// end of a level, with tag (0000,0000).
+/// Returns `Overrun`, with tag (0000,0000), if fewer than the 8 bytes of a header remain before the
+/// nearest end of a level.
 pub fn broken_due(spot: &Spot) -> Option<(Rule, Tag)>
     ensures { numbered result ≡ rules.broken_due spot.now }
 {
@@ -44,9 +44,9 @@ pub fn broken_due(spot: &Spot) -> Option<(Rule, Tag)>
     }
 }
 
-/// Returns the rule that a tag breaks at this position, with the tag: `UnexpectedTag` for an item or a
-/// delimitation that may not stand here, or another tag where one has to; `BadGroup` for group 0000 or
-/// 0002; `Order` if it is not above the tag of the element before it.
+/// Returns the rule that a tag breaks in this context, with the tag: `UnexpectedTag` for an item or
+/// delimitation that is not allowed, or another tag where an item or delimitation is required;
+/// `BadGroup` for group 0000 or 0002; `Order` if it is not above the tag of the preceding element.
 #[tactic(auto, unfolding(crate::specs::Rules::broken_tag))]
 pub fn broken_tag(spot: &Spot, tag: Tag) -> Option<(Rule, Tag)>
     ensures { numbered result ≡ rules.broken_tag spot.now tag }
@@ -74,8 +74,8 @@ pub fn broken_tag(spot: &Spot, tag: Tag) -> Option<(Rule, Tag)>
     }
 }
 
-/// Returns the rule that a header breaks by its VR (`BadVr`) or by its own size, if it passes the
-/// nearest end of a level (`Overrun`).
+/// Returns the rule that a header breaks, with its tag: `BadVr` by its VR, or `Overrun` if the
+/// header itself passes the nearest end of a level.
 pub fn broken_need(spot: &Spot, need: Need, tag: Tag) -> Option<(Rule, Tag)>
     ensures { numbered result ≡ rules.broken_need spot.now need tag }
 {
@@ -129,14 +129,15 @@ fn is_long_mark(header: &Header) -> bool
     header.tag.is_marker() && !same_tag(header.tag, Tag::ITEM) && header.length != 0
 }
 
-/// Returns whether the header is that of an element with undefined length that may not have it.
+/// Returns whether the header is that of an element whose length is undefined but must be defined.
 fn is_forbidden(header: &Header, shape: Shape) -> bool
     ensures { result ≡ (not (is_marker header.now.tag) && rules.is_not_allowed shape) }
 {
     !header.tag.is_marker() && is_not_allowed(shape)
 }
 
-/// Returns whether the header is that of a fragment of encapsulated Pixel Data with undefined length.
+/// Returns whether the header is that of a fragment of encapsulated Pixel Data with undefined
+/// length.
 fn is_endless(spot: &Spot, header: &Header) -> bool
     ensures { result ≡ rules.is_endless spot.now header.now }
 {
@@ -150,8 +151,8 @@ fn is_odd(header: &Header) -> bool
     header.length != UNDEFINED && header.length % 2 == 1
 }
 
-/// Returns whether the value, sequence or item of this header, of defined length, passes the nearest
-/// end of a level. The header has `size` bytes.
+/// Returns whether the value, sequence or item of this header of `size` bytes has defined length
+/// and passes the nearest end of a level.
 fn is_overrun(spot: &Spot, size: usize, header: &Header) -> bool
     requires { size ≤ 12 }
     ensures { result ≡ (not (is_undefined header.now.length) && rules.passes spot.now.near (size + header.now.length)) }
@@ -159,7 +160,7 @@ fn is_overrun(spot: &Spot, size: usize, header: &Header) -> bool
     header.length != UNDEFINED && passes(spot.near, size as u64 + header.length as u64)
 }
 
-/// Returns how many bytes follow the header by its length: 0 for undefined length.
+/// Returns the number of bytes that follow a header by its length: 0 for undefined length.
 fn counted_length(length: u32) -> u64
     ensures value { result ≡ rules.counted_length length }
     ensures small { result < 2 ^ 32 }
@@ -171,7 +172,7 @@ fn counted_length(length: u32) -> u64
     }
 }
 
-/// Returns whether the header of `size` bytes, with the bytes that its length counts, ends past the
+/// Returns whether the header of `size` bytes, with the bytes that its length counts, passes the
 /// greatest size of a data set.
 fn is_beyond(bounds: &Bounds, spot: &Spot, size: usize, header: &Header) -> bool
     requires place { spot.now.place < 2 ^ 49 }
@@ -181,7 +182,7 @@ fn is_beyond(bounds: &Bounds, spot: &Spot, size: usize, header: &Header) -> bool
     bounds.bytes < spot.place + size as u64 + counted_length(header.length)
 }
 
-/// Returns whether the header opens a level: it is that of a sequence or an item whose length is not 0.
+/// Returns whether the header opens a level: that of a sequence or an item whose length is not 0.
 fn opens(spot: &Spot, header: &Header, shape: Shape) -> bool
     requires { shape ≡ shapes.shape spot.now.syntax header.now }
     ensures { result ≡ rules.opens spot.now header.now }
@@ -190,7 +191,7 @@ fn opens(spot: &Spot, header: &Header, shape: Shape) -> bool
     (nests || is_sequence(shape)) && header.length != 0
 }
 
-/// Returns whether the header opens a level where the greatest number of levels is open already.
+/// Returns whether the header opens a level when the greatest number of levels is already open.
 fn is_too_deep(bounds: &Bounds, spot: &Spot, header: &Header, shape: Shape) -> bool
     requires { shape ≡ shapes.shape spot.now.syntax header.now }
     ensures { result ≡ (rules.opens spot.now header.now && nat_le bounds.now.depth spot.now.depth) }
@@ -198,8 +199,8 @@ fn is_too_deep(bounds: &Bounds, spot: &Spot, header: &Header, shape: Shape) -> b
     opens(spot, header, shape) && bounds.depth <= spot.depth
 }
 
-/// Returns the first rule that the fields of a whole header of `size` bytes break, with its tag. The
-/// rules on the tag, the VR and the header's own size are checked before.
+/// Returns the first rule that a whole header of `size` bytes breaks by its length or by the
+/// limits, with its tag. Its tag, its VR and its own size are checked before.
 #[tactic(auto, unfolding(crate::specs::Rules::broken_header))]
 pub fn broken_header(
     wanted: &Wanted,
@@ -273,8 +274,8 @@ fn at_end(wanted: &Wanted, bounds: &Bounds, spot: &Spot, bytes: &[u8]) -> Option
     }
 }
 
-/// Returns the first rule that is broken by these bytes of a header, all of them or the first ones, and
-/// the tag of the fault.
+/// Returns the first rule that these bytes break, with the tag of the fault. They are a whole
+/// header, or its first bytes.
 #[tactic(auto, unfolding(crate::specs::Rules::broken))]
 pub fn broken(wanted: &Wanted, bounds: &Bounds, spot: &Spot, bytes: &[u8]) -> Option<(Rule, Tag)>
     requires place { spot.now.place < 2 ^ 49 }
@@ -293,9 +294,9 @@ pub fn broken(wanted: &Wanted, bounds: &Bounds, spot: &Spot, bytes: &[u8]) -> Op
     at_end(wanted, bounds, spot, bytes)
 }
 
-/// Returns whether the whole header breaks no rule. This is the short way for the usual case: a header
-/// that passes the nearest end, or for which no room is left before it, also has a value that passes
-/// that end, so one comparison checks all three.
+/// Returns whether a whole header breaks no rule: the fast path. If the header passes the nearest
+/// end, or its 8 bytes do not fit before it, then its value also passes that end, so one comparison
+/// checks all three.
 #[tactic(auto, using(crate::proofs::CodeIsMachine::FittingHeader::is_fitting))]
 pub fn is_unbroken(wanted: &Wanted, bounds: &Bounds, spot: &Spot, front: &Front) -> bool
     requires place { spot.now.place < 2 ^ 49 }

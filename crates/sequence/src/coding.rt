@@ -4,8 +4,8 @@ ghost use Rattle.sequence.specs.Coding as codings;
 
 use element::Syntax;
 
-/// The encoding of a data set, or of a sequence inside one (PS3.5 sections A.1, A.2 and A.4). All are
-/// little endian.
+/// The encoding of a data set, or of a sequence inside one (PS3.5 sections A.1, A.2 and A.4). All
+/// are little endian.
 #[derive(Clone, Copy, Debug, PartialEq, Eq)]
 pub enum Coding {
     /// Implicit VR Little Endian.
@@ -30,7 +30,8 @@ impl Coding {
         }
     }
 
-    /// Returns the layout of headers in this encoding: Implicit VR has no VR in them, all others do.
+    /// Returns the layout of headers in this encoding: without a VR in `Implicit`, with a VR in all
+    /// others.
     pub fn layout(self) -> Syntax
         ensures { result ≡ codings.layout self }
     {

@@ -1,20 +1,21 @@
-//! The fault of a data set.
+//! The first fault of a data set.
 ghost use Rattle.std.specs.Prelude.{◌≡◌};
 ghost use Rattle.element.specs.RuleNames.{rule_name, rule_number, rule_of};
 
 use element::{Rule, Tag};
 use std::fmt;
 
-/// The first rule that a data set breaks, with position and tag. A [`Walker`](crate::Walker) that found
-/// one takes no further bytes.
+/// The first rule that a data set breaks, with offset and tag. After it a [`Walker`](crate::Walker)
+/// reads no further bytes.
 #[derive(Clone, Copy, Debug, PartialEq, Eq)]
 pub struct Fault {
     /// The number of the rule (see [`Rule`]), from 10 to 21.
     pub number: u8,
-    /// The position of the header that breaks the rule, in bytes from the start of the data set. For
+    /// The offset of the header that breaks the rule, in bytes from the start of the data set. For
     /// `Truncated` (20), the number of bytes of the unfinished data set.
     pub place: u64,
-    /// The tag of that header; (0000,0000) where fewer than the four bytes of a tag were read.
+    /// The tag of that header, or of the unfinished header or value; (0000,0000) if fewer than the
+    /// four bytes of a tag were read.
     pub tag: Tag,
 }
 
@@ -55,7 +56,7 @@ impl Fault {
     /// The number of `Rule::KeptTooLong`.
     pub const KEPT_TOO_LONG: u8 = Rule::KeptTooLong as u8;
 
-    /// Returns the fault for a header at this position with this tag.
+    /// Returns the fault of a header at the offset `place` with this tag.
     pub(crate) fn new(rule: Rule, place: u64, tag: Tag) -> Fault
         ensures { result ≡ record { number = rule_number rule; place = place; tag = tag } }
     {
@@ -66,7 +67,7 @@ impl Fault {
         }
     }
 
-    /// Returns the rule that is broken, or `None` if no rule has this number.
+    /// Returns the broken rule, or `None` if no rule has this number.
     pub fn rule(self) -> Option<Rule>
         ensures { result ≡ rule_of self.number }
     {
@@ -84,8 +85,8 @@ impl Fault {
     }
 }
 
-/// Prints the number and the name of the rule, the position in bytes and the tag, as `17 Overrun at 26
-/// tag 0008,0060`.
+/// Prints the number and the name of the rule, the offset in bytes and the tag, as `17 Overrun at
+/// 26 tag 0008,0060`.
 impl fmt::Display for Fault {
     fn fmt<W: fmt::Write>(&self, f: &mut fmt::Formatter<W>) -> fmt::Result {
         let Tag(group, element) = self.tag;

@@ -1,4 +1,4 @@
-//! Finds the end of a header whose bytes may come in several pieces.
+//! Finds the end of a header that may be received in several chunks.
 ghost use Rattle.std.specs.Prelude.{◌≡◌, ◌≤◌, ◌<◌, ◌^◌, ◌+◌, ◌++◌, take, length, IfSome};
 ghost use Rattle.arrayvec.specs.ArrayVec.{array_vec_len};
 ghost use Rattle.sequence.specs.machine.Judging.{limits_by};
@@ -12,12 +12,13 @@ use crate::wanted::Wanted;
 use arrayvec::ArrayVec;
 use element::{Header, Need, Rule, Tag, need, read_header};
 
-/// The end of a header in some bytes.
+/// The result of looking for the end of a header.
 #[derive(Clone, Copy)]
 pub enum End {
-    /// The first so many bytes break this rule; the tag of the fault.
+    /// A rule is broken: the number of bytes up to the one that breaks it, the rule, and the tag of
+    /// the fault.
     Refused(usize, Rule, Tag),
-    /// The header has so many bytes; its fields, and what follows it.
+    /// The header is whole: its number of bytes, its fields, and what follows it.
     Whole(usize, Header, Shape),
     /// The bytes end before the header does, and break no rule.
     Part,
@@ -35,21 +36,21 @@ fn is_whole_header(end: &End) -> bool
     matches!(end, End::Whole(_, _, _))
 }
 
-/// Checks the first `count` bytes of a header. Returns `End::Part` without a check if there are fewer,
-/// or if `count` is at most `begun`, the number of bytes that were checked before.
+/// Checks the first `count` bytes of a header. Returns `End::Part` without a check if there are
+/// fewer bytes, or if `count` is at most `started`, the number of bytes that were checked before.
 fn examine(
     wanted: &Wanted,
     bounds: &Bounds,
     spot: &Spot,
     bytes: &[u8],
-    begun: usize,
+    started: usize,
     count: usize,
 ) -> End
     requires place { spot.now.place < 2 ^ 49 }
     requires size { count ≤ 12 }
-    ensures { IsExamined (limits_by wanted.now.list.items bounds.now) spot.now bytes.now begun count result }
+    ensures { IsExamined (limits_by wanted.now.list.items bounds.now) spot.now bytes.now started count result }
 {
-    if count <= begun || bytes.len() < count {
+    if count <= started || bytes.len() < count {
         return End::Part;
     }
     let front = &bytes[..count];
@@ -67,68 +68,73 @@ fn examine(
     }
 }
 
-/// Finds the end of a header whose first `begun` bytes, at least one, break no rule. Further rules can
-/// be broken only by the fourth byte (tag), the sixth (VR) and the last (length).
-fn end_after(wanted: &Wanted, bounds: &Bounds, spot: &Spot, bytes: &[u8], begun: usize) -> End
+/// Finds the end of a header whose first `started` bytes, at least one, break no rule. After the
+/// first byte only the fourth (tag), the sixth (VR) and the last (length) can break a rule.
+fn end_after(wanted: &Wanted, bounds: &Bounds, spot: &Spot, bytes: &[u8], started: usize) -> End
     requires place { spot.now.place < 2 ^ 49 }
-    requires begun { begun ≤ length bytes.now }
-    requires quiet { IsQuiet (limits_by wanted.now.list.items bounds.now) spot.now (take begun bytes.now) }
-    ensures { IsEnd (limits_by wanted.now.list.items bounds.now) spot.now bytes.now begun result }
+    requires started { started ≤ length bytes.now }
+    requires quiet { IsQuiet (limits_by wanted.now.list.items bounds.now) spot.now (take started bytes.now) }
+    ensures { IsEnd (limits_by wanted.now.list.items bounds.now) spot.now bytes.now started result }
 {
-    let tagged = examine(wanted, bounds, spot, bytes, begun, 4);
+    let tagged = examine(wanted, bounds, spot, bytes, started, 4);
     if !is_part(&tagged) {
         return tagged;
     }
-    let named = examine(wanted, bounds, spot, bytes, begun, 6);
+    let named = examine(wanted, bounds, spot, bytes, started, 6);
     if !is_part(&named) {
         return named;
     }
     match need(spot.syntax.layout(), bytes) {
-        Need::Size(size) => examine(wanted, bounds, spot, bytes, begun, size),
-        // Two arms, as the proof answers each for itself.
+        Need::Size(size) => examine(wanted, bounds, spot, bytes, started, size),
+        // Two arms, as the proof treats each by itself.
         Need::More => End::Part,
         Need::BadVr => End::Part,
     }
 }
 
-/// Finds the end of a header and checks its bytes in their order, from the first. The first `begun`
-/// bytes, which may be none, break no rule.
-fn end_from_front(wanted: &Wanted, bounds: &Bounds, spot: &Spot, bytes: &[u8], begun: usize) -> End
+/// Finds the end of a header and checks its bytes in order from the first. The first `started` bytes,
+/// which may be none, break no rule.
+fn end_from_front(
+    wanted: &Wanted,
+    bounds: &Bounds,
+    spot: &Spot,
+    bytes: &[u8],
+    started: usize,
+) -> End
     requires place { spot.now.place < 2 ^ 49 }
-    requires more { begun < length bytes.now }
-    requires quiet { 0 < begun → IsQuiet (limits_by wanted.now.list.items bounds.now) spot.now (take begun bytes.now) }
-    ensures { IsEnd (limits_by wanted.now.list.items bounds.now) spot.now bytes.now begun result }
+    requires more { started < length bytes.now }
+    requires quiet { 0 < started → IsQuiet (limits_by wanted.now.list.items bounds.now) spot.now (take started bytes.now) }
+    ensures { IsEnd (limits_by wanted.now.list.items bounds.now) spot.now bytes.now started result }
 {
-    if begun == 0 {
+    if started == 0 {
         let first = examine(wanted, bounds, spot, bytes, 0, 1);
         if !is_part(&first) {
             return first;
         }
         end_after(wanted, bounds, spot, bytes, 1)
     } else {
-        end_after(wanted, bounds, spot, bytes, begun)
+        end_after(wanted, bounds, spot, bytes, started)
     }
 }
 
-/// Finds the end of a header in its bytes, the first `begun` of which were checked before. A header
-/// that is whole is checked once; only if that finds a fault, or the header is unfinished, it is
-/// checked in the order of its bytes.
-fn end_in(wanted: &Wanted, bounds: &Bounds, spot: &Spot, bytes: &[u8], begun: usize) -> End
+/// Finds the end of a header of which the first `started` bytes were checked before. Checks a whole
+/// header at once. Only if it breaks a rule, or is unfinished, are its bytes checked in order.
+fn end_in(wanted: &Wanted, bounds: &Bounds, spot: &Spot, bytes: &[u8], started: usize) -> End
     requires place { spot.now.place < 2 ^ 49 }
-    requires more { begun < length bytes.now }
-    requires quiet { 0 < begun → IsQuiet (limits_by wanted.now.list.items bounds.now) spot.now (take begun bytes.now) }
-    ensures { IsEnd (limits_by wanted.now.list.items bounds.now) spot.now bytes.now begun result }
+    requires more { started < length bytes.now }
+    requires quiet { 0 < started → IsQuiet (limits_by wanted.now.list.items bounds.now) spot.now (take started bytes.now) }
+    ensures { IsEnd (limits_by wanted.now.list.items bounds.now) spot.now bytes.now started result }
 {
     if let Need::Size(size) = need(spot.syntax.layout(), bytes) {
-        let whole = examine(wanted, bounds, spot, bytes, begun, size);
+        let whole = examine(wanted, bounds, spot, bytes, started, size);
         if is_whole_header(&whole) {
             return whole;
         }
     }
-    end_from_front(wanted, bounds, spot, bytes, begun)
+    end_from_front(wanted, bounds, spot, bytes, started)
 }
 
-/// Appends the first bytes of the piece to those of the header, until there are 12, the size of the
+/// Appends the first bytes of `piece` to those of the header, up to 12 in all, the size of the
 /// longest header.
 fn gather(header: &mut ArrayVec<u8, 12>, piece: &[u8])
     requires { array_vec_len header.old ≤ 11 }
@@ -142,9 +148,8 @@ fn gather(header: &mut ArrayVec<u8, 12>, piece: &[u8])
     }
 }
 
-/// Finds the end of a header whose first bytes are in the buffer `header` and whose next ones are those
-/// of the piece. The buffer has the bytes of an unfinished header afterwards, and is empty where the
-/// header ended.
+/// Finds the end of a header that starts in the buffer `header` and continues in `piece`.
+/// Afterwards the buffer has the bytes of an unfinished header, or is empty if the header ended.
 fn gathered_end(
     wanted: &Wanted,
     bounds: Bounds,
@@ -153,22 +158,22 @@ fn gathered_end(
     piece: &[u8],
 ) -> End
     requires place { spot.place < 2 ^ 49 }
-    requires begun { array_vec_len header.old ≤ 11 }
+    requires started { array_vec_len header.old ≤ 11 }
     requires more { 0 < length piece.now }
     requires quiet { 0 < array_vec_len header.old → IsQuiet (limits_by wanted.now.list.items bounds) spot header.old.items }
     ensures end { IsEnd (limits_by wanted.now.list.items bounds) spot (header.old.items ++ piece.now) (length header.old.items) result }
     ensures kept { header.new.items ≡ kept_by result (header.old.items ++ piece.now) }
 {
-    let begun = header.len();
+    let started = header.len();
     gather(header, piece);
-    let end = end_in(wanted, &bounds, &spot, header.as_slice(), begun);
+    let end = end_in(wanted, &bounds, &spot, header.as_slice(), started);
     if !is_part(&end) {
         header.clear();
     }
     end
 }
 
-/// Reads the header at the front of the piece. Returns `None` if it is unfinished or breaks a rule.
+/// Reads the header at the front of `piece`. Returns `None` if it is unfinished or breaks a rule.
 fn whole_header(wanted: &Wanted, bounds: &Bounds, spot: &Spot, piece: &[u8]) -> Option<Front>
     requires place { spot.now.place < 2 ^ 49 }
     requires more { 0 < length piece.now }
@@ -182,9 +187,9 @@ fn whole_header(wanted: &Wanted, bounds: &Bounds, spot: &Spot, piece: &[u8]) -> 
     }
 }
 
-/// Finds the end of a header whose first bytes, if any, are in the buffer `header` and whose next ones
-/// are those of the piece. A header that is whole in the piece is read there, without a copy. The
-/// buffer has the bytes of an unfinished header afterwards, and is empty where the header ended.
+/// Finds the end of a header that starts in the buffer `header`, which may be empty, and continues
+/// in `piece`. A header that is whole in `piece` is not copied. Afterwards the buffer has the bytes
+/// of an unfinished header, or is empty if the header ended.
 pub fn header_end(
     wanted: &Wanted,
     bounds: &Bounds,
@@ -193,7 +198,7 @@ pub fn header_end(
     piece: &[u8],
 ) -> End
     requires place { spot.now.place < 2 ^ 49 }
-    requires begun { array_vec_len header.old ≤ 11 }
+    requires started { array_vec_len header.old ≤ 11 }
     requires more { 0 < length piece.now }
     requires quiet { 0 < array_vec_len header.old → IsQuiet (limits_by wanted.now.list.items bounds.now) spot.now header.old.items }
     ensures end { IsEnd (limits_by wanted.now.list.items bounds.now) spot.now (header.old.items ++ piece.now) (length header.old.items) result }

@@ -1,9 +1,9 @@
-//! The buffer of the wanted values of a data set, one after the other in a fixed capacity.
+//! The buffer of the wanted values of a data set, which are stored one after the other.
 ghost use Rattle.std.specs.Prelude.{◌≡◌, ◌≤◌, ◌<◌, ◌^◌, ◌+◌, ◌-◌, ◌++◌, ◌∷◌, [], IsTrue, IfSome, length, if◌then◌else◌, slice_set, true, option_map};
 ghost use Rattle.arrayvec.specs.ArrayVec.{array_vec_len};
 ghost use Rattle.sequence.specs.Wanted.{rooms, is_wanted, room_of, value_of};
-ghost use Rattle.sequence.specs.Fields.{stored, absent, told_values};
-ghost use Rattle.sequence.specs.machine.Keeping.{counts, are_stored, is_latest, left_at};
+ghost use Rattle.sequence.specs.Fields.{stored, absent, reported_values};
+ghost use Rattle.sequence.specs.machine.Keeping.{counts, are_stored, is_latest, remaining_at};
 ghost use Rattle.sequence.specs.machine.Steps.{with_bytes};
 ghost use Rattle.sequence.specs.Wanted.{size_of_values};
 
@@ -12,24 +12,24 @@ use arrayvec::ArrayVec;
 
 mod fields;
 
-/// Stands in place of the length of a value that the data set has not reached.
+/// The length of a value that was not reached in the data set.
 const ABSENT: u32 = 0xffff_ffff;
 
-/// Returns the lengths of the values that are complete. `begun` says that the value at index `slot` is
-/// unfinished: it counts as absent.
-fn told_lengths(lengths: &[u32; 16], slot: usize, begun: bool) -> [u32; 16]
-    requires { begun ≡ true → slot < 16 }
-    ensures { result ≡ (if begun then slice_set lengths.now slot absent else lengths.now) }
+/// Returns the lengths of the complete values. If `started`, the value at index `slot` is unfinished
+/// and counts as absent.
+fn reported_lengths(lengths: &[u32; 16], slot: usize, started: bool) -> [u32; 16]
+    requires { started ≡ true → slot < 16 }
+    ensures { result ≡ (if started then slice_set lengths.now slot absent else lengths.now) }
 {
-    let mut told = *lengths;
-    if begun {
-        told[slot] = ABSENT;
+    let mut reported = *lengths;
+    if started {
+        reported[slot] = ABSENT;
     }
-    told
+    reported
 }
 
-/// Returns the value of this tag. `bytes` has the values one after the other, in the order of `list`,
-/// each of its entry of `lengths`.
+/// Returns the value of this tag, or `None` if it is absent. `bytes` has the values in the order of
+/// `list`, and `lengths` their sizes.
 #[tactic(auto, using(crate::proofs::WantedValues::OneRoom::look_absent, crate::proofs::WantedValues::OneRoom::look_here, crate::proofs::WantedValues::OneRoom::look_on, crate::proofs::WantedValues::OneRoom::look_end, crate::proofs::WantedValues::OneRoom::size_absent, crate::proofs::WantedValues::OneRoom::size_on))]
 fn find_value<'a>(list: &[Want], lengths: &[u32; 16], bytes: &'a [u8], tag: u32) -> Option<&'a [u8]>
     requires few { length list.now ≤ 16 }
@@ -51,16 +51,16 @@ fn find_value<'a>(list: &[Want], lengths: &[u32; 16], bytes: &'a [u8], tag: u32)
     None
 }
 
-/// The wanted values that were read so far, in a buffer of `V` bytes: the length of each, in the order
-/// of the wanted tags, and their bytes.
+/// The wanted values that were read so far, in a buffer of `V` bytes: the length of each, in the
+/// order of the wanted tags, and their bytes.
 #[derive(Drop)]
 pub struct Keep<const V: usize> {
     wanted: Wanted,
     lengths: [u32; 16],
     bytes: ArrayVec<u8, V>,
-    /// The index, among the wanted tags, of the value that was read last.
+    /// The index of the last value that was started, among the wanted tags.
     slot: usize,
-    /// The tag of that value as a number, 0 if there is none.
+    /// The tag of the last value that was started as a number, 0 if there is none.
     last: u32,
     ghost greatest: { V ≤ 2 ^ 24 },
     ghost fit: { rooms wanted.list.items + 12 ≤ V },
@@ -74,9 +74,9 @@ impl<const V: usize> Keep<V> {
     ghost use Rattle.std.specs.Prelude.{◌≡◌, ◌≤◌, ◌<◌, ◌^◌, ◌+◌, ◌-◌, ◌++◌, ◌∷◌, [], IsTrue, IfSome, IsSome, ◌↔◌, length, if◌then◌else◌, is_some, option_map, true};
     ghost use Rattle.sequence.specs.Wanted.{is_wanted, room_of, value_of, size_of_values};
     ghost use Rattle.sequence.specs.Stored.{values_of, wants_of};
-    ghost use Rattle.sequence.specs.machine.Stored.{left_of_keep};
+    ghost use Rattle.sequence.specs.machine.Stored.{remaining_of_keep};
 
-    /// Creates a buffer for the values of the wanted tags.
+    /// Creates an empty buffer for the values of the wanted tags.
     pub fn new(wanted: Wanted) -> Keep<V>
         requires greatest { V ≤ 2 ^ 24 }
         requires fit { rooms (wanted.list.items) + 12 ≤ V }
@@ -93,13 +93,13 @@ impl<const V: usize> Keep<V> {
         }
     }
 
-    /// Starts an empty value for a tag above all earlier ones, if the tag is wanted. Returns whether it
-    /// is.
+    /// Starts an empty value for a tag above all earlier ones, if the tag is wanted. Returns
+    /// whether it is.
     pub fn begin(&mut self, tag: u32) -> bool
         requires { self.old.last < tag }
         ensures wanted { result ≡ is_wanted (wants_of self.old) tag }
         ensures values { values_of self.new ≡ (if is_wanted (wants_of self.old) tag then values_of self.old ++ (tag, []) ∷ [] else values_of self.old) }
-        ensures left { (room : _) → room_of (wants_of self.old) tag ≡ Some room → left_of_keep self.new ≡ room }
+        ensures remaining { (room : _) → room_of (wants_of self.old) tag ≡ Some room → remaining_of_keep self.new ≡ room }
         ensures wants { wants_of self.new ≡ wants_of self.old }
         ensures last { self.new.last ≤ tag }
     {
@@ -114,12 +114,12 @@ impl<const V: usize> Keep<V> {
         }
     }
 
-    /// Appends bytes to the value that was started last. They must not make it longer than its limit.
+    /// Appends bytes to the value that was started last, which must stay within its limit.
     pub fn extend(&mut self, bytes: &[u8])
         requires some { 0 < length bytes.now }
-        requires room { length bytes.now ≤ left_of_keep self.old }
+        requires room { length bytes.now ≤ remaining_of_keep self.old }
         ensures values { values_of self.new ≡ with_bytes (values_of self.old) bytes.now }
-        ensures left { left_of_keep self.new ≡ left_of_keep self.old - length bytes.now }
+        ensures remaining { remaining_of_keep self.new ≡ remaining_of_keep self.old - length bytes.now }
         ensures wants { wants_of self.new ≡ wants_of self.old }
         ensures last { self.new.last ≡ self.old.last }
     {
@@ -127,12 +127,12 @@ impl<const V: usize> Keep<V> {
         let _fits = self.bytes.try_extend_from_slice(bytes);
     }
 
-    /// Appends bytes to the value that was started last, if `kept` says that it is a wanted one.
+    /// Appends bytes to the value that was started last if `kept` is true; otherwise does nothing.
     pub fn extend_if(&mut self, kept: bool, bytes: &[u8])
         requires some { 0 < length bytes.now }
-        requires room { kept ≡ true → length bytes.now ≤ left_of_keep self.old }
+        requires room { kept ≡ true → length bytes.now ≤ remaining_of_keep self.old }
         ensures values { values_of self.new ≡ (if kept then with_bytes (values_of self.old) bytes.now else values_of self.old) }
-        ensures left { kept ≡ true → left_of_keep self.new ≡ left_of_keep self.old - length bytes.now }
+        ensures remaining { kept ≡ true → remaining_of_keep self.new ≡ remaining_of_keep self.old - length bytes.now }
         ensures wants { wants_of self.new ≡ wants_of self.old }
         ensures last { self.new.last ≡ self.old.last }
     {
@@ -141,7 +141,7 @@ impl<const V: usize> Keep<V> {
         }
     }
 
-    /// Returns the number of bytes of all values in the buffer.
+    /// Returns the total number of bytes of the values.
     pub fn len(&self) -> usize
         ensures value { result ≡ size_of_values (values_of self.now) }
         ensures all { result ≡ array_vec_len self.now.bytes }
@@ -150,13 +150,13 @@ impl<const V: usize> Keep<V> {
         self.bytes.len()
     }
 
-    /// Returns the value of this tag, or `None` if it is not wanted or was not read. `begun` says that
-    /// the last value is unfinished: it is left out.
-    pub fn value(&self, tag: u32, begun: bool) -> Option<&[u8]>
-        requires { begun ≡ true → 0 < left_of_keep self.now }
-        ensures { option_map (λ bytes. bytes.now) result ≡ value_of (told_values begun (values_of self.now)) tag }
+    /// Returns the value of this tag, or `None` if it is not wanted or was not read. If `started`,
+    /// the last value is unfinished and left out.
+    pub fn value(&self, tag: u32, started: bool) -> Option<&[u8]>
+        requires { started ≡ true → 0 < remaining_of_keep self.now }
+        ensures { option_map (λ bytes. bytes.now) result ≡ value_of (reported_values started (values_of self.now)) tag }
     {
-        let lengths = told_lengths(&self.lengths, self.slot, begun);
+        let lengths = reported_lengths(&self.lengths, self.slot, started);
         find_value(self.wanted.as_slice(), &lengths, self.bytes.as_slice(), tag)
     }
 

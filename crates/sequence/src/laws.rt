@@ -10,7 +10,7 @@ ghost use Rattle.sequence.specs.Examples.{OneFrame, TwoFrames, AnIcon, NoFragmen
 
 use crate::fault::Fault;
 
-/// Returns the numbers of the rules as [`Fault`] names them: they equal those of the definitions.
+/// Returns the numbers of the rules that [`Fault`] names, which equal those of the definitions.
 pub fn rule_numbers() -> [u8; 12]
     ensures { result ≡ bad_vr ∷ odd_length ∷ not_rising ∷ bad_group ∷ undefined_not_allowed ∷ unexpected_tag ∷ delimiter_length ∷ overrun ∷ too_deep ∷ too_long ∷ truncated ∷ kept_too_long ∷ [] }
 {
@@ -30,26 +30,26 @@ pub fn rule_numbers() -> [u8; 12]
     ]
 }
 
-/// Example: three bytes of a header inside a sequence and an item of undefined length. Two levels are
-/// open, and `Walker::held` is 35: 3, and 16 for each level.
+/// Example: after three bytes of a header inside a sequence and an item of undefined length, two
+/// levels are open, and `Walker::held` is 35: 3, and 16 for each level.
 pub fn two_open_levels()
     ensures { TwoOpenLevels }
 {}
 
-/// Example: three of four nested levels have defined length and end at the same byte. They are closed
-/// together; the fourth ends with its delimitation.
+/// Example: three of four nested levels have defined length and end at the same byte, which closes
+/// all three. The fourth ends with its delimitation.
 pub fn four_levels_that_end_together()
     ensures { FourLevels }
 {}
 
-/// Example: a header that passes the end of its item breaks the rule `Overrun` at the first byte after
-/// which no header fits.
+/// Example: a header that passes the end of its item breaks the rule `Overrun` at the first byte
+/// that leaves too little space for a header.
 pub fn a_header_past_its_item()
     ensures { PastItsItem }
 {}
 
-/// Example: one level more than the limit breaks the rule `TooDeep`. An empty sequence or item opens no
-/// level.
+/// Example: one level more than the limit breaks the rule `TooDeep`. An empty sequence or item
+/// opens no level.
 pub fn deeper_than_the_limit()
     ensures { TooDeep }
 {}
@@ -60,7 +60,7 @@ pub fn unknown_content()
     ensures { UnknownContent }
 {}
 
-/// Example: the levels, the position and the wanted values after the data set of a CT image.
+/// Example: the levels, the offset and the wanted values after the data set of a CT image.
 pub fn one_store()
     ensures { OneStore }
 {}
@@ -76,14 +76,13 @@ pub fn along_four_levels()
     ensures { AlongFourLevels }
 {}
 
-/// Example: encapsulated Pixel Data opens one level. It breaks a rule where the transfer syntax is not
-/// an encapsulated one.
+/// Example: encapsulated Pixel Data opens one level. It breaks a rule in a native transfer syntax.
 pub fn one_frame()
     ensures { OneFrame }
 {}
 
-/// Example: encapsulated Pixel Data with a Basic Offset Table in its first item, which is walked as any
-/// fragment.
+/// Example: encapsulated Pixel Data with a Basic Offset Table in its first item, which is read as
+/// any fragment.
 pub fn two_frames()
     ensures { TwoFrames }
 {}
@@ -93,12 +92,13 @@ pub fn an_icon()
     ensures { AnIcon }
 {}
 
-/// Examples: headers that break a rule where a fragment has to follow.
+/// Examples: headers that break a rule where a fragment is required.
 pub fn no_fragment()
     ensures { NoFragment }
 {}
 
-/// Example: what [`Walker::step`](crate::Walker::step) returns at each step of encapsulated Pixel Data.
+/// Example: what [`Walker::step`](crate::Walker::step) returns at each step of encapsulated Pixel
+/// Data.
 pub fn along_one_frame()
     ensures { AlongOneFrame }
 {}
@@ -118,7 +118,8 @@ pub fn one_tree()
     ensures { OneTree }
 {}
 
-/// A sequence inside a data set in Implicit or Explicit VR Little Endian is itself in one of these two.
+/// A sequence inside a data set in Implicit or Explicit VR Little Endian is itself encoded in one
+/// of the two.
 pub fn native_inside()
     ensures { NativeInside }
 {}
@@ -128,30 +129,30 @@ pub fn native_has_none()
     ensures { NativeHasNone }
 {}
 
-/// Implicit and Explicit VR Little Endian have native Pixel Data alone.
+/// In Implicit and Explicit VR Little Endian Pixel Data is always native.
 pub fn syntaxes_are_native()
     ensures { SyntaxesAreNative }
 {}
 
-/// A data set in Explicit VR Little Endian is also a data set, with the same elements, in the encoding
+/// A data set in Explicit VR Little Endian is also valid, with the same elements, in the encoding
 /// in which Pixel Data may be encapsulated.
 pub fn explicit_is_encapsulated()
     ensures { ExplicitIsEncapsulated }
 {}
 
-/// A text determines its whole elements, its open levels, the last tag of the innermost level and its
-/// unfinished header or value.
+/// A text determines its whole elements, its open levels, the last tag of the innermost level and
+/// its unfinished header or value.
 pub fn one_path()
     ensures { OnePath }
 {}
 
-/// As many bytes or more are missing from a level of defined length as from any such level inside it.
+/// A level of defined length lacks at least as many bytes as any such level inside it.
 pub fn ends_are_nested()
     ensures { EndsAreNested }
 {}
 
-/// A level of defined length whose bytes are all there is still open only if a level of undefined
-/// length inside it is.
+/// A level of defined length that lacks no byte is still open only if a level of undefined length
+/// inside it is.
 pub fn a_whole_level_has_an_open_one_inside()
     ensures { WholeHasOpenInside }
 {}
@@ -166,7 +167,8 @@ pub fn one_telling()
     ensures { OneTelling }
 {}
 
-/// A text determines how many bytes a walker holds after it.
+/// A text determines the state of a walker after it: its open levels, its unfinished header or
+/// value, and the wanted values.
 pub fn one_holding()
     ensures { OneHolding }
 {}
@@ -202,22 +204,22 @@ pub fn nothing_is_unbroken()
     ensures { NothingIsUnbroken }
 {}
 
-/// The empty text counts as an unfinished header.
+/// The empty text is an unfinished header.
 pub fn no_header()
     ensures { NoHeader }
 {}
 
-/// A header takes at least eight bytes.
+/// A header has at least eight bytes.
 pub fn a_header_takes_eight_bytes()
     ensures { LeastHeader }
 {}
 
-/// Two texts of bytes, one after the other, are a text of bytes.
+/// The concatenation of two texts of bytes is a text of bytes.
 pub fn bytes_are_joined()
     ensures { BytesAreJoined }
 {}
 
-/// A walker that has found a fault is in the same state after any further bytes.
+/// After a fault the state of a walker stays the same, whatever bytes follow.
 pub fn a_refused_walker_stands()
     ensures { RefusedStands }
 {}

@@ -1,37 +1,38 @@
-//! Open levels: sequences and items that the walker is inside of.
+//! Open levels: the unfinished sequences and items.
 ghost use Rattle.std.specs.Prelude.{◌≡◌, ℕ, ◌<◌, ◌≤◌, ◌^◌, ◌+◌, ◌-◌, length, IfSome};
 ghost use Rattle.sequence.specs.Fields as fields;
 
 use crate::coding::Coding;
 
-/// A sequence or an item that is being read, or the data set itself.
+/// An unfinished sequence or item, or the data set itself.
 #[derive(Clone, Copy)]
 pub struct Scope {
-    /// It is a sequence, which has items; else it has elements.
+    /// Whether it is a sequence, which contains items; otherwise it contains elements.
     pub in_sequence: bool,
     pub syntax: Coding,
-    /// The position of its end in the data set, in bytes; `None` if its length is undefined, and for the
-    /// data set itself.
+    /// Its end as an offset in the data set, in bytes; `None` for undefined length and for the data
+    /// set itself.
     pub stop: Option<u64>,
-    /// The tag of its last element as a number, 0 if there is none.
+    /// The tag of its last element so far as a number, 0 if there is none.
     pub last: u32,
 }
 
-/// An open level, a [`Scope`] packed into 16 bytes.
+/// An open level: a [`Scope`] packed into 16 bytes.
 #[derive(Clone, Copy, Default)]
 pub struct Level {
-    /// The position of its end in the data set, in bytes, or `u64::MAX` if its length is undefined.
+    /// Its end as an offset in the data set, in bytes, or `u64::MAX` for undefined length.
     pub end: u64,
-    /// The tag of its last element as a number, 0 if there is none.
+    /// The tag of its last element so far as a number, 0 if there is none.
     pub last: u32,
-    /// 1 if it is a sequence, 0 if it is an item.
+    /// 1 for a sequence, 0 for an item.
     pub kind: u8,
-    /// The [`Coding`] as a number, which its name tells of but one: 0 `Explicit`, 1 `Implicit`, 2 `Encapsulated`,
-    /// 3 `Fragments`.
+    /// The number of its [`Coding`], despite the field's name: 0 `Explicit`, 1 `Implicit`, 2
+    /// `Encapsulated`, 3 `Fragments`.
     pub implicit: u8,
 }
 
-/// Returns the encoding with this number (see [`Level::implicit`]).
+/// Returns the encoding with this number (see [`Level::implicit`]); `Explicit` for any number above
+/// 3.
 fn coding_by(number: u8) -> Coding
     ensures { result ≡ fields.coding_by number }
 {
@@ -83,7 +84,7 @@ impl Level {
         }
     }
 
-    /// Returns whether the level has defined length and ends at this position.
+    /// Returns whether the level has defined length and ends at the offset `place`.
     pub(crate) fn ends_at(&self, place: u64) -> bool
         requires { place < 2 ^ 64 - 1 }
         ensures { result ≡ stops_at (scope_of self.now).stop place }
@@ -91,7 +92,7 @@ impl Level {
         self.end == place
     }
 
-    /// Sets the tag of the level's last element, as a number.
+    /// Sets the tag, as a number, of the last element in the level.
     pub(crate) fn set_last(&mut self, last: u32)
         ensures { scope_of self.new ≡ record (scope_of self.old) { last = last } }
     {

@@ -1,8 +1,8 @@
-//! The stack of open levels, the innermost last.
+//! The stack of open levels (sequences and items), the innermost last.
 ghost use Rattle.std.specs.Prelude.{◌≡◌, ℕ, ◌<◌, ◌≤◌, ◌^◌, ◌+◌, ◌-◌, ◌&&◌, not, nat_eq, None, [], length, get_or, IsTrue, IfSome};
 ghost use Rattle.element.specs.Header.{number};
 ghost use Rattle.arrayvec.specs.ArrayVec.{array_vec_len};
-ghost use Rattle.sequence.specs.machine.Machine.{leave, stops_at, spot_of, less, is_none, begun, stop_of, set_scope, sequence_scope};
+ghost use Rattle.sequence.specs.machine.Machine.{leave, stops_at, spot_of, less, is_none, started, stop_of, set_scope, sequence_scope};
 ghost use Rattle.sequence.specs.declared.level.Scope.{Scope};
 ghost use Rattle.sequence.specs.machine.Scopes.{LeavesEnded, top_of, below_of, nearest_from};
 ghost use Rattle.sequence.specs.Fields.{scope_of};
@@ -14,7 +14,7 @@ use crate::spot::Spot;
 use arrayvec::ArrayVec;
 use element::Tag;
 
-/// Returns whether the innermost level has defined length and ends at position `place`.
+/// Returns whether the innermost level has defined length and ends at the offset `place`.
 pub fn ends_here<const D: usize>(levels: &ArrayVec<Level, D>, place: u64) -> bool
     requires { place < 2 ^ 64 - 1 }
     ensures some { IsTrue result → 0 < array_vec_len levels.now }
@@ -26,7 +26,7 @@ pub fn ends_here<const D: usize>(levels: &ArrayVec<Level, D>, place: u64) -> boo
     }
 }
 
-/// Removes the levels that end at position `place`, from the innermost one outwards.
+/// Removes the levels that end at the offset `place`, from the innermost outwards.
 pub fn leave_ended<const D: usize>(levels: &mut ArrayVec<Level, D>, place: u64)
     requires { place < 2 ^ 64 - 1 }
     ensures { LeavesEnded place levels.old.items levels.new.items }
@@ -36,8 +36,8 @@ pub fn leave_ended<const D: usize>(levels: &mut ArrayVec<Level, D>, place: u64)
     }
 }
 
-/// Returns the end of the innermost level of defined length, as a position, or `None` if there is no
-/// such level. No enclosing level ends before it.
+/// Returns the end of the innermost level of defined length, as an offset, or `None` if there is
+/// none. No level around it ends before.
 pub fn nearest(levels: &[Level]) -> Option<u64>
     ensures { result ≡ nearest_from None levels.now }
 {
@@ -51,8 +51,9 @@ pub fn nearest(levels: &[Level]) -> Option<u64>
     None
 }
 
-/// Returns how many bytes are left from position `place` to this end; `None` for no end.
-pub fn left_before(near: Option<u64>, place: u64) -> Option<u64>
+/// Returns the number of bytes from the offset `place` to the end `near`, or `None` if there is no
+/// end.
+pub fn remaining_before(near: Option<u64>, place: u64) -> Option<u64>
     ensures { result ≡ less near place }
 {
     match near {
@@ -61,7 +62,7 @@ pub fn left_before(near: Option<u64>, place: u64) -> Option<u64>
     }
 }
 
-/// Returns the scope of the innermost open level, or of the data set itself where none is open.
+/// Returns the scope of the innermost open level, or of the data set itself if none is open.
 pub fn top_scope(root: Scope, levels: &[Level]) -> Scope
     ensures { result ≡ top_of root levels.now }
 {
@@ -78,12 +79,12 @@ pub fn is_open_ended(top: Scope, levels: &[Level]) -> bool
     top.stop.is_none() && !levels.is_empty()
 }
 
-/// Returns the context of a header that begins at position `place`.
+/// Returns the context of a header at the offset `place`.
 pub fn spot_at(root: Scope, levels: &[Level], place: u64) -> Spot
     requires { root.stop ≡ None }
     ensures { result ≡ spot_of (top_of root levels.now) (below_of root [] levels.now) place }
 {
-    let near = left_before(nearest(levels), place);
+    let near = remaining_before(nearest(levels), place);
     let top = top_scope(root, levels);
     let open_ended = is_open_ended(top, levels);
     Spot {
@@ -97,10 +98,10 @@ pub fn spot_at(root: Scope, levels: &[Level], place: u64) -> Spot
     }
 }
 
-/// Sets the tag of the last element of the innermost level, or of the data set itself where none is
-/// open.
+/// Sets the tag of the last element in the innermost level, or in the data set itself if no level
+/// is open.
 pub fn set_last<const D: usize>(root: &mut Scope, levels: &mut ArrayVec<Level, D>, tag: Tag)
-    ensures top { top_of root.new levels.new.items ≡ begun (top_of root.old levels.old.items) tag }
+    ensures top { top_of root.new levels.new.items ≡ started (top_of root.old levels.old.items) tag }
     ensures below { below_of root.new [] levels.new.items ≡ below_of root.old [] levels.old.items }
     ensures stop { root.new.stop ≡ root.old.stop }
     ensures syntax { root.new.syntax ≡ root.old.syntax }
@@ -114,8 +115,8 @@ pub fn set_last<const D: usize>(root: &mut Scope, levels: &mut ArrayVec<Level, D
     }
 }
 
-/// Returns the end of a level of this length whose header ends at position `place`; `None` if the
-/// length is undefined.
+/// Returns the end of a level of this length whose header ends at the offset `place`, or `None` if
+/// the length is undefined.
 fn stop_at(place: u64, length: u32) -> Option<u64>
     requires { place < 2 ^ 49 }
     ensures stop { result ≡ stop_of place length }
@@ -128,7 +129,7 @@ fn stop_at(place: u64, length: u32) -> Option<u64>
     }
 }
 
-/// Returns the level of an item of this length whose header ends at position `place`.
+/// Returns the scope of an item of this length whose header ends at the offset `place`.
 pub fn item_scope(syntax: Coding, place: u64, length: u32) -> Scope
     requires { place < 2 ^ 49 }
     ensures scope { result ≡ set_scope syntax (stop_of place length) 0 }
@@ -142,7 +143,7 @@ pub fn item_scope(syntax: Coding, place: u64, length: u32) -> Scope
     }
 }
 
-/// Returns the level of a sequence of this length whose header ends at position `place`.
+/// Returns the scope of a sequence of this length whose header ends at the offset `place`.
 pub fn sequence_scope(syntax: Coding, place: u64, length: u32) -> Scope
     requires { place < 2 ^ 49 }
     ensures scope { result ≡ sequence_scope syntax (stop_of place length) }

@@ -1,5 +1,5 @@
-//! Reads the structure of a data set that comes in pieces, without keeping more of it than an
-//! unfinished header, the open levels and the wanted values (PS3.5 chapter 7).
+//! Reads the structure of a data set that is received in chunks. Holds only an unfinished header,
+//! the open levels (sequences and items) and the wanted values (PS3.5 chapter 7).
 #![tactic(auto)]
 
 mod answering;

@@ -1,4 +1,4 @@
-//! Reads whole headers together with what follows them.
+//! Reads whole headers, and determines what follows each of them.
 ghost use Rattle.std.specs.Prelude.{◌≡◌, ◌≤◌, length, true, Some, IfSome};
 ghost use Rattle.element.specs.Header as spelling;
 ghost use Rattle.sequence.specs.machine.Heading.{IsFront};
@@ -11,7 +11,7 @@ use crate::shape::{Shape, named_shape, plain_shape};
 use byteorder::{ByteOrder, LittleEndian};
 use element::{Header, Need, Syntax, Tag, Vr, need, read_tag};
 
-/// Returns whether a header with this tag has no VR: in Implicit VR, and for group FFFE.
+/// Returns whether a header with this tag has no VR: always in Implicit VR, and in group FFFE.
 pub fn is_plain(syntax: Syntax, tag: Tag) -> bool
     ensures { result ≡ spelling.is_plain syntax tag }
 {
@@ -21,7 +21,7 @@ pub fn is_plain(syntax: Syntax, tag: Tag) -> bool
     }
 }
 
-/// Returns whether the bytes contain the whole header at their front.
+/// Returns whether the bytes begin with a whole header.
 #[tactic(auto, unfolding(element::specs::Header::is_whole))]
 pub fn is_whole(syntax: Syntax, bytes: &[u8]) -> bool
     ensures { result ≡ spelling.is_whole syntax bytes.now }
@@ -34,7 +34,7 @@ pub fn is_whole(syntax: Syntax, bytes: &[u8]) -> bool
     }
 }
 
-/// A whole header at the front of some bytes.
+/// A whole header at the front of a chunk.
 #[derive(Clone, Copy)]
 pub struct Front {
     /// The size of the header, 8 or 12 bytes.
@@ -44,7 +44,7 @@ pub struct Front {
     pub shape: Shape,
 }
 
-/// Reads a header of eight bytes without a VR. The tag has been read from its first four.
+/// Reads a header of eight bytes without a VR, whose tag was already read from the first four.
 #[tactic(auto, unfolding(element::specs::Header::need, element::specs::Header::header_at))]
 fn plain_front(coding: Coding, tag: Tag, bytes: &[u8]) -> Front
     requires size { 8 ≤ length bytes.now }
@@ -79,8 +79,8 @@ fn named_front(coding: Coding, size: usize, tag: Tag, vr: Vr, length: u32) -> Fr
     }
 }
 
-/// Reads the header at the front of the bytes. Returns `None` if it is unfinished, or has no valid VR
-/// where it must have one.
+/// Reads the header at the front of the bytes. Returns `None` if it is unfinished, or its VR is
+/// invalid.
 pub fn read_front(coding: Coding, bytes: &[u8]) -> Option<Front>
     ensures { IfSome result (λ front. IsFront coding bytes.now front) }
 {

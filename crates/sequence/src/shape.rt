@@ -1,4 +1,5 @@
-//! Tells values from sequences by their headers (PS3.5 sections 6.2.2 and 7.5).
+//! Determines by the header of an element whether a value or a sequence follows (PS3.5 sections
+//! 6.2.2 and 7.5).
 ghost use Rattle.std.specs.Prelude.{◌≡◌, None, Some};
 ghost use Rattle.dictionary.specs.Tags as known;
 ghost use Rattle.sequence.specs.Shape as shapes;
@@ -7,17 +8,18 @@ use crate::coding::Coding;
 use dictionary::vr_of;
 use element::{Header, Tag, Vr};
 
-/// FFFFFFFFH, undefined length.
+/// Undefined length, FFFFFFFFH.
 pub const UNDEFINED: u32 = 0xffff_ffff;
 
 /// What follows the header of an element.
 #[derive(Clone, Copy, Debug)]
 pub enum Shape {
-    /// A value of as many bytes as the length of the header says.
+    /// A value of as many bytes as the length in the header.
     Value,
     /// The items of a sequence, in this encoding.
     Sequence(Coding),
-    /// Nothing that can be read: the length is undefined, and the element may not have it.
+    /// Nothing that can be read: the length is undefined, but the element must have a defined
+    /// length.
     NotAllowed,
 }
 
@@ -93,8 +95,8 @@ pub fn shape_of(coding: Coding, header: &Header) -> Shape
     }
 }
 
-/// Returns what follows the header of an element that has no VR, with this tag and length. In Implicit
-/// VR the VR is taken from the dictionary.
+/// Returns what follows the header of an element without a VR, with this tag and length. In
+/// Implicit VR the dictionary has the VR of the tag.
 pub fn plain_shape(coding: Coding, tag: Tag, length: u32) -> Shape
     ensures { result ≡ shapes.shape_by coding tag None (known.vr_of tag) (shapes.is_undefined length) }
 {

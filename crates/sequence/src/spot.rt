@@ -1,27 +1,28 @@
-//! The context of a header.
+//! The context in which a header is checked.
 use crate::coding::Coding;
 
-/// The context of a header: what decides, besides its own bytes, whether it may stand there.
+/// The context of a header: with the header's own bytes it determines whether a rule is broken.
 #[derive(Clone, Copy)]
 pub struct Spot {
     pub syntax: Coding,
-    /// The header is inside a sequence, where items follow; else inside an item or the data set, where
-    /// elements do.
+    /// Whether the header is inside a sequence, which contains items; otherwise it is inside an
+    /// item or the data set, which contain elements.
     pub in_sequence: bool,
-    /// The innermost level has undefined length, so that a delimitation may end it.
+    /// Whether the innermost level has undefined length, so that a delimitation may end it.
     pub open_ended: bool,
-    /// The number of bytes left before the nearest end of a level of defined length, `None` if there is
+    /// The number of bytes up to the nearest end of a level of defined length, `None` if there is
     /// no such level.
     pub near: Option<u64>,
-    /// The tag of the element before it in the same data set or item as a number, 0 if it is the first.
+    /// The tag of the preceding element in the same data set or item as a number, 0 if there is
+    /// none.
     pub last: u32,
     /// The number of open levels.
     pub depth: usize,
-    /// The position of the header in the data set, in bytes.
+    /// The offset of the header in the data set, in bytes.
     pub place: u64,
 }
 
-/// The limits of a data set: its greatest number of open levels, and its greatest size in bytes.
+/// The limits of a data set: the greatest number of open levels, and the greatest size in bytes.
 #[derive(Clone, Copy)]
 pub struct Bounds {
     pub depth: usize,

@@ -1,4 +1,4 @@
-//! The stage of a walker.
+//! What a walker reads next.
 ghost use Rattle.std.specs.Prelude.{◌≡◌};
 ghost use Rattle.sequence.specs.machine.Judging.{numbered};
 ghost use Rattle.sequence.specs.machine.Spare.{stage_by};
@@ -9,17 +9,21 @@ use element::{Rule, Tag};
 /// What a walker reads next: a header, a value, or nothing after a fault.
 #[derive(Clone, Copy)]
 pub enum Stage {
-    /// A header; the walker's buffer has its first bytes, if any were read.
+    /// A header; the walker's buffer has the bytes of it that were received.
     Heading,
-    /// The value of the element with this tag, with at least one byte left. `kept` says whether it is a
-    /// wanted value.
-    Value { tag: Tag, left: u32, kept: bool },
-    /// Nothing: a rule is broken.
+    /// The value of the element, or the fragment, with this tag; `remaining` bytes of it, at least one,
+    /// are missing. `kept` is whether it is a wanted value.
+    Value {
+        tag: Tag,
+        remaining: u32,
+        kept: bool,
+    },
+    /// Nothing: a rule was broken.
     Stopped(Fault),
 }
 
-/// Returns the stage before a header at position `place`: `Heading`, or the fault if `broken` has a
-/// rule.
+/// Returns the stage at the offset `place`, where a header may start: `Heading`, or the fault if a
+/// rule is `broken` there.
 pub fn stage_at(broken: Option<(Rule, Tag)>, place: u64) -> Stage
     ensures { result ≡ stage_by (numbered broken) place }
 {

@@ -1,4 +1,4 @@
-//! The encoding of data sets by their transfer syntax.
+//! The encoding of a data set by its transfer syntax.
 ghost use Rattle.std.specs.Prelude.{◌≡◌, ◌≤◌, ◌^◌, ◌+◌, []};
 ghost use Rattle.sequence.specs.Transfer.{coding_in};
 
@@ -25,8 +25,8 @@ impl<const V: usize, const D: usize> Walker<V, D> {
     ghost use Rattle.sequence.specs.Taken.{StandsAt, limits_of, walker_syntax};
     ghost use Rattle.sequence.specs.Wanted.{rooms};
 
-    /// Creates a walker for a data set of at most `limit` bytes in this transfer syntax, which keeps
-    /// the values of the wanted tags.
+    /// Creates a walker for a data set of at most `limit` bytes in this transfer syntax, which
+    /// keeps the values of the wanted tags.
     pub fn in_transfer(transfer: Transfer, wanted: Wanted, limit: u64) -> Self
         requires least_kept { 140 ≤ V }
         requires greatest_kept { V ≤ 2 ^ 24 }

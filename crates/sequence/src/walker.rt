@@ -1,14 +1,14 @@
-//! Reads a data set, in pieces of any size.
+//! Reads a data set in chunks of any size.
 ghost use Rattle.std.specs.Prelude.{◌≡◌, ℕ, ◌<◌, ◌≤◌, ◌^◌, ◌+◌, ◌-◌, ◌&&◌, ◌++◌, ◌∷◌, [], None, Some, length, take, IsTrue, IfSome, nat_eq, true, false, if◌then◌else◌};
 ghost use Rattle.arrayvec.specs.ArrayVec.{array_vec_len};
 ghost use Rattle.sequence.specs.machine.Spare.{owed, spare, head_room, due_of, due_kept, is_wanted_in};
 ghost use Rattle.sequence.specs.Fields.{is_kept};
 ghost use Rattle.sequence.specs.Stored.{wants_of, values_of};
-ghost use Rattle.sequence.specs.machine.Stored.{left_of_keep};
+ghost use Rattle.sequence.specs.machine.Stored.{remaining_of_keep};
 ghost use Rattle.sequence.specs.Wanted.{is_wanted, room_of};
 ghost use Rattle.sequence.specs.Open.{in_header};
 ghost use Rattle.sequence.specs.machine.Scopes.{top_of, below_of};
-ghost use Rattle.sequence.specs.machine.Heading.{is_begun};
+ghost use Rattle.sequence.specs.machine.Heading.{is_started};
 ghost use Rattle.sequence.specs.FirstFault.{tag_of_tail};
 ghost use Rattle.sequence.specs.Coding.{has_fragments};
 
@@ -29,9 +29,10 @@ use arrayvec::ArrayVec;
 use element::{Header, Rule, Syntax, Tag, read_tag};
 
 mod fields;
-mod told;
+mod reported;
 
-/// Starts to keep the value of this tag, if it is wanted and no level is open. Returns whether it does.
+/// Starts to keep the value of this tag if it is wanted and no level is open. Returns whether it is
+/// kept.
 fn begin_kept<const V: usize, const D: usize>(
     kept: &mut Keep<V>,
     levels: &ArrayVec<Level, D>,
@@ -39,7 +40,7 @@ fn begin_kept<const V: usize, const D: usize>(
 ) -> bool
     requires { array_vec_len levels.now ≡ 0 → kept.old.last < tag }
     ensures wanted { result ≡ (nat_eq (length levels.now.items) 0 && is_wanted (wants_of kept.old) tag) }
-    ensures left { (room : ℕ) → result ≡ true → room_of (wants_of kept.old) tag ≡ Some room → left_of_keep kept.new ≡ room }
+    ensures remaining { (room : ℕ) → result ≡ true → room_of (wants_of kept.old) tag ≡ Some room → remaining_of_keep kept.new ≡ room }
     ensures values { values_of kept.new ≡ (if (nat_eq (length levels.now.items) 0 && is_wanted (wants_of kept.old) tag) then values_of kept.old ++ (tag, []) ∷ [] else values_of kept.old) }
     ensures wants { wants_of kept.new ≡ wants_of kept.old }
     ensures last { array_vec_len levels.now ≡ 0 → kept.new.last ≤ tag }
@@ -52,8 +53,9 @@ fn begin_kept<const V: usize, const D: usize>(
     }
 }
 
-/// Returns the tag of a header with these first bytes, or (0000,0000) if they are fewer than four.
-fn begun_tag(header: &[u8]) -> Tag
+/// Returns the tag at the front of an unfinished header, or (0000,0000) if it has fewer than four
+/// bytes.
+fn started_tag(header: &[u8]) -> Tag
     ensures { result ≡ tag_of_tail (in_header header.now) }
 {
     if 4 <= header.len() {
@@ -63,7 +65,7 @@ fn begun_tag(header: &[u8]) -> Tag
     }
 }
 
-/// Returns the first bytes of a piece, at most `most`.
+/// Returns the first bytes of `piece`, at most `most`.
 fn front(piece: &[u8], most: u32) -> &[u8]
     ensures { result.now ≡ take most piece.now }
 {
@@ -74,9 +76,9 @@ fn front(piece: &[u8], most: u32) -> &[u8]
     }
 }
 
-/// Reads one data set, in pieces of any size: its headers, values, sequences and items, and the first
-/// rule that it breaks. It holds one unfinished header, the wanted values (with the header at most `V`
-/// bytes) and 16 bytes for each open sequence or item (at most `D`).
+/// Reads one data set in chunks of any size: its headers, values, sequences and items, up to the
+/// first rule that it breaks. Holds an unfinished header and the wanted values (at most `V` bytes
+/// together), and 16 bytes for each open sequence or item (at most `D`).
 #[derive(Drop)]
 pub struct Walker<const V: usize, const D: usize> {
     root: Scope,
@@ -92,13 +94,13 @@ pub struct Walker<const V: usize, const D: usize> {
     ghost elements: { has_fragments root.syntax ≡ false },
     ghost few: { array_vec_len header ≤ head_room stage },
     ghost together: { array_vec_len header + array_vec_len kept.bytes ≤ V },
-    ghost begun: { is_begun (record { wanted = wants_of kept; depth = D; bytes = limit }) (top_of root levels.items) (below_of root [] levels.items) place header.items ≡ true },
+    ghost started: { is_started (record { wanted = wants_of kept; depth = D; bytes = limit }) (top_of root levels.items) (below_of root [] levels.items) place header.items ≡ true },
     ghost behind: { array_vec_len header ≤ place },
     ghost due: { 0 < due_of stage },
     ghost small: { limit ≤ 2 ^ 48 },
     ghost within: { place + owed stage ≤ limit + spare stage (array_vec_len header) },
     ghost flag: { is_kept stage ≡ is_wanted_in (wants_of kept) levels.items stage },
-    ghost room: { due_kept stage ≤ left_of_keep kept },
+    ghost room: { due_kept stage ≤ remaining_of_keep kept },
     ghost order: { kept.last ≤ root.last },
 }
 
@@ -121,7 +123,7 @@ impl<const V: usize, const D: usize> Walker<V, D> {
     ghost use Rattle.sequence.specs.Pieces.{TakesMost};
     ghost use Rattle.sequence.specs.machine.Steps.{IsTaken};
 
-    /// Removes the levels that end at the current position.
+    /// Removes the levels that end here, and checks that a header fits before the nearest end.
     fn arrive(&mut self)
         requires place { self.old.place ≤ self.old.limit }
         requires header { self.old.header.items ≡ [] }
@@ -172,7 +174,7 @@ impl<const V: usize, const D: usize> Walker<V, D> {
         } else {
             self.stage = Stage::Value {
                 tag,
-                left: length,
+                remaining: length,
                 kept,
             };
         }
@@ -191,7 +193,7 @@ impl<const V: usize, const D: usize> Walker<V, D> {
         self.arrive();
     }
 
-    /// Continues after the header of an item (its elements follow) or of a fragment (its bytes follow).
+    /// Continues after the header of an item, with its elements, or of a fragment, with its bytes.
     fn take_item(&mut self, header: &Header, coding: Coding)
         requires coding { coding ≡ (top self.old).syntax }
         requires header { self.old.header.items ≡ [] }
@@ -211,7 +213,7 @@ impl<const V: usize, const D: usize> Walker<V, D> {
         }
     }
 
-    /// Continues after a whole header, by what follows it.
+    /// Continues after a whole header with what follows it, `shape`.
     fn take_header(&mut self, header: &Header, shape: Shape)
         requires shape { shape ≡ shapes.shape (top self.old).syntax header.now }
         requires header { self.old.header.items ≡ [] }
@@ -250,8 +252,8 @@ impl<const V: usize, const D: usize> Walker<V, D> {
         }
     }
 
-    /// Reads bytes of a header up to its end or a fault. Returns how many, and the header if it is
-    /// whole.
+    /// Reads bytes of a header up to its end or a fault. Returns their number, and the header if it
+    /// is whole.
     fn advance_heading(&mut self, piece: &[u8]) -> (usize, Option<Header>)
         requires { self.old.stage ≡ Stage.Heading }
         ensures taken { result.0 ≤ length piece.now }
@@ -260,13 +262,13 @@ impl<const V: usize, const D: usize> Walker<V, D> {
         ensures same { IsSameWalk self.old self.new }
         ensures values { kept_values self.new ≡ keeps (limits_of self.old) (state_of self.old) (kept_values self.old) (take result.0 piece.now) }
         ensures place { self.new.place ≡ self.old.place + result.0 }
-        ensures told { IsTaken (top self.old).syntax self.old.header.items piece.now self.old.place result.0 self.new.stage self.new.header.items result.1 }
+        ensures reported { IsTaken (top self.old).syntax self.old.header.items piece.now self.old.place result.0 self.new.stage self.new.header.items result.1 }
     {
         if piece.is_empty() {
             return (0, None);
         }
-        let begun = self.header.len();
-        let start = self.place - begun as u64;
+        let started = self.header.len();
+        let start = self.place - started as u64;
         let spot = spot_at(self.root, self.levels.as_slice(), start);
         let bounds = Bounds {
             depth: D,
@@ -276,12 +278,12 @@ impl<const V: usize, const D: usize> Walker<V, D> {
             End::Refused(count, rule, tag) => {
                 self.place = start + count as u64;
                 self.stage = Stage::Stopped(Fault::new(rule, start, tag));
-                (count - begun, None)
+                (count - started, None)
             }
             End::Whole(count, header, shape) => {
                 self.place = start + count as u64;
                 self.take_header(&header, shape);
-                (count - begun, Some(header))
+                (count - started, Some(header))
             }
             End::Part => {
                 self.place += piece.len() as u64;
@@ -290,19 +292,19 @@ impl<const V: usize, const D: usize> Walker<V, D> {
         }
     }
 
-    /// Reads bytes of a value, at most the `left` ones that it still has.
-    fn advance_value(&mut self, bytes: &[u8], tag: Tag, left: u32, kept: bool)
-        requires stage { self.old.stage ≡ Stage.Value tag left kept }
+    /// Reads bytes of a value, at most the `remaining` that are still missing.
+    fn advance_value(&mut self, bytes: &[u8], tag: Tag, remaining: u32, kept: bool)
+        requires stage { self.old.stage ≡ Stage.Value tag remaining kept }
         requires some { 0 < length bytes.now }
-        requires within { length bytes.now ≤ left }
+        requires within { length bytes.now ≤ remaining }
         ensures state { state_of self.new ≡ run (limits_of self.old) (state_of self.old) bytes.now }
         ensures same { IsSameWalk self.old self.new }
         ensures values { kept_values self.new ≡ keeps (limits_of self.old) (state_of self.old) (kept_values self.old) bytes.now }
         ensures place { self.new.place ≡ self.old.place + length bytes.now }
     {
-        let rest = left - bytes.len() as u32;
+        let rest = remaining - bytes.len() as u32;
         self.place += bytes.len() as u64;
-        // The branches begin alike, as the proof answers each for itself.
+        // Both branches start alike, as the proof treats each by itself.
         if rest == 0 {
             self.stage = Stage::Heading;
             self.kept.extend_if(kept, bytes);
@@ -312,7 +314,7 @@ impl<const V: usize, const D: usize> Walker<V, D> {
             self.kept.extend_if(kept, bytes);
             self.stage = Stage::Value {
                 tag,
-                left: rest,
+                remaining: rest,
                 kept,
             };
         }
@@ -347,7 +349,8 @@ impl<const V: usize, const D: usize> Walker<V, D> {
         }
     }
 
-    /// Creates a walker for a data set of at most `limit` bytes in this syntax, with native Pixel Data.
+    /// Creates a walker for a data set of at most `limit` bytes in this transfer syntax, with
+    /// native Pixel Data.
     pub fn new(syntax: Syntax, wanted: Wanted, limit: u64) -> Self
         requires least_kept { 140 ≤ V }
         requires greatest_kept { V ≤ 2 ^ 24 }
@@ -378,9 +381,9 @@ impl<const V: usize, const D: usize> Walker<V, D> {
         Walker::coded(Coding::Encapsulated, wanted, limit)
     }
 
-    /// Reads the piece up to the end of a header, of a value or of the piece. Returns how many bytes
-    /// that is, and what they are: at least one of a piece that is not empty, unless a rule was broken
-    /// before.
+    /// Reads `piece` up to its end, the end of a header or value, or the first byte that breaks a
+    /// rule. Returns the number of bytes read and what they are. Reads at least one byte, unless
+    /// `piece` is empty or a rule was broken before.
     pub fn step<'p>(&mut self, piece: &'p [u8]) -> (usize, Step<'p>)
         ensures taken { result.0 ≤ length piece.now }
         ensures some { fault_of self.old ≡ None → 0 < length piece.now → 0 < result.0 }
@@ -397,12 +400,16 @@ impl<const V: usize, const D: usize> Walker<V, D> {
                 let (count, made) = self.advance_heading(piece);
                 (count, header_step(self.stage, made))
             }
-            Stage::Value { tag, left, kept } => {
+            Stage::Value {
+                tag,
+                remaining,
+                kept,
+            } => {
                 if piece.is_empty() {
                     (0, Step::More)
                 } else {
-                    let run = front(piece, left);
-                    self.advance_value(run, tag, left, kept);
+                    let run = front(piece, remaining);
+                    self.advance_value(run, tag, remaining, kept);
                     (run.len(), value_step(self.stage, run))
                 }
             }
@@ -416,8 +423,8 @@ impl<const V: usize, const D: usize> Walker<V, D> {
         self.header.is_empty() && self.levels.is_empty()
     }
 
-    /// Checks that the bytes read so far are a whole data set within the limits. The error is the fault
-    /// that a step found, or else `Truncated` if the data set is unfinished.
+    /// Checks that the bytes read so far are a whole data set within the limits. Fails with the
+    /// fault that a step returned, or else with `Truncated` if the data set is unfinished.
     pub fn finish(&self) -> Result<(), Fault>
         ensures whole { IsOk result → (b : List ℕ) → StandsAt self.now b → IsWholeDataSet (walker_syntax self.now) (limits_of self.now) b }
         ensures exactly { (b : List ℕ) → StandsAt self.now b → IsWholeDataSet (walker_syntax self.now) (limits_of self.now) b → IsOk result }
@@ -430,7 +437,7 @@ impl<const V: usize, const D: usize> Walker<V, D> {
                 if self.is_between() {
                     Ok(())
                 } else {
-                    let tag = begun_tag(self.header.as_slice());
+                    let tag = started_tag(self.header.as_slice());
                     Err(Fault::new(Rule::Truncated, self.place, tag))
                 }
             }

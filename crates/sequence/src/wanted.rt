@@ -9,7 +9,7 @@ use element::Tag;
 
 mod fields;
 
-/// A tag whose value a walker keeps, and `room`, the greatest length of the value in bytes. A longer
+/// A tag whose value a walker keeps. `room` is the greatest length of the value in bytes; a longer
 /// value breaks the rule `KeptTooLong`.
 #[derive(Clone, Copy, Debug)]
 pub struct Want {
@@ -41,8 +41,8 @@ fn are_rising(wants: &[Want]) -> bool
     true
 }
 
-/// The tags whose values a walker keeps: at most 16, strictly ascending, each with the greatest length
-/// of its value in bytes. Only elements of the data set itself are looked for, not those inside
+/// The tags whose values a walker keeps: at most 16, strictly ascending, each with the greatest
+/// length of its value in bytes. Only elements of the data set itself are kept, none inside
 /// sequences.
 #[derive(Drop)]
 pub struct Wanted {
@@ -63,8 +63,8 @@ impl Wanted {
         }
     }
 
-    /// Returns the list of these tags, or `None` if they are more than 16, not strictly ascending, or
-    /// (0000,0000) is among them.
+    /// Returns the list of these tags, or `None` if they are more than 16, not strictly ascending,
+    /// or include (0000,0000).
     pub fn of(wants: &[Want]) -> Option<Wanted>
         ensures some { IfSome result (λ wanted. wanted_tags wanted ≡ wants.now) }
         ensures none { IsNone result → (16 < length wants.now) ⊎ (spelling.are_rising 0 wants.now ≡ false) }
@@ -94,8 +94,8 @@ impl Wanted {
         None
     }
 
-    /// Returns the greatest length of the value of the tag with this number, in bytes, or `None` if it
-    /// is not wanted.
+    /// Returns the greatest length, in bytes, of the value of the tag with this number, or `None`
+    /// if it is not wanted.
     pub(crate) fn room(&self, number: u32) -> Option<u64>
         ensures { result ≡ spelling.room_of self.now.list.items number }
     {

@@ -1,14 +1,14 @@
-//! Reads the file of titles that may call.
+//! Reads the file of the calling AE titles that are accepted.
 use failures::{Failure, ProgramError, WordsError};
 use std::alloc::Global;
 use std::io::Read;
 use std::rt::Files;
 use std::{fs, io};
 
-/// The longest file of titles that is read, in bytes.
+/// The maximum size of the file of titles in bytes.
 const MOST_BYTES: u64 = 65_536;
 
-/// Returns the bytes of a file, or of one that is too long as many as show that.
+/// Returns the bytes of a file, at most one more than `MOST_BYTES`.
 fn bytes_of<R: Files + Alloc<A = Global>>(rt: &R, path: &str) -> io::Result<Vec<u8>> {
     let file = fs::open(rt, path)?;
     let mut bytes = Vec::new(rt.alloc());
@@ -16,8 +16,8 @@ fn bytes_of<R: Files + Alloc<A = Global>>(rt: &R, path: &str) -> io::Result<Vec<
     Ok(bytes)
 }
 
-/// Returns the text of the file of titles at this path, where U+FFFD stands for bytes that are not UTF-8. Returns
-/// an empty text without a path.
+/// Returns the text of the file of titles at this path, with U+FFFD for bytes that are not UTF-8,
+/// or an empty text without a path.
 ///
 /// Fails if the file cannot be read, if it is longer than 65,536 bytes, or if memory runs out.
 pub fn callers_text<R: Files + Alloc<A = Global>>(

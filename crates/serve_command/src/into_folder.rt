@@ -12,8 +12,7 @@ use std::os::unix::fs::MetadataExt;
 use std::time::Clock;
 use std::{env, fs};
 
-/// Fails as for invalid arguments if the file whose appearance ends the program can't appear, since its folder is
-/// not there.
+/// Checks that the folder of the stop file exists. Fails as for invalid arguments if it does not.
 fn check_stop_file(rt: &HostRuntime, path: Option<&str>) -> Result<(), ProgramError> {
     let Some(path) = path else {
         return Ok(());
@@ -34,7 +33,7 @@ fn check_stop_file(rt: &HostRuntime, path: Option<&str>) -> Result<(), ProgramEr
     Err(ProgramError::Words(WordsError::Refused(refused)))
 }
 
-/// Returns whether a file of a folder has the name of a draft.
+/// Returns whether a file name is that of a draft.
 fn is_draft(name: &str) -> bool {
     match name.strip_prefix("DRAFT") {
         Some(number) => number.bytes().all(|digit| digit.is_ascii_digit()),
@@ -42,7 +41,7 @@ fn is_draft(name: &str) -> bool {
     }
 }
 
-/// Returns how many drafts are in a folder, as far as it can be read.
+/// Returns the number of drafts in a folder, or 0 if it cannot be read.
 fn drafts_in(rt: &HostRuntime, folder: &str) -> u64 {
     let Ok(entries) = fs::read_dir(rt, folder) else {
         return 0;
@@ -58,7 +57,8 @@ fn drafts_in(rt: &HostRuntime, folder: &str) -> u64 {
     count
 }
 
-/// Returns whether standard error is systemd's journal: its device and its inode are those that systemd says.
+/// Returns whether standard error is systemd's journal: it has the device and the inode that
+/// `JOURNAL_STREAM` names.
 fn is_journal(rt: &HostRuntime) -> bool {
     let (Ok(stream), Ok(own)) = (
         env::var(rt, "JOURNAL_STREAM"),
@@ -74,7 +74,8 @@ fn is_journal(rt: &HostRuntime) -> bool {
     }
 }
 
-/// Returns where the lines of the log go. Where standard error is systemd's journal, each has its priority.
+/// Returns the output of the log. If standard error is systemd's journal, each line has its
+/// priority.
 fn output_of(rt: &HostRuntime, settings: &Serve) -> Output<HostRuntime> {
     let output = Output::new(*rt, form_of(rt.alloc(), settings));
     if is_journal(rt) {
@@ -84,18 +85,19 @@ fn output_of(rt: &HostRuntime, settings: &Serve) -> Output<HostRuntime> {
     }
 }
 
-/// Writes what the quarantine had at the start: how many drafts were removed, and whether it is full.
-fn tell_quarantine<R: Log + Clock>(logger: &Logger<'_, R>, found: QuarantineFound) {
+/// Logs what the quarantine had at the start: how many drafts were removed, and whether it is full.
+fn report_quarantine<R: Log + Clock>(logger: &Logger<'_, R>, found: QuarantineFound) {
     if found.removed > 0 {
-        logger.tell(&QuarantineCleared(u64::from(found.removed)));
+        logger.report(&QuarantineCleared(u64::from(found.removed)));
     }
     if found.is_full {
-        logger.tell(&QuarantineFull);
+        logger.report(&QuarantineFull);
     }
 }
 
-/// Locks a file beside that of the metrics, `.NAME.lock`, until what is returned is dropped. Returns `None` without
-/// metrics, or where that file can't be made: the metrics can't be written there either, and the log says so.
+/// Locks the file `.NAME.lock` beside the metrics file, until the result is dropped. Returns `None`
+/// without metrics, or if that file cannot be created: then the metrics cannot be written there
+/// either, which is logged.
 ///
 /// Fails if another program has locked it.
 fn lock_metrics(rt: &HostRuntime, path: Option<&str>) -> Result<Option<File>, ProgramError> {
@@ -118,8 +120,8 @@ fn lock_metrics(rt: &HostRuntime, path: Option<&str>) -> Result<Option<File>, Pr
     }
 }
 
-/// Serves into the folder until the program is ended, or only one association. Logs first what it is, with
-/// the drafts that it removes from the folder.
+/// Serves into the folder until the program is stopped, or only one association. Logs first its
+/// version and settings, and how many drafts it removed from the folder.
 pub fn serve_into(rt: &HostRuntime, settings: &Serve) -> Result<(), ProgramError> {
     check_stop_file(rt, settings.service.stop_file)?;
     let _lock = lock_metrics(rt, settings.metrics)?;
@@ -131,7 +133,7 @@ pub fn serve_into(rt: &HostRuntime, settings: &Serve) -> Result<(), ProgramError
     try_draft(&mut filing)?;
     let logged = Logged::new(rt, settings.level, output_of(rt, settings));
     let logger = Logger::new(&logged, form_of(rt.alloc(), settings));
-    logger.tell(&Started {
+    logger.report(&Started {
         version: VERSION,
         config: &settings.config,
         folder: settings.out,
@@ -143,7 +145,7 @@ pub fn serve_into(rt: &HostRuntime, settings: &Serve) -> Result<(), ProgramError
         drafts,
     });
     if let Some(found) = found {
-        tell_quarantine(&logger, found);
+        report_quarantine(&logger, found);
     }
     serve(&logged, settings, rt, (writer, filing))
 }

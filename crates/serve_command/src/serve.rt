@@ -1,9 +1,9 @@
-//! `dcmbox serve`: associations over TCP, one after the other or several at once.
+//! `dcmbox serve`: associations over TCP, one at a time or several at once.
 ghost use Rattle.std.specs.Prelude.{◌≡◌, length, option_map, OnOk};
 ghost use Rattle.std.specs.Duration.{as_nanos};
 ghost use Rattle.std.specs.List.{All};
 ghost use Rattle.arguments.specs.declared.options.LogForm.TheVariants as asked;
-ghost use Rattle.journal.specs.declared.form.Form.TheVariants as form;
+ghost use Rattle.journal.specs.declared.form.LineForm.TheVariants as form;
 ghost use Rattle.negotiate.specs.Settings.{settings_of};
 ghost use Rattle.folder_filing.specs.Settling.{is_unsettled};
 ghost use Rattle.server.specs.FolderStore.{folder_store};
@@ -12,10 +12,10 @@ ghost use Rattle.server.specs.Histories.{AllEnded, slots_in};
 use arguments::{LogForm, Serve, VERSION};
 use failures::{Failure, ProgramError};
 use folder_filing::{FolderFiling, FolderWriter};
-use journal::{Form, LineLimits};
+use journal::{LineForm, LineLimits};
 use log::Log;
 use metrics::MetricsFile;
-use server::{ServerHistory, ServerTerms, serve_many};
+use server::{ServerConfiguration, ServerHistory, serve_many};
 use std::alloc::{AllocError, Global};
 use std::fs::File;
 use std::io;
@@ -23,31 +23,31 @@ use std::net::{Net, TcpListener, TcpStream};
 use std::rt::Files;
 use std::time::Clock;
 
-/// Returns the form of the log that is asked for.
-pub fn form_of(alloc: Global, settings: &Serve) -> Form
+/// Returns the form of the log in the settings.
+pub fn form_of(alloc: Global, settings: &Serve) -> LineForm
     ensures text { settings.now.form ≡ asked.Text → result ≡ form.Text }
     ensures json { settings.now.form ≡ asked.Json → result ≡ form.Json alloc }
 {
     match settings.form {
-        LogForm::Text => Form::Text,
-        LogForm::Json => Form::Json(alloc),
+        LogForm::Text => LineForm::Text,
+        LogForm::Json => LineForm::Json(alloc),
     }
 }
 
-/// Returns what the server is held to. What happens is counted in this file, if there is one, and the lines that peers can
-/// cause are held to these limits.
-fn terms_of<'a>(
+/// Returns the settings of the server, with this metrics file, if any, and these rate limits of log
+/// lines.
+fn configuration_of<'a>(
     alloc: Global,
     settings: &'a Serve,
     metrics: Option<&'a MetricsFile>,
     limits: &'a LineLimits,
-) -> ServerTerms<'a>
+) -> ServerConfiguration<'a>
     ensures config { result.config.now ≡ settings.now.config }
     ensures service { result.service ≡ settings.now.service }
     ensures text { settings.now.form ≡ asked.Text → result.form ≡ form.Text }
     ensures json { settings.now.form ≡ asked.Json → result.form ≡ form.Json alloc }
 {
-    ServerTerms {
+    ServerConfiguration {
         config: &settings.config,
         service: settings.service,
         form: form_of(alloc, settings),
@@ -56,10 +56,11 @@ fn terms_of<'a>(
     }
 }
 
-/// Serves the association of the next connection that this listener accepts, and no other, as `serve` does.
-/// Returns what there was of the connection, for contracts.
+/// Serves one association, of the next connection that this listener accepts, as `serve` does.
+/// Returns the history of the connection, for contracts.
 ///
-/// Fails if the clock or the poll does, or if memory runs out at the start.
+/// Fails if the clock or the poll does, or, at the start, if a system call fails or memory runs
+/// out.
 ///
 /// `all`, `ended`: as those of `serve_many`.
 pub fn serve_one<
@@ -81,16 +82,16 @@ pub fn serve_one<
     })) (slots_in result.0) ∥₁ }
 {
     let limits = LineLimits::new();
-    let mut terms = terms_of(rt.alloc(), settings, None, &limits);
-    terms.service.once = true;
+    let mut configuration = configuration_of(rt.alloc(), settings, None, &limits);
+    configuration.service.once = true;
     let mut listeners = Vec::new(rt.alloc());
     if listeners.push(listener).is_err() {
         return (ServerHistory::new(), Err(io::Error::from(AllocError)));
     }
-    serve_many(rt, listeners, terms, files, folder)
+    serve_many(rt, listeners, configuration, files, folder)
 }
 
-/// Returns the file of metrics, if one is asked for. Fails if memory runs out.
+/// Creates the metrics file of the settings, if they name one. Fails if memory runs out.
 fn metrics_of<R: Clock + Alloc<A = Global>>(
     rt: &R,
     settings: &Serve,
@@ -101,9 +102,9 @@ fn metrics_of<R: Clock + Alloc<A = Global>>(
     }
 }
 
-/// Listens on the port, and on the further addresses.
+/// Listens on the port and on the further addresses.
 ///
-/// Fails if one of them can't be listened on, or if memory runs out.
+/// Fails if it cannot listen on one of them, or if memory runs out.
 fn listen<R: Net<Listener = TcpListener, Stream = TcpStream> + Alloc<A = Global>>(
     rt: &R,
     settings: &Serve,
@@ -122,14 +123,14 @@ fn listen<R: Net<Listener = TcpListener, Stream = TcpStream> + Alloc<A = Global>
     Ok(listeners)
 }
 
-/// Listens on the port and the further addresses, and serves as many associations at once as the settings say until the program is
-/// to end, or only one where that was asked for. Logs where it listens, and that it has stopped. The
-/// first slot files by the filing that is handed in, each other one by one of the folder. Where several
-/// are served at once, files that end together are settled together; where there is one slot it settles
-/// each file by itself, whatever the other settings are.
+/// Listens on the port and the further addresses, and serves up to the configured number of
+/// associations at once until the program is stopped, or only one if `once` is set. Logs where it
+/// listens, and that it has stopped. The first slot uses the filing that is passed, each other slot
+/// a new one of the folder. With several slots, files that are complete at the same time are
+/// settled together; with one slot, each file is settled alone.
 ///
-/// Fails if an address or a port can't be listened on, if memory runs out at the start, or if the system fails to
-/// tell what is ready.
+/// Fails if it cannot listen on an address or port, if the clock or the poll fails, or, at the
+/// start, if a system call fails or memory runs out.
 pub fn serve<
     R: Log + Clock + Net<Listener = TcpListener, Stream = TcpStream> + Alloc<A = Global>,
     S: Files<File = File> + Alloc<A = Global> + Clone + Drop,
@@ -142,14 +143,14 @@ pub fn serve<
     let listeners = listen(rt, settings)?;
     let metrics = metrics_of(rt, settings)?;
     let limits = LineLimits::new();
-    let terms = terms_of(rt.alloc(), settings, metrics.as_ref(), &limits);
+    let configuration = configuration_of(rt.alloc(), settings, metrics.as_ref(), &limits);
     let (writer, filing) = folder;
     let writer = if settings.service.associations == 1 {
         writer
     } else {
         writer.in_groups()
     };
-    let (_history, served) = serve_many(rt, listeners, terms, files, (writer, filing));
+    let (_history, served) = serve_many(rt, listeners, configuration, files, (writer, filing));
     match served {
         Ok(()) => Ok(()),
         Err(error) => Err(ProgramError::System(Failure::Serve, error)),

@@ -9,12 +9,12 @@ use Rattle.negotiate.specs.Settings.{Settings}
 use Rattle.serving.specs.Served.{IsServed}
 use Rattle.serving.specs.Settled.{SettlesFirst, sent_by}
 use Rattle.serving.specs.Timed.{GivenInTime, asked_at}
-use Rattle.serving.specs.Waits.{Waits, had_reasons, opened_at}
+use Rattle.serving.specs.TimeLimits.{TimeLimits, had_reasons, opened_at}
 use Rattle.serving.specs.declared.open_connection.ConnectionEnd.{ConnectionEnd}
 use Rattle.server.specs.declared.socket.Socket.{Socket}
 use Rattle.server.specs.declared.server.opening.history.SlotHistory.{SlotHistory}
-use Rattle.server.specs.Terms.{Terms}
-use Rattle.server.specs.Histories.{LeftBy, ended_in, opened_in, opened_over}
+use Rattle.server.specs.Configuration.{Configuration}
+use Rattle.server.specs.Histories.{ClosedBy, ended_in, opened_in, opened_over}
 use Rattle.server.specs.machine.Slots.{HaveEnded, seen_of}
 
 -- what is seen of the connection that is there
@@ -25,66 +25,66 @@ seen_there there x see other is e = ap (first_or (see x)) (subst (λ o. seen_of 
     first_or x [] = x
     first_or x (y ∷ ys) = y
 
--- none is there that is held to anything
+-- none is there that is configured by anything
 pub none_held : {T A : Type 0} (now : Option T) (see other : T → A) → now ≡ None → seen_of now see ≡ seen_of now other
 none_held now see other is = subst (λ o. seen_of o see ≡ seen_of o other) (sym is) refl
 
--- the one that was opened is held to these terms
-pub held_now : {T : Type 0} (now : Option T) (connection : T) (see : T → Terms) (t : Terms) → now ≡ Some connection → see connection ≡ t → seen_of now see ≡ seen_of now (λ c. t)
-held_now now connection see t is e = subst (λ o. seen_of o see ≡ seen_of o (λ c. t)) (sym is) (ap (λ (u : Terms). u ∷ []) e)
+-- the one that was opened has these settings
+pub held_now : {T : Type 0} (now : Option T) (connection : T) (see : T → Configuration) (t : Configuration) → now ≡ Some connection → see connection ≡ t → seen_of now see ≡ seen_of now (λ c. t)
+held_now now connection see t is e = subst (λ o. seen_of o see ≡ seen_of o (λ c. t)) (sym is) (ap (λ (u : Configuration). u ∷ []) e)
 
-pub terms_as : (t : Terms) (settings s : Settings) (begun : Waits) (artim idle : ℕ) (longest : Option ℕ) (now : ℕ) → settings ≡ s → begun ≡ opened_at artim idle longest now → record { settings = s; artim = artim; idle = idle; longest = longest } ≡ t
-    → record { settings = settings; artim = begun.artim; idle = begun.idle; longest = begun.longest } ≡ t
-terms_as t settings s begun artim idle longest now e f h = rw (e, f) h
+pub configuration_as : (t : Configuration) (settings s : Settings) (initial : TimeLimits) (artim idle : ℕ) (longest : Option ℕ) (now : ℕ) → settings ≡ s → initial ≡ opened_at artim idle longest now → record { settings = s; artim = artim; idle = idle; longest = longest } ≡ t
+    → record { settings = settings; artim = initial.artim; idle = initial.idle; longest = initial.longest } ≡ t
+configuration_as t settings s initial artim idle longest now e f h = rw (e, f) h
 
--- a connection left what its terms give, where it was closed so
-pub left_by : {F : Type 0} (store : F → Store) (waits : F → Bool) (t : Terms) (e : ConnectionEnd Socket F) (filing : F) (s : Settings) (begun : Waits) (stopped : Bool)
-    → record { settings = s; artim = begun.artim; idle = begun.idle; longest = begun.longest } ≡ t → e.opened.value ≡ filing → e.begun.value ≡ begun → e.is_stopped ≡ stopped
-    → begun ≡ opened_at begun.artim begun.idle begun.longest begun.opened → ∥ IsServed s e.exchange (store filing) (store e.filing) ∥₁
-    → ∥ SettlesFirst s e.exchange (store filing) (store e.settled.value) (store e.filing) ∥₁ → (sent_by e.exchange ≢ [] → waits e.settled.value ≡ false) → ∥ GivenInTime s e.exchange (store filing) (store e.filing) begun e.moments ∥₁
-    → length (asked_at e.moments) ≤ 1 → had_reasons stopped begun.longest begun.opened (asked_at e.moments) ≡ true → LeftBy store waits t e
-left_by store waits t e filing s begun stopped is opened from stop begins left sent rested in_time once reasons = subst (λ (u : Terms). LeftBy store waits u e) is (record {
-  left = rw opened left;
+-- a connection left what its settings give, where it was closed so
+pub remaining_by : {F : Type 0} (store : F → Store) (has_pending : F → Bool) (t : Configuration) (e : ConnectionEnd Socket F) (filing : F) (s : Settings) (initial : TimeLimits) (stopped : Bool)
+    → record { settings = s; artim = initial.artim; idle = initial.idle; longest = initial.longest } ≡ t → e.opened.value ≡ filing → e.initial.value ≡ initial → e.is_stopped ≡ stopped
+    → initial ≡ opened_at initial.artim initial.idle initial.longest initial.opened → ∥ IsServed s e.exchange (store filing) (store e.filing) ∥₁
+    → ∥ SettlesFirst s e.exchange (store filing) (store e.settled.value) (store e.filing) ∥₁ → (sent_by e.exchange ≢ [] → has_pending e.settled.value ≡ false) → ∥ GivenInTime s e.exchange (store filing) (store e.filing) initial e.moments ∥₁
+    → length (asked_at e.moments) ≤ 1 → had_reasons stopped initial.longest initial.opened (asked_at e.moments) ≡ true → ClosedBy store has_pending t e
+remaining_by store has_pending t e filing s initial stopped is opened from stop begins remaining sent rested in_time once reasons = subst (λ (u : Configuration). ClosedBy store has_pending u e) is (record {
+  remaining = rw opened remaining;
   sent = rw opened sent;
   rested = rested;
-  begun = rw from begins;
+  initial = rw from begins;
   in_time = rw (opened, from) in_time;
   once = once;
   reasons = rw (from, stop) reasons;
 })
 
 -- one connection has ended
-pub one_ended : {F : Type 0} (store : F → Store) (waits : F → Bool) (t : Terms) (old new : SlotHistory F) (e : ConnectionEnd Socket F) (filing : F)
+pub one_ended : {F : Type 0} (store : F → Store) (has_pending : F → Bool) (t : Configuration) (old new : SlotHistory F) (e : ConnectionEnd Socket F) (filing : F)
     → opened_in new ≡ opened_in old → ended_in new ≡ ended_in old ++ e ∷ [] → e.opened.value ≡ filing
-    → LeftBy store waits t e → HaveEnded store waits t (filing ∷ []) old new
-one_ended store waits t old new e filing opened ended over by =
+    → ClosedBy store has_pending t e → HaveEnded store has_pending t (filing ∷ []) old new
+one_ended store has_pending t old new e filing opened ended over by =
     record {
       opened = opened;
       ended = ap (map opened_over) ended ∙ (map-append opened_over (ended_in old) (e ∷ []) ∙ ap (λ f. map opened_over (ended_in old) ++ f ∷ []) over);
-      left = λ was. ∥∥₁_map was (λ all. subst (All (LeftBy store waits t)) (sym ended) (All-push (LeftBy store waits t) (ended_in old) e all by));
+      remaining = λ was. ∥∥₁_map was (λ all. subst (All (ClosedBy store has_pending t)) (sym ended) (All-push (ClosedBy store has_pending t) (ended_in old) e all by));
     }
 
 -- one connection more was opened, after the one before it has ended
-pub opened_next : {F T : Type 0} (see : T → F) (store : F → Store) (waits : F → Bool) (t : Terms) (old noted new : SlotHistory F) (filing : F) (there had now : Option T) (connection : T)
+pub opened_next : {F T : Type 0} (see : T → F) (store : F → Store) (has_pending : F → Bool) (t : Configuration) (old noted new : SlotHistory F) (filing : F) (there had now : Option T) (connection : T)
     → opened_in old ≡ map opened_over (ended_in old) ++ seen_of there see → had ≡ there
     → opened_in noted ≡ opened_in old ++ filing ∷ [] → ended_in noted ≡ ended_in old
-    → HaveEnded store waits t (seen_of had see) noted new → now ≡ Some connection → see connection ≡ filing → opened_in new ≡ map opened_over (ended_in new) ++ seen_of now see
-opened_next see store waits t old noted new filing there had now connection none same opened ended ends is over =
+    → HaveEnded store has_pending t (seen_of had see) noted new → now ≡ Some connection → see connection ≡ filing → opened_in new ≡ map opened_over (ended_in new) ++ seen_of now see
+opened_next see store has_pending t old noted new filing there had now connection none same opened ended ends is over =
     let before : seen_of there see ≡ seen_of had see = ap (λ o. seen_of o see) (sym same) in
     let all : opened_in old ≡ map opened_over (ended_in new) = none ∙ (ap (λ fs. map opened_over (ended_in old) ++ fs) before ∙ sym (ends.ended ∙ ap (λ es. map opened_over es ++ seen_of had see) ended)) in
     let last : seen_of now see ≡ filing ∷ [] = ap (λ o. seen_of o see) is ∙ ap (λ f. f ∷ []) over in
     ends.opened ∙ (opened ∙ (ap (λ fs. fs ++ filing ∷ []) all ∙ ap (λ fs. map opened_over (ended_in new) ++ fs) (sym last)))
 
 -- and each has left what the settings give
-pub still_left : {F : Type 0} (store : F → Store) (waits : F → Bool) (t : Terms) (openings : List F) (old noted new : SlotHistory F)
-    → ended_in noted ≡ ended_in old → HaveEnded store waits t openings noted new → ∥ All (LeftBy store waits t) (ended_in old) ∥₁ → ∥ All (LeftBy store waits t) (ended_in new) ∥₁
-still_left store waits t openings old noted new ended ends was = ends.left (subst (λ es. ∥ All (LeftBy store waits t) es ∥₁) (sym ended) was)
+pub still_remaining : {F : Type 0} (store : F → Store) (has_pending : F → Bool) (t : Configuration) (openings : List F) (old noted new : SlotHistory F)
+    → ended_in noted ≡ ended_in old → HaveEnded store has_pending t openings noted new → ∥ All (ClosedBy store has_pending t) (ended_in old) ∥₁ → ∥ All (ClosedBy store has_pending t) (ended_in new) ∥₁
+still_remaining store has_pending t openings old noted new ended ends was = ends.remaining (subst (λ es. ∥ All (ClosedBy store has_pending t) es ∥₁) (sym ended) was)
 
 -- none is there any more, and the one that was has ended
-pub none_left : {F T : Type 0} (see : T → F) (store : F → Store) (waits : F → Bool) (t : Terms) (old new : SlotHistory F) (there had now : Option T)
-    → opened_in old ≡ map opened_over (ended_in old) ++ seen_of there see → had ≡ there → HaveEnded store waits t (seen_of had see) old new → now ≡ None
+pub none_remaining : {F T : Type 0} (see : T → F) (store : F → Store) (has_pending : F → Bool) (t : Configuration) (old new : SlotHistory F) (there had now : Option T)
+    → opened_in old ≡ map opened_over (ended_in old) ++ seen_of there see → had ≡ there → HaveEnded store has_pending t (seen_of had see) old new → now ≡ None
     → opened_in new ≡ map opened_over (ended_in new) ++ seen_of now see
-none_left see store waits t old new there had now none same ends is =
+none_remaining see store has_pending t old new there had now none same ends is =
     let before : seen_of there see ≡ seen_of had see = ap (λ o. seen_of o see) (sym same) in
     let all : opened_in old ≡ map opened_over (ended_in new) = none ∙ (ap (λ fs. map opened_over (ended_in old) ++ fs) before ∙ sym ends.ended) in
     let empty : [] ≡ seen_of now see = ap (λ o. seen_of o see) (sym is) in

@@ -1,4 +1,4 @@
 pub mod FolderStore
-pub mod Terms
+pub mod Configuration
 pub mod Histories
 pub mod machine

@@ -1,52 +1,53 @@
-//! Since when connections wait to be accepted, as far as the poll shows it.
+//! The arrival times of connections that wait to be accepted, as far as the poll reports them.
 use journal::{Logger, Waited};
 use log::Log;
 use std::alloc::{AllocError, Global};
 use std::time::{Clock, Duration, Instant};
 
-/// How many connections are kept of which it is known when they came.
+/// The maximum number of arrival times that are kept.
 const MOST_KEPT: usize = 64;
 
-/// A connection that waited so long for the one slot is told of, in seconds.
+/// How long a connection may wait for the only slot before this is logged, in seconds.
 const LONG_SECONDS: u64 = 10;
 
-/// When the connections came that were not accepted yet, the first one first, at the latest.
+/// Upper bounds of the arrival times of connections that are not accepted yet, earliest first.
 ///
-/// The poll tells that connections have come, and not how many. So where there are several times, that many
-/// connections came at least, and one more may wait than is known.
+/// The poll reports that connections have arrived, not how many. So there are at least as many
+/// connections as times, and more may be queued unreported.
 #[derive(Drop)]
 pub(crate) struct Arrivals {
     times: Vec<Instant>,
-    /// Whether the poll has told that one has come, since that was last taken note of.
-    came: bool,
-    /// Whether one may wait though that is not known.
+    /// Whether the poll has reported an arrival since the last call of `note`.
+    arrived: bool,
+    /// Whether a connection may be queued unreported.
     is_unsure: bool,
 }
 
 impl Arrivals {
-    /// Returns those of a listener that was not polled yet.
+    /// Creates the arrivals of a listener that was not polled yet. Fails if memory runs out.
     pub(crate) fn new(alloc: Global) -> Result<Arrivals, AllocError> {
         Ok(Arrivals {
             times: Vec::with_capacity(alloc, MOST_KEPT)?,
-            came: false,
+            arrived: false,
             is_unsure: false,
         })
     }
 
-    /// The poll told that a connection has come.
-    pub(crate) fn come(&mut self) {
-        self.came = true;
+    /// Records that the poll reported an arrival.
+    pub(crate) fn arrive(&mut self) {
+        self.arrived = true;
     }
 
-    /// Takes note of what the poll told until now.
+    /// Keeps `now` as an arrival time, if the poll has reported an arrival since the last call.
     pub(crate) fn note(&mut self, now: Instant) {
-        if self.came && self.times.len() < MOST_KEPT {
+        if self.arrived && self.times.len() < MOST_KEPT {
             let _ = self.times.push(now);
         }
-        self.came = false;
+        self.arrived = false;
     }
 
-    /// The first one was accepted. Returns how long it waited at least.
+    /// Removes the earliest time, of a connection that was accepted. Returns how long it waited at
+    /// least.
     pub(crate) fn accept(&mut self, now: Instant) -> Duration {
         self.is_unsure = true;
         if self.times.is_empty() {
@@ -55,18 +56,19 @@ impl Arrivals {
         now.duration_since(self.times.remove(0))
     }
 
-    /// None waits.
+    /// Removes all times, as no connection is queued.
     pub(crate) fn clear(&mut self) {
         self.times.clear();
         self.is_unsure = false;
     }
 
-    /// Returns whether one is known to wait.
+    /// Returns whether a connection is known to be queued.
     pub(crate) fn is_known(&self) -> bool {
         !self.times.is_empty()
     }
 
-    /// Returns whether the poll is to be asked whether one waits. Then it is taken as asked.
+    /// Returns whether the poll is to be asked for unreported connections, and records that it is
+    /// asked.
     pub(crate) fn ask(&mut self) -> bool {
         let is_unsure = self.is_unsure;
         self.is_unsure = false;
@@ -74,10 +76,10 @@ impl Arrivals {
     }
 }
 
-/// Writes that a connection waited long for the one slot, if it did.
+/// Logs that a connection waited long for the only slot, if it did.
 pub(crate) fn note_waiting<R: Log + Clock>(logger: Logger<'_, R>, waited: Duration) {
     let seconds = waited.as_secs();
     if seconds > LONG_SECONDS {
-        logger.tell(&Waited(seconds));
+        logger.report(&Waited(seconds));
     }
 }

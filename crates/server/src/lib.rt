@@ -1,17 +1,17 @@
-//! The server of associations in one thread: it accepts connections, gives their peers slots, and each
-//! association its turns, as its socket has something to read or takes something.
+//! The single-threaded server of associations: it accepts connections, assigns them slots, and
+//! gives each association its turn when its socket is readable or writable.
 #![tactic(auto)]
 
 mod arrivals;
+mod configuration;
 mod listeners;
 mod policy;
 mod server;
 mod slot;
 mod socket;
 mod stopping;
-mod terms;
 
+pub use configuration::{MOST_AT_ONCE, ServerConfiguration};
 pub use policy::Policy;
 pub use server::{ServerHistory, SlotHistory, serve_many};
 pub use socket::Socket;
-pub use terms::{MOST_AT_ONCE, ServerTerms};

@@ -5,16 +5,16 @@ use std::io::{Error, ErrorKind};
 use std::net::SocketAddr;
 use std::{io, net};
 
-/// Listeners of which each has its turn to accept a connection.
+/// The listeners of a server, which accept connections in rotation.
 #[derive(Drop)]
 pub(crate) struct Listeners {
     all: Vec<TcpListener>,
-    /// The place of that which has the next turn.
+    /// The index of the listener that is tried first.
     next: usize,
 }
 
 impl Listeners {
-    /// Watches these listeners under one token.
+    /// Registers these listeners with the poll, under one token.
     pub(crate) fn watched(
         poll: &Poll,
         token: Token,
@@ -31,19 +31,20 @@ impl Listeners {
         Ok(Listeners { all, next: 0 })
     }
 
-    /// Has the poll report at once each listener that has a connection.
+    /// Registers all listeners again, so that the poll reports at once each one that has a
+    /// connection.
     pub(crate) fn watch_anew(&mut self, poll: &Poll, token: Token) {
         for listener in &mut self.all {
-            // A socket that is registered anew is reported at once if it is ready.
+            // A socket that is registered again is reported at once if it is ready.
             let _ = poll
                 .registry()
                 .reregister(listener, token, Interest::READABLE);
         }
     }
 
-    /// Accepts a connection of the next listener that has one.
+    /// Accepts a connection from the next listener that has one.
     ///
-    /// Fails with `WouldBlock` if none has, and as the listener whose turn it is.
+    /// Fails with `WouldBlock` if none has, or if a listener fails.
     pub(crate) fn accept(&mut self) -> io::Result<(TcpStream, SocketAddr)> {
         for _ in 0..self.all.len() {
             let place = if self.next < self.all.len() {

@@ -1,20 +1,21 @@
-//! What a server and all its connections are held to, as contracts see it.
+//! For contracts: the settings of a server and all its connections.
 ghost use Rattle.std.specs.Prelude.{[], ℕ, None, false};
-ghost use Rattle.server.specs.Terms.{Terms};
+ghost use Rattle.server.specs.Configuration.{Configuration};
 
 use std::marker::Brand;
 
-/// What one server and all its connections are held to. It stands for terms that are known only at run
-/// time: whoever calls a function that is generic in it, by the type `Brand`, picks them in the proof.
+/// For contracts: the settings of one server and all its connections, which are known at run time
+/// only. A caller of a function that is generic in `P: Policy` passes the type `Brand`, and picks
+/// the settings in the proof.
 pub trait Policy {
-    /// What each connection is held to.
-    ghost terms: { Terms };
-    /// How many connections there can be at once.
+    /// The settings of each connection.
+    ghost configuration: { Configuration };
+    /// The number of slots: how many connections there can be at once.
     ghost at_once: { ℕ };
 }
 
 impl Policy for Brand {
-    ghost terms = { record {
+    ghost configuration = { record {
       settings = record {
         called = [];
         any_called = false;

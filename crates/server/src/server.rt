@@ -1,7 +1,7 @@
-//! The loop: it waits for any socket, and gives each connection its turn.
+//! The event loop: it polls all sockets, and gives each connection its turn.
 ghost use Rattle.std.specs.Prelude.{◌≡◌, ◌+◌, length, vec_len};
 ghost use Rattle.server.specs.Histories.{slots_in};
-ghost use Rattle.server.specs.Terms.{terms_of};
+ghost use Rattle.server.specs.Configuration.{configuration_of};
 
 mod accepting;
 mod group;
@@ -11,15 +11,14 @@ mod settling;
 mod waiting;
 
 use crate::arrivals::Arrivals;
+use crate::configuration::{MOST_AT_ONCE, ServerConfiguration};
 use crate::listeners::Listeners;
 use crate::policy::Policy;
 use crate::slot::Slot;
 use crate::socket::{AcceptedStream, watched};
 use crate::stopping::is_asked;
-use crate::terms::{MOST_AT_ONCE, ServerTerms};
 use accepting::PAUSE_MILLISECONDS;
 use admitting::{Notice, Queue, Slots};
-use connection::Observer;
 use folder_filing::{FolderFiling, FolderWriter};
 use group::Group;
 use journal::{ConnectionFailed, Journal, Limited, Logger, Stopping};
@@ -28,6 +27,7 @@ use mio::{Events, Poll, Token};
 use opening::{ClosedSlots, close_all};
 pub use opening::{ServerHistory, SlotHistory, serve_many};
 use part10::Settling;
+use service::Observer;
 use serving::Stop;
 use std::alloc::Global;
 use std::fs::File;
@@ -35,21 +35,21 @@ use std::io;
 use std::rt::Files;
 use std::time::{Clock, Duration, Instant};
 
-/// The token of the listeners. Those of connections are the indices of their slots.
+/// The token of all listeners. The token of a connection is the index of its slot.
 const LISTENERS: usize = usize::MAX;
 
-/// The tokens of connections that wait for a slot, beyond the indices of all slots.
+/// The first token of connections that wait for a slot, above all slot indices.
 const FIRST_WAITER: usize = MOST_AT_ONCE;
 
 const LAST_WAITER: usize = LISTENERS - 1;
 
-/// The longest wait of one poll, in seconds.
+/// The maximum duration of one poll, in seconds.
 const MOST_SECONDS: u64 = 60;
 
-/// How often it is looked whether the server is to end, in milliseconds.
+/// How often the server looks for the stop file, in milliseconds.
 const LOOK_MILLISECONDS: u64 = 200;
 
-/// A server, with its connections. It is given up by `close` alone.
+/// A server and its connections. It is not `Drop`: only `close` consumes it.
 struct Server<
     'a,
     R: Log + Clock,
@@ -63,40 +63,40 @@ where
     rt: &'a R,
     poll: Poll,
     listeners: Listeners,
-    terms: ServerTerms<'a>,
+    configuration: ServerConfiguration<'a>,
     folder: FolderWriter<S>,
     /// Which slots are occupied, and by which peers.
     occupancy: Slots<Global>,
-    /// Those that have had a connection keep its memory and its filing for the next one, and the first has
-    /// both from the start. So it takes no memory once the server has begun.
+    /// The slots, whose memory and filings are reused by later connections. The first slot has both
+    /// from the start.
     slots: Vec<Slot<'a, B, S, P>>,
-    /// Those whose peers have as many slots as one may have.
+    /// The accepted connections that wait for a slot, as their peers may have no more.
     queue: Queue<AcceptedStream, Global>,
-    /// The number of the next connection that waits: its token.
+    /// The token of the next connection that waits for a slot.
     next_waiter: usize,
-    /// Whether connections are accepted yet.
+    /// Whether connections are still accepted.
     is_open: bool,
-    /// The number of its last round.
+    /// The number of the current round.
     round: u64,
-    /// When that began.
+    /// When the current round began.
     now: Instant,
-    /// Whether a connection may be there to be accepted.
+    /// Whether a listener may have a queued connection.
     may_accept: bool,
     arrivals: Arrivals,
-    /// The files that wait to be settled.
+    /// Decides when the files that wait are settled.
     group: Group,
-    /// Until when none is accepted, after one could not be.
+    /// Until when no connection is accepted, after an accept failed.
     paused: Option<Instant>,
-    /// When it was last looked whether the server is to end.
+    /// When the server last looked for the stop file.
     looked: Option<Instant>,
-    /// Whether the server was asked to end.
+    /// The request to stop, once the stop file appeared.
     stop: Option<Stop>,
-    slots_told: Notice,
-    peer_told: Notice,
-    closed_told: Notice,
-    accept_told: Notice,
-    /// All connections are held to these terms.
-    ghost policed: { terms_of terms ≡ P.terms },
+    slots_reported: Notice,
+    peer_reported: Notice,
+    closed_reported: Notice,
+    accept_reported: Notice,
+    /// The settings of all connections are those of `P`.
+    ghost policed: { configuration_of configuration ≡ P.configuration },
     /// There is a slot for each connection that there can be at once.
     ghost all: { vec_len slots ≡ P.at_once },
 }
@@ -123,19 +123,20 @@ impl<
         self.open_connections() < self.slots.len()
     }
 
-    /// Returns what writes lines about no connection.
+    /// Returns the logger of lines about no connection.
     fn logger(&self) -> Logger<'a, R> {
-        self.terms.logger(self.rt)
+        self.configuration.logger(self.rt)
     }
 
-    /// Takes note of what the poll reported.
+    /// Records the events of a poll: marks listeners and connections as ready, and drops a waiting
+    /// connection that its peer closed.
     fn wake(&mut self, events: &Events) {
         self.group.polled(!events.is_empty());
         for event in events.iter() {
             let Token(index) = event.token();
             if index == LISTENERS {
                 self.may_accept = true;
-                self.arrivals.come();
+                self.arrivals.arrive();
             } else if let Some(slot) = self.slots.get_mut(index) {
                 if let Some(connection) = &mut slot.connection {
                     connection.wake();
@@ -146,42 +147,46 @@ impl<
         }
     }
 
-    /// Takes what a slot needs for its next connection. Returns its filing: that of its last connection, or a new
-    /// one.
+    /// Prepares the memory of a slot. Returns the filing of its next connection: that of the last
+    /// one, or a new one.
     fn prepare(&mut self, index: usize) -> io::Result<FolderFiling<S>> {
         let alloc = *self.slots.allocator();
         match self.slots.get_mut(index) {
-            Some(slot) => slot.prepare(alloc, self.terms.config, &mut self.folder),
+            Some(slot) => slot.prepare(alloc, self.configuration.config, &mut self.folder),
             None => self.folder.filing(),
         }
     }
 
-    /// Opens an association over a connection, in a slot that its peer got.
+    /// Opens an association over an accepted connection, in its slot.
     #[inline(never)]
     fn occupy(&mut self, accepted: AcceptedStream, index: usize, now: Instant) -> io::Result<()> {
         let AcceptedStream { stream, peer } = accepted;
         let socket = watched(&self.poll, stream, index)?;
         let filing = self.prepare(index)?;
-        let logger = self.logger().about(peer).counting(self.terms.metrics);
+        let logger = self
+            .logger()
+            .about(peer)
+            .counting(self.configuration.metrics);
         let alloc = *self.slots.allocator();
         if let Some(slot) = self.slots.get_mut(index) {
-            slot.open(alloc, (socket, filing, logger), &self.terms, now)?;
+            slot.open(alloc, (socket, filing, logger), &self.configuration, now)?;
         }
         Ok(())
     }
 
-    /// Opens an association, or logs why there is none, and frees the slot.
-    fn occupy_or_tell(&mut self, accepted: AcceptedStream, index: usize, now: Instant) {
+    /// Opens an association over an accepted connection. If that fails, logs the error and frees
+    /// the slot.
+    fn occupy_or_report(&mut self, accepted: AcceptedStream, index: usize, now: Instant) {
         let peer = accepted.peer;
         if let Err(failure) = self.occupy(accepted, index, now) {
             self.logger()
                 .about(peer)
-                .tell_limited(Limited::Connection, &ConnectionFailed(&failure));
+                .report_limited(Limited::Connection, &ConnectionFailed(&failure));
             self.free(index);
         }
     }
 
-    /// Returns the peer of a slot.
+    /// Returns the number of the peer of a slot, or `None` if it is free.
     fn peer(&self, index: usize) -> Option<u128> {
         if index < self.occupancy.len() {
             return self.occupancy.peer(index);
@@ -189,14 +194,15 @@ impl<
         None
     }
 
-    /// Frees a slot that has no connection.
+    /// Marks a slot, which has no connection, as free.
     fn free(&mut self, index: usize) {
         if index < self.occupancy.len() {
             self.occupancy.leave(index);
         }
     }
 
-    /// Gives the connection of a slot its turn, if it has one, and returns whether its association has ended.
+    /// Runs a round of the connection of a slot, if it has one. Returns whether the connection is
+    /// to be closed.
     fn turn(&mut self, index: usize, now: Instant) -> bool {
         let (round, stop) = (self.round, self.stop);
         if let Some(slot) = self.slots.get_mut(index) {
@@ -211,8 +217,9 @@ impl<
         false
     }
 
-    /// Returns whether a slot may have a turn in this round: its connection is not ready, or it is the one of its peer
-    /// whose last turn was first. So a peer with many connections has as many turns as one with a single connection.
+    /// Returns whether a slot is served in this round: its connection is not ready, or is the ready
+    /// one of its peer whose last turn was earliest. So a peer with many connections has as many
+    /// turns as one with a single connection.
     fn is_next(&self, index: usize) -> bool {
         let Some(slot) = self.slots.get(index) else {
             return false;
@@ -233,7 +240,8 @@ impl<
         true
     }
 
-    /// Gives one connection of each peer its turn, and closes those whose association has ended.
+    /// Gives one ready connection of each peer its turn, checks the deadlines of those that are not
+    /// ready, and closes those that have ended.
     fn turn_each(&mut self, now: Instant) {
         self.round = self.round.saturating_add(1);
         for index in 0..self.slots.len() {
@@ -251,10 +259,10 @@ impl<
         self.free(index);
     }
 
-    /// Returns how long the next poll may wait.
+    /// Returns the maximum duration of the next poll.
     fn patience(&self, now: Instant) -> Duration {
         let mut most = Duration::from_secs(MOST_SECONDS);
-        if self.terms.service.stop_file.is_some() {
+        if self.configuration.service.stop_file.is_some() {
             most = Duration::from_millis(LOOK_MILLISECONDS);
         }
         if self.is_open && self.may_accept && self.has_vacancy() {
@@ -263,18 +271,19 @@ impl<
                 return Duration::ZERO;
             }
         }
-        if let Some(metrics) = self.terms.metrics {
-            most = most.min(metrics.left(now));
+        if let Some(metrics) = self.configuration.metrics {
+            most = most.min(metrics.remaining(now));
         }
         for slot in &self.slots {
             if let Some(connection) = &slot.connection {
-                most = connection.left(now, most);
+                most = connection.remaining(now, most);
             }
         }
         most
     }
 
-    /// Looks from time to time whether the server is to end. Then nothing more is accepted.
+    /// Looks for the stop file from time to time. If it is there, stops accepting, and drops the
+    /// connections that wait.
     fn look(&mut self, files: &S, now: Instant) {
         let is_due = match self.looked {
             Some(looked) => {
@@ -286,23 +295,23 @@ impl<
             return;
         }
         self.looked = Some(now);
-        if is_asked(files, self.terms.service.stop_file) {
-            self.logger().tell(&Stopping);
+        if is_asked(files, self.configuration.service.stop_file) {
+            self.logger().report(&Stopping);
             self.stop = Some(Stop {
                 asked: now,
-                grace: self.terms.service.grace,
+                grace: self.configuration.service.grace,
             });
             self.is_open = false;
             self.queue.clear();
         }
     }
 
-    /// Returns whether nothing is accepted and no association is left.
+    /// Returns whether no connection is accepted or open any more.
     fn is_done(&self) -> bool {
         !self.is_open && self.queue.is_empty() && self.open_connections() == 0
     }
 
-    /// Serves associations until the server is to end.
+    /// Runs the event loop until the server has stopped.
     ///
     /// Fails if the clock or the poll does.
     fn serve(&mut self, files: &S, events: &mut Events) -> io::Result<()> {
@@ -313,10 +322,10 @@ impl<
             self.look(files, now);
             self.turn_each(now);
             self.settle_due(now)?;
-            // A slot that was freed is given on before the poll, which may wait long.
+            // A free slot is assigned before the poll, which may block for long.
             self.admit_all(now);
             self.measure(files, now);
-            self.logger().tell_left_out(Some(now));
+            self.logger().report_omitted(Some(now));
             if self.is_done() {
                 return Ok(());
             }
@@ -327,8 +336,8 @@ impl<
         Ok(())
     }
 
-    /// Settles the files that wait, and closes each connection. Returns what there was of all, beside what
-    /// there was before.
+    /// Settles the files that wait, and closes each connection. Returns `closed` with the histories
+    /// of all slots added.
     fn close(self, closed: ClosedSlots<FolderFiling<S>, P>) -> ClosedSlots<FolderFiling<S>, P>
         ensures { length (slots_in result.history) ≡ length (slots_in closed.history) + P.at_once }
     {
@@ -339,7 +348,7 @@ impl<
             rt: _rt,
             poll: _poll,
             listeners: _listeners,
-            terms: _terms,
+            configuration: _configuration,
             folder: _folder,
             occupancy: _occupancy,
             slots,
@@ -354,10 +363,10 @@ impl<
             paused: _paused,
             looked: _looked,
             stop: _stop,
-            slots_told: _slots_told,
-            peer_told: _peer_told,
-            closed_told: _closed_told,
-            accept_told: _accept_told,
+            slots_reported: _slots_reported,
+            peer_reported: _peer_reported,
+            closed_reported: _closed_reported,
+            accept_reported: _accept_reported,
         } = server;
         close_all(slots, closed, now)
     }

@@ -1,25 +1,26 @@
-//! A slot: the memory and the filing for one connection, the connection that it has, and what those left that had it.
+//! A slot of a server: its connection, memory and filing, and the results of its earlier
+//! connections.
 ghost use Rattle.std.specs.Prelude.{◌≡◌, [], ◌++◌, map, IfSome, false};
 ghost use Rattle.std.specs.List.{All};
 ghost use Rattle.serving.specs.Connections.{opening_of};
 ghost use Rattle.folder_filing.specs.Settling.{is_unsettled};
 ghost use Rattle.server.specs.FolderStore.{folder_store};
-ghost use Rattle.server.specs.Histories.{AllEnded, LeftBy, ended_in, opened_in, opened_over};
-ghost use Rattle.server.specs.Terms.{terms_at, terms_of};
+ghost use Rattle.server.specs.Histories.{AllEnded, ClosedBy, ended_in, opened_in, opened_over};
+ghost use Rattle.server.specs.Configuration.{configuration_at, configuration_of};
 ghost use Rattle.server.specs.machine.Slots.{HaveEnded, seen_of};
 
+use crate::configuration::ServerConfiguration;
 use crate::policy::Policy;
 use crate::server::SlotHistory;
 use crate::socket::Socket;
-use crate::terms::ServerTerms;
-use connection::Observer;
 use engine::Standing;
 use folder_filing::{FolderFiling, FolderWriter};
 use journal::{Journal, Logger, Served};
 use log::Log;
 use negotiate::Config;
 use part10::Settling;
-use serving::{Connection, ConnectionMemory, ConnectionTerms};
+use service::Observer;
+use serving::{Connection, ConnectionConfiguration, ConnectionMemory};
 use std::alloc::{AllocError, Global};
 use std::fs::File;
 use std::io;
@@ -27,8 +28,8 @@ use std::marker::PhantomData;
 use std::rt::Files;
 use std::time::{Clock, Instant};
 
-/// A slot for one connection after the other. It is not `Drop`: it is given up by `close` alone. Nor is a connection,
-/// as its journal is not.
+/// A slot for one connection at a time. It is not `Drop`: only `close` consumes it. Its connection
+/// is not `Drop` either, as its journal is not.
 pub(crate) struct Slot<
     'a,
     B: Observer,
@@ -38,24 +39,24 @@ pub(crate) struct Slot<
 where
     FolderFiling<S>: Settling,
 {
-    /// The connection that it has.
+    /// The connection that has the slot.
     pub(crate) connection: Option<Connection<'a, Socket, FolderFiling<S>, B>>,
-    /// The round in which its connection, or the one before, had its last turn.
+    /// The round in which a connection of this slot had its last turn.
     pub(crate) turned: u64,
-    /// How many files the filing of that had committed before it.
+    /// How many files the filing had committed when the connection was opened.
     committed: u32,
-    /// The memory of its next connection, once it was taken, while it has none.
+    /// The memory of the next connection, while there is no connection and once it is allocated.
     memory: Option<ConnectionMemory<'a>>,
-    /// The filing of its next connection, if it has one already, while it has none.
+    /// The filing of the next connection, while there is no connection, if there is a filing yet.
     filing: Option<FolderFiling<S>>,
     history: SlotHistory<FolderFiling<S>>,
     policy: PhantomData<P>,
-    /// None of it waits to be settled, or was lost before that.
+    /// No file of the filing waits to be settled, or was lost before that.
     ghost rested: { ∥ IfSome filing (λ f. is_unsettled f ≡ false) ∥₁ },
-    ghost left: { ∥ All (LeftBy folder_store is_unsettled P.terms) (ended_in history) ∥₁ },
-    /// Its connection is held to what its server is.
-    ghost held: { seen_of connection (λ c. terms_at c) ≡ seen_of connection (λ c. P.terms) },
-    /// Each connection that was opened has ended, except the one that it has.
+    ghost remaining: { ∥ All (ClosedBy folder_store is_unsettled P.configuration) (ended_in history) ∥₁ },
+    /// The settings of the connection are those of `P`.
+    ghost held: { seen_of connection (λ c. configuration_at c) ≡ seen_of connection (λ c. P.configuration) },
+    /// Each connection that was opened has ended, except the current one.
     ghost none_missing: { opened_in history ≡ map opened_over (ended_in history) ++ seen_of connection (λ c. opening_of c) },
 }
 
@@ -65,7 +66,7 @@ impl<'a, B: Observer, S: Files<File = File> + Alloc<A = Global> + Clone + Drop, 
     S,
     P,
 > {
-    /// Creates a slot without memory. Its first connection files by this filing, if there is one.
+    /// Creates a slot without memory. Its first connection uses this filing, if there is one.
     pub(crate) fn new(filing: Option<FolderFiling<S>>) -> Slot<'a, B, S, P> {
         Slot {
             connection: None,
@@ -81,7 +82,7 @@ impl<'a, B: Observer, S: Files<File = File> + Alloc<A = Global> + Clone + Drop, 
         }
     }
 
-    /// Returns whether its connection may have something to read, or its peer takes something.
+    /// Returns whether the socket of the connection may be readable or writable.
     pub(crate) fn is_ready(&self) -> bool {
         match &self.connection {
             Some(connection) => connection.is_ready(),
@@ -89,7 +90,8 @@ impl<'a, B: Observer, S: Files<File = File> + Alloc<A = Global> + Clone + Drop, 
         }
     }
 
-    /// Takes its memory, unless it has it, for connections that are held to this configuration.
+    /// Allocates the memory for connections with this configuration, unless the slot has it or a
+    /// connection. Fails if memory runs out.
     pub(crate) fn make(&mut self, alloc: Global, config: &'a Config) -> Result<(), AllocError> {
         if self.connection.is_none() && self.memory.is_none() {
             self.memory = Some(ConnectionMemory::new(alloc, config)?);
@@ -97,8 +99,8 @@ impl<'a, B: Observer, S: Files<File = File> + Alloc<A = Global> + Clone + Drop, 
         Ok(())
     }
 
-    /// Takes what its next connection needs: its memory, unless it has it. Returns the filing of the connection,
-    /// which is a new one of this folder if it has none.
+    /// Allocates the memory of the slot, unless it has it. Returns the filing of its next
+    /// connection: the one that it keeps, or a new one of `folder`.
     pub(crate) fn prepare(
         &mut self,
         alloc: Global,
@@ -119,40 +121,42 @@ impl<'a, R: Log + Clock, S: Files<File = File> + Alloc<A = Global> + Clone + Dro
     S,
     P,
 > {
-    /// Opens a connection over a socket that was accepted at this instant, if it has its memory. The logger is of its
-    /// journal.
-    // Not inlined, as is what ends one: its frame has copies of a connection, and is left before the first turn.
+    /// Opens an association over a socket at `now`, if the slot has its memory. Its journal writes
+    /// to `logger`. Fails if the notes of the filing cannot be shared.
+    // Not inlined, like `closed`: its frame holds copies of a connection, and is released before
+    // the first turn.
     #[inline(never)]
     pub(crate) fn open(
         &mut self,
         alloc: Global,
         parts: (Socket, FolderFiling<S>, Logger<'a, R>),
-        terms: &ServerTerms<'a>,
+        configuration: &ServerConfiguration<'a>,
         now: Instant,
     ) -> Result<(), AllocError>
-        requires terms { terms_of terms.now ≡ P.terms }
+        requires configuration { configuration_of configuration.now ≡ P.configuration }
     {
         let (socket, filing, logger) = parts;
         let notes = filing.notes()?;
         let Some(memory) = self.memory.take() else {
             return Ok(());
         };
-        let held = ConnectionTerms {
-            config: terms.config,
-            timeouts: terms.service.timeouts,
-            longest: terms.service.longest,
+        let held = ConnectionConfiguration {
+            config: configuration.config,
+            timeouts: configuration.service.timeouts,
+            longest: configuration.service.longest,
         };
-        let journal = Journal::new(alloc, logger, notes, terms.config);
+        let journal = Journal::new(alloc, logger, notes, configuration.config);
         let before = self.committed;
         self.committed = filing.committed();
         self.history.open(&filing);
         let connection = Connection::open(held, (socket, filing, journal), memory, now);
         let last = self.connection.replace(connection);
-        let _left = closed::<R, S, P>(last, before, &mut self.history, now);
+        let _remaining = closed::<R, S, P>(last, before, &mut self.history, now);
         Ok(())
     }
 
-    /// Closes its connection, if it has one. Its filing serves the next one, unless a file of it was lost.
+    /// Closes the connection, if there is one. Its filing serves the next connection, unless a file
+    /// was lost.
     pub(crate) fn close_connection(&mut self, now: Instant) {
         let last = self.connection.take();
         if let Some((filing, memory)) = closed::<R, S, P>(
@@ -166,9 +170,9 @@ impl<'a, R: Log + Clock, S: Files<File = File> + Alloc<A = Global> + Clone + Dro
         }
     }
 
-    /// Closes its connection, if it has one. Returns what its connections left.
+    /// Closes the connection, if there is one. Returns the history of the slot.
     pub(crate) fn close(self, now: Instant) -> SlotHistory<FolderFiling<S>>
-        ensures { AllEnded folder_store is_unsettled P.terms result }
+        ensures { AllEnded folder_store is_unsettled P.configuration result }
     {
         let Slot {
             connection,
@@ -180,25 +184,26 @@ impl<'a, R: Log + Clock, S: Files<File = File> + Alloc<A = Global> + Clone + Dro
             policy: _policy,
         } = self;
         let mut history = history;
-        let _left = closed::<R, S, P>(connection, committed, &mut history, now);
+        let _remaining = closed::<R, S, P>(connection, committed, &mut history, now);
         history
     }
 }
 
-/// Returns a filing for the next connection, unless a file of it waits to be settled, or was lost before that.
+/// Returns a filing for the next connection, or `None` if a file of it waits to be settled, or was
+/// lost before that.
 fn at_rest<S: Files<File = File> + Alloc<A = Global> + Clone + Drop>(
     filing: FolderFiling<S>,
 ) -> Option<FolderFiling<S>>
     ensures { IfSome result (λ f. is_unsettled f ≡ false) }
 {
-    if filing.waits() {
+    if filing.has_pending() {
         return None;
     }
     Some(filing)
 }
 
-/// Closes a connection, if there is one, over a filing that had committed so many files before it, and writes the
-/// lines of its end. Returns its filing and its memory.
+/// Closes a connection, if there is one, and logs its end. `committed` is how many files its filing
+/// had committed when it was opened. Returns its filing and memory.
 #[inline(never)]
 fn closed<'a, R: Log + Clock, S: Files<File = File> + Alloc<A = Global> + Clone + Drop, P: Policy>(
     connection: Option<Connection<'a, Socket, FolderFiling<S>, Journal<'a, R, S>>>,
@@ -206,28 +211,28 @@ fn closed<'a, R: Log + Clock, S: Files<File = File> + Alloc<A = Global> + Clone 
     history: &mut SlotHistory<FolderFiling<S>>,
     now: Instant,
 ) -> Option<(FolderFiling<S>, ConnectionMemory<'a>)>
-    requires held { seen_of connection (λ c. terms_at c) ≡ seen_of connection (λ c. P.terms) }
-    ensures { HaveEnded folder_store is_unsettled P.terms (seen_of connection.entry (λ c. opening_of c)) history.old history.new }
+    requires held { seen_of connection (λ c. configuration_at c) ≡ seen_of connection (λ c. P.configuration) }
+    ensures { HaveEnded folder_store is_unsettled P.configuration (seen_of connection.entry (λ c. opening_of c)) history.old history.new }
 {
     match connection {
         Some(connection) => {
-            let (left, journal, memory) = connection.close(now);
-            let report = left.exchange.report;
+            let (remaining, journal, memory) = connection.close(now);
+            let report = remaining.exchange.report;
             journal.end(Served {
                 standing: standing_name(report.standing),
                 held: report.held,
-                files: left.filing.committed().saturating_sub(committed),
-                received: left.exchange.received,
-                seconds: left.lasted.as_secs(),
+                files: remaining.filing.committed().saturating_sub(committed),
+                received: remaining.exchange.received,
+                seconds: remaining.lasted.as_secs(),
             });
-            history.end(&left);
-            Some(left.into_parts(memory))
+            history.end(&remaining);
+            Some(remaining.into_parts(memory))
         }
         None => None,
     }
 }
 
-/// Returns how an association stands, as its line shows it.
+/// Returns the state of an association as its log line shows it.
 fn standing_name(standing: Standing) -> &'static str {
     match standing {
         Standing::Open => "Open",

@@ -1,7 +1,7 @@
-//! The socket of a connection, which doesn't block.
-use connection::acknowledge_at_once;
+//! The non-blocking socket of a connection.
 use mio::net::TcpStream;
 use mio::{Interest, Poll, Token};
+use service::acknowledge_at_once;
 use std::io;
 use std::io::{ErrorKind, Read, Write};
 use std::net::SocketAddr;
@@ -13,13 +13,13 @@ pub(crate) struct AcceptedStream {
     pub(crate) peer: SocketAddr,
 }
 
-/// The socket of a connection, which doesn't block.
+/// The non-blocking socket of a connection.
 #[derive(Drop)]
 pub struct Socket(pub(crate) TcpStream);
 
 impl Read for Socket {
-    /// Reads what has come. Once nothing more has, the system acknowledges it all at once, and does
-    /// not wait for what is sent.
+    /// Reads what is available. If nothing is, has the system acknowledge at once what was
+    /// received, rather than with the next bytes that are sent.
     fn read(&mut self, room: &mut [u8]) -> io::Result<usize> {
         let mut stream = &self.0;
         match stream.read(room) {
@@ -43,7 +43,8 @@ impl Write for Socket {
     }
 }
 
-/// Watches the stream of a connection that has the slot with this index, and returns its socket.
+/// Registers the stream of a connection with the poll, under the index of its slot. Returns its
+/// socket.
 pub(crate) fn watched(poll: &Poll, stream: TcpStream, index: usize) -> io::Result<Socket> {
     stream.set_nodelay(true)?;
     let mut socket = Socket(stream);

@@ -1,9 +1,10 @@
-//! How a server is ended: by a file that appears.
+//! The stop file, whose appearance stops a server.
 use std::io::ErrorKind;
 use std::rt::Files;
 use std::{fs, io};
 
-/// Removes the file whose appearance ends the server, which an earlier end may have left.
+/// Removes the stop file that an earlier stop may have left. Fails if it is there and cannot be
+/// removed.
 pub(crate) fn clear<R: Files>(rt: &R, path: Option<&str>) -> io::Result<()> {
     let Some(path) = path else {
         return Ok(());
@@ -14,7 +15,7 @@ pub(crate) fn clear<R: Files>(rt: &R, path: Option<&str>) -> io::Result<()> {
     }
 }
 
-/// Returns whether the file is there whose appearance ends the server.
+/// Returns whether the stop file is there.
 pub(crate) fn is_asked<R: Files>(rt: &R, path: Option<&str>) -> bool {
     match path {
         Some(path) => matches!(fs::exists(rt, path), Ok(true)),

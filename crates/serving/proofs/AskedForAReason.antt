@@ -2,7 +2,7 @@
 use Rattle.std.proofs.Common.{◌≡◌, ℕ, ◌≤◌, ◌||◌, ◌&&◌, Bool, true, false, List, [], ◌∷◌, ◌++◌, length, Option, IsNone, IsSome, refl, sym, ap, ◌∙◌, append-nil, arith}
 use Rattle.std.specs.List.{list_all}
 use Rattle.serving.specs.Timed.{with_asked}
-use Rattle.serving.specs.Waits.{had_reasons, has_lasted}
+use Rattle.serving.specs.TimeLimits.{had_reasons, has_lasted}
 
 -- none was asked for yet
 pub none_without_a_reason : (is_stopped : Bool) (longest : Option ℕ) (opened : ℕ) (asked : List ℕ) → asked ≡ [] → had_reasons is_stopped longest opened asked ≡ true

@@ -31,15 +31,15 @@ use Rattle.serving.specs.Taken.{HasTaken}
 -- ---- an association that was given the close has ended
 
 -- neither a request nor data nor the transport's close is waited for
-abbrev pub IsLeft : State → Type 0
-IsLeft Sta1 = Unit {0}
-IsLeft Sta2 = ⊥
-IsLeft Sta3 = Unit {0}
-IsLeft Sta6 = ⊥
-IsLeft Sta8 = Unit {0}
-IsLeft Sta13 = ⊥
+abbrev pub IsRemaining : State → Type 0
+IsRemaining Sta1 = Unit {0}
+IsRemaining Sta2 = ⊥
+IsRemaining Sta3 = Unit {0}
+IsRemaining Sta6 = ⊥
+IsRemaining Sta8 = Unit {0}
+IsRemaining Sta13 = ⊥
 
-close_leaves : (state : State) (p : Progress) → IsLeft (moved (table state event.Closed).1 p).state
+close_leaves : (state : State) (p : Progress) → IsRemaining (moved (table state event.Closed).1 p).state
 close_leaves Sta1 p = tt
 close_leaves Sta2 p = tt
 close_leaves Sta3 p = tt
@@ -47,7 +47,7 @@ close_leaves Sta6 p = tt
 close_leaves Sta8 p = tt
 close_leaves Sta13 p = tt
 
-cut_leaves : (wire : Option ℕ) (p q : Progress) → IsLeft (cut wire p (done [] 0 q event.Closed)).next.state
+cut_leaves : (wire : Option ℕ) (p q : Progress) → IsRemaining (cut wire p (done [] 0 q event.Closed)).next.state
 cut_leaves None p q = close_leaves q.state q
 cut_leaves (Some k) p q = tt
 
@@ -56,44 +56,44 @@ no_last [] x e = absurd cc
 no_last (y ∷ xs) x e = absurd cc
 
 -- a story whose last entry is the close
-shut_last : (rooms : Rooms) (s : Settings) (p : Progress) (es : List Entry) (story : List Happened) → entries_of story ≡ es ++ Shut ∷ [] → IsLeft (progress_of rooms s p story).state
+shut_last : (rooms : Rooms) (s : Settings) (p : Progress) (es : List Entry) (story : List Happened) → entries_of story ≡ es ++ Shut ∷ [] → IsRemaining (progress_of rooms s p story).state
 shut_last rooms s p es [] e = absurd (no_last es Shut e)
 shut_last rooms s p [] (h ∷ []) e =
     let at : h.0 ≡ Shut = cc in
-    subst (λ (x : Entry). IsLeft (cut h.1.wire p (at_entry rooms s (absorb h.1.filing p) h.1.finding x)).next.state) (sym at) (cut_leaves h.1.wire p (absorb h.1.filing p))
+    subst (λ (x : Entry). IsRemaining (cut h.1.wire p (at_entry rooms s (absorb h.1.filing p) h.1.finding x)).next.state) (sym at) (cut_leaves h.1.wire p (absorb h.1.filing p))
 shut_last rooms s p [] (h ∷ g ∷ story) e = absurd cc
 shut_last rooms s p (x ∷ es) (h ∷ story) e = shut_last rooms s (gives rooms s p h).next es story cc
 
-shut_entry : (came : List ℕ) (before : List Received) → entries came (before ++ Close ∷ []) ≡ entries came before ++ Shut ∷ []
-shut_entry came [] = refl
-shut_entry came (Bytes piece ∷ before) =
-    ap (λ (es : List Entry). map At (new_marks came piece) ++ es) (shut_entry (came ++ piece) before) ∙ sym (append_assoc (map At (new_marks came piece)) (entries (came ++ piece) before) (Shut ∷ []))
-shut_entry came (Close ∷ before) = ap (λ (es : List Entry). Shut ∷ es) (shut_entry came before)
-shut_entry came (Expiry ∷ before) = ap (λ (es : List Entry). TimedOut ∷ es) (shut_entry came before)
-shut_entry came (UserAbort ∷ before) = ap (λ (es : List Entry). Aborted ∷ es) (shut_entry came before)
+shut_entry : (received : List ℕ) (before : List Received) → entries received (before ++ Close ∷ []) ≡ entries received before ++ Shut ∷ []
+shut_entry received [] = refl
+shut_entry received (Bytes piece ∷ before) =
+    ap (λ (es : List Entry). map At (new_marks received piece) ++ es) (shut_entry (received ++ piece) before) ∙ sym (append_assoc (map At (new_marks received piece)) (entries (received ++ piece) before) (Shut ∷ []))
+shut_entry received (Close ∷ before) = ap (λ (es : List Entry). Shut ∷ es) (shut_entry received before)
+shut_entry received (Expiry ∷ before) = ap (λ (es : List Entry). TimedOut ∷ es) (shut_entry received before)
+shut_entry received (UserAbort ∷ before) = ap (λ (es : List Entry). Aborted ∷ es) (shut_entry received before)
 
 some_same : (xs ys : List Received) → Some xs ≡ Some ys → xs ≡ ys
 some_same xs ys e = cc
 
-taken_leaves : (s : Settings) (named : List (Input × List ℕ)) (seen : Fields) (sent : List ℕ) (old new : Store) (before : List Received) → HasTaken s named seen sent old new → inputs_of named ≡ before ++ Close ∷ [] → IsLeft seen.kept.state
+taken_leaves : (s : Settings) (named : List (Input × List ℕ)) (seen : Fields) (sent : List ℕ) (old new : Store) (before : List Received) → HasTaken s named seen sent old new → inputs_of named ≡ before ++ Close ∷ [] → IsRemaining seen.kept.state
 taken_leaves s named seen sent old new before h e =
     let t = h.took in
     let b = t.stood in
     let same : inputs_of named ≡ t.taken = some_same (inputs_of named) t.taken t.follows.given in
-    let told : entries_of b.story ≡ entries [] before ++ Shut ∷ [] = b.stands.story_is.told ∙ ap (λ (xs : List Received). entries [] xs) (sym same ∙ e) ∙ shut_entry [] before in
-    subst IsLeft (sym b.stands.shows.frame.pends.state_is) (shut_last served_rooms s at_start (entries [] before) b.story told)
+    let reported : entries_of b.story ≡ entries [] before ++ Shut ∷ [] = b.stands.story_is.reported ∙ ap (λ (xs : List Received). entries [] xs) (sym same ∙ e) ∙ shut_entry [] before in
+    subst IsRemaining (sym b.stands.shows.frame.pends.state_is) (shut_last served_rooms s at_start (entries [] before) b.story reported)
 
-left_ended : {A C V D : ℕ} (phase : Phase A C V D) → IsLeft (state_in phase) → is_ended (state_in phase) ≡ true
-left_ended (AwaitingRequest body) h = absurd h
-left_ended (Established peer message) h = absurd h
-left_ended AwaitingClose h = absurd h
-left_ended Ended h = refl
+remaining_ended : {A C V D : ℕ} (phase : Phase A C V D) → IsRemaining (state_in phase) → is_ended (state_in phase) ≡ true
+remaining_ended (AwaitingRequest body) h = absurd h
+remaining_ended (Established peer message) h = absurd h
+remaining_ended AwaitingClose h = absurd h
+remaining_ended Ended h = refl
 
 -- so one that has not ended was not given the close, however its socket stands
 pub open_unclosed : {A C V D : ℕ} (a : Association A C V D) (s : Settings) (named : List (Input × List ℕ)) (sent : List ℕ) (old new : Store) (untaken : List ℕ) (ends : ℕ) (unsent : List ℕ) (refusals : ℕ)
     → ∥ HasTaken s named (fields_of a) sent old new ∥₁ → is_ended (state_of a) ≡ false → ∥ ClosesWithSocket (inputs_of named) untaken ends unsent refusals ∥₁
 open_unclosed a s named sent old new untaken ends unsent refusals taken open_still =
-    ∥∥₁_map taken (λ h before e. absurd (let wrong : true ≡ false = sym (left_ended a.provider.phase (taken_leaves s named (fields_of a) sent old new before h e)) ∙ open_still in cc))
+    ∥∥₁_map taken (λ h before e. absurd (let wrong : true ≡ false = sym (remaining_ended a.provider.phase (taken_leaves s named (fields_of a) sent old new before h e)) ∙ open_still in cc))
 
 -- ---- with one input more
 
@@ -117,7 +117,7 @@ module _ (named named_new : List (Input × List ℕ)) (bytes untaken : List ℕ)
   one_more_closes Expired pushed closed = ∣ last_closes Expired pushed (λ e. absurd cc) ∣₁
   one_more_closes LocalAbort pushed closed = ∣ last_closes LocalAbort pushed (λ e. absurd cc) ∣₁
 
--- ---- over a socket that goes on
+-- ---- over a socket that continues
 
 -- as more waits
 pub still_closed : (untaken : List ℕ) (ends : ℕ) (unsent unsent_new : List ℕ) (refusals : ℕ) → (unsent ≢ [] → unsent_new ≢ []) → HasClosed untaken ends unsent refusals → HasClosed untaken ends unsent_new refusals

@@ -13,13 +13,13 @@ use Rattle.serving.specs.Rooms.{served_rooms}
 use Rattle.serving.specs.Served.{ExchangedSoFar}
 use Rattle.serving.specs.Taken.{HasTaken}
 use Rattle.serving.specs.Timed.{Timed}
-use Rattle.serving.specs.Waits.{Waits}
+use Rattle.serving.specs.TimeLimits.{TimeLimits}
 use Rattle.serving.specs.declared.moment.Moment.{Moment}
 
-pub ends_timed : (s : Settings) (named : List (Input × List ℕ)) (seen : Fields) (report : Report) (read untaken : List ℕ) (stopped : ℕ) (socket unsent : List ℕ) (refusals : ℕ) (opened old new : Store) (begun : Waits) (moments : List Moment) (now : Waits)
+pub ends_timed : (s : Settings) (named : List (Input × List ℕ)) (seen : Fields) (report : Report) (read untaken : List ℕ) (stopped : ℕ) (socket unsent : List ℕ) (refusals : ℕ) (opened old new : Store) (initial : TimeLimits) (moments : List Moment) (now : TimeLimits)
     → stream_of (inputs_of named) ++ untaken ≡ read
-    → ClosesWithSocket (inputs_of named) untaken stopped unsent refusals → Reports served_rooms s seen old report → new ≡ stepped without_draft false old → HasTaken s named seen (socket ++ unsent) opened old → Timed begun (inputs_of named) moments now
-    → (served : ExchangedSoFar s report read untaken stopped socket unsent refusals opened new) × (last : Waits) × Timed begun served.inputs moments last
-ends_timed s named seen report read untaken stopped socket unsent refusals opened old new begun moments now e closes reports store h timed =
+    → ClosesWithSocket (inputs_of named) untaken stopped unsent refusals → Reports served_rooms s seen old report → new ≡ stepped without_draft false old → HasTaken s named seen (socket ++ unsent) opened old → Timed initial (inputs_of named) moments now
+    → (served : ExchangedSoFar s report read untaken stopped socket unsent refusals opened new) × (last : TimeLimits) × Timed initial served.inputs moments last
+ends_timed s named seen report read untaken stopped socket unsent refusals opened old new initial moments now e closes reports store h timed =
     let x = ends s named seen report read untaken stopped socket unsent refusals opened old new e closes reports store h in
-    (x.0, now, subst (λ (xs : List Received). Timed begun xs moments now) (sym x.1) timed)
+    (x.0, now, subst (λ (xs : List Received). Timed initial xs moments now) (sym x.1) timed)

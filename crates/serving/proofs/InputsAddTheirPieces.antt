@@ -37,7 +37,7 @@ whole_more named bytes read e = pieces_more named Piece bytes ∙ ap (λ (b : Li
 
 -- a source that shows what it has given gives one input more
 pub gives_one : (old new : List (Input × List ℕ)) (kind : Input) (bytes : List ℕ) → new ≡ old ++ (kind, bytes) ∷ []
-    → Gives (record { to_come = None; given = Some (inputs_of old) }) (record { to_come = None; given = Some (inputs_of new) }) bytes kind
+    → Gives (record { expected = None; given = Some (inputs_of old) }) (record { expected = None; given = Some (inputs_of new) }) bytes kind
 gives_one old new kind bytes e = record {
   first = refl;
   added = ap (λ (xs : List (Input × List ℕ)). Some (inputs_of xs)) e ∙ ap (λ (xs : List Received). Some xs) (inputs_more old kind bytes);

@@ -1,4 +1,4 @@
--- Each input is given at its moment, where it is due (`timed_more`), over times of which only when the peer last took anything may
+-- Each input is given at its moment, where it is due (`timed_more`), over times of which only when the peer last consumed anything may
 -- change (`still_timed`); and an input more is the server's own or it is not (`own_more`, `own_same`).
 use Rattle.std.proofs.Common.{◌≡◌, ◌≢◌, ℕ, Bool, true, false, List, [], ◌∷◌, ◌++◌, Option, Some, None, refl, sym, ap, subst, ◌∙◌, append-nil, arith}
 use Rattle.std.specs.Time.{instant_nanos}
@@ -11,7 +11,7 @@ use Rattle.serving.proofs.InputsAddTheirPieces.{inputs_more}
 use Rattle.serving.specs.declared.moment.Moment.{Moment}
 use Rattle.serving.specs.Own.{own_of}
 use Rattle.serving.specs.Timed.{Follows, Hears, IsDue, SameTimes, Timed, asked_at, with_asked}
-use Rattle.serving.specs.Waits.{Waits, HasExpired, IsSilent, started_anew}
+use Rattle.serving.specs.TimeLimits.{TimeLimits, HasExpired, IsSilent, started_anew}
 
 -- ---- the server's own
 
@@ -62,36 +62,36 @@ module _ (moments moments_new : List Moment) (moment : Moment) (pushed : moments
 
 -- ---- moments
 
-same_times : (waits : Waits) → SameTimes waits waits
-same_times waits = record { artim = refl; idle = refl; state = refl; started = refl; heard = refl }
+same_times : (has_pending : TimeLimits) → SameTimes has_pending has_pending
+same_times has_pending = record { artim = refl; idle = refl; state = refl; started = refl; heard = refl }
 
-times_then : (a b c : Waits) → SameTimes a b → SameTimes b c → SameTimes a c
+times_then : (a b c : TimeLimits) → SameTimes a b → SameTimes b c → SameTimes a c
 times_then a b c h k = record { artim = k.artim ∙ h.artim; idle = k.idle ∙ h.idle; state = k.state ∙ h.state; started = k.started ∙ h.started; heard = k.heard ∙ h.heard }
 
--- only when the peer last took anything has changed
-pub still_timed : (waits : Waits) (inputs : List Received) (moments : List Moment) (last last_new : Waits) → SameTimes last last_new → Timed waits inputs moments last → Timed waits inputs moments last_new
-still_timed waits [] [] last last_new same h = times_then waits last last_new h same
-still_timed waits [] (m ∷ moments) last last_new same h = absurd h
-still_timed waits (i ∷ inputs) [] last last_new same h = absurd h
-still_timed waits (i ∷ inputs) (m ∷ moments) last last_new same h = (h.0, h.1, still_timed m.left.value inputs moments last last_new same h.2)
+-- only when the peer last consumed anything has changed
+pub still_timed : (has_pending : TimeLimits) (inputs : List Received) (moments : List Moment) (last last_new : TimeLimits) → SameTimes last last_new → Timed has_pending inputs moments last → Timed has_pending inputs moments last_new
+still_timed has_pending [] [] last last_new same h = times_then has_pending last last_new h same
+still_timed has_pending [] (m ∷ moments) last last_new same h = absurd h
+still_timed has_pending (i ∷ inputs) [] last last_new same h = absurd h
+still_timed has_pending (i ∷ inputs) (m ∷ moments) last last_new same h = (h.0, h.1, still_timed m.remaining.value inputs moments last last_new same h.2)
 
-due_as : (input : Received) (a b : Waits) (m : Moment) → SameTimes a b → IsDue input b m → IsDue input a m
+due_as : (input : Received) (a b : TimeLimits) (m : Moment) → SameTimes a b → IsDue input b m → IsDue input a m
 due_as (Bytes piece) a b m same h = tt
 due_as Close a b m same h = tt
 due_as Expiry a b m same h = expired_as a b _ a.started b.started same.artim same.started h
   where
-    expired_as : (a b : Waits) (now : ℕ) (x y : Option ℕ) → b.artim ≡ a.artim → y ≡ x → HasExpired b now y → HasExpired a now x
+    expired_as : (a b : TimeLimits) (now : ℕ) (x y : Option ℕ) → b.artim ≡ a.artim → y ≡ x → HasExpired b now y → HasExpired a now x
     expired_as a b now x (Some started) e f h = subst (HasExpired a now) f (omega (arith, e, h))
     expired_as a b now x None e f h = absurd h
-due_as UserAbort a b m same h = λ unasked. subst (λ (x : Option ℕ). IsSilent m.left.value (instant_nanos m.now) x) same.started (h unasked)
+due_as UserAbort a b m same h = λ unasked. subst (λ (x : Option ℕ). IsSilent m.remaining.value (instant_nanos m.now) x) same.started (h unasked)
 
-hears_as : (input : Received) (a b new : Waits) (now : ℕ) → b.heard ≡ a.heard → Hears input b new now → Hears input a new now
+hears_as : (input : Received) (a b new : TimeLimits) (now : ℕ) → b.heard ≡ a.heard → Hears input b new now → Hears input a new now
 hears_as (Bytes piece) a b new now same h = h
 hears_as Close a b new now same h = h ∙ same
 hears_as Expiry a b new now same h = h ∙ same
 hears_as UserAbort a b new now same h = h ∙ same
 
-follows_as : (input : Received) (a b new : Waits) (now : ℕ) → SameTimes a b → Follows input b new now → Follows input a new now
+follows_as : (input : Received) (a b new : TimeLimits) (now : ℕ) → SameTimes a b → Follows input b new now → Follows input a new now
 follows_as input a b new now same h = record {
   artim = h.artim ∙ same.artim;
   idle = h.idle ∙ same.idle;
@@ -101,68 +101,68 @@ follows_as input a b new now same h = record {
 }
 
 -- an input more, which is due at its moment
-timed_one : (waits : Waits) (inputs : List Received) (moments : List Moment) (last : Waits) (input : Received) (moment : Moment) → IsDue input last moment → Follows input last moment.left.value (instant_nanos moment.now)
-    → Timed waits inputs moments last → Timed waits (inputs ++ input ∷ []) (moments ++ moment ∷ []) moment.left.value
-timed_one waits [] [] last input moment due follows h = (due_as input waits last moment h due, follows_as input waits last moment.left.value _ h follows, same_times moment.left.value)
-timed_one waits [] (m ∷ moments) last input moment due follows h = absurd h
-timed_one waits (i ∷ inputs) [] last input moment due follows h = absurd h
-timed_one waits (i ∷ inputs) (m ∷ moments) last input moment due follows h = (h.0, h.1, timed_one m.left.value inputs moments last input moment due follows h.2)
+timed_one : (has_pending : TimeLimits) (inputs : List Received) (moments : List Moment) (last : TimeLimits) (input : Received) (moment : Moment) → IsDue input last moment → Follows input last moment.remaining.value (instant_nanos moment.now)
+    → Timed has_pending inputs moments last → Timed has_pending (inputs ++ input ∷ []) (moments ++ moment ∷ []) moment.remaining.value
+timed_one has_pending [] [] last input moment due follows h = (due_as input has_pending last moment h due, follows_as input has_pending last moment.remaining.value _ h follows, same_times moment.remaining.value)
+timed_one has_pending [] (m ∷ moments) last input moment due follows h = absurd h
+timed_one has_pending (i ∷ inputs) [] last input moment due follows h = absurd h
+timed_one has_pending (i ∷ inputs) (m ∷ moments) last input moment due follows h = (h.0, h.1, timed_one m.remaining.value inputs moments last input moment due follows h.2)
 
 -- and leaves these times
-pub timed_more : (waits : Waits) (inputs : List Received) (moments : List Moment) (last left : Waits) (input : Received) (moment : Moment) → moment.left.value ≡ left → IsDue input last moment → Follows input last left (instant_nanos moment.now)
-    → Timed waits inputs moments last → Timed waits (inputs ++ input ∷ []) (moments ++ moment ∷ []) left
-timed_more waits inputs moments last left input moment is due follows h =
-    subst (Timed waits (inputs ++ input ∷ []) (moments ++ moment ∷ [])) is (timed_one waits inputs moments last input moment due (subst (λ (w : Waits). Follows input last w (instant_nanos moment.now)) (sym is) follows) h)
+pub timed_more : (has_pending : TimeLimits) (inputs : List Received) (moments : List Moment) (last remaining : TimeLimits) (input : Received) (moment : Moment) → moment.remaining.value ≡ remaining → IsDue input last moment → Follows input last remaining (instant_nanos moment.now)
+    → Timed has_pending inputs moments last → Timed has_pending (inputs ++ input ∷ []) (moments ++ moment ∷ []) remaining
+timed_more has_pending inputs moments last remaining input moment is due follows h =
+    subst (Timed has_pending (inputs ++ input ∷ []) (moments ++ moment ∷ [])) is (timed_one has_pending inputs moments last input moment due (subst (λ (w : TimeLimits). Follows input last w (instant_nanos moment.now)) (sym is) follows) h)
 
 -- what follows an input, from what is noted of it
-pub follows_state : (input : Received) (old new : Waits) (state : State) (now : ℕ) → (state ≡ old.state → new ≡ old) → new.state ≡ state → (state ≢ old.state → new ≡ record old { state = state; started = started_anew (timer_runs state) now })
+pub follows_state : (input : Received) (old new : TimeLimits) (state : State) (now : ℕ) → (state ≡ old.state → new ≡ old) → new.state ≡ state → (state ≢ old.state → new ≡ record old { state = state; started = started_anew (timer_runs state) now })
     → (new.artim ≡ old.artim) × (new.idle ≡ old.idle) → Hears input old new now → Follows input old new now
 follows_state input old new state now stays is anew lasting hears = record {
   artim = lasting.0;
   idle = lasting.1;
   hears = hears;
-  stays = λ e. ap (λ (w : Waits). w.started) (stays (sym is ∙ e));
-  anew = λ n. subst (λ (s : State). new.started ≡ started_anew (timer_runs s) now) (sym is) (ap (λ (w : Waits). w.started) (anew (λ e. n (is ∙ e))));
+  stays = λ e. ap (λ (w : TimeLimits). w.started) (stays (sym is ∙ e));
+  anew = λ n. subst (λ (s : State). new.started ≡ started_anew (timer_runs s) now) (sym is) (ap (λ (w : TimeLimits). w.started) (anew (λ e. n (is ∙ e))));
 }
 
 -- an input that has no bytes is due
-pub due_now : (kind : Input) (old left : Waits) (moment : Moment) → kind ≢ Piece → moment.left.value ≡ left → left.idle ≡ old.idle → (left.heard ≡ old.heard) × (left.taken ≡ old.taken)
+pub due_now : (kind : Input) (old remaining : TimeLimits) (moment : Moment) → kind ≢ Piece → moment.remaining.value ≡ remaining → remaining.idle ≡ old.idle → (remaining.heard ≡ old.heard) × (remaining.taken ≡ old.taken)
     → (kind ≡ Expired → HasExpired old (instant_nanos moment.now) old.started) → (kind ≡ LocalAbort → moment.is_asked ≡ false → IsSilent old (instant_nanos moment.now) old.started) → IsDue (input_of kind []) old moment
-due_now Piece old left moment no_piece is idle same expired silent = tt
-due_now Closed old left moment no_piece is idle same expired silent = tt
-due_now Expired old left moment no_piece is idle same expired silent = expired refl
-due_now LocalAbort old left moment no_piece is idle same expired silent = λ unasked. subst (λ (w : Waits). IsSilent w (instant_nanos moment.now) old.started) (sym is) (silent_as old left _ old.started idle same.0 same.1 (silent refl unasked))
+due_now Piece old remaining moment no_piece is idle same expired silent = tt
+due_now Closed old remaining moment no_piece is idle same expired silent = tt
+due_now Expired old remaining moment no_piece is idle same expired silent = expired refl
+due_now LocalAbort old remaining moment no_piece is idle same expired silent = λ unasked. subst (λ (w : TimeLimits). IsSilent w (instant_nanos moment.now) old.started) (sym is) (silent_as old remaining _ old.started idle same.0 same.1 (silent refl unasked))
   where
-    silent_as : (old new : Waits) (now : ℕ) (x : Option ℕ) → new.idle ≡ old.idle → new.heard ≡ old.heard → new.taken ≡ old.taken → IsSilent old now x → IsSilent new now x
+    silent_as : (old new : TimeLimits) (now : ℕ) (x : Option ℕ) → new.idle ≡ old.idle → new.heard ≡ old.heard → new.taken ≡ old.taken → IsSilent old now x → IsSilent new now x
     silent_as old new now (Some started) e f k h = h
     silent_as old new now None e f k h = rw (e, f, k) h
 
 -- nothing was given yet
-pub nothing_timed : (waits begun : Waits) (inputs : List Received) (moments : List Moment) → inputs ≡ [] → moments ≡ [] → begun ≡ waits → Timed begun inputs moments waits
-nothing_timed waits begun inputs moments e f g = rw (e, f, g) (same_times waits)
+pub nothing_timed : (has_pending initial : TimeLimits) (inputs : List Received) (moments : List Moment) → inputs ≡ [] → moments ≡ [] → initial ≡ has_pending → Timed initial inputs moments has_pending
+nothing_timed has_pending initial inputs moments e f g = rw (e, f, g) (same_times has_pending)
 
--- the peer took something
-pub only_taken : (old new : Waits) (now : ℕ) → new ≡ record old { taken = Some now } → SameTimes old new
+-- the peer consumed something
+pub only_taken : (old new : TimeLimits) (now : ℕ) → new ≡ record old { taken = Some now } → SameTimes old new
 only_taken old new now e = rw e (record { artim = refl; idle = refl; state = refl; started = refl; heard = refl })
 
 -- an input that has no bytes is not heard
-pub hears_none : (kind : Input) (old new : Waits) (now : ℕ) → kind ≢ Piece → new.heard ≡ old.heard → Hears (input_of kind []) old new now
+pub hears_none : (kind : Input) (old new : TimeLimits) (now : ℕ) → kind ≢ Piece → new.heard ≡ old.heard → Hears (input_of kind []) old new now
 hears_none Piece old new now no_piece same = absurd (no_piece refl)
 hears_none Closed old new now no_piece same = same
 hears_none Expired old new now no_piece same = same
 hears_none LocalAbort old new now no_piece same = same
 
 -- a piece was heard, then taken
-pub heard_then : (piece : List ℕ) (old mid new : Waits) (state : State) (now : ℕ) → mid ≡ record old { heard = now; taken = None }
+pub heard_then : (piece : List ℕ) (old mid new : TimeLimits) (state : State) (now : ℕ) → mid ≡ record old { heard = now; taken = None }
     → (state ≡ mid.state → new ≡ mid) → new.state ≡ state → (state ≢ mid.state → new ≡ record mid { state = state; started = started_anew (timer_runs state) now }) → (new.artim ≡ mid.artim) × (new.idle ≡ mid.idle) → (new.heard ≡ mid.heard) × (new.taken ≡ mid.taken)
     → Follows (Bytes piece) old new now
 heard_then piece old mid new state now e stays is anew lasting same =
-    let h = follows_state (Bytes piece) mid new state now stays is anew lasting (same.0 ∙ ap (λ (w : Waits). w.heard) e, same.1 ∙ ap (λ (w : Waits). w.taken) e) in
-    let state_is : mid.state ≡ old.state = ap (λ (w : Waits). w.state) e in
+    let h = follows_state (Bytes piece) mid new state now stays is anew lasting (same.0 ∙ ap (λ (w : TimeLimits). w.heard) e, same.1 ∙ ap (λ (w : TimeLimits). w.taken) e) in
+    let state_is : mid.state ≡ old.state = ap (λ (w : TimeLimits). w.state) e in
     record {
-      artim = h.artim ∙ ap (λ (w : Waits). w.artim) e;
-      idle = h.idle ∙ ap (λ (w : Waits). w.idle) e;
-      stays = λ k. h.stays (k ∙ sym state_is) ∙ ap (λ (w : Waits). w.started) e;
+      artim = h.artim ∙ ap (λ (w : TimeLimits). w.artim) e;
+      idle = h.idle ∙ ap (λ (w : TimeLimits). w.idle) e;
+      stays = λ k. h.stays (k ∙ sym state_is) ∙ ap (λ (w : TimeLimits). w.started) e;
       anew = λ n. h.anew (λ k. n (k ∙ state_is));
       hears = h.hears;
     }

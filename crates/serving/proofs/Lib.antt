@@ -5,6 +5,6 @@ pub mod TakenInputsAreARun
 pub mod InboxLosesNothing
 pub mod SentIsSettledFirst
 pub mod GivenAreTimed
-pub mod EachPieceIsTold
+pub mod EachPieceIsReported
 pub mod InputsAreTimed
 pub mod AskedForAReason

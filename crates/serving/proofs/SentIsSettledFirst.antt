@@ -72,7 +72,7 @@ pub nothing_sent : (s set : Settings) (named : List (Input × List ℕ)) (seen :
 nothing_sent s set named seen sent old settled none unsent same settings stands =
     rw (none, unsent, same, settings) (sent_now s [] seen [] [] settled settled (nothing_taken s seen settled (stands settled)))
 
--- where the socket took some of what waited
+-- where the socket consumed some of what waited
 pub sent_at : (s : Settings) (named : List (Input × List ℕ)) (seen : Fields) (sent unsent written pending : List ℕ) (old new settled : Store) → sent ++ unsent ≡ written ++ pending → settled ≡ new → ∥ HasTaken s named seen (written ++ pending) old new ∥₁
     → ∥ SentAfter s (inputs_of named) sent old settled ∥₁
 sent_at s named seen sent unsent written pending old new settled same then_now taken = ∥∥₁_map taken (λ h. sent_now s named seen sent unsent old settled (rw (same, then_now) h))

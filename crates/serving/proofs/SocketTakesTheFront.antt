@@ -1,4 +1,4 @@
--- What a socket took, followed by what waits then, is what was sent before (`took_front`), and no more waits than before
+-- What a socket consumed, followed by what waits then, is what was sent before (`took_front`), and no more waits than before
 -- (`fewer_wait`).
 use Rattle.std.proofs.Common.{◌≡◌, ℕ, ◌≤◌, List, ◌++◌, length, take, drop, ap, ◌∙◌, append_assoc, arith}
 use Rattle.std.proofs.lemmas.List.{take-append-drop, length-drop}

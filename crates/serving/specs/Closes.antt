@@ -1,12 +1,14 @@
--- When an association is given the transport's close (PS3.8 section 9.2.1: a transport connection closed indication).
+-- When the transport's close is an input of an association (PS3.8 section 9.2.1: a transport connection closed
+-- indication).
 use Rattle.std.specs.Prelude.{◌≡◌, ◌≢◌, ℕ, ◌<◌, ◌⊎◌, List, [], ◌∷◌, ◌++◌}
 use Rattle.engine.specs.Inputs.{Received, Close}
 
--- A socket has closed: it was read and gave its end, at least once since its last byte, and the association has taken all
--- that was read; or it was written to and took nothing, at least once since it last took a byte, and bytes wait for it.
+-- A socket has closed: a read reported its end, at least once since its last byte, and the association has accepted all
+-- that was read; or a write accepted nothing, at least once since the socket last accepted a byte, and bytes wait for
+-- it.
 abbrev pub HasClosed : List ℕ → ℕ → List ℕ → ℕ → Type 0
 HasClosed untaken ends unsent refusals = ((untaken ≡ []) × (0 < ends)) ⊎ ((unsent ≢ []) × (0 < refusals))
 
--- where the last of the inputs is the transport's close, the socket has closed
+-- if the last of the inputs is the transport's close, the socket has closed
 abbrev pub ClosesWithSocket : List Received → List ℕ → ℕ → List ℕ → ℕ → Type 0
 ClosesWithSocket inputs untaken ends unsent refusals = (before : List Received) → inputs ≡ before ++ Close ∷ [] → HasClosed untaken ends unsent refusals

@@ -5,75 +5,76 @@ use Rattle.acceptor.specs.declared.state.State.{State}
 use Rattle.negotiate.specs.Settings.{Settings}
 use Rattle.part10.specs.declared.filing.Filing
 use Rattle.part10.specs.declared.settling.Settling
-use Rattle.connection.specs.declared.observer.Observer
+use Rattle.service.specs.declared.observer.Observer
 use Rattle.engine.specs.Fields.{drafting_of, settings_in, state_of}
 use Rattle.engine.specs.Inputs.{Received, inputs_of}
 use Rattle.element.specs.declared.traced_stream.TracedStream.{TracedStream}
 use Rattle.serving.specs.declared.moment.Moment.{Moment}
 use Rattle.serving.specs.declared.open_connection.Connection.{Connection}
-use Rattle.serving.specs.Waits.{Waits}
+use Rattle.serving.specs.TimeLimits.{TimeLimits}
 use Rattle.serving.specs.Wires.{IsClosed, pending_in, untaken_in}
 
--- the settings of its association
+-- the settings of a connection's association
 abbrev pub settings_at : {S F B Y : Type 0} {G : Settling.Ghosts F Y} {H : Filing.Ghosts F} {O : Observer.Ghosts B} → Connection S F B Y G H O → Settings
 settings_at c = settings_in c.association.value
 
--- the state of its association
+-- the state of a connection's association
 abbrev pub state_at : {S F B Y : Type 0} {G : Settling.Ghosts F Y} {H : Filing.Ghosts F} {O : Observer.Ghosts B} → Connection S F B Y G H O → State
 state_at c = state_of c.association.value
 
--- whether a store of its association has its draft in the filing
+-- whether a store of a connection's association has its draft in the filing
 abbrev pub drafting_at : {S F B Y : Type 0} {G : Settling.Ghosts F Y} {H : Filing.Ghosts F} {O : Observer.Ghosts B} → Connection S F B Y G H O → Bool
 drafting_at c = drafting_of c.association.value
 
--- its filing as it was when the connection was opened
+-- the filing of a connection, as it was when the connection was opened
 abbrev pub opening_of : {S F B Y : Type 0} {G : Settling.Ghosts F Y} {H : Filing.Ghosts F} {O : Observer.Ghosts B} → Connection S F B Y G H O → F
 opening_of c = c.opened.value
 
--- its filing
+-- the filing of a connection
 abbrev pub filing_of : {S F B Y : Type 0} {G : Settling.Ghosts F Y} {H : Filing.Ghosts F} {O : Observer.Ghosts B} → Connection S F B Y G H O → F
 filing_of c = c.filing
 
--- its socket, with what was read from it and what it took, and how often it gave its end and took nothing
+-- the socket of a connection, with what was read from it and what it accepted, and how often it reported its end and
+-- accepted nothing
 abbrev pub socket_of : {S F B Y : Type 0} {G : Settling.Ghosts F Y} {H : Filing.Ghosts F} {O : Observer.Ghosts B} → Connection S F B Y G H O → TracedStream S × (ℕ × ℕ)
 socket_of c = (c.socket.traced, (c.socket.ends, c.socket.refusals))
 
--- the bytes that wait until its socket takes them
+-- the bytes that wait until the socket accepts them
 abbrev pub waiting_at : {S F B Y : Type 0} {G : Settling.Ghosts F Y} {H : Filing.Ghosts F} {O : Observer.Ghosts B} → Connection S F B Y G H O → List ℕ
 waiting_at c = pending_in c.socket.outbox
 
--- the bytes that were read and wait until its association takes them
+-- the bytes that were read and wait until the association accepts them
 abbrev pub untaken_at : {S F B Y : Type 0} {G : Settling.Ghosts F Y} {H : Filing.Ghosts F} {O : Observer.Ghosts B} → Connection S F B Y G H O → List ℕ
 untaken_at c = untaken_in c.socket.inbox
 
--- its socket has closed
+-- the socket of a connection has closed
 abbrev pub IsClosedAt : {S F B Y : Type 0} {G : Settling.Ghosts F Y} {H : Filing.Ghosts F} {O : Observer.Ghosts B} → Connection S F B Y G H O → Type 0
 IsClosedAt c = IsClosed c.socket
 
--- how many writes took nothing since its socket last took a byte
+-- how many writes accepted nothing since the socket last accepted a byte
 abbrev pub refusals_at : {S F B Y : Type 0} {G : Settling.Ghosts F Y} {H : Filing.Ghosts F} {O : Observer.Ghosts B} → Connection S F B Y G H O → ℕ
 refusals_at c = c.socket.refusals
 
--- the times by which its peer is waited for
-abbrev pub times_at : {S F B Y : Type 0} {G : Settling.Ghosts F Y} {H : Filing.Ghosts F} {O : Observer.Ghosts B} → Connection S F B Y G H O → Waits
+-- how long the peer of a connection is waited for
+abbrev pub times_at : {S F B Y : Type 0} {G : Settling.Ghosts F Y} {H : Filing.Ghosts F} {O : Observer.Ghosts B} → Connection S F B Y G H O → TimeLimits
 times_at c = c.deadlines
 
--- the inputs that its association was given, in their order
+-- the inputs of a connection's association so far, in their order
 abbrev pub inputs_at : {S F B Y : Type 0} {G : Settling.Ghosts F Y} {H : Filing.Ghosts F} {O : Observer.Ghosts B} → Connection S F B Y G H O → List Received
 inputs_at c = inputs_of c.given.named
 
--- when they were given
+-- when these inputs occurred
 abbrev pub moments_at : {S F B Y : Type 0} {G : Settling.Ghosts F Y} {H : Filing.Ghosts F} {O : Observer.Ghosts B} → Connection S F B Y G H O → List Moment
 moments_at c = c.moments
 
--- the times by which its peer was waited for when it was opened
-abbrev pub begun_of : {S F B Y : Type 0} {G : Settling.Ghosts F Y} {H : Filing.Ghosts F} {O : Observer.Ghosts B} → Connection S F B Y G H O → Waits
-begun_of c = c.begun.value
+-- how long the peer of a connection was waited for when it was opened
+abbrev pub initial_of : {S F B Y : Type 0} {G : Settling.Ghosts F Y} {H : Filing.Ghosts F} {O : Observer.Ghosts B} → Connection S F B Y G H O → TimeLimits
+initial_of c = c.initial.value
 
--- whether it has to end since its server does
+-- whether a connection has to end because its server does
 abbrev pub stopped_at : {S F B Y : Type 0} {G : Settling.Ghosts F Y} {H : Filing.Ghosts F} {O : Observer.Ghosts B} → Connection S F B Y G H O → Bool
 stopped_at c = c.is_stopped
 
--- when its association was aborted for its server, if it was
+-- when a connection's association was aborted for its server, if it was
 abbrev pub aborted_at : {S F B Y : Type 0} {G : Settling.Ghosts F Y} {H : Filing.Ghosts F} {O : Observer.Ghosts B} → Connection S F B Y G H O → Option Instant
 aborted_at c = c.aborted

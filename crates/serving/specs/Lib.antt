@@ -1,10 +1,10 @@
-pub mod Waits
+pub mod TimeLimits
 pub mod Closes
 pub mod Wires
 pub mod Rooms
 pub mod Capacities
 pub mod Taken
-pub mod Told
+pub mod Reported
 pub mod Own
 pub mod Connections
 pub mod Served

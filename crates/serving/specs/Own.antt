@@ -1,9 +1,9 @@
--- Which of the inputs of an association its server gives of itself: the expiry of the ARTIM timer and the abort of its local
--- user (PS3.8 section 9.2.1). The others are the peer's: its bytes, and the transport's close.
+-- The inputs of an association that are the server's own: the expiry of the ARTIM timer and the abort of its local user
+-- (PS3.8 section 9.2.1). The others are the peer's: its bytes, and the transport's close.
 use Rattle.std.specs.Prelude.{List, [], ◌∷◌}
 use Rattle.engine.specs.Inputs.{Received, Bytes, Close, Expiry, UserAbort}
 
--- those among these inputs
+-- the server's own among these inputs
 abbrev pub own_of : List Received → List Received
 own_of [] = []
 own_of (Bytes piece ∷ inputs) = own_of inputs

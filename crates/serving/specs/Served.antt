@@ -1,8 +1,8 @@
--- What went over a connection so far, and what came of it.
+-- What was exchanged over a connection so far, and its effect.
 use Rattle.std.specs.Prelude.{◌≡◌, ℕ, ◌+◌, Bool, false, List, ◌++◌}
 use Rattle.acceptor.specs.declared.state.State.{State}
 use Rattle.negotiate.specs.Settings.{Settings}
-use Rattle.part10.specs.Store.{Store, told_after}
+use Rattle.part10.specs.Store.{Store, reported_after}
 use Rattle.engine.specs.declared.report.Report.{Report}
 use Rattle.engine.specs.Devices.{filed}
 use Rattle.engine.specs.Held.{Held}
@@ -16,9 +16,11 @@ use Rattle.serving.specs.Rooms.{served_rooms}
 use Rattle.serving.specs.declared.exchange.Exchange.{Exchange}
 use Rattle.serving.specs.Wires.{pending_in, untaken_in}
 
--- Inputs whose pieces, put together and followed by the bytes that were not taken any more, are the bytes that were read gave the bytes that the socket took followed by those that
--- it did not take, the files, and how the association stands and what it holds; none before the last ended it. Where the
--- last is the transport's close, the socket has closed. No send failed.
+-- There are inputs whose pieces, put together, are the bytes that were read except those that the association no longer
+-- accepted. They determine the bytes that the socket accepted followed by those that it no longer accepted, the files,
+-- how the association stands and what it holds. No input followed one that ended the association; if the last is the
+-- transport's close, the socket has closed. No send failed, each failure of the filing is counted, and no draft
+-- remains.
 pub record ExchangedSoFar (s : Settings) (report : Report) (read untaken : List ℕ) (ends : ℕ) (sent unsent : List ℕ) (refusals : ℕ) (old new : Store) : Type 0 where
   pub inputs : List Received
   pub story : List Happened
@@ -32,11 +34,11 @@ pub record ExchangedSoFar (s : Settings) (report : Report) (read untaken : List 
   pub unfailed : wire_failures story ≡ 0
   pub standing : report.standing ≡ standing_of state
   pub held : Held served_rooms s (reached served_rooms s inputs story failed) report.held
-  pub told : new.told ≡ told_after (filed files) old.told
+  pub reported : new.reported ≡ reported_after (filed files) old.reported
   pub count : new.failures ≡ old.failures + filing_failures story failed
   pub no_draft : new.has_draft ≡ false
 
--- a connection leaves this
+-- the promise for a connection, by its exchange and by its filing before and after
 abbrev pub IsServed : {S : Type 0} → Settings → Exchange S → Store → Store → Type 0
 IsServed s exchange old new =
     ExchangedSoFar s exchange.report exchange.read.trace.bytes (untaken_in exchange.untaken) exchange.read.stops

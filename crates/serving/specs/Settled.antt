@@ -1,4 +1,4 @@
--- What was sent was settled before.
+-- The files of the replies were settled before the replies were sent.
 use Rattle.std.specs.Prelude.{◌≡◌, ℕ, Bool, List, ◌++◌}
 use Rattle.acceptor.specs.declared.state.State.{State}
 use Rattle.negotiate.specs.Settings.{Settings}
@@ -11,8 +11,8 @@ use Rattle.serving.specs.Rooms.{served_rooms}
 use Rattle.serving.specs.Served.{IsServed}
 use Rattle.serving.specs.declared.exchange.Exchange.{Exchange}
 
--- Bytes that were sent are the first that the first of these inputs gave, and the files that those gave are the ones that the
--- filing had then.
+-- The sent bytes are the first of those that the first of these inputs determine, and the filing then had the files
+-- that these inputs determine.
 pub record SentAfter (s : Settings) (all : List Received) (sent : List ℕ) (old settled : Store) : Type 0 where
   pub inputs : List Received
   pub later : List Received
@@ -25,10 +25,11 @@ pub record SentAfter (s : Settings) (all : List Received) (sent : List ℕ) (old
   pub run : Run served_rooms s inputs story failed (sent ++ unsent) files state
   pub files_then : files_in settled ≡ with_files files (files_in old)
 
--- the bytes that the socket of a connection took
+-- the bytes that the socket of a connection accepted
 abbrev pub sent_by : {S : Type 0} → Exchange S → List ℕ
 sent_by exchange = exchange.sent.trace.bytes
 
--- a connection leaves this, and its filing was settled, with these files, when its socket last took bytes
+-- a connection kept the promise, and its filing was settled, with these files, when bytes were last written to its
+-- socket
 abbrev pub SettlesFirst : {S : Type 0} → Settings → Exchange S → Store → Store → Store → Type 0
 SettlesFirst s exchange old settled new = (served : IsServed s exchange old new) × SentAfter s served.inputs (sent_by exchange) old settled

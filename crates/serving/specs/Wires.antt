@@ -9,7 +9,7 @@ use Rattle.serving.specs.declared.inbox.Arrival.{Arrival}
 use Rattle.serving.specs.declared.inbox.Arrival.TheVariants as arrival
 use Rattle.serving.specs.declared.outbox.Outbox.{Outbox}
 
--- the bytes that wait until the socket takes them
+-- the bytes that wait until the socket accepts them
 abbrev pub pending_in : Outbox → List ℕ
 pending_in outbox = outbox.bytes.items
 
@@ -17,44 +17,44 @@ pending_in outbox = outbox.bytes.items
 abbrev pub line_of : Outbox → Line
 line_of outbox = record { sent = Some (pending_in outbox); failures = outbox.failures }
 
--- what an association has sent: what its socket took, and what waits
+-- what an association has sent: what its socket accepted, and what waits
 abbrev pub sent_over : {S : Type 0} → BufferedSocket S → List ℕ
 sent_over socket = socket.traced.written.bytes ++ pending_in socket.outbox
 
--- the bytes that were read and wait until the association takes them
+-- the bytes that were read and wait until the association accepts them
 abbrev pub untaken_in : Inbox → List ℕ
 untaken_in inbox = slice_range inbox.bytes.value inbox.taken inbox.read
 
--- what was read is these bytes, which were taken, followed by what waits
+-- what was read is these bytes, which were accepted, followed by what waits
 abbrev pub IsTakenOf : {S : Type 0} → List ℕ → BufferedSocket S → Type 0
 IsTakenOf taken socket = taken ++ untaken_in socket.inbox ≡ socket.traced.read.bytes
 
--- its socket has closed
+-- the socket of a connection has closed
 abbrev pub IsClosed : {S : Type 0} → BufferedSocket S → Type 0
 IsClosed socket = HasClosed (untaken_in socket.inbox) socket.ends (pending_in socket.outbox) socket.refusals
 
--- where the last of the inputs is the transport's close, its socket has closed
+-- if the last of the inputs is the transport's close, the socket has closed
 abbrev pub ClosesWith : {S : Type 0} → List Received → BufferedSocket S → Type 0
 ClosesWith inputs socket = ClosesWithSocket inputs (untaken_in socket.inbox) socket.ends (pending_in socket.outbox) socket.refusals
 
--- so the bytes that were read grow, and those that wait by the same
+-- the bytes that were read grow by those that arrived, and so do those that wait
 abbrev pub ReadsMore : Arrival → List ℕ → List ℕ → List ℕ → List ℕ → Type 0
-ReadsMore (arrival.Bytes n) waits waits_new old new = (more : List ℕ) × (length more ≡ n) × (waits_new ≡ waits ++ more) × (new ≡ old ++ more)
-ReadsMore arrival.Nothing waits waits_new old new = (waits_new ≡ waits) × (new ≡ old)
-ReadsMore (arrival.End end) waits waits_new old new = (waits_new ≡ waits) × (new ≡ old)
+ReadsMore (arrival.Bytes n) has_pending waits_new old new = (more : List ℕ) × (length more ≡ n) × (waits_new ≡ has_pending ++ more) × (new ≡ old ++ more)
+ReadsMore arrival.Nothing has_pending waits_new old new = (waits_new ≡ has_pending) × (new ≡ old)
+ReadsMore (arrival.End end) has_pending waits_new old new = (waits_new ≡ has_pending) × (new ≡ old)
 
--- the socket gave its end at least once where nothing more comes, and not where nothing has come yet
+-- the socket reported its end at least once if no more bytes arrive, and no further time if nothing has arrived yet
 abbrev pub CountsEnd : Arrival → ℕ → ℕ → Type 0
 CountsEnd (arrival.Bytes n) old new = Unit {0}
 CountsEnd arrival.Nothing old new = new ≡ old
 CountsEnd (arrival.End end) old new = 0 < new
 
--- nothing more was read, and all that was read was taken
+-- nothing more was read, and all that was read was accepted
 abbrev pub NothingMore : {S : Type 0} → BufferedSocket S → BufferedSocket S → Type 0
 NothingMore old new = (new.traced.read.bytes ≡ old.traced.read.bytes) × (untaken_in old.inbox ≡ []) × (untaken_in new.inbox ≡ [])
 
--- so many bytes are to be taken of those that wait, at most as many as was asked for; the socket has nothing, or nothing more,
--- where all that was read was taken
+-- so many of the waiting bytes are to be accepted, at most as many as requested; the socket has nothing, or nothing
+-- more, only if all that was read was accepted
 abbrev pub Arrives : {S : Type 0} → ℕ → Arrival → BufferedSocket S → BufferedSocket S → Type 0
 Arrives most (arrival.Bytes n) old new = (n ≤ length (untaken_in new.inbox)) × (n ≤ most) × ((taken : List ℕ) → IsTakenOf taken old → IsTakenOf taken new)
 Arrives most arrival.Nothing old new = NothingMore old new

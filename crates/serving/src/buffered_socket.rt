@@ -1,42 +1,43 @@
-//! The socket of a connection, with its buffers. It does not block: it is read and written as far as it goes.
+//! The non-blocking socket of a connection, with its buffers.
 ghost use Rattle.std.specs.Prelude.{◌≡◌, ◌≢◌, ◌≤◌, ◌<◌, [], ◌∷◌, ◌++◌, length, take, drop, OnErr, true, false};
 
 use crate::inbox::{Arrival, Inbox};
 use crate::memory::ServedAssociation;
 use crate::outbox::Outbox;
 use crate::traces::SocketTraces;
-use connection::{Observer, Taken};
 use element::count::Count;
 use element::traced_stream::TracedStream;
+use service::{Observer, Taken};
 use std::io::{Error, ErrorKind, Read, Write};
 
-/// A socket that is traced both ways, what was read from it, and what it is to send. What it took, followed by
-/// what waits in the outbox, is what the association has sent; what the association has taken, followed
-/// by what waits in the inbox, is what was read.
+/// A non-blocking socket whose traffic is traced, with a buffer of input (inbox) and one of output
+/// (outbox). The bytes that the socket accepted, followed by the outbox, are what the association
+/// has sent. The bytes that the association consumed, followed by the inbox, are what was read.
 ///
-/// It counts how often the socket had no more to do: gave its end, or took nothing. The socket is not lent: it
-/// is read and written here alone.
+/// It counts how often the socket stopped: reached its end, or accepted nothing. Only this type
+/// reads and writes the socket.
 #[derive(Drop)]
 pub struct BufferedSocket<S> {
     pub(crate) traced: TracedStream<S>,
-    /// How many reads gave its end since it last gave a byte.
+    /// How many reads reached the end of the stream since the last byte was read.
     pub(crate) ends: Count,
-    /// How many writes took nothing since it last took a byte.
+    /// How many writes were refused since the last byte was written.
     pub(crate) refusals: Count,
     pub(crate) inbox: Inbox,
     pub(crate) outbox: Outbox,
-    /// Whether something was sent. Until then bytes that were taken are kept, so that the observer is shown a whole request.
+    /// Whether anything was sent. Until then consumed bytes are kept, so that the observer is shown
+    /// the whole A-ASSOCIATE-RQ.
     has_sent: bool,
 }
 
-/// A portion of the bytes that wait to be taken, which the association has just taken.
+/// The first bytes of the inbox, which the association has just consumed.
 #[derive(Clone, Copy)]
 pub(crate) struct Portion {
-    /// The number of its bytes.
+    /// The number of bytes.
     pub len: usize,
-    /// Whether a part of a PDU is complete with it.
+    /// Whether these bytes complete a section of a PDU.
     pub is_complete: bool,
-    /// Whether what is sent for it is held until a file is settled.
+    /// Whether the reply to these bytes is held until a file is settled.
     pub is_held: bool,
 }
 
@@ -45,7 +46,8 @@ impl<S> BufferedSocket<S> {
     ghost use Rattle.engine.specs.MovesOn.{HasCommand, HasDecided};
     ghost use Rattle.serving.specs.Wires.{pending_in, untaken_in};
 
-    /// Traces this socket from now on. What is read waits in this inbox, of no bytes yet.
+    /// Creates the buffers of a socket, whose traffic is traced from now on. The inbox must be
+    /// empty.
     pub(crate) fn new(socket: S, inbox: Inbox) -> BufferedSocket<S>
         requires empty { untaken_in inbox ≡ [] }
         ensures nothing_read { result.traced.read.bytes ≡ [] }
@@ -66,8 +68,8 @@ impl<S> BufferedSocket<S> {
         }
     }
 
-    /// Returns what the association took and decided: the first of the bytes that wait to be taken,
-    /// which it has just taken, and those after them. All that waits to be sent is its answer.
+    /// Returns what the association consumed and decided: `portion` of the inbox, and the bytes
+    /// after it. The whole outbox is the reply to it.
     pub(crate) fn taken<'a>(
         &'a self,
         portion: Portion,
@@ -100,8 +102,8 @@ impl<S> BufferedSocket<S> {
 impl<S: Read> BufferedSocket<S> {
     ghost use Rattle.serving.specs.Wires.{Arrives, CountsEnd};
 
-    /// Returns how many of the bytes in the inbox the association is to take, at most so many: of
-    /// those that wait, and of what has come.
+    /// Returns how many bytes of the inbox the association is to consume, 1 to `most`. Reads from
+    /// the socket if the inbox has too few. Returns `Nothing` or `End` if no byte is available.
     pub(crate) fn receive(&mut self, most: usize) -> Arrival
         requires some { 0 < most }
         ensures arrives { Arrives most result self.old self.new }
@@ -111,13 +113,13 @@ impl<S: Read> BufferedSocket<S> {
         ensures same_outbox { self.new.outbox ≡ self.old.outbox }
     {
         if self.inbox.is_short(most) {
-            let waits = self.inbox.pending().len();
+            let has_pending = self.inbox.pending().len();
             match self
                 .inbox
                 .fill(&mut self.traced, &mut self.ends, !self.has_sent)
             {
                 Arrival::Bytes(_) => {}
-                arrival if waits == 0 => return arrival,
+                arrival if has_pending == 0 => return arrival,
                 _ => {}
             }
         }
@@ -128,10 +130,10 @@ impl<S: Read> BufferedSocket<S> {
 impl<S: Write> BufferedSocket<S> {
     ghost use Rattle.serving.specs.Wires.{pending_in, sent_over};
 
-    /// Writes what waits, as much as the socket takes, which the observer is shown. Returns whether
-    /// it took all.
+    /// Writes the outbox to the socket, as far as the socket accepts it, and notifies the observer
+    /// of the bytes written. Returns whether the outbox is empty.
     ///
-    /// Fails if the socket does.
+    /// Fails if the socket does, or if it accepts no byte.
     #[tactic(auto, using(crate::proofs::SocketTakesTheFront::took_front, crate::proofs::SocketTakesTheFront::fewer_wait))]
     pub(crate) fn flush<B: Observer>(&mut self, observer: &B) -> Result<bool, Error>
         requires never { self.old.outbox.failures ≡ 0 }
@@ -141,7 +143,7 @@ impl<S: Write> BufferedSocket<S> {
         ensures same_failures { self.new.outbox.failures ≡ self.old.outbox.failures }
         ensures some { result ≡ Ok false → pending_in self.new.outbox ≢ [] }
         ensures blocked { result ≡ Ok false → 0 < self.new.refusals }
-        ensures some_left { OnErr result (pending_in self.new.outbox ≢ []) }
+        ensures some_remaining { OnErr result (pending_in self.new.outbox ≢ []) }
         ensures refused { OnErr result (0 < self.new.refusals) }
         ensures same_read { self.new.traced.read ≡ self.old.traced.read }
         ensures same_ends { self.new.ends ≡ self.old.ends }
@@ -177,8 +179,8 @@ impl<S: Write> BufferedSocket<S> {
 }
 
 impl<S: Drop> BufferedSocket<S> {
-    /// Gives up the socket. Returns what contracts see of the bytes that went over it, and what
-    /// waited.
+    /// Drops the socket. Returns its traces for contracts, and what is left in the inbox and the
+    /// outbox.
     pub(crate) fn end(self) -> (SocketTraces<S>, Inbox, Outbox)
         ensures read { result.0.read.trace ≡ self.traced.read }
         ensures ends { result.0.read.stops ≡ self.ends }

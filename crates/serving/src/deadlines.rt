@@ -1,44 +1,45 @@
-//! How long a connection may go on: how long its peer is waited for, while others are served, and how long it may last.
+//! The deadlines of a connection: how long the server waits for its peer, and how long the
+//! connection may last.
 ghost use Rattle.std.specs.Prelude.{◌≡◌, ◌≢◌, ◌≤◌, ◌⊎◌, ◌↔◌, ◌-◌, None, Some, option_map};
 ghost use Rattle.std.specs.Duration.{as_nanos};
 ghost use Rattle.std.specs.Time.{instant_nanos};
 ghost use Rattle.acceptor.specs.Effect.{timer_runs};
-ghost use Rattle.serving.specs.Waits.{HasExpired, IsSilent, Left, WaitsUntil, has_lasted, opened_at, started_anew};
+ghost use Rattle.serving.specs.TimeLimits.{HasExpired, IsSilent, Remaining, WaitsUntil, has_lasted, opened_at, started_anew};
 
 use acceptor::State;
-use connection::Timeouts;
+use service::Timeouts;
 use std::marker::Model;
 use std::time::{Duration, Instant};
 
-/// How long a peer may be waited for yet.
+/// How much longer the server waits for a peer.
 #[derive(Clone, Copy, Debug, PartialEq, Eq)]
 pub enum Wait {
-    /// So long, which is some time.
-    Left(Duration),
+    /// For this duration, which is not zero.
+    Remaining(Duration),
     /// No longer: the ARTIM timer has expired.
     Expired,
-    /// No longer: the peer of an established association was silent for the idle time.
+    /// No longer: the peer neither sent nor accepted bytes for the idle time.
     Silent,
 }
 
-/// The deadlines of one connection: of its ARTIM timer, of the silence of its peer, and of the longest time that
-/// it may last, whatever its peer does.
+/// The deadlines of one connection: of its ARTIM timer, of the silence of its peer, and of its
+/// maximum duration.
 ///
-/// They read no clock: each call is told the time.
+/// It reads no clock: each call is passed the time.
 #[derive(Drop)]
 pub struct Deadlines {
     artim: Duration,
     idle: Duration,
-    /// How long the connection may last, if that has a bound.
+    /// The maximum duration of the connection, if there is one.
     longest: Option<Duration>,
-    /// When it was opened.
+    /// When the association was opened.
     opened: Instant,
-    /// The state of the association when it was last followed.
+    /// The state of the association after its last input.
     state: State,
     started: Option<Instant>,
-    /// When the last piece came, or the connection was opened.
+    /// When the last input was received, or else the association was opened.
     heard: Instant,
-    /// When the peer last took something after that.
+    /// When the peer last accepted bytes, if that was after `heard`.
     taken: Option<Instant>,
 }
 
@@ -46,9 +47,9 @@ impl Model for Deadlines {
     ghost use Rattle.std.specs.Prelude.{option_map};
     ghost use Rattle.std.specs.Duration.{as_nanos};
     ghost use Rattle.std.specs.Time.{instant_nanos};
-    ghost use Rattle.serving.specs.Waits.{Waits};
+    ghost use Rattle.serving.specs.TimeLimits.{TimeLimits};
 
-    ghost Value = { Waits };
+    ghost Value = { TimeLimits };
 
     ghost view = { λ d. record {
       artim = as_nanos d.artim;
@@ -62,19 +63,20 @@ impl Model for Deadlines {
     } };
 }
 
-/// Returns what is left of a time that began at an instant, or `over` if nothing is.
-fn left(whole: Duration, from: Instant, now: Instant, over: Wait) -> Wait
+/// Returns what remains of the duration `whole` since `from`, or `over` if nothing does.
+fn remaining(whole: Duration, from: Instant, now: Instant, over: Wait) -> Wait
     requires over { over ≡ Wait.Expired ⊎ over ≡ Wait.Silent }
-    ensures { Left over (as_nanos whole - (instant_nanos now - instant_nanos from)) result }
+    ensures { Remaining over (as_nanos whole - (instant_nanos now - instant_nanos from)) result }
 {
     match whole.checked_sub(now.duration_since(from)) {
-        Some(time) if !time.is_zero() => Wait::Left(time),
+        Some(time) if !time.is_zero() => Wait::Remaining(time),
         _ => over,
     }
 }
 
 impl Deadlines {
-    /// Returns those of a connection that was accepted at this instant, which starts the timer.
+    /// Creates the deadlines of a connection whose association is opened at `now`, which starts the
+    /// ARTIM timer.
     pub fn new(timeouts: Timeouts, longest: Option<Duration>, now: Instant) -> Deadlines
         ensures { result ≡ opened_at (as_nanos timeouts.artim) (as_nanos timeouts.idle) (option_map as_nanos longest) (instant_nanos now) }
     {
@@ -90,7 +92,7 @@ impl Deadlines {
         }
     }
 
-    /// Notes that the peer sent something at this instant.
+    /// Records that the peer sent bytes at this instant.
     pub fn hear(&mut self, now: Instant)
         ensures { self.new ≡ record self.old { heard = instant_nanos now; taken = None } }
     {
@@ -98,17 +100,18 @@ impl Deadlines {
         self.taken = None;
     }
 
-    /// Notes that the peer took something at this instant.
+    /// Records that the peer accepted bytes at this instant.
     pub fn note_taken(&mut self, now: Instant)
         ensures { self.new ≡ record self.old { taken = Some (instant_nanos now) } }
     {
         self.taken = Some(now);
     }
 
-    /// Follows an input of the association, after which it is in this state.
+    /// Records the state of the association after an input. A new state starts or stops the ARTIM
+    /// timer.
     ///
-    /// The acceptor's table starts the timer exactly where an action leads into another state, in which
-    /// the timer runs (`starts_are_seen` of `acceptor::laws`).
+    /// By the acceptor's table, an action starts the timer exactly if it leads to another state, in
+    /// which the timer runs (`starts_are_seen` of `acceptor::laws`).
     pub fn follow(&mut self, now: Instant, state: State)
         ensures stays { state ≡ self.old.state → self.new ≡ self.old }
         ensures state { self.new.state ≡ state }
@@ -123,29 +126,29 @@ impl Deadlines {
         }
     }
 
-    /// Returns how long the peer may be waited for yet: until its ARTIM timer expires while that runs, else until
-    /// it has sent and taken nothing for the idle time.
+    /// Returns how much longer the server waits for the peer: until the ARTIM timer expires while
+    /// that runs, else until the peer has neither sent nor accepted bytes for the idle time.
     pub fn wait(&self, now: Instant) -> Wait
         ensures until { WaitsUntil self.now (instant_nanos now) self.now.started result }
         ensures expired { (result ≡ Wait.Expired) ↔ HasExpired self.now (instant_nanos now) self.now.started }
         ensures silent { (result ≡ Wait.Silent) ↔ IsSilent self.now (instant_nanos now) self.now.started }
     {
         match (self.started, self.taken) {
-            (Some(started), _) => left(self.artim, started, now, Wait::Expired),
-            (None, Some(taken)) => left(self.idle, taken, now, Wait::Silent),
-            (None, None) => left(self.idle, self.heard, now, Wait::Silent),
+            (Some(started), _) => remaining(self.artim, started, now, Wait::Expired),
+            (None, Some(taken)) => remaining(self.idle, taken, now, Wait::Silent),
+            (None, None) => remaining(self.idle, self.heard, now, Wait::Silent),
         }
     }
 
-    /// Returns how long the connection has lasted.
+    /// Returns how long ago the association was opened.
     pub(crate) fn lasted(&self, now: Instant) -> Duration
         ensures { as_nanos result ≡ instant_nanos now - self.now.opened }
     {
         now.duration_since(self.opened)
     }
 
-    /// Returns whether the connection has lasted for the longest time.
-    #[tactic(auto, unfolding(crate::specs::Waits::has_lasted))]
+    /// Returns whether the connection has reached its maximum duration.
+    #[tactic(auto, unfolding(crate::specs::TimeLimits::has_lasted))]
     pub(crate) fn has_lasted(&self, now: Instant) -> bool
         ensures { result ≡ has_lasted self.now.longest self.now.opened (instant_nanos now) }
     {
@@ -155,9 +158,9 @@ impl Deadlines {
         }
     }
 
-    /// Returns how long the connection may be left alone, at most so long: until its peer may be waited for no
-    /// longer, and, unless its association was aborted, until it has lasted for the longest time.
-    pub(crate) fn left(&self, now: Instant, is_aborted: bool, most: Duration) -> Duration
+    /// Returns the time until the next deadline, at most `most`. The maximum duration is no
+    /// deadline of an association that was aborted.
+    pub(crate) fn remaining(&self, now: Instant, is_aborted: bool, most: Duration) -> Duration
         ensures { as_nanos result ≤ as_nanos most }
     {
         let most = match self.longest {
@@ -165,7 +168,7 @@ impl Deadlines {
             _ => most,
         };
         match self.wait(now) {
-            Wait::Left(left) => most.min(left),
+            Wait::Remaining(remaining) => most.min(remaining),
             _ => Duration::ZERO,
         }
     }

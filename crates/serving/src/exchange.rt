@@ -1,22 +1,22 @@
-//! What went over one connection.
+//! The traffic of one connection.
 use crate::inbox::Inbox;
 use crate::outbox::Outbox;
 use crate::traces::SocketTrace;
 use engine::Report;
 
-/// What went over a connection whose socket is of type `S`.
+/// The traffic of a connection whose socket is of type `S`.
 #[derive(Drop)]
 pub struct Exchange<S> {
-    /// How its association stands.
+    /// The state of the association.
     pub report: Report,
     /// How many bytes were read.
     pub received: u64,
-    /// What contracts see of the bytes that were read.
+    /// For contracts: the bytes that were read.
     pub read: SocketTrace<S>,
-    /// What contracts see of the bytes that the socket took.
+    /// For contracts: the bytes that the socket accepted.
     pub sent: SocketTrace<S>,
-    /// What was read and the association did not take.
+    /// The bytes that were read but not consumed by the association.
     pub untaken: Inbox,
-    /// What the association sent and the socket did not take.
+    /// The bytes that the association sent but the socket did not accept.
     pub unsent: Outbox,
 }

@@ -1,37 +1,38 @@
-//! What was read from a socket and its association has not taken yet.
+//! The bytes that were read from a socket and not yet consumed by its association.
 ghost use Rattle.std.specs.Prelude.{◌≡◌, ◌≤◌, ◌<◌, [], drop, length, true};
 ghost use Rattle.serving.specs.Capacities.{inbox_size};
 
-use connection::ReadEnd;
 use element::count::Count;
 use element::traced_stream::TracedStream;
+use service::ReadEnd;
 use std::io::{ErrorKind, Read};
 
-/// The maximum length of a P-DATA-TF that most peers keep to (`negotiate::Config::DEFAULT_MAX_PDU`), and the
-/// head of a PDU (PS3.8 section 9.3.5).
+/// The PDU size that most peers keep to: the default maximum length of a P-DATA-TF
+/// (`negotiate::Config::DEFAULT_MAX_PDU`), and the header of a PDU (PS3.8 section 9.3.5).
 const USUAL_PDU: usize = 16_384 + 6;
 
-/// How many bytes may wait for an association to take them, 65,560: four such PDUs.
+/// The capacity of an inbox in bytes, 65,560: four usual PDUs.
 pub const INBOX: usize = 4 * USUAL_PDU;
 
-/// What a socket that does not block gave.
+/// The result of a read of a non-blocking socket.
 #[derive(Clone, Copy, Debug, PartialEq, Eq)]
 pub(crate) enum Arrival {
-    /// So many bytes, at least one.
+    /// This many bytes, at least one.
     Bytes(usize),
-    /// Nothing yet.
+    /// No byte yet.
     Nothing,
-    /// Nothing more.
+    /// The end of the stream, or an error.
     End(ReadEnd),
 }
 
-/// Keeps what was read until its association takes it. A socket is read straight into it.
+/// A buffer of the bytes read from a socket, until the association consumes them. The socket is
+/// read directly into it.
 #[derive(Drop)]
 pub struct Inbox {
     bytes: Box<[u8; INBOX]>,
-    /// How many of them were taken.
+    /// How many of `bytes` were consumed.
     taken: usize,
-    /// How many of them were read.
+    /// How many of `bytes` were read.
     read: usize,
     ghost ordered: { taken ≤ read },
     ghost within: { read ≤ inbox_size },
@@ -40,7 +41,7 @@ pub struct Inbox {
 impl Inbox {
     ghost use Rattle.serving.specs.Wires.{CountsEnd, ReadsMore, untaken_in};
 
-    /// Creates an inbox of no bytes in this memory.
+    /// Creates an empty inbox in this memory.
     pub(crate) fn new(bytes: Box<[u8; INBOX]>) -> Inbox
         ensures nothing { untaken_in result ≡ [] }
     {
@@ -51,19 +52,19 @@ impl Inbox {
         }
     }
 
-    /// Gives up its bytes. Returns its memory.
+    /// Drops the buffered bytes, and returns the memory.
     pub(crate) fn into_memory(self) -> Box<[u8; INBOX]> {
         self.bytes
     }
 
-    /// Returns the bytes that wait.
+    /// Returns the bytes that are not yet consumed.
     pub fn pending(&self) -> &[u8]
         ensures { result.now ≡ untaken_in self.now }
     {
         &self.bytes[self.taken..self.read]
     }
 
-    /// Removes the first of the bytes that wait, which the association took.
+    /// Removes the first `count` bytes, which the association consumed.
     pub(crate) fn drop_front(&mut self, count: usize)
         requires within { count ≤ length (untaken_in self.old) }
         ensures { untaken_in self.new ≡ drop count (untaken_in self.old) }
@@ -71,23 +72,24 @@ impl Inbox {
         self.taken += count;
     }
 
-    /// Returns whether more is to be read before an association takes so many bytes: none waits, or fewer do
-    /// and the last read left no capacity, so that more may have come.
+    /// Returns whether to read before an association consumes up to `most` bytes: the inbox is
+    /// empty, or has fewer and the last read filled it, so that more may be available.
     pub(crate) fn is_short(&self, most: usize) -> bool
         ensures room { result ≡ true → length (untaken_in self.now) < inbox_size }
     {
-        let waits = self.read - self.taken;
-        waits == 0 || (waits < most && waits < self.read && self.read == INBOX)
+        let has_pending = self.read - self.taken;
+        has_pending == 0 || (has_pending < most && has_pending < self.read && self.read == INBOX)
     }
 
-    /// Returns what is still there of the bytes that were taken, followed by the first of those that wait.
+    /// Returns the consumed bytes that are still buffered, and the first `count` bytes after them.
     pub(crate) fn kept(&self, count: usize) -> &[u8]
         requires within { count ≤ length (untaken_in self.now) }
     {
         &self.bytes[..self.taken + count]
     }
 
-    /// Makes room behind what waits. Bytes that were taken are kept, if they are to be and there is room without that.
+    /// Makes room for at least one byte. Consumed bytes stay if `keeps` is set and the buffer is
+    /// not full.
     fn make_room(&mut self, keeps: bool)
         requires room { length (untaken_in self.old) < inbox_size }
         ensures same { untaken_in self.new ≡ untaken_in self.old }
@@ -98,7 +100,7 @@ impl Inbox {
         }
     }
 
-    /// Moves the bytes that wait to the front.
+    /// Moves the bytes that are not consumed to the front.
     fn move_to_front(&mut self)
         ensures same { untaken_in self.new ≡ untaken_in self.old }
         ensures front { self.new.read ≡ length (untaken_in self.old) }
@@ -110,9 +112,11 @@ impl Inbox {
         self.read = read - taken;
     }
 
-    /// Reads what has come behind what waits, as many bytes as there is capacity for. Counts the reads that gave
-    /// the socket's end since its last byte: it gives its end where it gives no byte, or fails otherwise than
-    /// that none has come yet. Bytes that were taken are kept, if they are to be and may.
+    /// Reads as many bytes from the socket as there is room for. If `keeps` is set, consumed bytes
+    /// stay in the buffer unless their room is needed.
+    ///
+    /// `ends` counts the reads that found the end of the stream since the last byte was read: they
+    /// returned no byte, or an error other than `WouldBlock`.
     pub(crate) fn fill<S: Read>(
         &mut self,
         socket: &mut TracedStream<S>,

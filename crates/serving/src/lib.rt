@@ -1,5 +1,5 @@
-//! One connection, which takes its turns among others: its socket, which does not block, its association
-//! with its filing, how long its peer is waited for, and what went over it.
+//! One connection, served in turns with others: its non-blocking socket, its association with its
+//! filing, its deadlines, and a record of the bytes that it carried.
 #![tactic(auto)]
 
 mod buffered_socket;
@@ -18,7 +18,7 @@ pub use exchange::Exchange;
 pub use inbox::{INBOX, Inbox};
 pub use memory::{AssociationMemory, ConnectionMemory};
 pub use moment::Moment;
-pub use open_connection::{Connection, ConnectionEnd, ConnectionTerms, Turn};
+pub use open_connection::{Connection, ConnectionConfiguration, ConnectionEnd, Turn};
 pub use outbox::{OUTBOX, Outbox};
 pub use stop::Stop;
 pub use traces::SocketTrace;

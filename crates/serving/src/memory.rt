@@ -1,4 +1,4 @@
-//! The memory of connections, which is taken once for one after the other.
+//! The memory of a connection, which is allocated once and reused by the next connection.
 ghost use Rattle.std.specs.Prelude.{◌≡◌, [], false};
 ghost use Rattle.negotiate.specs.Settings.{settings_of};
 ghost use Rattle.part10.specs.Store.{Store};
@@ -8,33 +8,33 @@ ghost use Rattle.serving.specs.Rooms.{served_rooms};
 ghost use Rattle.serving.specs.Wires.{untaken_in};
 
 use crate::inbox::{INBOX, Inbox};
-use connection::{COMMAND, DEPTH, REQUEST, VALUES};
 use engine::Association;
 use negotiate::Config;
+use service::{COMMAND, DEPTH, REQUEST, VALUES};
 use std::alloc::{AllocError, Global};
 
 /// An association with the limits of the program.
 pub(crate) type ServedAssociation<'c> = Association<'c, REQUEST, COMMAND, VALUES, DEPTH>;
 
-/// The memory of one connection after the other: of its inbox, and of its association. A connection is
-/// moved without it.
+/// Memory for one connection at a time: its inbox and its association. Both are boxed, so that
+/// moving a connection does not move them.
 #[derive(Drop)]
 pub struct ConnectionMemory<'c> {
     inbox: Box<[u8; INBOX]>,
     association: Box<ServedAssociation<'c>>,
 }
 
-/// The memory of an association that has ended.
+/// The memory of an association that is closed.
 #[derive(Drop)]
 pub struct AssociationMemory<'c>(Box<ServedAssociation<'c>>);
 
 impl<'c> AssociationMemory<'c> {
-    /// Returns that of this association.
+    /// Returns the memory of this association.
     pub(crate) fn of(association: Box<ServedAssociation<'c>>) -> AssociationMemory<'c> {
         AssociationMemory(association)
     }
 
-    /// Returns the memory of a connection, of which this inbox has the rest.
+    /// Returns the memory of a connection: that of its association, and that of `untaken`.
     pub(crate) fn with(self, untaken: Inbox) -> ConnectionMemory<'c> {
         ConnectionMemory {
             inbox: untaken.into_memory(),
@@ -43,8 +43,9 @@ impl<'c> AssociationMemory<'c> {
     }
 }
 
-/// Opens an association in place of the one that was there.
-// Not inlined, since its frame has an association, and is left before the connection is there.
+/// Opens an association in place of the previous one.
+// Not inlined: its stack frame holds an association, and is released before the connection is
+// built.
 #[inline(never)]
 fn open_anew<'c>(association: &mut ServedAssociation<'c>, config: &'c Config)
     ensures no_draft { drafting_of association.new ≡ false }
@@ -54,13 +55,13 @@ fn open_anew<'c>(association: &mut ServedAssociation<'c>, config: &'c Config)
     *association = Association::open(config);
 }
 
-/// Takes the memory of an inbox.
+/// Allocates the memory of an inbox.
 #[inline(never)]
 fn inbox_memory(alloc: Global) -> Result<Box<[u8; INBOX]>, AllocError> {
     Ok(Box::new(alloc, [0; INBOX])?)
 }
 
-/// Takes the memory of an association.
+/// Allocates the memory of an association.
 #[inline(never)]
 fn association_memory<'c>(
     alloc: Global,
@@ -70,7 +71,7 @@ fn association_memory<'c>(
 }
 
 impl<'c> ConnectionMemory<'c> {
-    /// Takes the memory of connections that are held to this configuration, one after the other.
+    /// Allocates the memory of connections with this configuration, which use it one at a time.
     ///
     /// Fails if memory runs out.
     pub fn new(alloc: Global, config: &'c Config) -> Result<ConnectionMemory<'c>, AllocError> {
@@ -80,7 +81,7 @@ impl<'c> ConnectionMemory<'c> {
         })
     }
 
-    /// Opens an association in it. Returns an inbox of no bytes, and the association.
+    /// Opens an association in this memory. Returns an empty inbox and the association.
     pub(crate) fn open(self, config: &'c Config) -> (Inbox, Box<ServedAssociation<'c>>)
         ensures nothing { untaken_in result.0 ≡ [] }
         ensures no_draft { drafting_of result.1.value ≡ false }

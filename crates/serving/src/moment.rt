@@ -3,12 +3,12 @@ use crate::deadlines::Deadlines;
 use std::snapshot::Snapshot;
 use std::time::Instant;
 
-/// When an association was given an input, and how that left its times.
+/// For contracts: when an association was given an input, and the deadlines after that.
 #[derive(Drop)]
 pub struct Moment {
-    /// Whether the input is an abort that was asked for.
+    /// Whether the input is an abort that was requested.
     pub(crate) is_asked: bool,
-    /// The times by which the peer is waited for from then on.
-    pub(crate) left: Snapshot<Deadlines>,
+    /// The deadlines after the input.
+    pub(crate) remaining: Snapshot<Deadlines>,
     pub(crate) now: Instant,
 }

@@ -1,4 +1,4 @@
-//! One connection: its association, which takes its turns.
+//! One connection, with its association.
 ghost use Rattle.std.specs.Prelude.{◌≡◌, ◌≢◌, ◌≤◌, ◌<◌, ◌+◌, ◌++◌, ◌↔◌, [], length, option_map, IsNone, true, false};
 ghost use Rattle.element.specs.Numbers.{IsBytes};
 ghost use Rattle.engine.specs.Drafts.{IsThere};
@@ -12,8 +12,8 @@ ghost use Rattle.serving.specs.Rooms.{served_rooms};
 ghost use Rattle.serving.specs.Settled.{SentAfter};
 ghost use Rattle.serving.specs.Taken.{HasTaken};
 ghost use Rattle.serving.specs.Timed.{Timed, asked_at};
-ghost use Rattle.serving.specs.Told.{pieces_of};
-ghost use Rattle.serving.specs.Waits.{had_reasons, opened_at};
+ghost use Rattle.serving.specs.Reported.{pieces_of};
+ghost use Rattle.serving.specs.TimeLimits.{had_reasons, opened_at};
 ghost use Rattle.serving.specs.Wires.{ClosesWith, IsTakenOf};
 
 mod ending;
@@ -26,27 +26,26 @@ use crate::deadlines::{Deadlines, Wait};
 use crate::exchange::Exchange;
 use crate::memory::{AssociationMemory, ConnectionMemory, ServedAssociation};
 use crate::moment::Moment;
-use connection::{Observer, Timeouts};
 use element::history::History;
 use engine::{Given, Report};
 use negotiate::Config;
 use part10::Settling;
+use service::{Observer, Timeouts};
 use std::snapshot::Snapshot;
 use std::time::{Duration, Instant};
 pub use turns::Turn;
 
-/// A connection: a socket that does not block, and its association with what belongs to it
-/// alone, its filing, its observer and its times.
+/// A connection: a non-blocking socket, and its own association, filing, observer and deadlines.
 ///
-/// It never waits: a turn reads and writes as far as the socket goes, and takes so many bytes at most. What
-/// was read is taken in portions. Nothing is taken while anything waits that the peer is to take, so what
-/// waits is bounded by what one portion has the association send, and no send ever fails for want of room;
-/// and no more is read than an inbox holds.
+/// No call blocks on the socket: a turn reads and writes as far as the socket allows, and consumes
+/// a bounded number of bytes, in portions. No portion is consumed while the outbox has bytes. So
+/// the outbox holds at most the output for one portion, no send fails because it is full, and no
+/// more is read than the inbox holds.
 ///
-/// While a file waits to be settled, nothing is read and nothing is sent. So one file waits at most, and no
-/// byte of a reply is sent before the file of its store is settled.
+/// While a file waits to be settled, nothing is read and nothing is sent. So at most one file
+/// waits, and no byte of a reply is sent before the file of its store is settled.
 ///
-/// Once its association has ended, or a file of it is lost, all that is left is to close it.
+/// Once its association has ended, or a file is lost, the connection can only be closed.
 #[derive(Drop)]
 pub struct Connection<'c, S, F: Settling, B: Observer> {
     socket: BufferedSocket<S>,
@@ -55,90 +54,94 @@ pub struct Connection<'c, S, F: Settling, B: Observer> {
     observer: B,
     deadlines: Deadlines,
     received: u64,
-    /// Whether its socket may have something to read, or take something.
+    /// Whether the socket may be readable or writable.
     is_ready: bool,
-    /// Whether it has to end since its server does.
+    /// Whether the connection was asked to end because the server stops.
     is_stopped: bool,
-    /// When its association was aborted for its server.
+    /// When an abort was requested, because the server stops or the connection reached its maximum
+    /// duration.
     aborted: Option<Instant>,
-    /// What contracts see of the filing when the connection was opened.
+    /// For contracts: the filing when the connection was opened.
     opened: Snapshot<F>,
-    /// What contracts see of the filing when bytes were last written to the socket.
+    /// For contracts: the filing when bytes were last written to the socket.
     settled: Snapshot<F>,
-    /// What contracts see of the inputs that were taken.
+    /// For contracts: the inputs that the association was given.
     given: Given,
-    /// What contracts see of when they were, one moment each.
+    /// For contracts: the moment of each of these inputs.
     moments: History<Moment>,
-    /// What contracts see of its times when the connection was opened.
-    begun: Snapshot<Deadlines>,
+    /// For contracts: the deadlines when the connection was opened.
+    initial: Snapshot<Deadlines>,
     ghost there: { IsThere (drafting_of association.value) (F.store filing) },
     /// No send has failed.
     ghost never: { socket.outbox.failures ≡ 0 },
     ghost fits: { length socket.outbox.bytes.items < outbox_size },
-    /// There is room for an A-ABORT until one was asked for.
+    /// The outbox has room for an A-ABORT until an abort was requested.
     ghost spare: { asked_at moments ≡ [] → length socket.outbox.bytes.items + most_beside_answers < outbox_size },
     ghost bytes: { IsBytes (stream_of (inputs_of given.named)) },
-    /// The ARTIM timer follows the state of the association.
+    /// The deadlines have the current state of the association.
     ghost followed: { deadlines.state ≡ state_of association.value },
-    /// The pieces that were taken, followed by what waits to be taken, are what was read: no byte is dropped
-    /// and none taken twice.
+    /// The portions that were consumed, followed by the inbox, are what was read: no byte is
+    /// dropped or consumed twice.
     ghost whole: { IsTakenOf (stream_of (inputs_of given.named)) socket },
-    /// The observer was told of each piece that was taken, once and in their order, and of nothing else.
+    /// The observer was notified of each portion that was consumed, once and in order, and of
+    /// nothing else.
     ghost heard: { B.heard observer ≡ pieces_of (inputs_of given.named) },
-    /// What the socket took and what waits, and the files, are what came of the inputs.
+    /// The bytes that the socket accepted, the outbox, and the files are the result of the inputs.
     ghost taken: { ∥ HasTaken (settings_in association.value) given.named (fields_of association.value)
         (socket.traced.written.bytes ++ socket.outbox.bytes.items) (F.store opened.value) (F.store filing) ∥₁ },
-    /// What the socket took came of inputs whose files were all settled.
+    /// The bytes that the socket accepted are the result of inputs whose files were all settled.
     ghost sent: { ∥ SentAfter (settings_in association.value) (inputs_of given.named) socket.traced.written.bytes (F.store opened.value) (F.store settled.value) ∥₁ },
-    ghost rested: { socket.traced.written.bytes ≢ [] → F.waits settled.value ≡ false },
-    /// Each input was due when it was given, the ARTIM timer started only with the entry into another state, and
-    /// the peer was heard only with a piece of it.
-    ghost timed: { ∥ Timed begun.value (inputs_of given.named) moments deadlines ∥₁ },
-    /// The transport's close was taken only where the socket has closed.
+    ghost rested: { socket.traced.written.bytes ≢ [] → F.has_pending settled.value ≡ false },
+    /// Each input was due when it was given. The ARTIM timer started only on entry to another
+    /// state, and `heard` changed only with a portion of input.
+    ghost timed: { ∥ Timed initial.value (inputs_of given.named) moments deadlines ∥₁ },
+    /// The input of a closed transport connection was given only if the socket was closed.
     ghost closed: { ∥ ClosesWith (inputs_of given.named) socket ∥₁ },
-    ghost begins: { begun.value ≡ opened_at begun.value.artim begun.value.idle begun.value.longest begun.value.opened },
-    ghost lasts: { (deadlines.longest ≡ begun.value.longest) × (deadlines.opened ≡ begun.value.opened) },
-    /// One abort of the association is asked for at most.
+    ghost begins: { initial.value ≡ opened_at initial.value.artim initial.value.idle initial.value.longest initial.value.opened },
+    ghost lasts: { (deadlines.longest ≡ initial.value.longest) × (deadlines.opened ≡ initial.value.opened) },
+    /// At most one abort is requested.
     ghost once: { length (asked_at moments) ≤ 1 },
     ghost unasked: { IsNone aborted → asked_at moments ≡ [] },
-    /// And there was a reason for that.
-    ghost reasons: { had_reasons is_stopped begun.value.longest begun.value.opened (asked_at moments) ≡ true },
+    /// An abort was requested only for a reason.
+    ghost reasons: { had_reasons is_stopped initial.value.longest initial.value.opened (asked_at moments) ≡ true },
 }
 
-/// What a connection is held to.
+/// The settings of a connection.
 #[derive(Clone, Copy)]
-pub struct ConnectionTerms<'a> {
-    /// Who may associate, and how much is accepted of them.
+pub struct ConnectionConfiguration<'a> {
+    /// Who may associate, and what is accepted of them.
     pub config: &'a Config,
-    /// How long a peer is waited for.
+    /// The timeouts of the connection.
     pub timeouts: Timeouts,
-    /// How long the connection may last, if that has a bound.
+    /// The maximum duration of the connection, if there is one.
     pub longest: Option<Duration>,
 }
 
-/// What a connection leaves whose socket is of type `S`.
+/// What remains of a closed connection, whose socket is of type `S`.
 #[derive(Drop)]
 pub struct ConnectionEnd<S, F> {
-    /// How its association stands, and what went over its socket.
+    /// The state of its association, and the traffic of its socket.
     pub exchange: Exchange<S>,
-    /// What contracts see of its filing when the connection was opened.
+    /// For contracts: the filing when the connection was opened.
     pub opened: Snapshot<F>,
-    /// What contracts see of its filing when bytes were last written to its socket.
+    /// For contracts: the filing when bytes were last written to the socket.
     pub settled: Snapshot<F>,
-    /// What contracts see of its times when the connection was opened.
-    pub begun: Snapshot<Deadlines>,
-    /// What contracts see of when its inputs were given.
+    /// For contracts: the deadlines when the connection was opened.
+    pub initial: Snapshot<Deadlines>,
+    /// For contracts: when each input was given.
     pub moments: History<Moment>,
-    /// Whether it had to end since its server did.
+    /// Whether the connection was asked to end because the server stopped.
     pub is_stopped: bool,
-    /// How long it lasted.
+    /// How long the connection lasted.
     pub lasted: Duration,
-    /// Its filing, without a draft. If a file of it waits, nothing was sent for its store.
+    /// The filing, without a draft. If a file of it still waits to be settled, nothing was sent for
+    /// its store.
     pub filing: F,
 }
 
 impl<S: Drop, F> ConnectionEnd<S, F> {
-    /// Returns its filing, and its memory, with that of its association, for the next connection.
+    /// Returns the filing and the memory of the connection, with that of its association, for the
+    /// next connection.
     pub fn into_parts(self, memory: AssociationMemory<'_>) -> (F, ConnectionMemory<'_>)
         ensures filing { result.0 ≡ self.filing }
     {
@@ -150,38 +153,38 @@ impl<'c, S, F: Settling, B: Observer> Connection<'c, S, F, B> {
     ghost use Rattle.negotiate.specs.Settings.{settings_of};
     ghost use Rattle.engine.specs.Held.{is_ended};
     ghost use Rattle.std.specs.Time.{instant_nanos};
-    ghost use Rattle.serving.specs.Connections.{begun_of, filing_of, inputs_at, moments_at, settings_at, opening_of, state_at, stopped_at, times_at};
-    ghost use Rattle.serving.specs.Waits.{HasExpired, IsSilent, WaitsUntil};
+    ghost use Rattle.serving.specs.Connections.{initial_of, filing_of, inputs_at, moments_at, settings_at, opening_of, state_at, stopped_at, times_at};
+    ghost use Rattle.serving.specs.TimeLimits.{HasExpired, IsSilent, WaitsUntil};
     ghost use Rattle.std.specs.Duration.{as_nanos};
 
-    /// Opens an association over a socket from which nothing was read, in this memory, with the ARTIM
-    /// timer started. The observer is shown what goes over it.
+    /// Opens an association over a socket from which nothing was read, in this memory. The ARTIM
+    /// timer starts at `now`. The observer is notified of the traffic.
     pub fn open(
-        terms: ConnectionTerms<'c>,
+        configuration: ConnectionConfiguration<'c>,
         parts: (S, F, B),
         memory: ConnectionMemory<'c>,
         now: Instant,
     ) -> Connection<'c, S, F, B>
         requires nothing_heard { B.heard parts.2 ≡ [] }
-        ensures settings { settings_at result ≡ settings_of terms.entry.config.now }
+        ensures settings { settings_at result ≡ settings_of configuration.entry.config.now }
         ensures opening { opening_of result ≡ parts.1 }
-        ensures begun { begun_of result ≡ opened_at (as_nanos terms.entry.timeouts.artim) (as_nanos terms.entry.timeouts.idle)
-            (option_map as_nanos terms.entry.longest) (instant_nanos now) }
+        ensures initial { initial_of result ≡ opened_at (as_nanos configuration.entry.timeouts.artim) (as_nanos configuration.entry.timeouts.idle)
+            (option_map as_nanos configuration.entry.longest) (instant_nanos now) }
         ensures no_moment { moments_at result ≡ [] }
         ensures no_input { inputs_at result ≡ [] }
         ensures unstopped { stopped_at result ≡ false }
     {
         let (socket, filing, observer) = parts;
-        let deadlines = Deadlines::new(terms.timeouts, terms.longest, now);
+        let deadlines = Deadlines::new(configuration.timeouts, configuration.longest, now);
         let opened = Snapshot::of(&filing);
         let settled = Snapshot::of(&filing);
-        let (inbox, association) = memory.open(terms.config);
+        let (inbox, association) = memory.open(configuration.config);
         Connection {
             socket: BufferedSocket::new(socket, inbox),
             association,
             filing,
             observer,
-            begun: Snapshot::of(&deadlines),
+            initial: Snapshot::of(&deadlines),
             deadlines,
             received: 0,
             is_ready: true,
@@ -194,29 +197,29 @@ impl<'c, S, F: Settling, B: Observer> Connection<'c, S, F, B> {
         }
     }
 
-    /// Returns whether the association has ended. Its draft, if it had one, is dropped then.
+    /// Returns whether the association has ended. Then it has no draft.
     pub fn is_over(&self) -> bool
         ensures over { result ≡ is_ended (state_at self.now) }
     {
         self.association.is_ended()
     }
 
-    /// Returns whether its socket may have something to read, or take something.
+    /// Returns whether the socket may be readable or writable.
     pub fn is_ready(&self) -> bool {
         self.is_ready
     }
 
-    /// Its socket may have something to read, or take something.
+    /// Marks the connection as ready: the socket may be readable or writable.
     pub fn wake(&mut self)
         ensures settings { settings_at self.new ≡ settings_at self.old }
         ensures opening { opening_of self.new ≡ opening_of self.old }
-        ensures same_start { begun_of self.new ≡ begun_of self.old }
+        ensures same_start { initial_of self.new ≡ initial_of self.old }
     {
         self.is_ready = true;
     }
 
-    /// Returns how long the peer may be waited for yet: until its ARTIM timer expires while that runs, else
-    /// until it has sent and taken nothing for the idle time.
+    /// Returns how much longer the server waits for the peer: until the ARTIM timer expires while
+    /// that runs, else until the peer has neither sent nor accepted bytes for the idle time.
     pub fn wait(&self, now: Instant) -> Wait
         ensures until { WaitsUntil (times_at self.now) (instant_nanos now) (times_at self.now).started result }
         ensures expired { (result ≡ Wait.Expired) ↔ HasExpired (times_at self.now) (instant_nanos now) (times_at self.now).started }
@@ -225,18 +228,19 @@ impl<'c, S, F: Settling, B: Observer> Connection<'c, S, F, B> {
         self.deadlines.wait(now)
     }
 
-    /// Returns how long the connection may be left alone, at most so long.
-    pub fn left(&self, now: Instant, most: Duration) -> Duration
+    /// Returns how long the connection needs no round, at most `most`: zero if it is ready or a
+    /// file waits to be settled, else the time until its next deadline.
+    pub fn remaining(&self, now: Instant, most: Duration) -> Duration
         ensures { as_nanos result ≤ as_nanos most }
     {
-        if self.is_ready || self.filing.waits() {
+        if self.is_ready || self.filing.has_pending() {
             return Duration::ZERO;
         }
-        self.deadlines.left(now, self.aborted.is_some(), most)
+        self.deadlines.remaining(now, self.aborted.is_some(), most)
     }
 }
 
-/// Reports of an association, as `Association::report` does.
+/// Returns the report of an association, as `Association::report` does.
 fn report(association: &Box<ServedAssociation<'_>>) -> Report
     ensures reports { (store : Store) → Reports served_rooms (settings_in association.now.value) (fields_of association.now.value) store result }
 {
@@ -246,48 +250,48 @@ fn report(association: &Box<ServedAssociation<'_>>) -> Report
 impl<'c, S: Drop, F: Settling, B: Observer> Connection<'c, S, F, B> {
     ghost use Rattle.engine.specs.Held.{is_ended};
     ghost use Rattle.engine.specs.declared.report.Standing.TheVariants as standing;
-    ghost use Rattle.serving.specs.Connections.{begun_of, inputs_at, moments_at, settings_at, opening_of, state_at, stopped_at};
+    ghost use Rattle.serving.specs.Connections.{initial_of, inputs_at, moments_at, settings_at, opening_of, state_at, stopped_at};
     ghost use Rattle.serving.specs.Timed.{GivenInTime};
     ghost use Rattle.pdu.specs.Pieces.{joined};
     ghost use Rattle.serving.specs.Served.{IsServed};
     ghost use Rattle.serving.specs.Wires.{untaken_in};
     ghost use Rattle.serving.specs.Settled.{SettlesFirst, sent_by};
 
-    /// Closes the connection, wherever its association stands, and drops the draft that may be there. Returns
-    /// what it leaves, its observer, and the memory of its association.
+    /// Closes the connection in any state, and drops its draft, if there is one. Returns what
+    /// remains of it, its observer, and the memory of its association.
     ///
-    /// `left`: of the bytes that were read, without those that the association did not take any more, the
-    /// definitions give the bytes that the socket took with those that it did not take any more, the files,
-    /// and how the association stands. `opened`: which filing it was opened over is kept.
+    /// `remaining`: from the bytes that were read and consumed, the definitions give the bytes that the
+    /// socket accepted followed by the outbox, the files, and the state of the association.
+    /// `opened`: the filing over which the connection was opened is the recorded one.
     ///
-    /// `ended`: where the association has ended, the report says so.
+    /// `ended`: if the association has ended, its report says so.
     ///
-    /// `told`: the portions that the observer was told of, put together and followed by what the association
-    /// did not take any more, are the bytes that were read: none of them is told twice or left out. `heard`: they
-    /// are the pieces of the inputs.
+    /// `reported`: the portions of which the observer was notified, followed by the inbox, are the
+    /// bytes that were read: none is repeated or left out. `heard`: they are the portions of the
+    /// inputs.
     ///
-    /// `sent`, `rested`: the bytes that the socket took are the first of what the definitions give for the
-    /// first of the same inputs, and the filing had their files, and waited for none to be settled, when
-    /// the last of these bytes were written.
+    /// `sent`, `rested`: the bytes that the socket accepted are the beginning of what the
+    /// definitions give for the first of the same inputs. When the last of them was written, the
+    /// filing had the files of these inputs, and none waited to be settled.
     ///
-    /// `in_time`: each input was due at the moment when it was given: the ARTIM timer's expiry where it had run for
-    /// its time, and an abort where the peer was silent for the idle time, but for one that was asked for. `once`:
-    /// that was one at most. `reasons`: it was asked for where the server was to end, or the connection had lasted
-    /// for the longest time.
+    /// `in_time`: each input was due when it was given: an expiry once the ARTIM timer had run for
+    /// its duration, and an abort once the peer was silent for the idle time, or by request.
+    /// `once`: at most one abort was requested. `reasons`: it was requested because the server was
+    /// stopping, or the connection had reached its maximum duration.
     pub fn close(self, now: Instant) -> (ConnectionEnd<S, F>, B, AssociationMemory<'c>)
-        ensures left { ∥ IsServed (settings_at self.entry) result.0.exchange (F.store (opening_of self.entry)) (F.store result.0.filing) ∥₁ }
+        ensures remaining { ∥ IsServed (settings_at self.entry) result.0.exchange (F.store (opening_of self.entry)) (F.store result.0.filing) ∥₁ }
         ensures opened { result.0.opened.value ≡ opening_of self.entry }
-        ensures told { joined (B.heard result.1) ++ untaken_in result.0.exchange.untaken ≡ result.0.exchange.read.trace.bytes }
+        ensures reported { joined (B.heard result.1) ++ untaken_in result.0.exchange.untaken ≡ result.0.exchange.read.trace.bytes }
         ensures ended { is_ended (state_at self.entry) ≡ true → result.0.exchange.report.standing ≡ standing.Ended }
         ensures sent { ∥ SettlesFirst (settings_at self.entry) result.0.exchange (F.store (opening_of self.entry)) (F.store result.0.settled.value) (F.store result.0.filing) ∥₁ }
-        ensures rested { sent_by result.0.exchange ≢ [] → F.waits result.0.settled.value ≡ false }
-        ensures in_time { ∥ GivenInTime (settings_at self.entry) result.0.exchange (F.store (opening_of self.entry)) (F.store result.0.filing) (begun_of self.entry) result.0.moments ∥₁ }
+        ensures rested { sent_by result.0.exchange ≢ [] → F.has_pending result.0.settled.value ≡ false }
+        ensures in_time { ∥ GivenInTime (settings_at self.entry) result.0.exchange (F.store (opening_of self.entry)) (F.store result.0.filing) (initial_of self.entry) result.0.moments ∥₁ }
         ensures moments { result.0.moments ≡ moments_at self.entry }
-        ensures begun { result.0.begun.value ≡ begun_of self.entry }
-        ensures begins { begun_of self.entry ≡ opened_at (begun_of self.entry).artim (begun_of self.entry).idle (begun_of self.entry).longest (begun_of self.entry).opened }
+        ensures initial { result.0.initial.value ≡ initial_of self.entry }
+        ensures begins { initial_of self.entry ≡ opened_at (initial_of self.entry).artim (initial_of self.entry).idle (initial_of self.entry).longest (initial_of self.entry).opened }
         ensures once { length (asked_at result.0.moments) ≤ 1 }
         ensures stopped { result.0.is_stopped ≡ stopped_at self.entry }
-        ensures reasons { had_reasons (stopped_at self.entry) (begun_of self.entry).longest (begun_of self.entry).opened (asked_at result.0.moments) ≡ true }
+        ensures reasons { had_reasons (stopped_at self.entry) (initial_of self.entry).longest (initial_of self.entry).opened (asked_at result.0.moments) ≡ true }
         ensures heard { B.heard result.1 ≡ pieces_of (inputs_at self.entry) }
     {
         let mut filing = self.filing;
@@ -306,7 +310,7 @@ impl<'c, S: Drop, F: Settling, B: Observer> Connection<'c, S, F, B> {
             },
             opened: self.opened,
             settled: self.settled,
-            begun: self.begun,
+            initial: self.initial,
             moments: self.moments,
             is_stopped: self.is_stopped,
             lasted: self.deadlines.lasted(now),

@@ -1,4 +1,4 @@
-//! What an association has sent and its socket has not taken yet.
+//! The bytes that an association has sent and its socket has not yet accepted.
 ghost use Rattle.std.specs.Prelude.{◌≡◌, ◌≤◌, ◌<◌, ◌-◌, ◌+◌, [], drop, length};
 ghost use Rattle.arrayvec.specs.ArrayVec.{array_vec_len};
 ghost use Rattle.serving.specs.Capacities.{outbox_size};
@@ -7,24 +7,24 @@ use arrayvec::ArrayVec;
 use element::count::Count;
 use pdu::{Wire, WireFailed};
 
-/// The most bytes that an event has an association send beside an A-ASSOCIATE-AC or a reply, an A-ABORT among
-/// them.
+/// The maximum number of bytes that an association sends for one event, an A-ASSOCIATE-AC or a
+/// reply not counted. An A-ABORT is counted.
 const MOST_BESIDE_ANSWERS: usize = 30;
 
-/// The longest A-ASSOCIATE-AC, which is longer than any reply.
+/// The maximum size in bytes of an A-ASSOCIATE-AC, which is larger than any reply.
 const LONGEST_ACCEPT: usize = 140 + 35 * 128;
 
-/// The most bytes that an association sends for a portion of what it receives
-/// (`engine::Association::input_limit`), 18,600: at most four events come of it.
+/// The maximum number of bytes that an association sends for one portion of input
+/// (`engine::Association::input_limit`), 18,600: a portion causes at most four events.
 const MOST_SENT: usize = 4 * (MOST_BESIDE_ANSWERS + LONGEST_ACCEPT);
 
-/// How many bytes may wait for a peer to take them, 18,631: what is sent for a portion, then an A-ABORT, and
-/// one more, so that an outbox that is full is known to have refused a send.
+/// The capacity of an outbox in bytes, 18,631: the output for one portion of input, then an
+/// A-ABORT, and one more byte, so that only an outbox that refused a send is full.
 pub const OUTBOX: usize = MOST_SENT + MOST_BESIDE_ANSWERS + 1;
 
-/// Keeps what an association sends until its socket takes it.
+/// A buffer of the bytes that an association sends, until the socket accepts them.
 ///
-/// A send for which there is no room fills it with a front of the bytes, and fails.
+/// A send that does not fit fills the buffer with the first of its bytes, and fails.
 #[derive(Drop)]
 pub struct Outbox {
     bytes: ArrayVec<u8, OUTBOX>,
@@ -35,7 +35,7 @@ pub struct Outbox {
 impl Outbox {
     ghost use Rattle.serving.specs.Wires.{pending_in};
 
-    /// Creates an outbox of no bytes.
+    /// Creates an empty outbox.
     pub fn new() -> Outbox
         ensures nothing { pending_in result ≡ [] }
         ensures never { result.failures ≡ 0 }
@@ -46,14 +46,14 @@ impl Outbox {
         }
     }
 
-    /// Returns the bytes that wait.
+    /// Returns the bytes that the socket has not yet accepted.
     pub fn pending(&self) -> &[u8]
         ensures { result.now ≡ pending_in self.now }
     {
         self.bytes.as_slice()
     }
 
-    /// Removes the first of the bytes that wait, which the socket took.
+    /// Removes the first `count` bytes, which the socket accepted.
     pub(crate) fn drop_front(&mut self, count: usize)
         requires within { count ≤ length (pending_in self.old) }
         requires never { self.old.failures ≡ 0 }

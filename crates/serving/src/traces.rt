@@ -1,8 +1,8 @@
-//! What contracts see of a socket that was traced.
+//! For contracts: the traffic of a socket.
 //!
-//! What stands here is generic in the type `S` of the socket: only a `TracedStream<S>` becomes traces of
-//! type `S`. So a function that is generic in `S`, too, and has one socket, can return no traces but that
-//! one's.
+//! The traces are generic in the type `S` of the socket: only a `TracedStream<S>` becomes traces of
+//! type `S`. A function that is generic in `S` and has one socket can therefore return no traces
+//! but that socket's.
 ghost use Rattle.std.specs.Prelude.{◌≡◌};
 
 use element::count::Count;
@@ -10,29 +10,29 @@ use element::trace::Trace;
 use element::traced_stream::TracedStream;
 use std::marker::PhantomData;
 
-/// What contracts see of the bytes that went one way over a socket of type `S`. Only what traced such a
-/// socket becomes one.
+/// For contracts: the bytes of one direction of a socket of type `S`. It is made of a traced socket
+/// only.
 #[derive(Drop)]
 pub struct SocketTrace<S> {
     trace: Trace,
-    /// How often the socket stopped there since its last byte: gave its end where it was read, took nothing
-    /// where it was written.
+    /// How often the socket stopped in this direction since its last byte: reached the end of the
+    /// stream when read, or accepted nothing when written.
     stops: Count,
     socket: PhantomData<S>,
 }
 
-/// What contracts see of the bytes that went each way over one socket of type `S`. Only what traced such a
-/// socket becomes it.
+/// For contracts: the bytes of both directions of one socket of type `S`. It is made of a traced
+/// socket only.
 #[derive(Drop)]
 pub(crate) struct SocketTraces<S> {
-    /// Of the bytes that were read.
+    /// The bytes that were read.
     pub(crate) read: SocketTrace<S>,
-    /// Of the bytes that were sent.
+    /// The bytes that were written.
     pub(crate) sent: SocketTrace<S>,
 }
 
 impl<S: Drop> SocketTraces<S> {
-    /// Gives up a socket that was traced both ways, with its ends and its refusals.
+    /// Drops a traced socket. Returns its traces, with the number of its ends and of its refusals.
     pub(crate) fn of(socket: TracedStream<S>, ends: Count, refusals: Count) -> SocketTraces<S>
         ensures read { result.read.trace ≡ socket.read }
         ensures ends { result.read.stops ≡ ends }

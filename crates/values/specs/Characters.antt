@@ -85,7 +85,6 @@ extended_character sets extended.First byte =
 extended_character sets _ byte = None
 
 -- the state of reading before the first byte of a text in this character set
-
 abbrev pub reading_of : CharacterSet → Reading
 reading_of sets.SingleByte = readings.SingleByte
 reading_of sets.Utf8 = readings.Utf8

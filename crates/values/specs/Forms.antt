@@ -2,7 +2,7 @@
 use Rattle.std.specs.Prelude.{ℕ, ◌-◌, Bool, true, not, ◌&&◌, ◌||◌, List, [], ◌∷◌, length, get_or, take, Option, Some, None, nat_eq, nat_le, codes, if◌then◌else◌}
 use Rattle.std.specs.List.{list_all, slice_split}
 use Rattle.std.specs.Cmp.Lexicographic.{pointwise}
-use Rattle.element.specs.Kinds.{is_words, is_longs, is_doubles}
+use Rattle.element.specs.Kinds.{is_words, is_longs, is_duplicates}
 use Rattle.element.specs.Padding.{is_empty, is_space, without_trailing}
 use Rattle.element.specs.Values.{is_backslash}
 use Rattle.values.specs.Calendar.{is_date}
@@ -16,7 +16,7 @@ use Rattle.values.specs.declared.fault.FormFault.TheVariants.{LongText, BadContr
 use Rattle.values.specs.declared.rule.FormRule.{FormRule}
 use Rattle.values.specs.declared.rule.FormRule.TheVariants.{AtMost, GroupsAtMost, String, Lines, Day, Clock, DayOfMoment, ClockOfMoment, OffsetOfMoment, Decimal, Integer, Range, Name, Title, Locator}
 
--- the table: the rules of each VR
+-- ---- the table: the rules of each VR
 
 -- the rules of VRs with numbers, dates or times in text
 abbrev pub rules_of_spelled : List ℕ → List FormRule
@@ -51,7 +51,7 @@ rules_of vr =
 abbrev pub is_single : List ℕ → Bool
 is_single vr = pointwise nat_eq vr (codes "LT") || pointwise nat_eq vr (codes "ST") || pointwise nat_eq vr (codes "UT") || pointwise nat_eq vr (codes "UR")
 
--- what a rule says of one value
+-- ---- what a rule says of one value
 
 abbrev pub is_no_other_offset : List ℕ → Bool
 is_no_other_offset offset = is_empty offset || is_offset offset
@@ -96,7 +96,7 @@ fault_of_rule Name = BadName
 fault_of_rule Title = BlankTitle
 fault_of_rule Locator = BadLocator
 
--- the values of an element
+-- ---- the values of an element
 
 -- the value without one space at its end, which may be padding
 abbrev pub without_last_space : List ℕ → List ℕ
@@ -116,7 +116,7 @@ form_fault vr text = first_broken vr (rules_of vr) (without_last_space text)
 
 -- the size of one value of a binary VR: 2, 4 or 8; 1 for any other VR
 abbrev pub number_size : List ℕ → ℕ
-number_size vr = if is_words vr then 2 else (if is_longs vr then 4 else (if is_doubles vr then 8 else 1))
+number_size vr = if is_words vr then 2 else (if is_longs vr then 4 else (if is_duplicates vr then 8 else 1))
 
 -- the number of a fault, which continue those of element/specs/Values.antt; its name follows
 abbrev pub form_number : FormFault → ℕ

@@ -23,7 +23,7 @@ fn is_leap(year: u32) -> bool
     year % 4 == 0 && (year % 100 != 0 || year % 400 == 0)
 }
 
-/// Returns how many days a month has.
+/// Returns the number of days of a month.
 fn days_of(year: u32, month: u32) -> u32
     ensures { result ≡ calendar.days_of year month }
 {
@@ -50,14 +50,14 @@ pub(crate) fn is_month(tens: u8, ones: u8) -> bool
     are_at_most(12, tens, ones) && two_digits(tens, ones) >= 1
 }
 
-/// Returns whether these are two digits with a day that this month of this year has.
+/// Returns whether these two digits are a day of this month and year.
 fn is_day(year: u32, month: u32, tens: u8, ones: u8) -> bool
     ensures { result ≡ calendar.is_day year month tens ones }
 {
     are_at_most(days_of(year, month), tens, ones) && two_digits(tens, ones) >= 1
 }
 
-/// Returns whether these four digits, MMDD, are a month and a day that it has in this year.
+/// Returns whether these four digits, MMDD, are a month and a day of that month in this year.
 fn is_day_of(year: u32, m: u8, n: u8, tens: u8, ones: u8) -> bool
     ensures { result ≡ calendar.is_day_of year m n tens ones }
 {

@@ -1,11 +1,11 @@
-//! The character set of a data set, as far as it decides which bytes of a text are one character (PS3.3
-//! section C.12.1.1.2, PS3.5 section 6.1.2).
+//! The character set of a data set: which bytes of a text form one character (PS3.3 section
+//! C.12.1.1.2, PS3.5 section 6.1.2).
 ghost use Rattle.std.specs.Prelude.{◌≡◌};
 ghost use Rattle.std.specs.List.{list_any};
 ghost use Rattle.element.specs.Values.{is_backslash};
 ghost use Rattle.values.specs.Characters as characters;
 
-/// How characters are encoded in the texts of a data set, by its Specific Character Set (0008,0005).
+/// How the texts of a data set encode characters, by its Specific Character Set (0008,0005).
 #[derive(Clone, Copy, Debug, PartialEq, Eq)]
 pub enum CharacterSet {
     /// One byte for each character: ASCII, and the sets of ISO 8859 and JIS X 0201.
@@ -14,8 +14,8 @@ pub enum CharacterSet {
     Utf8,
     /// GB 18030 and GBK: one, two or four bytes for each character.
     Gb18030,
-    /// Code extensions of ISO 2022: escape sequences switch between sets with one and with two bytes
-    /// for each character.
+    /// Code extensions of ISO 2022: escape sequences switch between sets with one and with two
+    /// bytes for each character.
     CodeExtensions,
 }
 
@@ -33,8 +33,8 @@ fn names_extension(value: &[u8]) -> bool
 }
 
 impl CharacterSet {
-    /// Returns the encoding for a value of Specific Character Set. Several values mean code extensions;
-    /// an unknown term is taken as `SingleByte`.
+    /// Returns the encoding that a value of Specific Character Set names. Several values mean code
+    /// extensions; an unknown term means `SingleByte`.
     pub fn of_value(value: &[u8]) -> CharacterSet
         ensures { result ≡ characters.set_of value.now }
     {

@@ -13,7 +13,7 @@ pub(crate) fn are_digits(text: &[u8]) -> bool
     text.iter().all(|byte| byte.is_ascii_digit())
 }
 
-/// Returns whether a text is empty, or a point and one to six digits.
+/// Returns whether a text is empty, or a decimal point and one to six digits.
 fn is_fraction(text: &[u8]) -> bool
     ensures { result ≡ clock.is_fraction text.now }
 {
@@ -26,8 +26,8 @@ fn is_fraction(text: &[u8]) -> bool
     }
 }
 
-/// Returns whether a text is a time of day that exists: HH, HHMM, or HHMMSS with or without a fraction.
-/// Seconds go up to 60, for a leap second.
+/// Returns whether a text is a time of day that exists: HH, HHMM, or HHMMSS with or without a
+/// fraction. Seconds go up to 60, for a leap second.
 pub fn is_time(text: &[u8]) -> bool
     ensures { result ≡ clock.is_time text.now }
 {

@@ -4,27 +4,29 @@ ghost use Rattle.values.specs.Forms as forms;
 
 use std::fmt;
 
-/// How a value breaks the rules of its VR on form (PS3.5 table 6.2-1), beyond the characters and sizes
-/// that `element::ValueFault` has. The numbers continue those of that type.
+/// How a value breaks the rules of its VR on form (PS3.5 table 6.2-1), beyond the characters and
+/// sizes of `element::ValueFault`, whose numbers these continue.
 #[derive(Clone, Copy, Debug, PartialEq, Eq)]
 pub enum FormFault {
-    /// 5: a value has more characters than its VR allows, counted with spaces that pad it.
+    /// 5: a value has more characters than its VR allows. Padding spaces count, except one at the
+    /// end of the value field.
     LongText,
     /// 6: a text has a control character that its VR does not allow.
     BadControl,
-    /// 7: the calendar has no such date.
+    /// 7: a date does not exist in the calendar.
     NoSuchDate,
-    /// 8: there is no such time of day.
+    /// 8: a time of day does not exist.
     NoSuchTime,
     /// 9: an offset from UTC is not from -1200 to +1400, or is -0000.
     NoSuchOffset,
-    /// 10: the text is not a number.
+    /// 10: a text is not a number.
     BadNumber,
-    /// 11: a whole number is not from -2^31 to 2^31 - 1.
+    /// 11: an integer is not from -2^31 to 2^31 - 1.
     OutOfRange,
-    /// 12: a person name has more than three component groups, or a group of more than five components.
+    /// 12: a person name has more than three component groups, or a group of more than five
+    /// components.
     BadName,
-    /// 13: an application entity title is all spaces.
+    /// 13: an application entity title consists of spaces alone.
     BlankTitle,
     /// 14: a URI has a character that URIs may not have, or leading spaces.
     BadLocator,
@@ -49,7 +51,7 @@ impl FormFault {
         }
     }
 
-    /// Returns the name of the fault, as it is printed: that of the variant.
+    /// Returns the printed name of the fault, which is that of the variant.
     pub fn name(self) -> &'static str
         ensures { result.now ≡ forms.form_name self }
     {

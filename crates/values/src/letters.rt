@@ -1,4 +1,4 @@
-//! The characters of the parts of ISO 8859 from A0H on, NUL where a part has none.
+//! The characters of the bytes from A0H on in each part of ISO 8859; NUL stands for none.
 
 /// ISO 8859-1.
 pub(crate) const LATIN1: [char; 96] = [

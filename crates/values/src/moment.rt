@@ -41,8 +41,8 @@ pub(crate) fn offset_part(text: &[u8]) -> &[u8]
     }
 }
 
-/// Returns whether a text is an offset from UTC: a sign, hours and minutes, from -1200 to +1400, and
-/// not -0000.
+/// Returns whether a text is an offset from UTC: a sign, hours and minutes, from -1200 to +1400,
+/// and not -0000.
 pub fn is_offset(text: &[u8]) -> bool
     ensures { result ≡ moment.is_offset text.now }
 {
@@ -58,8 +58,8 @@ pub fn is_offset(text: &[u8]) -> bool
     }
 }
 
-/// Returns whether a text begins with a date that exists, YYYYMMDD, or is a year, YYYY, or a year and
-/// month, YYYYMM.
+/// Returns whether a text starts with a date that exists, YYYYMMDD, or is a year, YYYY, or a year
+/// and month, YYYYMM.
 fn begins_with_date(text: &[u8]) -> bool
     ensures { result ≡ moment.begins_with_date text.now }
 {
@@ -70,21 +70,22 @@ fn begins_with_date(text: &[u8]) -> bool
     }
 }
 
-/// Returns whether a text has at most eight characters, or a time that exists after the first eight.
+/// Returns whether a text has at most eight characters, or a time of day that exists after the
+/// first eight.
 fn ends_with_time(text: &[u8]) -> bool
     ensures { result ≡ moment.ends_with_time text.now }
 {
     text.len() <= 8 || is_time(&text[8..])
 }
 
-/// Returns whether a date time has a date that exists: YYYY, YYYYMM or YYYYMMDD.
+/// Returns whether a date time (DT) starts with a date that exists: YYYY, YYYYMM or YYYYMMDD.
 pub fn has_date(text: &[u8]) -> bool
     ensures { result ≡ moment.has_date text.now }
 {
     begins_with_date(local_part(text))
 }
 
-/// Returns whether the time of day of a date time (DT) exists; true where it has none.
+/// Returns whether the time of day of a date time (DT) exists; true if it has none.
 pub fn has_time(text: &[u8]) -> bool
     ensures { result ≡ moment.has_time text.now }
 {

@@ -3,14 +3,14 @@ ghost use Rattle.std.specs.Prelude.{◌≡◌, length};
 ghost use Rattle.std.specs.List.{list_all, slice_split};
 ghost use Rattle.values.specs.Names as names;
 
-/// Returns the number of components of a component group: the parts between `^`.
+/// Returns the number of components of a component group, which are separated by `^`.
 fn components(group: &[u8]) -> usize
     ensures { result ≡ length (slice_split names.is_caret group.now) }
 {
     group.split(|byte| *byte == b'^').count()
 }
 
-/// Returns the number of component groups of a person name: the parts between `=`.
+/// Returns the number of component groups of a person name, which are separated by `=`.
 fn groups(text: &[u8]) -> usize
     ensures { result ≡ length (slice_split names.is_equals text.now) }
 {
@@ -26,7 +26,7 @@ fn has_components(text: &[u8]) -> bool
 }
 
 /// Returns whether a text has at most three component groups of at most five components each, as a
-/// person name has.
+/// person name must.
 pub fn is_name(text: &[u8]) -> bool
     ensures { result ≡ names.is_name text.now }
 {

@@ -22,7 +22,7 @@ enum Spelled {
     ExponentSign,
     /// Digits of an exponent.
     Power,
-    /// Anything that is not a number, whatever follows.
+    /// Text that is not a number, whatever follows.
     Broken,
 }
 
@@ -101,7 +101,7 @@ fn spelled_by(text: &[u8]) -> Spelled
         .fold(Spelled::Nothing, |spelled, byte| after(spelled, *byte))
 }
 
-/// Returns whether a text is an integer: digits with or without a sign, after any spaces.
+/// Returns whether a text is an integer: digits with an optional sign, after any spaces.
 pub fn is_integer(text: &[u8]) -> bool
     ensures { result ≡ numbers.is_integer text.now }
 {
@@ -111,8 +111,8 @@ pub fn is_integer(text: &[u8]) -> bool
     }
 }
 
-/// Returns whether a text is a decimal number: with or without a sign, a decimal point and an exponent,
-/// after any spaces.
+/// Returns whether a text is a decimal number: digits with an optional sign, decimal point and
+/// exponent, after any spaces.
 pub fn is_decimal(text: &[u8]) -> bool
     ensures { result ≡ numbers.is_decimal text.now }
 {
@@ -122,7 +122,8 @@ pub fn is_decimal(text: &[u8]) -> bool
     }
 }
 
-/// Returns a number with one more decimal digit, at most 2^32 - 1. Other characters leave it as it is.
+/// Returns a number with one more decimal digit, at most 2^32 - 1. Any other character leaves the
+/// number unchanged.
 fn with_digit(number: u32, byte: u8) -> u32
     ensures { result ≡ numbers.with_digit number byte }
 {
@@ -137,7 +138,7 @@ fn with_digit(number: u32, byte: u8) -> u32
     }
 }
 
-/// Returns the number in the digits of a text, without its sign, at most 2^32 - 1.
+/// Returns the absolute value of a decimal integer, at most 2^32 - 1.
 fn magnitude(text: &[u8]) -> u32
     ensures { result ≡ fold numbers.with_digit 0 text.now }
 {
@@ -151,7 +152,7 @@ fn is_negative(text: &[u8]) -> bool
     text.iter().any(|byte| *byte == b'-')
 }
 
-/// Returns whether an integer in decimal is from -2^31 to 2^31 - 1.
+/// Returns whether a decimal integer is from -2^31 to 2^31 - 1.
 pub fn fits_32_bits(text: &[u8]) -> bool
     ensures { result ≡ numbers.fits_32_bits text.now }
 {

@@ -1,4 +1,4 @@
-//! Reads a text byte by byte, and replaces each character by one byte, so that characters can be
+//! Reads a text byte by byte and replaces each character by one byte, so that characters can be
 //! counted and checked without decoding them.
 ghost use Rattle.std.specs.Prelude.{◌≡◌, ◌+◌, ◌≤◌, ◌++◌, [], length};
 ghost use Rattle.values.specs.Characters as characters;
@@ -6,10 +6,10 @@ ghost use Rattle.values.specs.Characters as characters;
 use crate::character_set::CharacterSet;
 use arrayvec::ArrayVec;
 
-/// The byte that replaces a character of several bytes.
+/// Replaces a character of several bytes in GB 18030 and with code extensions.
 const WIDE: u8 = 128;
 
-/// The position of the next byte in a character of GB 18030.
+/// Which byte of a character of GB 18030 the next byte is.
 #[derive(Clone, Copy, Debug)]
 pub enum GbPlace {
     First,
@@ -18,21 +18,22 @@ pub enum GbPlace {
     Fourth,
 }
 
-/// The position of the next byte in a character or an escape sequence of code extensions (ISO 2022).
+/// What the next byte is part of with code extensions (ISO 2022): a character or an escape
+/// sequence.
 #[derive(Clone, Copy, Debug)]
 pub enum ExtendedPlace {
     First,
-    /// The second byte of a character of two.
+    /// The second byte of a character of two bytes.
     Last,
-    /// After ESC.
+    /// The byte after ESC.
     Escape,
-    /// After ESC and `$`, which announces a set with two bytes for each character.
+    /// The byte after ESC and `$`, which announce a set with two bytes for each character.
     WideEscape,
-    /// In an escape sequence that selects the set of the bytes below 80H (G0): `true` for one with two
-    /// bytes for each character.
-    Low(bool),
-    /// In an escape sequence that selects the set of the bytes from 80H on (G1): `true` for one with
+    /// An escape sequence that selects the set of the bytes below 80H (G0); `true` if that set has
     /// two bytes for each character.
+    Low(bool),
+    /// An escape sequence that selects the set of the bytes from 80H on (G1); `true` if that set
+    /// has two bytes for each character.
     High(bool),
 }
 
@@ -45,7 +46,7 @@ pub struct WideSets {
     pub high: bool,
 }
 
-/// The state of reading a text byte by byte, in its character set.
+/// The state of reading a text byte by byte in its character set.
 #[derive(Clone, Copy, Debug)]
 pub enum Reading {
     SingleByte,
@@ -100,15 +101,15 @@ fn is_intermediate(byte: u8) -> bool
     32 <= byte && byte <= 47
 }
 
-/// Returns whether a byte of an escape sequence means that it selects the set of the bytes from 80H on
-/// (G1): `)` or `-`.
+/// Returns whether this byte of an escape sequence, `)` or `-`, selects the set of the bytes from
+/// 80H on (G1).
 fn names_high(byte: u8) -> bool
     ensures { result ≡ characters.names_high byte }
 {
     byte == b')' || byte == b'-'
 }
 
-/// Returns the position after this byte, which follows ESC, or ESC and `$` (`is_wide`).
+/// Returns the state after this byte, which follows ESC, or ESC and `$` if `is_wide`.
 fn after_escape(is_wide: bool, byte: u8) -> ExtendedPlace
     ensures { result ≡ characters.after_escape is_wide byte }
 {
@@ -157,7 +158,7 @@ fn extended_place(sets: WideSets, place: ExtendedPlace, byte: u8) -> ExtendedPla
     }
 }
 
-/// Returns the selected sets after a byte: others only after the last byte of an escape sequence.
+/// Returns the selected sets after a byte. Only the last byte of an escape sequence changes them.
 fn extended_sets(sets: WideSets, place: ExtendedPlace, byte: u8) -> WideSets
     ensures { result ≡ characters.extended_sets sets place byte }
 {
@@ -190,7 +191,7 @@ fn extended_character(sets: WideSets, place: ExtendedPlace, byte: u8) -> Option<
     }
 }
 
-/// Appends the byte of a character to a text, if there is one and the text has capacity.
+/// Appends `character` to a text, if it is there and the text has capacity.
 fn push<const N: usize>(text: &mut ArrayVec<u8, N>, character: Option<u8>)
     ensures text { length text.old.items + 1 ≤ N → text.new.items ≡ text.old.items ++ characters.with_character character [] }
     ensures bound { length text.new.items ≤ length text.old.items + 1 }
@@ -201,7 +202,7 @@ fn push<const N: usize>(text: &mut ArrayVec<u8, N>, character: Option<u8>)
 }
 
 impl Reading {
-    /// Creates the state before the first byte of a text in this character set.
+    /// Creates the state at the start of a text in this character set.
     pub fn new(set: CharacterSet) -> Reading
         ensures { result ≡ characters.reading_of set }
     {
@@ -230,8 +231,8 @@ impl Reading {
         }
     }
 
-    /// Returns the byte that replaces the character that begins with this byte, or `None` if no
-    /// character begins here: inside one, or in an escape sequence.
+    /// Returns the byte that replaces the character that starts with this byte, or `None` inside a
+    /// character or an escape sequence.
     fn character(self, byte: u8) -> Option<u8>
         ensures { result ≡ characters.character self byte }
     {
@@ -249,8 +250,8 @@ impl Reading {
         }
     }
 
-    /// Reads the next bytes of a text, and appends one byte for each character that begins in them, up
-    /// to the capacity of `text`.
+    /// Reads the next bytes of a text, and appends one byte to `text` for each character that
+    /// starts in them, up to the capacity of `text`.
     pub fn read<const N: usize>(&mut self, bytes: &[u8], text: &mut ArrayVec<u8, N>)
         ensures reading { self.new ≡ characters.after_all self.old bytes.now }
         ensures text { length text.old.items + length bytes.now ≤ N → text.new.items ≡ text.old.items ++ characters.shown self.old bytes.now }

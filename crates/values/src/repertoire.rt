@@ -1,11 +1,11 @@
-//! Which characters the bytes of texts are (PS3.3 section C.12.1.1.2).
+//! The characters that the bytes of texts encode (PS3.3 section C.12.1.1.2).
 ghost use Rattle.std.specs.Prelude.{◌≡◌};
 ghost use Rattle.values.specs.Repertoires as repertoires;
 
 use crate::letters;
 use element::without_trailing_spaces;
 
-/// A part of ISO 8859: a set of one byte a character, with ASCII below 80H.
+/// A part of ISO 8859: a character set of one byte for each character, with ASCII below 80H.
 #[derive(Clone, Copy, Debug, PartialEq, Eq)]
 pub enum Part {
     /// ISO 8859-1.
@@ -33,7 +33,7 @@ pub enum Part {
 }
 
 impl Part {
-    /// Returns the part that a defined term names.
+    /// Returns the part that a defined term names, or `None` for any other term.
     fn of_term(term: &[u8]) -> Option<Part>
         ensures { result ≡ repertoires.part_of_term term.now }
     {
@@ -64,7 +64,7 @@ impl Part {
         }
     }
 
-    /// Returns the characters of the bytes from A0H on; NUL where the part has none.
+    /// Returns the characters of the bytes from A0H on; NUL stands for none.
     fn letters(self) -> &'static [char]
         ensures { result.now ≡ repertoires.letters_of self }
     {
@@ -83,7 +83,7 @@ impl Part {
         }
     }
 
-    /// Returns the character of a byte from A0H on, or `None` where the part has none.
+    /// Returns the character of a byte from A0H on, or `None` if there is none.
     fn letter(self, byte: u8) -> Option<char>
         ensures { result ≡ repertoires.letter_of self byte }
     {
@@ -96,7 +96,7 @@ impl Part {
     }
 }
 
-/// Which characters the bytes of a text are.
+/// The characters that the bytes of a text encode.
 #[derive(Clone, Copy, Debug, PartialEq, Eq)]
 pub enum Repertoire {
     /// ASCII.
@@ -105,7 +105,7 @@ pub enum Repertoire {
     Iso8859(Part),
     /// UTF-8.
     Utf8,
-    /// Another one; of it the characters of ASCII alone are known.
+    /// Any other, of which only the characters of ASCII are known.
     Other,
 }
 
@@ -127,8 +127,8 @@ impl Repertoire {
         }
     }
 
-    /// Returns the character that a byte from 80H on is by itself, or `None` where it is none, or a control
-    /// character.
+    /// Returns the character that this byte, from A0H on, encodes in a part of ISO 8859, or `None`
+    /// for any other byte or repertoire.
     pub fn letter(self, byte: u8) -> Option<char>
         ensures { result ≡ repertoires.letter self byte }
     {

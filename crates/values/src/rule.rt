@@ -1,4 +1,4 @@
-//! The rules of the table of VRs for a single value of an element.
+//! Checks a single value of an element against a rule of the table of VRs.
 ghost use Rattle.std.specs.Prelude.{◌≡◌};
 ghost use Rattle.values.specs.Forms as forms;
 
@@ -11,38 +11,38 @@ use crate::numbers::{fits_32_bits, is_decimal, is_integer};
 use crate::texts::{are_lines, is_locator, is_string};
 use element::without_trailing_spaces;
 
-/// A rule of the table of VRs for a single value.
+/// A rule of the table of VRs (PS3.5 table 6.2-1): what a single value must be or have.
 #[derive(Clone, Copy)]
 pub(crate) enum FormRule {
-    /// It has at most so many characters.
+    /// At most this number of characters.
     AtMost(usize),
-    /// Each component group of a person name has at most so many characters.
+    /// At most this number of characters in each component group of a person name.
     GroupsAtMost(usize),
-    /// It has no control character except ESC.
+    /// No control character except ESC.
     String,
-    /// It has no control character except TAB, LF, FF, CR and ESC.
+    /// No control character except TAB, LF, FF, CR and ESC.
     Lines,
-    /// It is a date that exists.
+    /// A date that exists.
     Day,
-    /// It is a time of day that exists.
+    /// A time of day that exists.
     Clock,
-    /// The date of a date time exists.
+    /// In a date time, a date that exists.
     DayOfMoment,
-    /// The time of a date time exists, if it has one.
+    /// In a date time, a time of day that exists, or none.
     ClockOfMoment,
-    /// The offset from UTC of a date time exists, if it has one.
+    /// In a date time, a valid offset from UTC, or none.
     OffsetOfMoment,
-    /// It is a decimal number.
+    /// A decimal number.
     Decimal,
-    /// It is an integer.
+    /// An integer.
     Integer,
-    /// It is an integer from -2^31 to 2^31 - 1.
+    /// An integer from -2^31 to 2^31 - 1.
     Range,
-    /// It has at most three component groups of five components, as a person name.
+    /// At most three component groups of at most five components each, as in a person name.
     Name,
-    /// It is not all spaces.
+    /// Not spaces alone.
     Title,
-    /// It has only characters of a URI.
+    /// Only characters that a URI may have.
     Locator,
 }
 
@@ -66,14 +66,14 @@ impl FormRule {
     }
 }
 
-/// Returns whether an offset from UTC is empty or exists.
+/// Returns whether an offset from UTC is empty or valid.
 fn is_no_other_offset(offset: &[u8]) -> bool
     ensures { result ≡ forms.is_no_other_offset offset.now }
 {
     offset.is_empty() || is_offset(offset)
 }
 
-/// Returns whether a text, not empty and without spaces at its end, obeys a rule.
+/// Returns whether a text that is not empty and has no trailing spaces obeys a rule.
 fn text_obeys(rule: FormRule, text: &[u8]) -> bool
     ensures { result ≡ forms.text_obeys rule text.now }
 {
@@ -92,8 +92,8 @@ fn text_obeys(rule: FormRule, text: &[u8]) -> bool
     }
 }
 
-/// Returns whether a single value obeys a rule. An empty value obeys every rule; one of spaces alone
-/// obeys those on form, except `Title`.
+/// Returns whether a single value obeys a rule. An empty value obeys every rule; a value of spaces
+/// alone obeys each rule on form but `Title`.
 pub(crate) fn obeys(rule: FormRule, part: &[u8]) -> bool
     ensures { result ≡ forms.obeys rule part.now }
 {

@@ -9,8 +9,8 @@ use crate::fault::FormFault;
 use crate::rule::{FormRule, obeys};
 use element::Vr;
 
-/// Returns the rules of a VR with numbers, dates or times in text: DA, DS, DT, IS, TM; none for any
-/// other.
+/// Returns the rules of a VR with numbers, dates or times in text: DA, DS, DT, IS or TM; none for
+/// any other VR.
 fn rules_of_spelled(letters: [u8; 2]) -> &'static [FormRule]
     ensures { result.now ≡ forms.rules_of_spelled letters }
 {
@@ -55,7 +55,7 @@ fn rules_of_string(letters: [u8; 2]) -> &'static [FormRule]
     }
 }
 
-/// Returns the rules of a VR, given by its two letters; none for a VR that is not checked.
+/// Returns the rules of the VR with these two letters; none for a VR that is not checked.
 fn rules_of(letters: [u8; 2]) -> &'static [FormRule]
     ensures { result.now ≡ forms.rules_of letters }
 {
@@ -72,7 +72,7 @@ fn rules_of(letters: [u8; 2]) -> &'static [FormRule]
     }
 }
 
-/// Returns whether an element of this VR has a single value, in which a backslash is an ordinary
+/// Returns whether elements of this VR have a single value, in which a backslash is an ordinary
 /// character.
 fn is_single(letters: [u8; 2]) -> bool
     ensures { result ≡ forms.is_single letters }
@@ -80,7 +80,7 @@ fn is_single(letters: [u8; 2]) -> bool
     letters == *b"LT" || letters == *b"ST" || letters == *b"UT" || letters == *b"UR"
 }
 
-/// Returns the value without one space at its end, which may be padding.
+/// Returns the value without one trailing space, which may be padding.
 fn without_last_space(value: &[u8]) -> &[u8]
     ensures { result.now ≡ forms.without_last_space value.now }
 {
@@ -99,7 +99,7 @@ fn each_part_obeys(rule: FormRule, text: &[u8]) -> bool
         .all(|part| obeys(rule, part))
 }
 
-/// Returns whether each value of an element obeys a rule.
+/// Returns whether each value of an element of this VR obeys a rule.
 fn value_obeys(letters: [u8; 2], rule: FormRule, text: &[u8]) -> bool
     ensures { result ≡ forms.value_obeys letters rule text.now }
 {
@@ -122,9 +122,9 @@ fn first_broken(letters: [u8; 2], rules: &[FormRule], text: &[u8]) -> Option<For
     None
 }
 
-/// Checks the values of an element by the rules of its VR (PS3.5 table 6.2-1). The text must have one
-/// byte for each character, as [`Reading`](crate::Reading) gives it. The error is the fault of the
-/// first rule that any of the values breaks.
+/// Checks the values of an element by the rules of its VR (PS3.5 table 6.2-1). The text must have
+/// one byte for each character, as [`Reading`](crate::Reading) returns it. The error is the fault
+/// of the first rule that any of the values breaks.
 #[tactic(auto, unfolding(crate::specs::Forms::form_fault))]
 pub fn check_form(vr: Vr, text: &[u8]) -> Result<(), FormFault>
     ensures { MatchResult result (λ _. forms.form_fault vr text.now ≡ None) (λ fault. forms.form_fault vr text.now ≡ Some fault) }
@@ -142,7 +142,7 @@ fn is_among(names: &[Vr], vr: Vr) -> bool
     names.iter().any(|name| vr == *name)
 }
 
-/// Returns the size in bytes of one value of a binary VR: 2, 4 or 8; and 1 for any other VR.
+/// Returns the size in bytes of one value of a binary VR, 2, 4 or 8, or 1 for any other VR.
 pub fn number_size(vr: Vr) -> usize
     ensures size { result ≡ forms.number_size vr }
     ensures some { 1 ≤ result }

@@ -1,4 +1,4 @@
--- The values without which a subcommand's matches are no job.
+-- The values that the matches of a subcommand must have to be a job.
 use Rattle.std.specs.Prelude.{Bool, ◌&&◌, List, [], ◌∷◌, length, codes, is_some, nat_le}
 use Rattle.std.specs.List.{list_all}
 use Rattle.clap.specs.Walk.{Row, Text, first_of}
@@ -8,7 +8,7 @@ use Rattle.arguments.specs.CommandLine.{values_of}
 abbrev pub have_values : List Row → List Text → Bool
 have_values rows ids = list_all (λ id. is_some (first_of id rows)) ids
 
--- the arguments without which there is no job
+-- the required arguments
 abbrev pub file_needs : List Text
 file_needs = codes "FILE" ∷ []
 
@@ -44,10 +44,11 @@ classes_fit rows = nat_le (length (values_of rows (codes "storage-class"))) 64
 abbrev pub transfers_fit : List Row → Bool
 transfers_fit rows = nat_le (length (values_of rows (codes "transfer-syntax"))) 16
 
--- each argument that `replay` needs has a value, and no more titles, storage classes and transfer syntaxes are named than are kept
+-- each argument that `replay` needs has a value, and no more titles, storage classes and transfer syntaxes are named
+-- than are kept
 abbrev pub fits_replay : List Row → Bool
 fits_replay rows = have_values rows replay_needs && (titles_fit rows && (classes_fit rows && transfers_fit rows))
 
--- so it is for `serve`, nor are more titles that may call
+-- the same for `serve`, and no more titles that may call are named than are kept
 abbrev pub fits_serve : List Row → Bool
 fits_serve rows = have_values rows serve_needs && (addresses_fit rows && (titles_fit rows && (callers_fit rows && (classes_fit rows && transfers_fit rows))))

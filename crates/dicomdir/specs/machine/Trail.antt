@@ -1,7 +1,6 @@
--- The current path while the offsets of a directory are followed, and the paths that are still to come. A mark
--- (`Mark`) is a record of the current path: its position, its next offset, whether it is the first of its chain of
--- siblings, its level, and whether no record above it is inactive. A step (`Step`) is the offset that is followed
--- next.
+-- The current path while the offsets of a directory are followed, and the remaining paths. A mark (`Mark`) is a record
+-- of the current path: its position, its next offset, whether it is the first of its chain of siblings, its level, and
+-- whether no record above it is inactive. A step (`Step`) is the offset that is followed next.
 use Rattle.std.specs.Prelude.{◌≡◌, ℕ, suc, ◌<◌, ◌-◌, min, Bool, true, false, ◌&&◌, List, [], ◌∷◌, ◌++◌, length, Option, Some, None, if◌then◌else◌, ◌≢◌, ◌≤◌, map, slice_index_or, not, ◌||◌, is_some, nat_eq}
 use Rattle.dicomdir.specs.declared.links.Mark.{Mark}
 use Rattle.dicomdir.specs.declared.links.Step.{Step}
@@ -32,14 +31,14 @@ path_along lower [] = []
 path_along lower (m ∷ ms) = record { place = m.place; lower = lower } ∷ path_along m.begins ms
 
 -- the position at which a fault of the offset at the end of that path is reported
-abbrev pub told_along : ℕ → List Mark → ℕ
-told_along root [] = root
-told_along root (m ∷ ms) = m.place
+abbrev pub reported_along : ℕ → List Mark → ℕ
+reported_along root [] = root
+reported_along root (m ∷ ms) = m.place
 
 -- the marks without the last chain of siblings
-abbrev pub left_of : List Mark → List Mark
-left_of [] = []
-left_of (m ∷ ms) = if m.begins then ms else left_of ms
+abbrev pub remaining_of : List Mark → List Mark
+remaining_of [] = []
+remaining_of (m ∷ ms) = if m.begins then ms else remaining_of ms
 
 abbrev pub mark_of : ReadRecord → Step → Mark
 mark_of e step = record { place = e.place; next = e.next; begins = step.begins; level = step.level; shown = step.shown }
@@ -62,16 +61,16 @@ node_on links path =
 abbrev pub paths_on : Links → List Turn → List (List Turn)
 paths_on links path = paths_from (suc (length links.records) - length path) links path
 
--- the paths that come after those from the current one
+-- the paths after those from the current path
 abbrev pub later : Links → Bool → List Mark → List (List Turn)
 later links lower [] = []
 later links lower (m ∷ ms) =
     if lower then paths_on links (path_along false (m ∷ ms)) ++ later links m.begins ms else later links m.begins ms
 
 -- the paths from the offset that is followed next
-abbrev pub to_come : Links → List Mark → Option Step → List (List Turn)
-to_come links ms None = []
-to_come links ms (Some step) = paths_on links (path_along step.begins ms) ++ later links step.begins ms
+abbrev pub expected : Links → List Mark → Option Step → List (List Turn)
+expected links ms None = []
+expected links ms (Some step) = paths_on links (path_along step.begins ms) ++ later links step.begins ms
 
 -- the level of a path is counted up to 5, which is the level of no record in use
 abbrev pub IsCounted : Links → List Turn → ℕ → Bool → Type 0
@@ -178,33 +177,33 @@ IsWrongOffset root entries flags ms step f =
 
 -- the first step: the root's offset of its first record, or none if that is 0
 abbrev pub Begins : Root → Option Step → Type 0
-Begins root pending = (links : Links) → links.first ≡ root.first → (paths_of links ≡ to_come links [] pending) × IsStep links [] pending
+Begins root pending = (links : Links) → links.first ≡ root.first → (paths_of links ≡ expected links [] pending) × IsStep links [] pending
 
--- with the step `pending`, exactly these paths are to come
-pub record IsToCome (links : Links) (paths : List (List Turn)) (ms ms2 : List Mark) (pending : Option Step) : Type 0 where
-  pub come : paths ≡ to_come links ms2 pending
+-- with the step `pending`, exactly these paths remain
+pub record IsExpected (links : Links) (paths : List (List Turn)) (ms ms2 : List Mark) (pending : Option Step) : Type 0 where
+  pub received : paths ≡ expected links ms2 pending
   pub fewer : length ms2 ≤ length ms
   pub marks : AreMarks links ms2
   pub step : IsStep links ms2 pending
 
 -- the step after the record of the last mark and all records below it, if there is one
 abbrev pub Climbs : List Mark → List Mark → Option Step → Type 0
-Climbs ms ms2 pending = (links : Links) → AreMarks links ms → IsToCome links (later links true ms) ms ms2 pending
+Climbs ms ms2 pending = (links : Links) → AreMarks links ms → IsExpected links (later links true ms) ms ms2 pending
 
 -- the step after the record e, to which `step` has led and which has the last mark, if there is one
-abbrev pub GoesOn : List Mark → List Mark → Step → Option Step → ReadRecord → Type 0
-GoesOn ms ms2 step pending e =
+abbrev pub Continues : List Mark → List Mark → Step → Option Step → ReadRecord → Type 0
+Continues ms ms2 step pending e =
     (links : Links) (level : ℕ) → AreMarks links ms → e.lower ≡ named_by links (path_along true ms) → step.level ≡ min level 5 → level_of (path_along true ms) ≡ suc level
     → (step.shown && e.in_use) ≡ is_shown links (path_along true ms)
-    → IsToCome links (paths_on links (path_along true ms) ++ later links true ms) ms ms2 pending
+    → IsExpected links (paths_on links (path_along true ms) ++ later links true ms) ms ms2 pending
 
 -- all records in use were reached
 abbrev pub AreAllReached : List ReadRecord → List Bool → Type 0
 AreAllReached entries flags = (records : List Record) (places : List ℕ) → AreFlagged entries flags records places → unreached_fault places records ≡ None
 
 -- f is the fault of the first record in use that was not reached
-abbrev pub IsLeftOver : List ReadRecord → List Bool → DirFault → Type 0
-IsLeftOver entries flags f =
+abbrev pub IsRemainder : List ReadRecord → List Bool → DirFault → Type 0
+IsRemainder entries flags f =
     (records : List Record) (places : List ℕ) → AreFlagged entries flags records places
     → unreached_fault places records ≡ Some (record { number = f.number; place = f.place })
 

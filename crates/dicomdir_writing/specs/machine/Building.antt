@@ -8,7 +8,7 @@ use Rattle.dicomdir_writing.specs.declared.build_plan.Stop.{Stop}
 use Rattle.dicomdir_writing.specs.declared.build_plan.Stop.TheVariants.{TooLarge, OutOfMemory}
 use Rattle.dicomdir.specs.Directory.{Record}
 use Rattle.dicomdir_writing.specs.Record.{spelled, spelled_items, record_item, record_text, root_fields, records_header}
-use Rattle.dicomdir_writing.specs.Places.{forest_size, with_places, first_record_place, last_record_place, root_size, doubles_of}
+use Rattle.dicomdir_writing.specs.Places.{forest_size, with_places, first_record_place, last_record_place, root_size, duplicates_of}
 use Rattle.dicomdir_writing.specs.Row.{Row}
 use Rattle.dicomdir.specs.Forest.{Forest, no_nodes, node, count_of}
 use Rattle.dicomdir_writing.specs.TreeOf.{group_node, TreeOf}
@@ -63,8 +63,8 @@ abbrev pub groups_forest : (Row → Elements) → (List Row → Forest Elements)
 groups_forest record_of below [] = no_nodes
 groups_forest record_of below (group ∷ groups) = group_node record_of below group (groups_forest record_of below groups)
 
--- the records of the forest were planned before those that were there: their sizes, their bytes and the positions of
--- the first and the last one, for each start of the records in the file
+-- the records of the forest were planned before the existing ones: their sizes, their bytes and the positions of the
+-- first and the last one, for each start of the records in the file
 pub record Lays {A : Type 0} (forest : Forest Elements) (old new : List (LaidRecord A)) (old_size new_size first last : ℕ) : Type 0 where
   pub size : new_size ≡ old_size + forest_size forest
   pub count : length new ≡ length old + count_of forest
@@ -75,12 +75,12 @@ pub record Lays {A : Type 0} (forest : Forest Elements) (old new : List (LaidRec
 
 -- ---- the invariant of a planned directory
 
--- the records, of `records_size` bytes, are the end of a file of `file_size` bytes; `doubles` are the indices of the
--- rows that are left out as doubles
-pub record IsBuilt {A : Type 0} (uid : List ℕ) (rows : List Row) (entries : List (LaidRecord A)) (records_size first last file_size : ℕ) (doubles : List ℕ) : Type 0 where
+-- the records, of `records_size` bytes, are the end of a file of `file_size` bytes; `duplicates` are the indices of the
+-- rows that are left out as duplicates
+pub record IsBuilt {A : Type 0} (uid : List ℕ) (rows : List Row) (entries : List (LaidRecord A)) (records_size first last file_size : ℕ) (duplicates : List ℕ) : Type 0 where
   pub laid : Lays (TreeOf rows) [] entries 0 records_size first last
   pub size : file_size ≡ length (directory_header uid) + root_size + records_size
-  pub doubles_are : doubles ≡ doubles_of rows
+  pub duplicates_are : duplicates ≡ duplicates_of rows
 
 -- the bytes after the file header up to the first record: the elements with the offsets of the first and the last
 -- record of the root, and the header of the sequence of records, of `size` bytes

@@ -1,5 +1,5 @@
 -- The effect of one more key on the list of different keys, and of one more row on the groups of rows and on the rows
--- without doubles.
+-- without duplicates.
 use Rattle.std.specs.Prelude.{◌≡◌, ℕ, Bool, cond, not, List, [], ◌∷◌, ◌++◌, map, set, get_or, Vec}
 use Rattle.std.specs.List.{list_any, position_or_len}
 use Rattle.std.specs.Str.{bytes_eq}
@@ -26,8 +26,8 @@ pub record Puts (key : List ℕ) (row : Row) (keys new : List (List ℕ)) (group
   pub keys_are : new ≡ with_key key keys
   pub groups_are : after ≡ put_in (cond (not (is_seen key keys)) (groups ++ [] ∷ []) groups) (position_or_len (bytes_eq key) keys) row
 
--- the row was appended to the rows, or its index `at` to the doubles if its SOP Instance UID is not new
-pub record TakesRow (at : ℕ) (row : Row) (keys new : List (List ℕ)) (rows after : List Row) (doubles more : List ℕ) : Type 0 where
+-- the row was appended to the rows, or its index `at` to the duplicates if its SOP Instance UID is not new
+pub record TakesRow (at : ℕ) (row : Row) (keys new : List (List ℕ)) (rows after : List Row) (duplicates more : List ℕ) : Type 0 where
   pub keys_are : new ≡ with_key row.instance keys
   pub rows_are : after ≡ cond (is_seen row.instance keys) rows (rows ++ row ∷ [])
-  pub doubles_are : more ≡ cond (is_seen row.instance keys) (doubles ++ at ∷ []) doubles
+  pub duplicates_are : more ≡ cond (is_seen row.instance keys) (duplicates ++ at ∷ []) duplicates

@@ -4,7 +4,7 @@ use Rattle.std.specs.Option.{option_map}
 use Rattle.dictionary.specs.declared.tags.Attribute.{Attribute}
 use Rattle.dictionary.specs.Tags.{row_of}
 
--- the VR and the keyword
+-- the VR and the keyword of a tag
 abbrev pub attribute_value : Option Attribute → Option (List ℕ × List ℕ)
 attribute_value None = None
 attribute_value (Some attribute) = Some (attribute.vr, attribute.keyword.now)

@@ -7,16 +7,16 @@ use Rattle.dimse.specs.declared.stage.Stage.{Stage}
 use Rattle.dimse.specs.declared.stage.Stage.TheVariants.{Between, Command, Set}
 use Rattle.dimse.specs.Command.{CommandRecord}
 use Rattle.dimse.specs.Reading.{command_in}
-use Rattle.dimse.specs.Messages.{Begun, NoMessage, InCommand, InSet}
+use Rattle.dimse.specs.Messages.{Started, NoMessage, InCommand, InSet}
 
-abbrev pub message_at : Stage → ℕ → List ℕ → Begun
+abbrev pub message_at : Stage → ℕ → List ℕ → Started
 message_at Between context command = NoMessage
 message_at Command context command = InCommand context command
 message_at Set context command = InSet context command []
 
 -- the command set with the rest of its unfinished fragment has at most `room` bytes
 abbrev pub HasRoom : ℕ → Stage → ℕ → ℕ → Type 0
-HasRoom room stage size left = stage ≡ Command → size + left ≤ room
+HasRoom room stage size remaining = stage ≡ Command → size + remaining ≤ room
 
 -- the result of a whole command set, once it was read
 abbrev pub read_as : Result CommandRecord DimseFault → Result Joined DimseFault
@@ -24,7 +24,7 @@ read_as (Err fault) = Err fault
 read_as (Ok c) = if c.with_data then Ok DataDue else Ok Message
 
 -- the result of the end of a fragment, which is the last of its set or not
-abbrev pub ended_as : Begun → Bool → Result Joined DimseFault
+abbrev pub ended_as : Started → Bool → Result Joined DimseFault
 ended_as NoMessage last = Ok More
 ended_as (InCommand context command) false = Ok More
 ended_as (InCommand context command) true = read_as (command_in command)

@@ -1,5 +1,5 @@
-//! Lists the fields of a [`Join`] with their types, so that a reader sees that it holds received bytes
-//! in `command` alone. A field that is added does not compile until it is listed here.
+//! Lists the fields of a [`Join`] with their types, to show that only `command` holds received
+//! bytes. A field added to it does not compile until it is listed here.
 
 use super::Join;
 use crate::stage::Stage;
@@ -10,12 +10,12 @@ fn fields<const C: usize>(join: &Join<C>) {
         stage,
         context,
         command,
-        left,
+        remaining,
         last,
     } = join;
     let _: &u8 = context;
     let _: &ArrayVec<u8, C> = command;
-    let _: &u32 = left;
+    let _: &u32 = remaining;
     let _: &bool = last;
     stage_fields(*stage);
 }

@@ -1,5 +1,5 @@
 -- Each message that ends has come in an accepted presentation context (`story_accepted`): the head of each of its values was
--- judged first. Stands on HeadsComeFirst, FieldsShow and MarksAreDone/PduHead.
+-- judged first. Stands on HeadsAreFirst, FieldsShow and MarksAreDone/PduHead.
 use Rattle.std.proofs.Common.{◌≡◌, ℕ, ◌+◌, ◌-◌, Bool, true, false, not, ◌&&◌, List, [], ◌∷◌, ◌++◌, length, Option, Some, None, Result, Ok, Err, refl, sym, ap, subst, ◌∙◌, nat_eq, if◌then◌else◌, arith}
 use Rattle.std.proofs.lemmas.Grind.{common_steps}
 use Rattle.pdu.specs.Heads.{is_last}
@@ -26,14 +26,14 @@ use Rattle.dimse.specs.declared.fault.DimseFault.{DimseFault}
 use Rattle.dimse.specs.Command.{CommandRecord}
 use Rattle.dimse.specs.Reading.{command_in}
 use Rattle.dimse.specs.Messages as messages
-use Rattle.dimse.specs.Messages.{Message, Begun, NoMessage, InCommand, InSet, Brought, Goes, Ends, Refuses, refusal, with_command, completed, with_fragment, message_by, brought}
+use Rattle.dimse.specs.Messages.{Message, Started, NoMessage, InCommand, InSet, Brought, Goes, Ends, Refuses, refusal, with_command, completed, with_fragment, message_by, brought}
 use Rattle.engine.specs.Inputs.{Received}
 use Rattle.engine.specs.Timeline.{Entry, At, Shut, TimedOut, Aborted, Finding, Outcome, Happened, entries, entries_of}
 use Rattle.decisions.specs.declared.decision.Decision.{Decision}
 use Rattle.decisions.specs.declared.decision.Decision.TheVariants as decision
 use Rattle.decisions.specs.ValueEnds.{value_end}
 use Rattle.pdu.specs.declared.head.PdvHead as declared
-use Rattle.engine.specs.Progress.{Progress, Advance, at_start, deciding, deciding_unless_ended, absorb, left, moved, done, refusing, nothing, is_due, is_established}
+use Rattle.engine.specs.Progress.{Progress, Advance, at_start, deciding, deciding_unless_ended, absorb, remaining, moved, done, refusing, nothing, is_due, is_established}
 use Rattle.engine.specs.Heads.{HeadEvent, NoEvent, AtOnce, TooLong, head_event}
 use Rattle.engine.specs.Requested.{Requested, request_record}
 use Rattle.engine.specs.Requests.{answered, keeping, judged_so, at_request}
@@ -41,20 +41,20 @@ use Rattle.engine.specs.Replies.{invalid, user_aborts, value_head, aborted_if_re
 use Rattle.engine.specs.Run.{Rooms, at_entry, at_end, cut, gives, released}
 use Rattle.engine.specs.Fair.{message_at}
 use Rattle.engine.specs.Reached.{takes_pdvs}
-use Rattle.engine.specs.machine.PerformsReaction.{is_left, Stays}
-use Rattle.engine.proofs.FieldsShow.AfterAnEvent.{moved_left, moved_stays}
-use Rattle.engine.proofs.AlongTimelines.HeadsComeFirst.{Opened, Between, OfPdu, OfPdv, opens_at, IsHeadedAt, AreHeadedAt, timeline_headed}
+use Rattle.engine.specs.machine.PerformsReaction.{is_remaining, Stays}
+use Rattle.engine.proofs.FieldsShow.AfterAnEvent.{moved_remaining, moved_stays}
+use Rattle.engine.proofs.AlongTimelines.HeadsAreFirst.{Opened, Between, OfPdu, OfPdv, opens_at, IsHeadedAt, AreHeadedAt, timeline_headed}
 use Rattle.engine.proofs.MarksAreDone.PduHead.{head_stays, head_too_long}
 use Rattle.engine.proofs.FieldsShow.TriedIsDone.{stays_invalid, stays_aborts, stays_closed, stays_expired, stays_abort}
 use Rattle.engine.proofs.FieldsShow.KeptInPhases.{never_both}
-use Rattle.engine.proofs.FieldsShow.ByState.{established_is, by_left}
+use Rattle.engine.proofs.FieldsShow.ByState.{established_is, by_remaining}
 
--- ---- what is known of the contexts of a message and of a value that has begun
+-- ---- what is known of the contexts of a message and of a value that has started
 
 abbrev IsKnown : Requested → ℕ → Type 0
 IsKnown request id = (context : Context) × (context_of (request_record request) id ≡ Some context)
 
-abbrev MessageKnown : Requested → Begun → Type 0
+abbrev MessageKnown : Requested → Started → Type 0
 MessageKnown request NoMessage = Unit {0}
 MessageKnown request (InCommand id command) = IsKnown request id
 MessageKnown request (InSet id command set) = IsKnown request id
@@ -88,18 +88,18 @@ uncounted_head p Between e = tt
 uncounted_head p (OfPdu kind n) e = tt
 uncounted_head p (OfPdv n id control) e = λ t. absurd (let wrong : true ≡ false = sym t ∙ e in cc)
 
-left_uncounted : (st : State) (p : Progress) → is_left st ≡ true → takes_pdvs (left st p) ≡ false
-left_uncounted st p l = by_left (λ (x : State). takes_pdvs (left x p) ≡ false) refl refl st l
+remaining_uncounted : (st : State) (p : Progress) → is_remaining st ≡ true → takes_pdvs (remaining st p) ≡ false
+remaining_uncounted st p l = by_remaining (λ (x : State). takes_pdvs (remaining x p) ≡ false) refl refl st l
 
-left_sound : (st : State) (p : Progress) (o : Opened) → is_left st ≡ true → Sound (left st p) o
-left_sound st p o l = record { message = tt; quiet = λ _. refl; head = uncounted_head (left st p) o (left_uncounted st p l) }
+remaining_sound : (st : State) (p : Progress) (o : Opened) → is_remaining st ≡ true → Sound (remaining st p) o
+remaining_sound st p o l = record { message = tt; quiet = λ _. refl; head = uncounted_head (remaining st p) o (remaining_uncounted st p l) }
 
 -- an event that leaves the association or keeps its state
 event_sound : (p : Progress) (o : Opened) (e : Event) → Stays p.state e → Sound p o → Sound (moved (table p.state e).1 p) o
-event_sound p o e stays h = by (is_left (table p.state e).1) refl
+event_sound p o e stays h = by (is_remaining (table p.state e).1) refl
   where
-    by : (l : Bool) → is_left (table p.state e).1 ≡ l → Sound (moved (table p.state e).1 p) o
-    by true l = subst (λ (q : Progress). Sound q o) (sym (moved_left (table p.state e).1 p l)) (left_sound (table p.state e).1 p o l)
+    by : (l : Bool) → is_remaining (table p.state e).1 ≡ l → Sound (moved (table p.state e).1 p) o
+    by true l = subst (λ (q : Progress). Sound q o) (sym (moved_remaining (table p.state e).1 p l)) (remaining_sound (table p.state e).1 p o l)
     by false l = subst (λ (q : Progress). Sound q o) (sym (moved_stays (table p.state e).1 p l ∙ ap (λ (st : State). record p { state = st }) (stays l))) h
 
 refused_sound : (p : Progress) (o later : Opened) → Sound p o → Sound (record p { refused = true }) later
@@ -123,11 +123,11 @@ command_known : (request : Requested) (id : ℕ) (command : List ℕ) (r : Resul
 command_known request id command (Err fault) h = tt
 command_known request id command (Ok c) h = announced_known request id command c.with_data h
 
-come_known : (request : Requested) (b : Begun) (id : ℕ) (bytes : List ℕ) → MessageKnown request b → IsKnown request id → MessageKnown request (with_fragment id bytes b)
-come_known request b id bytes h k = grind (arith, common_steps)
+received_known : (request : Requested) (b : Started) (id : ℕ) (bytes : List ℕ) → MessageKnown request b → IsKnown request id → MessageKnown request (with_fragment id bytes b)
+received_known request b id bytes h k = grind (arith, common_steps)
 
-row_known : (request : Requested) (come : Begun) (last : Bool) → MessageKnown request come → BroughtKnown request (if last then completed come else Goes come)
-row_known request come false m = m
+row_known : (request : Requested) (received : Started) (last : Bool) → MessageKnown request received → BroughtKnown request (if last then completed received else Goes received)
+row_known request received false m = m
 row_known request NoMessage true m = m
 row_known request (InCommand id command) true m = command_known request id command (command_in command) m
 row_known request (InSet id command set) true m = m
@@ -144,7 +144,7 @@ replied_quiet p finding m r = grind (arith, common_steps)
 
 abbrev pub by_value : Progress → Finding → messages.Pdv → Brought → Advance
 by_value p finding pdv r = elim r [
-  | Goes begun ↦ nothing (going_on begun p)
+  | Goes started ↦ nothing (going_on started p)
   | Ends m ↦ replied p finding m (command_in m.command)
   | Refuses fault ↦ user_aborts (deciding (command_refused p pdv fault) p)
 ]
@@ -266,7 +266,7 @@ head_is_known p o n id control h is e r = let k : HeadKnown p (OfPdv n id contro
 
 -- ---- the message that an entry ends
 
--- it came in an accepted context
+-- it was received in an accepted context
 abbrev pub IsAccepted : Progress → Happened → Type 0
 IsAccepted p h = (m : Message) → message_at p h.0 ≡ Some m → (context : Context) × (context_of (request_record p.request) m.context ≡ Some context)
 
@@ -285,9 +285,9 @@ module _ (rooms : Rooms) (s : Settings) where
   entry_sound p finding o (At (Pdv context control fragment)) h k =
       let pdv : messages.Pdv = record { context = context; control = control; fragment = fragment } in
       counts p o Between p.refused (is_established p.state) (at_pdv p finding pdv) refl refl h
-      (λ e r. pdv_sound p finding context control fragment o (brought p.message pdv) h e (row_known p.request _ (is_last control) (come_known p.request p.message context fragment h.message (head_is_known p o (length fragment + 2) context control h.head k.0 e r))))
+      (λ e r. pdv_sound p finding context control fragment o (brought p.message pdv) h e (row_known p.request _ (is_last control) (received_known p.request p.message context fragment h.message (head_is_known p o (length fragment + 2) context control h.head k.0 e r))))
   entry_sound p finding o (At BadPdv) h k = counts p o Between p.refused (is_established p.state) (invalid (deciding decision.ValueInvalid p)) refl refl h (λ e r. invalid_sound decision.ValueInvalid p o h)
-  entry_sound p finding o (At Leftover) h k = counts p o Between p.refused (is_established p.state) (invalid (deciding (decision.BytesLeft (value_end p.decided)) p)) refl refl h (λ e r. invalid_sound (decision.BytesLeft (value_end p.decided)) p o h)
+  entry_sound p finding o (At Leftover) h k = counts p o Between p.refused (is_established p.state) (invalid (deciding (decision.BytesRemaining (value_end p.decided)) p)) refl refl h (λ e r. invalid_sound (decision.BytesRemaining (value_end p.decided)) p o h)
   entry_sound p finding o (At (End kind body)) h k = by p.refused
     where
       by : (refused : Bool) → Sound (if refused then nothing p else at_end s p kind body).next Between
@@ -304,7 +304,7 @@ module _ (rooms : Rooms) (s : Settings) where
 
   cut_sound : (wire : Option ℕ) (p : Progress) (g : Advance) (o : Opened) → Sound g.next o → Sound (cut wire p g).next o
   cut_sound None p g o h = h
-  cut_sound (Some k) p g o h = left_sound Sta1 (deciding g.next.decided p) o refl
+  cut_sound (Some k) p g o h = remaining_sound Sta1 (deciding g.next.decided p) o refl
 
   gives_sound : (p : Progress) (o : Opened) (h : Happened) → Sound p o → IsHeadedAt Any o h.0 → Sound (gives rooms s p h).next (opens_at o h.0)
   gives_sound p o h sound k = cut_sound h.1.wire p _ (opens_at o h.0) (entry_sound (absorb h.1.filing p) h.1.finding o h.0 (absorbed_sound h.1.filing p o sound) k)
@@ -314,7 +314,7 @@ module _ (rooms : Rooms) (s : Settings) where
   pdv_accepted : (p : Progress) (o : Opened) (context control : ℕ) (fragment : List ℕ) → Sound p o → o ≡ OfPdv (length fragment + 2) context control → (established refused : Bool) → is_established p.state ≡ established → p.refused ≡ refused
       → (m : Message) → (if established && not refused then message_by (brought p.message (record { context = context; control = control; fragment = fragment })) else None) ≡ Some m → IsKnown p.request m.context
   pdv_accepted p o context control fragment h is true false e r m ends =
-      message_known p.request (brought p.message (record { context = context; control = control; fragment = fragment })) m ends (row_known p.request _ (is_last control) (come_known p.request p.message context fragment h.message (head_is_known p o (length fragment + 2) context control h.head is e r)))
+      message_known p.request (brought p.message (record { context = context; control = control; fragment = fragment })) m ends (row_known p.request _ (is_last control) (received_known p.request p.message context fragment h.message (head_is_known p o (length fragment + 2) context control h.head is e r)))
   pdv_accepted p o context control fragment h is true true e r m ends = absurd cc
   pdv_accepted p o context control fragment h is false refused e r m ends = absurd cc
 
@@ -336,6 +336,6 @@ module _ (rooms : Rooms) (s : Settings) where
 
   -- the messages of a story are in accepted contexts
   pub story_accepted : (inputs : List Received) (story : List Happened) → entries_of story ≡ entries [] inputs → AreAccepted rooms s at_start story
-  story_accepted inputs story told =
+  story_accepted inputs story reported =
       all_accepted at_start Between story (record { message = tt; quiet = λ _. refl; head = tt })
-      (subst (AreHeadedAt Any Between) (sym told) (timeline_headed Any (record { takes = λ n xs h. tt; drops = λ n xs h. tt }) inputs tt))
+      (subst (AreHeadedAt Any Between) (sym reported) (timeline_headed Any (record { takes = λ n xs h. tt; drops = λ n xs h. tt }) inputs tt))

@@ -11,7 +11,7 @@ use Rattle.acceptor.specs.declared.event.Event.TheVariants as event
 use Rattle.acceptor.specs.Table.{table}
 use Rattle.pdu.specs.Marks.{Mark, Head, PdvHead, Pdv, BadPdv, Leftover, End}
 use Rattle.negotiate.specs.Settings.{Settings}
-use Rattle.dimse.specs.Messages.{Begun, NoMessage}
+use Rattle.dimse.specs.Messages.{Started, NoMessage}
 use Rattle.engine.specs.Requested.{Requested, no_request}
 use Rattle.engine.specs.Timeline.{Entry, At, Shut, TimedOut, Aborted, Happened, entries_of, Finding, good, Outcome}
 use Rattle.decisions.specs.declared.decision.Decision.{Decision}
@@ -31,10 +31,10 @@ use Rattle.engine.proofs.FieldsShow.NothingCounts.{pends_ended}
 use Rattle.engine.proofs.AlongTimelines.ContextsAreAccepted.{by_head}
 
 -- in Sta1, with all else as it may be
-abbrev at_end_with : Requested → Begun → Bool → Decision → Bool → Progress
+abbrev at_end_with : Requested → Started → Bool → Decision → Bool → Progress
 at_end_with rq m f d b = record { state = Sta1; request = rq; refused = b; message = m; filing_failed = f; decided = d }
 
--- nothing is done and nothing is decided, and a message that had begun stays or is dropped
+-- nothing is done and nothing is decided, and a message that had started stays or is dropped
 pub record IsStill (p : Progress) (g : Advance) : Type 0 where
   pub next : Progress
   pub is : g ≡ nothing next
@@ -59,7 +59,7 @@ idle_head true b c d r1 r2 other h = at_once 1
 idle_head false true c d r1 r2 other h = at_once 6
 idle_head false false c d r1 r2 other h = h
 
-module _ (rq : Requested) (m : Begun) (f : Bool) where
+module _ (rq : Requested) (m : Started) (f : Bool) where
   head_still : (d : Decision) (b : Bool) (kind n : ℕ) {h : HeadEvent} → BringsNothing h → IsStill (at_end_with rq m f d b) (by_head (at_end_with rq m f d false) kind n h)
   head_still d b kind n no_event = record { next = at_end_with rq m f d false; is = refl; state = refl; message = inl refl; decided = refl }
   head_still d b kind n (at_once reason) = record { next = at_end_with no_request NoMessage false d true; is = refl; state = refl; message = inr refl; decided = refl }
@@ -108,12 +108,12 @@ still_at rooms s p finding x e =
     subst (λ (q : Progress). IsStill q (at_entry rooms s q finding x)) (sym same) (entry_still p.request p.message p.filing_failed rooms s finding p.decided p.refused x)
 
 -- the fields of an association that has ended show its progress after any entry, and nothing is due of it
-pub leaves_ended : (rooms : Rooms) (s : Settings) (p : Progress) (x : Entry) (k : Kept) (store : Store) (body begun body2 begun2 : List ℕ) → Pends k store p body begun → k.state ≡ Sta1
-    → LeavesDue (at_entry rooms s p good x) due.Nothing k store body2 begun2
-leaves_ended rooms s p x k store body begun body2 begun2 h e =
+pub leaves_ended : (rooms : Rooms) (s : Settings) (p : Progress) (x : Entry) (k : Kept) (store : Store) (body started body2 started2 : List ℕ) → Pends k store p body started → k.state ≡ Sta1
+    → LeavesDue (at_entry rooms s p good x) due.Nothing k store body2 started2
+leaves_ended rooms s p x k store body started body2 started2 h e =
     let is : p.state ≡ Sta1 = sym h.state_is ∙ e in
     let i = still_at rooms s p good x is in
-    record { shown = i.next; pends = pends_ended k store store p i.next body begun body2 begun2 (ap is_ended is) (i.state ∙ sym is) i.decided i.message h; gives = i.is }
+    record { shown = i.next; pends = pends_ended k store store p i.next body started body2 started2 (ap is_ended is) (i.state ∙ sym is) i.decided i.message h; gives = i.is }
 
 -- nothing failed
 abbrev pub calmly : Outcome
@@ -140,15 +140,15 @@ pub record Stays (rooms : Rooms) (s : Settings) (p : Progress) (ms : List Entry)
   pub fair : AreFair rooms s p (calm ms)
   pub wires : wire_failures (calm ms) ≡ 0
   pub filings : filing_failures (calm ms) false ≡ 0
-  pub told : entries_of (calm ms) ≡ ms
+  pub reported : entries_of (calm ms) ≡ ms
 
-message_then : (a b c : Begun) → (b ≡ a) ⊎ (b ≡ NoMessage) → (c ≡ b) ⊎ (c ≡ NoMessage) → (c ≡ a) ⊎ (c ≡ NoMessage)
+message_then : (a b c : Started) → (b ≡ a) ⊎ (b ≡ NoMessage) → (c ≡ b) ⊎ (c ≡ NoMessage) → (c ≡ a) ⊎ (c ≡ NoMessage)
 message_then a b c h (inr e) = inr e
 message_then a b c (inl x) (inl e) = inl (e ∙ x)
 message_then a b c (inr x) (inl e) = inr (e ∙ x)
 
 pub stays : (rooms : Rooms) (s : Settings) (p : Progress) (ms : List Entry) → p.state ≡ Sta1 → Stays rooms s p ms
-stays rooms s p [] e = record { state = e; message = inl refl; decided = refl; sent = refl; files = refl; fair = tt; wires = refl; filings = refl; told = refl }
+stays rooms s p [] e = record { state = e; message = inl refl; decided = refl; sent = refl; files = refl; fair = tt; wires = refl; filings = refl; reported = refl }
 stays rooms s p (x ∷ ms) e =
     let one = one_still rooms s p x e in
     let i = one.0 in
@@ -165,7 +165,7 @@ stays rooms s p (x ∷ ms) e =
       fair = (one.1, rest.fair);
       wires = omega (arith, rest.wires);
       filings = omega (arith, rest.filings);
-      told = ap (λ (es : List Entry). x ∷ es) rest.told;
+      reported = ap (λ (es : List Entry). x ∷ es) rest.reported;
     }
 
 pub nothing_after_the_end : NothingAfterTheEnd

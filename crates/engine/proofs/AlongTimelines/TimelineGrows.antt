@@ -6,12 +6,12 @@ use Rattle.engine.specs.Inputs.{Received, Bytes, Close, Expiry, UserAbort, strea
 use Rattle.engine.specs.Timeline.{Entry, Shut, TimedOut, Aborted, entries}
 use Rattle.engine.specs.Laws.{EntriesAppend}
 
-from : (came : List ℕ) (before inputs : List Received) → entries came (before ++ inputs) ≡ entries came before ++ entries (came ++ stream_of before) inputs
-from came [] inputs = rw append-nil refl
-from came (Bytes piece ∷ before) inputs = rw (from (came ++ piece) before inputs, append_assoc) (simp append_assoc)
-from came (Close ∷ before) inputs = ap (λ (es : List Entry). Shut ∷ es) (from came before inputs)
-from came (Expiry ∷ before) inputs = ap (λ (es : List Entry). TimedOut ∷ es) (from came before inputs)
-from came (UserAbort ∷ before) inputs = ap (λ (es : List Entry). Aborted ∷ es) (from came before inputs)
+from : (received : List ℕ) (before inputs : List Received) → entries received (before ++ inputs) ≡ entries received before ++ entries (received ++ stream_of before) inputs
+from received [] inputs = rw append-nil refl
+from received (Bytes piece ∷ before) inputs = rw (from (received ++ piece) before inputs, append_assoc) (simp append_assoc)
+from received (Close ∷ before) inputs = ap (λ (es : List Entry). Shut ∷ es) (from received before inputs)
+from received (Expiry ∷ before) inputs = ap (λ (es : List Entry). TimedOut ∷ es) (from received before inputs)
+from received (UserAbort ∷ before) inputs = ap (λ (es : List Entry). Aborted ∷ es) (from received before inputs)
 
 pub entries_append : EntriesAppend
 entries_append before inputs = from [] before inputs

@@ -19,20 +19,20 @@ use Rattle.engine.specs.StoredData.{Nothing}
 use Rattle.engine.specs.Progress.{is_due, is_established}
 use Rattle.engine.specs.Held.{is_ended}
 use Rattle.engine.specs.Kept.{Kept, IsUnagreed, kept_in, takes_pdvs_in, takes_body_in}
-use Rattle.engine.specs.machine.PerformsReaction.{IsLeft, is_left, state_after}
+use Rattle.engine.specs.machine.PerformsReaction.{IsRemaining, is_remaining, state_after}
 
 -- a join without any fragment
 pub no_fragment : (room : ℕ) → ShowsMessage room (shown NoMessage []) NoMessage []
 no_fragment room = record { shows = refl; accepted = λ (six : 6 ≤ 0). absurd (omega arith) }
 
-left_empty : (kept : Kept) → IsUnagreed kept.caller kept.peer_max kept.table → kept.body ≡ [] → kept.join ≡ shown NoMessage [] → kept.storing ≡ Nothing → IsLeft kept
-left_empty kept unagreed body join storing = record { unagreed = unagreed; body = body; join = subst (λ (j : Joining). ShowsMessage kept.room j NoMessage []) (sym join) (no_fragment kept.room); storing = storing }
+remaining_empty : (kept : Kept) → IsUnagreed kept.caller kept.peer_max kept.table → kept.body ≡ [] → kept.join ≡ shown NoMessage [] → kept.storing ≡ Nothing → IsRemaining kept
+remaining_empty kept unagreed body join storing = record { unagreed = unagreed; body = body; join = subst (λ (j : Joining). ShowsMessage kept.room j NoMessage []) (sym join) (no_fragment kept.room); storing = storing }
 
-pub ended_keeps_nothing : {A C V D : ℕ} → (was : Provider A C V D) → IsLeft (kept_in {A = A} {C = C} {V = V} {D = D} was.config.now was.refused was.decided Ended)
-ended_keeps_nothing was = left_empty _ (record { no_caller = refl; no_maximum = refl; no_rows = refl }) refl refl refl
+pub ended_keeps_nothing : {A C V D : ℕ} → (was : Provider A C V D) → IsRemaining (kept_in {A = A} {C = C} {V = V} {D = D} was.config.now was.refused was.decided Ended)
+ended_keeps_nothing was = remaining_empty _ (record { no_caller = refl; no_maximum = refl; no_rows = refl }) refl refl refl
 
-pub close_keeps_nothing : {A C V D : ℕ} → (was : Provider A C V D) → IsLeft (kept_in {A = A} {C = C} {V = V} {D = D} was.config.now was.refused was.decided AwaitingClose)
-close_keeps_nothing was = left_empty _ (record { no_caller = refl; no_maximum = refl; no_rows = refl }) refl refl refl
+pub close_keeps_nothing : {A C V D : ℕ} → (was : Provider A C V D) → IsRemaining (kept_in {A = A} {C = C} {V = V} {D = D} was.config.now was.refused was.decided AwaitingClose)
+close_keeps_nothing was = remaining_empty _ (record { no_caller = refl; no_maximum = refl; no_rows = refl }) refl refl refl
 
 -- what is kept of an established association
 abbrev pub kept_by : {A C V D : ℕ} → Provider A C V D → Peer → Message C V D → Kept
@@ -64,9 +64,9 @@ pub awaiting_room : {A C V D : ℕ} → (phase : Phase A C V D) → state_in pha
 awaiting_room phase h = grind (arith, common_steps)
 
 -- an association that is not left after a send keeps its state
-pub state_kept : (r : Result (Unit {0}) WireFailed) (next state : State) → is_left (state_after r next) ≡ false → (is_left next ≡ false → next ≡ state) → state ≡ state_after r next
+pub state_kept : (r : Result (Unit {0}) WireFailed) (next state : State) → is_remaining (state_after r next) ≡ false → (is_remaining next ≡ false → next ≡ state) → state ≡ state_after r next
 state_kept (Ok u) next state l stays = sym (stays l)
-state_kept (Err f) next state l stays = let x : is_left Sta1 ≡ false = l in absurd cc
+state_kept (Err f) next state l stays = let x : is_remaining Sta1 ≡ false = l in absurd cc
 
 -- nothing of a PDU that was refused counts
 pub never_both : (t : Bool) → t && false ≡ false

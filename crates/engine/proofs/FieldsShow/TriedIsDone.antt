@@ -16,7 +16,7 @@ use Rattle.decisions.specs.declared.decision.Decision.{Decision}
 use Rattle.decisions.specs.declared.decision.Decision.TheVariants as decision
 use Rattle.decisions.specs.ValueEnds.{value_end}
 use Rattle.pdu.specs.Marks.{BadPdv, Leftover}
-use Rattle.engine.specs.Progress.{Progress, Advance, deciding, nothing, left, refusing, is_due, is_established}
+use Rattle.engine.specs.Progress.{Progress, Advance, deciding, nothing, remaining, refusing, is_due, is_established}
 use Rattle.engine.specs.Reached.{takes_pdvs}
 use Rattle.engine.specs.Replies.{invalid}
 use Rattle.engine.specs.Run.{Rooms, at_entry, cut, fails}
@@ -51,34 +51,34 @@ files_cut wire p g = grind (arith, common_steps)
 
 -- ---- an entry
 
-pub does_by : (rooms : Rooms) (s : Settings) (p : Progress) (e : Entry) (g : Advance) (new : Kept) (body begun : List ℕ) (old later : Devices)
-    → at_entry rooms s p good e ≡ g → g.files ≡ [] → IsVerdict rooms s p good (message_at p e) → PerformsReaction p g new body begun old later → Does rooms s p e new body begun old later
-does_by rooms s p e g new body begun old later is none verdict t = record {
+pub does_by : (rooms : Rooms) (s : Settings) (p : Progress) (e : Entry) (g : Advance) (new : Kept) (body started : List ℕ) (old later : Devices)
+    → at_entry rooms s p good e ≡ g → g.files ≡ [] → IsVerdict rooms s p good (message_at p e) → PerformsReaction p g new body started old later → Does rooms s p e new body started old later
+does_by rooms s p e g new body started old later is none verdict t = record {
   outcome = record { wire = t.wire; filing = false; finding = good };
   fair = record { verdict = verdict; wire = subst (λ (x : Advance). IsFront t.wire x.sent) (sym is) t.fair; filing = λ yes. absurd cc };
-  pends = subst (λ (x : Advance). Pends new later.store (cut t.wire p x).next body begun) (sym is) t.pends;
+  pends = subst (λ (x : Advance). Pends new later.store (cut t.wire p x).next body started) (sym is) t.pends;
   line = t.line ∙ line_gained t.wire p g old.line ∙ ap (λ (x : Advance). line_with (cut t.wire p x).sent (fails t.wire) old.line) (sym is);
   files = t.unfiled.files ∙ filed_nothing (files_in old.store)
       ∙ ap (λ (fs : List (List ℕ)). with_files fs (files_in old.store)) (sym (files_cut t.wire p (at_entry rooms s p good e) ∙ ap (λ (x : Advance). x.files) is ∙ none));
   count = omega (arith, t.unfiled.count);
 }
 
-pub tries_nothing : (p : Progress) (k : Kept) (body begun : List ℕ) (d : Devices) → Pends k d.store p body begun → PerformsReaction p (nothing p) k body begun d d
-tries_nothing p k body begun d h = record { wire = None; fair = tt; pends = h; line = line_same d.line; unfiled = unfiled_same d.store }
+pub tries_nothing : (p : Progress) (k : Kept) (body started : List ℕ) (d : Devices) → Pends k d.store p body started → PerformsReaction p (nothing p) k body started d d
+tries_nothing p k body started d h = record { wire = None; fair = tt; pends = h; line = line_same d.line; unfiled = unfiled_same d.store }
 
-pub does_nothing : (rooms : Rooms) (s : Settings) (p : Progress) (e : Entry) (k : Kept) (body begun : List ℕ) (d : Devices)
-    → at_entry rooms s p good e ≡ nothing p → IsVerdict rooms s p good (message_at p e) → Pends k d.store p body begun → Does rooms s p e k body begun d d
-does_nothing rooms s p e k body begun d is verdict h = does_by rooms s p e (nothing p) k body begun d d is refl verdict (tries_nothing p k body begun d h)
+pub does_nothing : (rooms : Rooms) (s : Settings) (p : Progress) (e : Entry) (k : Kept) (body started : List ℕ) (d : Devices)
+    → at_entry rooms s p good e ≡ nothing p → IsVerdict rooms s p good (message_at p e) → Pends k d.store p body started → Does rooms s p e k body started d d
+does_nothing rooms s p e k body started d is verdict h = does_by rooms s p e (nothing p) k body started d d is refl verdict (tries_nothing p k body started d h)
 
 -- ---- the PDU is refused
 
 pub not_counted : (b : Bool) (xs : List ℕ) → ◌≡◌ {A = List ℕ} [] (if b && false then xs else [])
 not_counted b xs = grind (arith, common_steps)
 
-pub pends_refused : (q : Progress) (mid : Kept) (store : Store) (body begun body2 begun2 : List ℕ) → counted_body q body ≡ [] → counted_pdv q begun ≡ [] → Pends mid store q body begun
-    → Pends (record mid { refused = true }) store (record q { refused = true }) body2 begun2
-pends_refused q mid store body begun body2 begun2 b d h =
-    let same : counted_pdv q begun ≡ counted_pdv (record q { refused = true }) begun2 = d ∙ not_counted (is_established q.state) begun2 in
+pub pends_refused : (q : Progress) (mid : Kept) (store : Store) (body started body2 started2 : List ℕ) → counted_body q body ≡ [] → counted_pdv q started ≡ [] → Pends mid store q body started
+    → Pends (record mid { refused = true }) store (record q { refused = true }) body2 started2
+pends_refused q mid store body started body2 started2 b d h =
+    let same : counted_pdv q started ≡ counted_pdv (record q { refused = true }) started2 = d ∙ not_counted (is_established q.state) started2 in
     record {
       state_is = h.state_is;
       refused_is = λ n. refl;
@@ -86,32 +86,32 @@ pends_refused q mid store body begun body2 begun2 b d h =
       body_is = h.body_is ∙ b ∙ not_counted (is_due q.state) body2;
       join_is = subst (λ (xs : List ℕ). ShowsMessage mid.room mid.join q.message xs) same h.join_is;
       agreed = h.agreed;
-      none_left = h.none_left;
+      none_remaining = h.none_remaining;
       unagreed = h.unagreed;
       walks = subst (λ (xs : List ℕ). Walks mid.depth mid.most q.request (with_pdv xs q.message) mid.storing) same h.walks;
       draft = subst (λ (xs : List ℕ). IsDraft q.request (with_pdv xs q.message) q.filing_failed store (drafting_in mid.storing)) same h.draft;
       failed_in = h.failed_in;
     }
 
-ended_refused : (p : Progress) (mid : Kept) (store : Store) (body begun body2 begun2 : List ℕ) → Pends mid store (left Sta1 p) body begun → Pends (record mid { refused = true }) store (left Sta1 p) body2 begun2
-ended_refused p mid store body begun body2 begun2 h =
-    record { state_is = h.state_is; refused_is = λ n. absurd cc; decided_is = h.decided_is; body_is = h.body_is; join_is = h.join_is; agreed = λ six. absurd cc; none_left = λ e. refl; unagreed = h.unagreed; walks = h.walks; draft = h.draft; failed_in = λ n. absurd cc }
+ended_refused : (p : Progress) (mid : Kept) (store : Store) (body started body2 started2 : List ℕ) → Pends mid store (remaining Sta1 p) body started → Pends (record mid { refused = true }) store (remaining Sta1 p) body2 started2
+ended_refused p mid store body started body2 started2 h =
+    record { state_is = h.state_is; refused_is = λ n. absurd cc; decided_is = h.decided_is; body_is = h.body_is; join_is = h.join_is; agreed = λ six. absurd cc; none_remaining = λ e. refl; unagreed = h.unagreed; walks = h.walks; draft = h.draft; failed_in = λ n. absurd cc }
 
-pub refused_by : (p : Progress) (g : Advance) (mid : Kept) (body begun body2 begun2 : List ℕ) (old new : Devices) → counted_body g.next body ≡ [] → counted_pdv g.next begun ≡ []
-    → PerformsReaction p g mid body begun old new → PerformsReaction p (refusing g) (record mid { refused = true }) body2 begun2 old new
-refused_by p g mid body begun body2 begun2 old new b d t = by t.wire refl where
-  by : (w : Option ℕ) → w ≡ t.wire → PerformsReaction p (refusing g) (record mid { refused = true }) body2 begun2 old new
+pub refused_by : (p : Progress) (g : Advance) (mid : Kept) (body started body2 started2 : List ℕ) (old new : Devices) → counted_body g.next body ≡ [] → counted_pdv g.next started ≡ []
+    → PerformsReaction p g mid body started old new → PerformsReaction p (refusing g) (record mid { refused = true }) body2 started2 old new
+refused_by p g mid body started body2 started2 old new b d t = by t.wire refl where
+  by : (w : Option ℕ) → w ≡ t.wire → PerformsReaction p (refusing g) (record mid { refused = true }) body2 started2 old new
   by None e = record {
     wire = None;
     fair = tt;
-    pends = pends_refused g.next mid new.store body begun body2 begun2 b d (subst (λ (x : Option ℕ). Pends mid new.store (cut x p g).next body begun) (sym e) t.pends);
+    pends = pends_refused g.next mid new.store body started body2 started2 b d (subst (λ (x : Option ℕ). Pends mid new.store (cut x p g).next body started) (sym e) t.pends);
     line = t.line ∙ ap (λ (x : Option ℕ). line_after x g.sent old.line) (sym e);
     unfiled = t.unfiled;
   }
   by (Some k) e = record {
     wire = Some k;
     fair = subst (λ (x : Option ℕ). IsFront x g.sent) (sym e) t.fair;
-    pends = ended_refused (deciding g.next.decided p) mid new.store body begun body2 begun2 (subst (λ (x : Option ℕ). Pends mid new.store (cut x p g).next body begun) (sym e) t.pends);
+    pends = ended_refused (deciding g.next.decided p) mid new.store body started body2 started2 (subst (λ (x : Option ℕ). Pends mid new.store (cut x p g).next body started) (sym e) t.pends);
     line = t.line ∙ ap (λ (x : Option ℕ). line_after x g.sent old.line) (sym e);
     unfiled = t.unfiled;
   }
@@ -130,17 +130,17 @@ none_counted_pdv q = if_nothing (takes_pdvs q)
 pub taken_when : (e r : Bool) (a b : Advance) → (if r then b else (if e then a else b)) ≡ (if e && not r then a else b)
 taken_when e r a b = grind arith
 
--- a PDV that is bad, and bytes that are left over
+-- a PDV that is bad, and bytes that are remaining
 pub at_bad : (rooms : Rooms) (s : Settings) (p : Progress) → at_entry rooms s p good (At BadPdv) ≡ (if takes_pdvs p then invalid (deciding decision.ValueInvalid p) else nothing p)
 at_bad rooms s p = taken_when (is_established p.state) p.refused (invalid (deciding decision.ValueInvalid p)) (nothing p)
 
-pub at_leftover : (rooms : Rooms) (s : Settings) (p : Progress) → at_entry rooms s p good (At Leftover) ≡ (if takes_pdvs p then invalid (deciding (decision.BytesLeft (value_end p.decided)) p) else nothing p)
-at_leftover rooms s p = taken_when (is_established p.state) p.refused (invalid (deciding (decision.BytesLeft (value_end p.decided)) p)) (nothing p)
+pub at_leftover : (rooms : Rooms) (s : Settings) (p : Progress) → at_entry rooms s p good (At Leftover) ≡ (if takes_pdvs p then invalid (deciding (decision.BytesRemaining (value_end p.decided)) p) else nothing p)
+at_leftover rooms s p = taken_when (is_established p.state) p.refused (invalid (deciding (decision.BytesRemaining (value_end p.decided)) p)) (nothing p)
 
 -- where the fields show what was decided before
-pub left_after : (p : Progress) (d : Decision) → d ≡ p.decided
-    → (if takes_pdvs p then invalid (deciding (decision.BytesLeft (value_end p.decided)) p) else nothing p) ≡ (if takes_pdvs p then invalid (deciding (decision.BytesLeft (value_end d)) p) else nothing p)
-left_after p d e = ap (λ (x : Decision). if takes_pdvs p then invalid (deciding (decision.BytesLeft (value_end x)) p) else nothing p) (sym e)
+pub remaining_after : (p : Progress) (d : Decision) → d ≡ p.decided
+    → (if takes_pdvs p then invalid (deciding (decision.BytesRemaining (value_end p.decided)) p) else nothing p) ≡ (if takes_pdvs p then invalid (deciding (decision.BytesRemaining (value_end d)) p) else nothing p)
+remaining_after p d e = ap (λ (x : Decision). if takes_pdvs p then invalid (deciding (decision.BytesRemaining (value_end x)) p) else nothing p) (sym e)
 
 -- ---- events that leave the association or keep its state
 

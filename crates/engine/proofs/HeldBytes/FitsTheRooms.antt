@@ -30,7 +30,7 @@ use Rattle.dimse.specs.declared.fault.DimseFault.{DimseFault}
 use Rattle.dimse.specs.declared.fault.DimseFault.TheVariants.{CommandTooLong, WrongKind, OtherContext}
 use Rattle.dimse.specs.Command.{CommandRecord}
 use Rattle.dimse.specs.Messages as messages
-use Rattle.dimse.specs.Messages.{Begun, NoMessage, InCommand, InSet, Brought, Goes, Ends, Refuses, Message, refusal, if_room, with_command, completed, with_fragment, brought}
+use Rattle.dimse.specs.Messages.{Started, NoMessage, InCommand, InSet, Brought, Goes, Ends, Refuses, Message, refusal, if_room, with_command, completed, with_fragment, brought}
 use Rattle.dimse.specs.Reading.{command_in}
 use Rattle.sequence.proofs.Public.{both_bytes}
 use Rattle.engine.specs.Heads.{HeadEvent, NoEvent, AtOnce, TooLong, head_event}
@@ -38,26 +38,26 @@ use Rattle.engine.specs.Held.{of_command}
 use Rattle.decisions.specs.declared.decision.Decision.{Decision}
 use Rattle.decisions.specs.declared.decision.Decision.TheVariants as decision
 use Rattle.decisions.specs.ValueEnds.{value_end}
-use Rattle.engine.specs.Progress.{Progress, Advance, deciding, deciding_unless_ended, absorb, left, moved, done, nothing, is_due, is_established}
+use Rattle.engine.specs.Progress.{Progress, Advance, deciding, deciding_unless_ended, absorb, remaining, moved, done, nothing, is_due, is_established}
 use Rattle.engine.specs.Reached.{takes_pdvs}
 use Rattle.engine.specs.Replies.{invalid, value_head, command_refused, at_pdv_head, at_pdv, replied}
 use Rattle.engine.specs.Requested.{request_record}
 use Rattle.engine.specs.Requests.{declined, answered, at_request, keeping}
 use Rattle.engine.specs.Run.{Rooms, at_end, at_entry, cut, gives, progress_of, released}
 use Rattle.engine.specs.Timeline.{Entry, At, Shut, TimedOut, Aborted, Finding, Happened, entries_of}
-use Rattle.engine.specs.machine.PerformsReaction.{is_left, Stays}
+use Rattle.engine.specs.machine.PerformsReaction.{is_remaining, Stays}
 use Rattle.engine.proofs.AlongTimelines.ContextsAreAccepted.{by_value, by_context, by_head, by_fault}
 use Rattle.engine.proofs.FieldsShow.TriedIsDone.{stays_invalid, stays_aborts, stays_closed, stays_expired, stays_abort}
-use Rattle.engine.proofs.AlongTimelines.HeadsComeFirst.{Opened, Between, OfPdu, OfPdv, opens_at, IsHeadedAt, AreHeadedAt, open_at_end}
+use Rattle.engine.proofs.AlongTimelines.HeadsAreFirst.{Opened, Between, OfPdu, OfPdv, opens_at, IsHeadedAt, AreHeadedAt, open_at_end}
 use Rattle.engine.proofs.MarksAreDone.PduHead.{head_stays, head_too_long}
-use Rattle.engine.proofs.FieldsShow.AfterAnEvent.{moved_left, moved_stays}
+use Rattle.engine.proofs.FieldsShow.AfterAnEvent.{moved_remaining, moved_stays}
 use Rattle.engine.proofs.MarksAreDone.RowsFit.{few_rows}
 use Rattle.engine.proofs.FieldsShow.KeptInPhases.{never_both}
-use Rattle.engine.proofs.FieldsShow.ByState.{established_is, due_is, by_left}
+use Rattle.engine.proofs.FieldsShow.ByState.{established_is, due_is, by_remaining}
 use Rattle.negotiate.specs.Taken.{Taken}
 
 -- the bytes of a data set that have come
-abbrev pub set_of : Begun → List ℕ
+abbrev pub set_of : Started → List ℕ
 set_of NoMessage = []
 set_of (InCommand context command) = []
 set_of (InSet context command set) = set
@@ -125,11 +125,11 @@ command_fits room size false h = absurd cc
 pub same_context : (b : Bool) (o : Option DimseFault) → (if b then o else Some OtherContext) ≡ None → o ≡ None
 same_context b o h = grind (arith, common_steps)
 
-abbrev pub MessageFits : Rooms → Begun → Type 0
+abbrev pub MessageFits : Rooms → Started → Type 0
 MessageFits rooms b = (of_command b ≤ rooms.command) × IsBytes (set_of b)
 
 -- a fragment has room whose head was not refused
-pub fragment_within : (rooms : Rooms) (b : Begun) (n context control : ℕ) (bytes : List ℕ) → refusal rooms.command b (n + 2) context control ≡ None → length bytes ≤ n → IsBytes bytes → MessageFits rooms b
+pub fragment_within : (rooms : Rooms) (b : Started) (n context control : ℕ) (bytes : List ℕ) → refusal rooms.command b (n + 2) context control ≡ None → length bytes ≤ n → IsBytes bytes → MessageFits rooms b
     → MessageFits rooms (with_fragment context bytes b)
 fragment_within rooms NoMessage n context control bytes none few h fits = (let le = command_fits rooms.command (n + 2 - 2) (is_command control) none in omega (arith, le, few), no_bytes)
 fragment_within rooms (InCommand first command) n context control bytes none few h fits = (
@@ -151,33 +151,33 @@ whole_fits : (rooms : Rooms) (id : ℕ) (command : List ℕ) (r : Result Command
 whole_fits rooms id command (Err fault) le = tt
 whole_fits rooms id command (Ok c) le = announced_fits rooms id command c.with_data le
 
-row_fits : (rooms : Rooms) (come : Begun) (last : Bool) → MessageFits rooms come → BroughtFits rooms (if last then completed come else Goes come)
-row_fits rooms come false fits = fits
+row_fits : (rooms : Rooms) (received : Started) (last : Bool) → MessageFits rooms received → BroughtFits rooms (if last then completed received else Goes received)
+row_fits rooms received false fits = fits
 row_fits rooms NoMessage true fits = fits
 row_fits rooms (InCommand id command) true fits = whole_fits rooms id command (command_in command) fits.0
 row_fits rooms (InSet id command set) true fits = tt
 
 module _ (rooms : Rooms) where
-  -- ---- where nothing that has begun counts
+  -- ---- where nothing that has started counts
 
   uncounted : (p : Progress) (o : Opened) → is_due p.state ≡ false → takes_pdvs p ≡ false → HasRoom rooms p o
   uncounted p Between d t = tt
   uncounted p (OfPdu kind n) d t = λ due. absurd (let wrong : true ≡ false = sym due ∙ d in cc)
   uncounted p (OfPdv n context control) d t = λ takes. absurd (let wrong : true ≡ false = sym takes ∙ t in cc)
 
-  left_due : (st : State) → is_left st ≡ true → is_due st ≡ false
-  left_due = by_left (λ (x : State). is_due x ≡ false) refl refl
+  remaining_due : (st : State) → is_remaining st ≡ true → is_due st ≡ false
+  remaining_due = by_remaining (λ (x : State). is_due x ≡ false) refl refl
 
-  left_established : (st : State) → is_left st ≡ true → is_established st ≡ false
-  left_established = by_left (λ (x : State). is_established x ≡ false) refl refl
+  remaining_established : (st : State) → is_remaining st ≡ true → is_established st ≡ false
+  remaining_established = by_remaining (λ (x : State). is_established x ≡ false) refl refl
 
-  left_fits : (st : State) (p : Progress) (o : Opened) → is_left st ≡ true → Fits rooms (left st p) o
-  left_fits st p o l = record { command = omega arith; bytes = no_bytes; agreed = λ e. absurd (let wrong : true ≡ false = sym e ∙ left_established st l in cc); room = uncounted (left st p) o (left_due st l) (ap (λ (b : Bool). b && not p.refused) (left_established st l)) }
+  remaining_fits : (st : State) (p : Progress) (o : Opened) → is_remaining st ≡ true → Fits rooms (remaining st p) o
+  remaining_fits st p o l = record { command = omega arith; bytes = no_bytes; agreed = λ e. absurd (let wrong : true ≡ false = sym e ∙ remaining_established st l in cc); room = uncounted (remaining st p) o (remaining_due st l) (ap (λ (b : Bool). b && not p.refused) (remaining_established st l)) }
 
   with_nothing : (p : Progress) (o : Opened) → Fits rooms p o → Fits rooms p Between
   with_nothing p o h = record { command = h.command; bytes = h.bytes; agreed = h.agreed; room = tt }
 
-  -- what is decided takes no room
+  -- what is decided needs no room
   decided_fits : (d : Decision) (p : Progress) (o : Opened) → Fits rooms p o → Fits rooms (deciding d p) o
   decided_fits d p Between h = record { command = h.command; bytes = h.bytes; agreed = h.agreed; room = tt }
   decided_fits d p (OfPdu kind n) h = record { command = h.command; bytes = h.bytes; agreed = h.agreed; room = h.room }
@@ -185,10 +185,10 @@ module _ (rooms : Rooms) where
 
   -- an event that leaves the association or keeps its state
   event_fits : (p : Progress) (o : Opened) (e : Event) → Stays p.state e → Fits rooms p o → Fits rooms (moved (table p.state e).1 p) o
-  event_fits p o e stays h = by (is_left (table p.state e).1) refl
+  event_fits p o e stays h = by (is_remaining (table p.state e).1) refl
     where
-      by : (l : Bool) → is_left (table p.state e).1 ≡ l → Fits rooms (moved (table p.state e).1 p) o
-      by true l = subst (λ (q : Progress). Fits rooms q o) (sym (moved_left (table p.state e).1 p l)) (left_fits (table p.state e).1 p o l)
+      by : (l : Bool) → is_remaining (table p.state e).1 ≡ l → Fits rooms (moved (table p.state e).1 p) o
+      by true l = subst (λ (q : Progress). Fits rooms q o) (sym (moved_remaining (table p.state e).1 p l)) (remaining_fits (table p.state e).1 p o l)
       by false l = subst (λ (q : Progress). Fits rooms q o) (sym (moved_stays (table p.state e).1 p l ∙ ap (λ (st : State). record p { state = st }) (stays l))) h
 
   refused_room : (p : Progress) (o : Opened) → HasRoom rooms (record p { refused = true }) o
@@ -261,8 +261,8 @@ module _ (rooms : Rooms) where
         text = reject_text result source reason
 
         by : (b : Bool) → Fits rooms (if b then done text 0 (asking Sta2 body (Reject result source reason)) event.UnacceptableRq else declined (asking Sta2 body (Reject result source reason)) text).next Between
-        by true = left_fits Sta13 (asking Sta2 body (Reject result source reason)) Between refl
-        by false = left_fits Sta13 (record (asking Sta2 body (Reject result source reason)) { state = Sta3 }) Between refl
+        by true = remaining_fits Sta13 (asking Sta2 body (Reject result source reason)) Between refl
+        by false = remaining_fits Sta13 (record (asking Sta2 body (Reject result source reason)) { state = Sta3 }) Between refl
 
     request_fits : (body : List ℕ) → is_due p.state ≡ true → IsBytes body → length body ≤ rooms.request - 12 → Fits rooms (at_request s p body).next Between
     request_fits body due bytes le = by (request_fault body) refl
@@ -275,7 +275,7 @@ module _ (rooms : Rooms) where
 
     released_fits : is_established p.state ≡ true → Fits rooms (released (deciding decision.Released p)).next Between
     released_fits e =
-        subst (λ (st : State). Fits rooms (released (record (deciding decision.Released p) { state = st })).next Between) (established_is p.state e) (left_fits Sta13 (record (deciding decision.Released p) { state = Sta8 }) Between refl)
+        subst (λ (st : State). Fits rooms (released (record (deciding decision.Released p) { state = st })).next Between) (established_is p.state e) (remaining_fits Sta13 (record (deciding decision.Released p) { state = Sta8 }) Between refl)
 
     both_of : (a b : Bool) → a && b ≡ true → (a ≡ true) × (b ≡ true)
     both_of a b h = grind (arith, common_steps)
@@ -318,7 +318,7 @@ module _ (rooms : Rooms) where
   entry_fits s p finding o (At BadPdv) h k =
       counted_fits p o Between p.refused (is_established p.state) (invalid (deciding decision.ValueInvalid p)) refl refl h (λ t. tt) (λ takes. invalid_fits decision.ValueInvalid p o h)
   entry_fits s p finding o (At Leftover) h k =
-      counted_fits p o Between p.refused (is_established p.state) (invalid (deciding (decision.BytesLeft (value_end p.decided)) p)) refl refl h (λ t. tt) (λ takes. invalid_fits (decision.BytesLeft (value_end p.decided)) p o h)
+      counted_fits p o Between p.refused (is_established p.state) (invalid (deciding (decision.BytesRemaining (value_end p.decided)) p)) refl refl h (λ t. tt) (λ takes. invalid_fits (decision.BytesRemaining (value_end p.decided)) p o h)
   entry_fits s p finding o (At (End kind body)) h k = by p.refused refl
     where
       by : (refused : Bool) → p.refused ≡ refused → Fits rooms (if refused then nothing p else at_end s p kind body).next Between
@@ -335,7 +335,7 @@ module _ (rooms : Rooms) where
 
   cut_fits : (wire : Option ℕ) (p : Progress) (g : Advance) (o : Opened) → Fits rooms g.next o → Fits rooms (cut wire p g).next o
   cut_fits None p g o h = h
-  cut_fits (Some k) p g o h = left_fits Sta1 (deciding g.next.decided p) o refl
+  cut_fits (Some k) p g o h = remaining_fits Sta1 (deciding g.next.decided p) o refl
 
   gives_fits : (s : Settings) (p : Progress) (o : Opened) (h : Happened) → Fits rooms p o → IsHeadedAt IsBytes o h.0 → Fits rooms (gives rooms s p h).next (opens_at o h.0)
   gives_fits s p o h fits k = cut_fits h.1.wire p _ (opens_at o h.0) (entry_fits s (absorb h.1.filing p) h.1.finding o h.0 (absorbed_fits h.1.filing p o fits) k)

@@ -13,7 +13,7 @@ use Rattle.engine.specs.Requested.{Requested, request_record}
 use Rattle.negotiate.specs.declared.proposals.Context.{Context}
 use Rattle.negotiate.specs.Contexts.{context_of}
 use Rattle.negotiate.specs.Settings.{Settings}
-use Rattle.dimse.specs.Messages.{Begun, InSet}
+use Rattle.dimse.specs.Messages.{Started, InSet}
 use Rattle.engine.specs.Stores.{limits}
 use Rattle.engine.specs.Run.{Rooms}
 use Rattle.engine.specs.Fair.{InStore}
@@ -43,20 +43,20 @@ same_some : (x y : Context) → ◌≡◌ {A = Option Context} (Some x) (Some y)
 same_some x y e = cc
 
 -- the message is of one store alone
-of_one_store : (rooms : Rooms) (s : Settings) (request : Requested) (come : Begun) (n m : ℕ) (a b : InStore request come)
+of_one_store : (rooms : Rooms) (s : Settings) (request : Requested) (received : Started) (n m : ℕ) (a b : InStore request received)
     → IsHeldOfSet (coding_in a.context.syntax) (limits rooms.depth s.max_data) a.set n → IsHeldOfSet (coding_in b.context.syntax) (limits rooms.depth s.max_data) b.set m → n ≡ m
-of_one_store rooms s request come n m a b h k =
-    let same = in_set a.id b.id a.command b.command a.set b.set (sym a.begun ∙ b.begun) in
+of_one_store rooms s request received n m a b h k =
+    let same = in_set a.id b.id a.command b.command a.set b.set (sym a.started ∙ b.started) in
     let accepted = same_some a.context b.context (sym a.accepted ∙ ap (λ (id : ℕ). context_of (request_record request) id) same.0 ∙ b.accepted) in
     of_one_set (coding_in a.context.syntax) (limits rooms.depth s.max_data) a.set n m h
     (subst (λ (x : Context). IsHeldOfSet (coding_in x.syntax) (limits rooms.depth s.max_data) a.set m) (sym accepted)
     (subst (λ (x : List ℕ). IsHeldOfSet (coding_in b.context.syntax) (limits rooms.depth s.max_data) x m) (sym same.1) k))
 
-of_one_message : (rooms : Rooms) (s : Settings) (request : Requested) (come : Begun) (n m : ℕ) → IsHeldOfMessage rooms s request come n → IsHeldOfMessage rooms s request come m → n ≡ m
-of_one_message rooms s request come n m (walked a h) (walked b k) = of_one_store rooms s request come n m a b h k
-of_one_message rooms s request come n m (walked a h) (not_walked none) = absurd (none a)
-of_one_message rooms s request come n m (not_walked none) (walked b k) = absurd (none b)
-of_one_message rooms s request come n m (not_walked none) (not_walked none2) = refl
+of_one_message : (rooms : Rooms) (s : Settings) (request : Requested) (received : Started) (n m : ℕ) → IsHeldOfMessage rooms s request received n → IsHeldOfMessage rooms s request received m → n ≡ m
+of_one_message rooms s request received n m (walked a h) (walked b k) = of_one_store rooms s request received n m a b h k
+of_one_message rooms s request received n m (walked a h) (not_walked none) = absurd (none a)
+of_one_message rooms s request received n m (not_walked none) (walked b k) = absurd (none b)
+of_one_message rooms s request received n m (not_walked none) (not_walked none2) = refl
 
 pub held_is_one : HeldIsOne
 held_is_one rooms s r n m h k = omega (arith, h.sum, k.sum, of_one_message rooms s r.progress.request (message_so_far r) h.of_set k.of_set h.walked k.walked)

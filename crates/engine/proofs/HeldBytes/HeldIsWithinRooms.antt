@@ -1,5 +1,5 @@
 -- No more bytes are held than the limits have place for, wherever a timeline has led (`held_is_within_rooms`). Stands on
--- FitsTheRooms, HeldIsExact, AlongTimelines/HeadsComeFirst and the laws of `pdu` and `sequence`.
+-- FitsTheRooms, HeldIsExact, AlongTimelines/HeadsAreFirst and the laws of `pdu` and `sequence`.
 use Rattle.std.proofs.Common.{◌≡◌, ℕ, ◌+◌, ◌-◌, ◌*◌, ◌<◌, ◌≤◌, Bool, true, false, not, ◌&&◌, List, [], ◌∷◌, length, take, drop, get_or, zero, suc, None, refl, sym, ap, subst, ◌∙◌, arith, lit<, nat_eq, nat_lt, ltb-true, ltb-false, length-drop, get_or-drop, if◌then◌else◌}
 use Rattle.std.proofs.lemmas.Bool.{lt-ltb, le-ltb}
 use Rattle.acceptor.specs.declared.state.State.TheVariants.{Sta6}
@@ -10,14 +10,14 @@ use Rattle.sequence.specs.declared.coding.Coding.{Coding}
 use Rattle.pdu.specs.Frames.{IsRest, rest_of}
 use Rattle.pdu.specs.Marks.{frame_kind, frame_length}
 use Rattle.pdu.specs.Parts.{IsUnfinishedPdv, in_head, in_fragment}
-use Rattle.pdu.specs.Spot.{Spot, Opening, Plain, InPdv, spot, room_left}
+use Rattle.pdu.specs.Spot.{Spot, Opening, Plain, InPdv, spot, room_remaining}
 use Rattle.pdu.proofs.Public.{rest_is_rest, spot_opening, unfinished_pdv}
 use Rattle.negotiate.specs.ContextRows.{accepted_count}
 use Rattle.negotiate.specs.Settings.{Settings}
 use Rattle.dimse.specs.Joining.{with_pdv}
-use Rattle.dimse.specs.Messages.{Begun, refusal, with_fragment}
+use Rattle.dimse.specs.Messages.{Started, refusal, with_fragment}
 use Rattle.sequence.specs.Rules.{Limits}
-use Rattle.sequence.specs.Walk.{Tells, going}
+use Rattle.sequence.specs.Walk.{Reports, going}
 use Rattle.sequence.specs.Walk as walk
 use Rattle.sequence.specs.Wanted.{rooms}
 use Rattle.sequence.proofs.Public.{held_has_a_bound}
@@ -25,12 +25,12 @@ use Rattle.engine.specs.Held.{is_ended, unfinished, of_request, of_command, held
 use Rattle.engine.specs.HeldLaws.{IsWithinRooms, HeldIsWithinRooms}
 use Rattle.engine.specs.Inputs.{stream_of}
 use Rattle.engine.specs.Progress.{Progress, at_start, is_due, is_established}
-use Rattle.engine.specs.Reached.{Reached, reached, begun_in, takes_pdvs, begun_pdv, message_so_far}
+use Rattle.engine.specs.Reached.{Reached, reached, started_in, takes_pdvs, started_pdv, message_so_far}
 use Rattle.engine.specs.Requested.{Requested, request_record}
 use Rattle.engine.specs.Run.{Rooms, progress_of}
 use Rattle.engine.specs.Stores.{limits, wanted}
 use Rattle.engine.specs.Timeline.{Entry, entries_of}
-use Rattle.engine.proofs.AlongTimelines.HeadsComeFirst.{Opened, Between, OfPdu, OfPdv, IsBegun, HoldsOfParts, AreHeadedAt, open_at_end, timeline_headed, timeline_begun}
+use Rattle.engine.proofs.AlongTimelines.HeadsAreFirst.{Opened, Between, OfPdu, OfPdv, IsStarted, HoldsOfParts, AreHeadedAt, open_at_end, timeline_headed, timeline_started}
 use Rattle.engine.proofs.HeldBytes.FitsTheRooms.{Fits, HasRoom, set_of, MessageFits, fragment_within, absorbed_fits, story_fits}
 use Rattle.engine.proofs.HeldBytes.HeldIsExact.{unfinished_none}
 
@@ -53,20 +53,20 @@ few xs = by (nat_lt (length xs) 6) refl
     by false e = omega arith
 
 -- of the two heads one at most is unfinished
-few_heads : (r : Reached) → unfinished r.rest + unfinished (begun_pdv r) ≤ 5
+few_heads : (r : Reached) → unfinished r.rest + unfinished (started_pdv r) ≤ 5
 few_heads r = by (nat_lt (length r.rest) 6) refl
   where
-    by : (b : Bool) → nat_lt (length r.rest) 6 ≡ b → (if b then length r.rest else 0) + unfinished (begun_pdv r) ≤ 5
+    by : (b : Bool) → nat_lt (length r.rest) 6 ≡ b → (if b then length r.rest else 0) + unfinished (started_pdv r) ≤ 5
     by true e =
         let lt = ltb-true (length r.rest) 6 e in
-        let no_pdv : unfinished (begun_pdv r) ≡ 0 = ap (λ (x : Spot). unfinished (if takes_pdvs r.progress then begun_in x else [])) (spot_opening r.rest lt) ∙ unfinished_none (takes_pdvs r.progress) in
+        let no_pdv : unfinished (started_pdv r) ≡ 0 = ap (λ (x : Spot). unfinished (if takes_pdvs r.progress then started_in x else [])) (spot_opening r.rest lt) ∙ unfinished_none (takes_pdvs r.progress) in
         omega (arith, lt, no_pdv)
-    by false e = omega (arith, few (begun_pdv r))
+    by false e = omega (arith, few (started_pdv r))
 
 -- ---- the request
 
 module _ (limit : Rooms) (o : Opened) where
-  request_within : (p : Progress) (rest : List ℕ) → 256 ≤ limit.request → Fits limit p o → IsBegun IsBytes rest o → IsRest rest → of_request p rest + 12 ≤ limit.request
+  request_within : (p : Progress) (rest : List ℕ) → 256 ≤ limit.request → Fits limit p o → IsStarted IsBytes rest o → IsRest rest → of_request p rest + 12 ≤ limit.request
   request_within p rest least h k partial = by (is_due p.state) refl
     where
       body : (refused one : Bool) → is_due p.state ≡ true → p.refused ≡ refused → nat_eq (frame_kind rest) 1 ≡ one → (if not refused && one then length rest - 6 else 0) + 12 ≤ limit.request
@@ -110,15 +110,15 @@ module _ (limit : Rooms) (o : Opened) where
       subst (λ (b : Bool). MessageFits limit (if b then p.message else with_fragment (get_or part 4 0) (drop 6 part) p.message)) (sym (le-ltb (length part) 6 six))
       (fragment_within limit p.message (n - 2) (get_or part 4 0) (get_or part 5 0) (drop 6 part) none few (bytes_parts.drops 6 part k.0) (h.command, h.bytes))
 
-  message_within : (r : Reached) → Fits limit r.progress o → IsBegun IsBytes r.rest o → IsRest r.rest → MessageFits limit (message_so_far r)
+  message_within : (r : Reached) → Fits limit r.progress o → IsStarted IsBytes r.rest o → IsRest r.rest → MessageFits limit (message_so_far r)
   message_within r h k partial = by (takes_pdvs r.progress) refl
     where
-      spotted : (x : Spot) → spot r.rest ≡ x → takes_pdvs r.progress ≡ true → MessageFits limit (with_pdv (begun_in x) r.progress.message)
+      spotted : (x : Spot) → spot r.rest ≡ x → takes_pdvs r.progress ≡ true → MessageFits limit (with_pdv (started_in x) r.progress.message)
       spotted Opening e takes = (h.command, h.bytes)
       spotted Plain e takes = (h.command, h.bytes)
-      spotted (InPdv part) e takes = pdv_within r.progress (room_left r.rest + length part) part h takes (unfinished_pdv r.rest part partial e) (k.pdv part e)
+      spotted (InPdv part) e takes = pdv_within r.progress (room_remaining r.rest + length part) part h takes (unfinished_pdv r.rest part partial e) (k.pdv part e)
 
-      by : (b : Bool) → takes_pdvs r.progress ≡ b → MessageFits limit (with_pdv (if b then begun_in (spot r.rest) else []) r.progress.message)
+      by : (b : Bool) → takes_pdvs r.progress ≡ b → MessageFits limit (with_pdv (if b then started_in (spot r.rest) else []) r.progress.message)
       by true takes = spotted (spot r.rest) refl takes
       by false takes = (h.command, h.bytes)
 
@@ -128,16 +128,16 @@ set_within : (syntax : Coding) (lim : Limits) (set : List ℕ) (n : ℕ) → IsB
 set_within syntax lim set n bytes (unbroken whole front) = held_has_a_bound syntax lim set _ bytes (going whole front)
 set_within syntax lim set n bytes (faulty fault front) = held_has_a_bound syntax lim set _ bytes (walk.refused fault front)
 
-data_within : (limit : Rooms) (s : Settings) (request : Requested) (come : Begun) (n : ℕ) → 140 ≤ limit.values → IsBytes (set_of come) → IsHeldOfMessage limit s request come n → n ≤ limit.values + 16 * limit.depth
-data_within limit s request come n least bytes (walked store held) =
-    let own : IsBytes store.set = subst (λ (b : Begun). IsBytes (set_of b)) store.begun bytes in
+data_within : (limit : Rooms) (s : Settings) (request : Requested) (received : Started) (n : ℕ) → 140 ≤ limit.values → IsBytes (set_of received) → IsHeldOfMessage limit s request received n → n ≤ limit.values + 16 * limit.depth
+data_within limit s request received n least bytes (walked store held) =
+    let own : IsBytes store.set = subst (λ (b : Started). IsBytes (set_of b)) store.started bytes in
     let all : rooms wanted ≡ 128 = refl in
     omega (arith, least, all, set_within (coding_in store.context.syntax) (limits limit.depth s.max_data) store.set n own held)
-data_within limit s request come n least bytes (not_walked none) = omega arith
+data_within limit s request received n least bytes (not_walked none) = omega arith
 
 -- ---- all of it
 
-module _ (limit : Rooms) (s : Settings) (r : Reached) (o : Opened) (n : ℕ) (least : 256 ≤ limit.request) (least_kept : 140 ≤ limit.values) (h : Fits limit r.progress o) (k : IsBegun IsBytes r.rest o) (partial : IsRest r.rest) (held : Held limit s r n) where
+module _ (limit : Rooms) (s : Settings) (r : Reached) (o : Opened) (n : ℕ) (least : 256 ≤ limit.request) (least_kept : 140 ≤ limit.values) (h : Fits limit r.progress o) (k : IsStarted IsBytes r.rest o) (partial : IsRest r.rest) (held : Held limit s r n) where
   of_message : MessageFits limit (message_so_far r)
   of_message = message_within limit o r h k partial
 
@@ -147,7 +147,7 @@ module _ (limit : Rooms) (s : Settings) (r : Reached) (o : Opened) (n : ℕ) (le
   before : (request : ℕ) → of_request r.progress r.rest ≤ request → held_before_data r ≤ 5 + request + limit.command
   before request le = by (is_ended r.progress.state)
     where
-      by : (b : Bool) → (if b then 0 else (unfinished r.rest + unfinished (begun_pdv r) + of_request r.progress r.rest + of_command (message_so_far r))) ≤ 5 + request + limit.command
+      by : (b : Bool) → (if b then 0 else (unfinished r.rest + unfinished (started_pdv r) + of_request r.progress r.rest + of_command (message_so_far r))) ≤ 5 + request + limit.command
       by true = omega arith
       by false = omega (arith, few_heads r, le, of_message.0)
 
@@ -160,11 +160,11 @@ module _ (limit : Rooms) (s : Settings) (r : Reached) (o : Opened) (n : ℕ) (le
       }
 
 pub held_is_within_rooms : HeldIsWithinRooms
-held_is_within_rooms limit s inputs story failed n least least_kept bytes told held =
+held_is_within_rooms limit s inputs story failed n least least_kept bytes reported held =
     let start : Fits limit at_start Between = record { command = omega arith; bytes = λ i. lit< tt; agreed = λ e. absurd cc; room = tt } in
-    let headed : AreHeadedAt IsBytes Between (entries_of story) = subst (AreHeadedAt IsBytes Between) (sym told) (timeline_headed IsBytes bytes_parts inputs bytes) in
+    let headed : AreHeadedAt IsBytes Between (entries_of story) = subst (AreHeadedAt IsBytes Between) (sym reported) (timeline_headed IsBytes bytes_parts inputs bytes) in
     let o = open_at_end Between (entries_of story) in
     let fits : Fits limit (progress_of limit s at_start story) o = story_fits limit s at_start Between story start headed in
-    let begun : IsBegun IsBytes (rest_of (stream_of inputs)) o =
-    subst (λ (es : List Entry). IsBegun IsBytes (rest_of (stream_of inputs)) (open_at_end Between es)) (sym told) (timeline_begun IsBytes bytes_parts inputs bytes) in
-    reached_within limit s (reached limit s inputs story failed) o n least least_kept (absorbed_fits limit failed (progress_of limit s at_start story) o fits) begun (rest_is_rest (stream_of inputs)) held
+    let started : IsStarted IsBytes (rest_of (stream_of inputs)) o =
+    subst (λ (es : List Entry). IsStarted IsBytes (rest_of (stream_of inputs)) (open_at_end Between es)) (sym reported) (timeline_started IsBytes bytes_parts inputs bytes) in
+    reached_within limit s (reached limit s inputs story failed) o n least least_kept (absorbed_fits limit failed (progress_of limit s at_start story) o fits) started (rest_is_rest (stream_of inputs)) held

@@ -8,11 +8,11 @@ use Rattle.acceptor.specs.declared.state.State.TheVariants.{Sta1, Sta2, Sta3, St
 use Rattle.pdu.specs.Marks.{frame_kind}
 use Rattle.engine.specs.Requested.{request_record}
 use Rattle.pdu.specs.Spot.{spot}
-use Rattle.dimse.specs.Messages.{Begun}
+use Rattle.dimse.specs.Messages.{Started}
 use Rattle.dimse.specs.Joining as joining
 use Rattle.dimse.specs.Joining.{Joining, command_bytes}
 use Rattle.engine.specs.Progress.{Progress, is_due, is_established}
-use Rattle.engine.specs.Reached.{begun_in, message_so_far}
+use Rattle.engine.specs.Reached.{started_in, message_so_far}
 use Rattle.engine.specs.Held.{is_ended, of_request, of_accepted, of_command}
 use Rattle.engine.specs.Kept.{Kept, Pends, counted_pdv, body_in, held_by}
 use Rattle.engine.specs.StoredData.{Stored, held_in}
@@ -20,11 +20,11 @@ use Rattle.part10.specs.Store.{Store}
 use Rattle.engine.proofs.FieldsShow.NothingCounts.{ended_unestablished, ended_stored, ended_pdv}
 use Rattle.engine.proofs.FieldsShow.ByState.{ended_is}
 
-command_size : (m : Begun) → length (command_bytes m) ≡ of_command m
+command_size : (m : Started) → length (command_bytes m) ≡ of_command m
 command_size m = grind (arith, common_steps)
 
-command_kept : (k : Kept) (store : Store) (p : Progress) (body begun : List ℕ) → Pends k store p body begun → length k.join.command ≡ of_command (joining.with_pdv (counted_pdv p begun) p.message)
-command_kept k store p body begun h = ap (λ (j : Joining). length j.command) h.join_is.shows ∙ command_size (joining.with_pdv (counted_pdv p begun) p.message)
+command_kept : (k : Kept) (store : Store) (p : Progress) (body started : List ℕ) → Pends k store p body started → length k.join.command ≡ of_command (joining.with_pdv (counted_pdv p started) p.message)
+command_kept k store p body started h = ap (λ (j : Joining). length j.command) h.join_is.shows ∙ command_size (joining.with_pdv (counted_pdv p started) p.message)
 
 -- of a request: by the state
 kept_of_request : (st : State) (r one : Bool) (table body : ℕ) (xs rest : List ℕ) → is_ended st ≡ false → length xs ≡ length rest - 6
@@ -37,7 +37,7 @@ nothing_kept : (st : State) (r : Bool) (table : ℕ) (xs : List ℕ) → is_ende
     → (if is_established st then 20 + 4 * table else 0) + length (if is_due st && not r then xs else []) ≡ 0
 nothing_kept st r table xs e = ap (λ (x : State). (if is_established x then 20 + 4 * table else 0) + length (if is_due x && not r then xs else [])) (ended_is st e)
 
-module _ (k : Kept) (store : Store) (p : Progress) (rest : List ℕ) (h : Pends k store p (body_in (frame_kind rest) (drop 6 rest)) (begun_in (spot rest))) where
+module _ (k : Kept) (store : Store) (p : Progress) (rest : List ℕ) (h : Pends k store p (body_in (frame_kind rest) (drop 6 rest)) (started_in (spot rest))) where
   accepted_size : (st : State) → p.state ≡ st → (if is_established st then 20 + 4 * length k.table else 0) ≡ (if is_established st then of_accepted (request_record p.request) else 0)
   accepted_size Sta1 e = refl
   accepted_size Sta2 e = refl
@@ -53,13 +53,13 @@ module _ (k : Kept) (store : Store) (p : Progress) (rest : List ℕ) (h : Pends 
       let of_state = ap (λ (st : State). (if is_established st then 20 + 4 * length k.table else 0) + length k.body + length k.join.command + held_in k.storing) h.state_is in
       let of_body = ap (λ (b : List ℕ). (if is_established p.state then 20 + 4 * length k.table else 0) + length b + length k.join.command + held_in k.storing) h.body_is in
       of_state ∙ of_body ∙ ap (λ (x : ℕ). x + length k.join.command + held_in k.storing) (sizes ∙ accepted)
-      ∙ ap (λ (x : ℕ). of_request p rest + x + held_in k.storing) (command_kept k store p (body_in (frame_kind rest) (drop 6 rest)) (begun_in (spot rest)) h)
+      ∙ ap (λ (x : ℕ). of_request p rest + x + held_in k.storing) (command_kept k store p (body_in (frame_kind rest) (drop 6 rest)) (started_in (spot rest)) h)
 
   pub held_ended : is_ended p.state ≡ true → held_by k ≡ 0
   held_ended e =
-      let none = h.none_left (ended_unestablished p.state e) in
-      let quiet = ended_pdv p.state p.refused (begun_in (spot rest)) e in
-      let command = command_kept k store p (body_in (frame_kind rest) (drop 6 rest)) (begun_in (spot rest)) h
+      let none = h.none_remaining (ended_unestablished p.state e) in
+      let quiet = ended_pdv p.state p.refused (started_in (spot rest)) e in
+      let command = command_kept k store p (body_in (frame_kind rest) (drop 6 rest)) (started_in (spot rest)) h
       ∙ ap (λ (xs : List ℕ). of_command (joining.with_pdv xs p.message)) quiet ∙ ap of_command none in
       let of_state = ap (λ (st : State). (if is_established st then 20 + 4 * length k.table else 0) + length k.body + length k.join.command + held_in k.storing) h.state_is in
       let of_body = ap (λ (b : List ℕ). (if is_established p.state then 20 + 4 * length k.table else 0) + length b + length k.join.command + held_in k.storing) h.body_is in

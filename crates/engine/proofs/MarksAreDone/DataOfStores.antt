@@ -12,21 +12,21 @@ use Rattle.negotiate.specs.Settings.{Settings}
 use Rattle.negotiate.specs.declared.proposals.Context.{Context}
 use Rattle.negotiate.specs.Contexts.{context_of}
 use Rattle.part10.specs.File.{head, File}
-use Rattle.part10.specs.Store.{Shelf, Store, told_after}
+use Rattle.part10.specs.Store.{Shelf, Store, reported_after}
 use Rattle.dimse.specs.declared.fault.DimseFault.{DimseFault}
 use Rattle.dimse.specs.Command.{CommandRecord}
 use Rattle.dimse.specs.Reading.{command_in}
-use Rattle.dimse.specs.Messages.{Begun, InSet, Goes, brought, with_fragment}
+use Rattle.dimse.specs.Messages.{Started, InSet, Goes, brought, with_fragment}
 use Rattle.dimse.specs.Joining.{Joining, ShowsMessage, pdv_of, with_pdv}
 use Rattle.engine.specs.Timeline.{At, good}
 use Rattle.engine.specs.Devices.{Devices, devices, files_in, with_files, line_with}
-use Rattle.engine.specs.Drafts.{IsDraft, HasDraft, TellsDraft, draft_due, none_due}
+use Rattle.engine.specs.Drafts.{IsDraft, HasDraft, ReportsDraft, draft_due, none_due}
 use Rattle.engine.specs.Progress.{Progress, Advance, nothing, absorb, is_established}
 use Rattle.engine.specs.Reached.{takes_pdvs}
 use Rattle.decisions.specs.declared.decision.Decision.TheVariants as decision
 use Rattle.dimse.specs.declared.joined.Joined.{Joined}
 use Rattle.dimse.specs.declared.joined.Joined.TheVariants as joined
-use Rattle.dimse.specs.Joining.{goes_on}
+use Rattle.dimse.specs.Joining.{continues}
 use Rattle.engine.specs.Replies.{going_on, decided_on}
 use Rattle.engine.specs.Stores.{IsOfContext, limits}
 use Rattle.engine.specs.Run.{Rooms, at_entry}
@@ -35,47 +35,47 @@ use Rattle.engine.specs.Held.{is_ended}
 use Rattle.engine.specs.Kept.{Kept, Pends, counted_pdv}
 use Rattle.engine.specs.machine.Messages.{Proceeds}
 use Rattle.engine.specs.StoredData.{Stored, Nothing, Walking, HasWalked, walked, drafting_in}
-use Rattle.engine.specs.machine.Storing.{BeginsStore, GoesOn}
+use Rattle.engine.specs.machine.Storing.{BeginsStore, Continues}
 use Rattle.engine.specs.machine.Does.{Does}
 use Rattle.engine.proofs.StoresAreKept.DraftAndWalk.{Carried, none_carried, meta_by, due_file}
 use Rattle.engine.proofs.FieldsShow.TriedIsDone.{if_nothing, line_same, line_gained, filed_nothing, sent_nothing}
-use Rattle.engine.proofs.MarksAreDone.PdvJoined.{entry_of, pdv_taken, pdv_comes, verdict_by, taken_state}
+use Rattle.engine.proofs.MarksAreDone.PdvJoined.{entry_of, pdv_taken, pdv_arrives, verdict_by, taken_state}
 use Rattle.engine.specs.Fair.{MayFail}
 use Rattle.std.specs.Io.KnownBytes.{append_known}
 use Rattle.std.proofs.lemmas.List.{length-append}
 use Rattle.sequence.specs.Rules.{Limits}
 use Rattle.engine.specs.Drafts.{Drafts}
 use Rattle.engine.specs.machine.Does.{Appends}
-use Rattle.engine.proofs.StoresAreKept.DraftAndWalk.{so_far, carried, files_kept, part_more, pdv_store, goes_on_so}
+use Rattle.engine.proofs.StoresAreKept.DraftAndWalk.{so_far, carried, files_kept, part_more, pdv_store, continues_so}
 use Rattle.engine.proofs.MarksAreDone.PdvJoined.{counted_taken, aside_of, aside_absorbed, pends_joined, IsDataDue}
 use Rattle.pdu.specs.Heads.{pdv_head_of}
 
 -- ---- the data of a store begin
 
-told_begun : (told : Option Shelf) (bytes file : List ℕ) → bytes ≡ file → TellsDraft (told_after (λ shelf. record { files = shelf.files; draft = bytes }) told) file
-told_begun told bytes file h = grind (arith, common_steps)
+reported_started : (reported : Option Shelf) (bytes file : List ℕ) → bytes ≡ file → ReportsDraft (reported_after (λ shelf. record { files = shelf.files; draft = bytes }) reported) file
+reported_started reported bytes file h = grind (arith, common_steps)
 
-told_files : (told : Option Shelf) (bytes : List ℕ) → option_map (λ (shelf : Shelf). shelf.files) (told_after (λ shelf. record { files = shelf.files; draft = bytes }) told) ≡ option_map (λ (shelf : Shelf). shelf.files) told
-told_files told bytes = grind (arith, common_steps)
+reported_files : (reported : Option Shelf) (bytes : List ℕ) → option_map (λ (shelf : Shelf). shelf.files) (reported_after (λ shelf. record { files = shelf.files; draft = bytes }) reported) ≡ option_map (λ (shelf : Shelf). shelf.files) reported
+reported_files reported bytes = grind (arith, common_steps)
 
 -- which commands are none of a store that is walked
 
 pub unread_store : (request : Requested) (id : ℕ) (command : List ℕ) (f : DimseFault) → command_in command ≡ Err f → InStore request (InSet id command []) → ⊥
 unread_store request id command f e s =
-    let same : command ≡ s.command = let x : InSet id command [] ≡ InSet s.id s.command s.set = s.begun in cc in
+    let same : command ≡ s.command = let x : InSet id command [] ≡ InSet s.id s.command s.set = s.started in cc in
     let wrong : ◌≡◌ {A = Result CommandRecord DimseFault} (Ok s.asked) (Err f) = sym s.spelled ∙ ap command_in (sym same) ∙ e in
     cc
 
 pub unaccepted_store : (request : Requested) (id : ℕ) (command : List ℕ) → context_of (request_record request) id ≡ None → InStore request (InSet id command []) → ⊥
 unaccepted_store request id command e s =
-    let same : id ≡ s.id = let x : InSet id command [] ≡ InSet s.id s.command s.set = s.begun in cc in
+    let same : id ≡ s.id = let x : InSet id command [] ≡ InSet s.id s.command s.set = s.started in cc in
     let wrong : Some s.context ≡ None = sym s.accepted ∙ ap (context_of (request_record request)) (sym same) ∙ e in
     cc
 
 pub other_store : (request : Requested) (id : ℕ) (command : List ℕ) (c : CommandRecord) (context : Context) → command_in command ≡ Ok c → context_of (request_record request) id ≡ Some context → (IsOfContext context c → ⊥)
     → InStore request (InSet id command []) → ⊥
 other_store request id command c context e accepted none s =
-    let begun : InSet id command [] ≡ InSet s.id s.command s.set = s.begun in
+    let started : InSet id command [] ≡ InSet s.id s.command s.set = s.started in
     let same : id ≡ s.id = cc in
     let text : command ≡ s.command = cc in
     let contexts : Some s.context ≡ Some context = sym s.accepted ∙ ap (context_of (request_record request)) (sym same) ∙ accepted in
@@ -91,53 +91,53 @@ begins_drafts syntax lim bytes (Walking walker true) drafting old new (takes, st
 begins_drafts syntax lim bytes (Walking walker false) drafting old new (takes, step) = record { there = λ e. absurd cc; own = λ e. ap (λ (x : Store). x.has_draft) step }
 
 -- nothing is kept
-pub idle_proceeds : (depth most : ℕ) (request : Requested) (m : Begun) (stored : Stored) (store : Store) → stored ≡ Nothing → (InStore request m → ⊥) → Proceeds depth most request m false stored store store
+pub idle_proceeds : (depth most : ℕ) (request : Requested) (m : Started) (stored : Stored) (store : Store) → stored ≡ Nothing → (InStore request m → ⊥) → Proceeds depth most request m false stored store store
 idle_proceeds depth most request m stored store e none =
     let c = none_carried depth most stored store request m false e none in
     record { failed = false; may = λ x. absurd cc; walks = c.0; draft = c.1; files = refl; count = omega arith }
 
-pub begun_proceeds : (depth most : ℕ) (request : Requested) (m : Begun) (s : InStore request m) (bytes : List ℕ) (stored : Stored) (old new : Store) → s.set ≡ [] → bytes ≡ head (meta_by request s.context s.asked)
+pub started_proceeds : (depth most : ℕ) (request : Requested) (m : Started) (s : InStore request m) (bytes : List ℕ) (stored : Stored) (old new : Store) → s.set ≡ [] → bytes ≡ head (meta_by request s.context s.asked)
     → BeginsStore (coding_in s.context.syntax) (limits depth most) bytes stored old new → Proceeds depth most request m false stored old new
-begun_proceeds depth most request m s bytes Nothing old new none is h = absurd h
-begun_proceeds depth most request m s bytes (Walking walker true) old new none is (takes, step) =
+started_proceeds depth most request m s bytes Nothing old new none is h = absurd h
+started_proceeds depth most request m s bytes (Walking walker true) old new none is (takes, step) =
     let file : bytes ≡ File (meta_by request s.context s.asked) s.set = is ∙ sym (append-nil (head (meta_by request s.context s.asked))) ∙ ap (λ (xs : List ℕ). head (meta_by request s.context s.asked) ++ xs) (sym none) in
     record {
       failed = false;
       may = λ x. absurd cc;
       walks = walked s (subst (λ (xs : List ℕ). HasWalked walker (coding_in s.context.syntax) (limits depth most) xs) (sym none) takes);
       draft = draft_due (due_file request m false s refl)
-          (subst (λ (x : Store). HasDraft x (File (meta_by request s.context s.asked) s.set)) (sym step) (record { there = refl; bytes = told_begun old.told bytes _ file }));
-      files = ap files_in step ∙ told_files old.told bytes;
+          (subst (λ (x : Store). HasDraft x (File (meta_by request s.context s.asked) s.set)) (sym step) (record { there = refl; bytes = reported_started old.reported bytes _ file }));
+      files = ap files_in step ∙ reported_files old.reported bytes;
       count = ap (λ (x : Store). x.failures) step ∙ omega arith;
     }
-begun_proceeds depth most request m s bytes (Walking walker false) old new none is (takes, step) =
+started_proceeds depth most request m s bytes (Walking walker false) old new none is (takes, step) =
     record {
       failed = true;
       may = λ x. (refl, s);
       walks = walked s (subst (λ (xs : List ℕ). HasWalked walker (coding_in s.context.syntax) (limits depth most) xs) (sym none) takes);
       draft = none_due (λ file due. let x : true ≡ false = due.unfailed in absurd cc);
-      files = ap files_in step ∙ files_kept old.told;
+      files = ap files_in step ∙ files_kept old.reported;
       count = ap (λ (x : Store). x.failures) step;
     }
 
 either_failed : (f g : Bool) → (f || g) ≡ true → (f ≡ true) ⊎ (g ≡ true)
 either_failed f g h = grind (arith, common_steps)
 
-pub does_due : (rooms : Rooms) (s : Settings) (p : Progress) (begun : List ℕ) (room : ℕ) (k : Kept) (j : Joining) (z : Stored) (l : Line) (so sn : Store) (later : Begun) → Pends k so p [] begun → takes_pdvs p ≡ true
-    → brought p.message (pdv_of begun) ≡ Goes later → ShowsMessage k.room j later [] → IsDataDue room p.message (pdv_head_of begun) (drop 6 begun) later → joined.DataDue ≡ goes_on p.message later
+pub does_due : (rooms : Rooms) (s : Settings) (p : Progress) (started : List ℕ) (room : ℕ) (k : Kept) (j : Joining) (z : Stored) (l : Line) (so sn : Store) (later : Started) → Pends k so p [] started → takes_pdvs p ≡ true
+    → brought p.message (pdv_of started) ≡ Goes later → ShowsMessage k.room j later [] → IsDataDue room p.message (pdv_head_of started) (drop 6 started) later → joined.DataDue ≡ continues p.message later
     → Proceeds k.depth k.most p.request later false z so sn
-    → Does rooms s p (At (entry_of begun)) (record k { join = j; storing = z; decided = decision.DataDue }) [] [] (devices l so) (devices l sn)
-does_due rooms s p begun room k j z l so sn later h taken goes shows due announced x =
+    → Does rooms s p (At (entry_of started)) (record k { join = j; storing = z; decided = decision.DataDue }) [] [] (devices l so) (devices l sn)
+does_due rooms s p started room k j z l so sn later h taken goes shows due announced x =
     let q = absorb x.failed p in
     let six = taken_state p taken in
     let unended : is_ended p.state ≡ false = ap is_ended six in
     let unfailed : p.filing_failed ≡ false = never p.filing_failed refl (λ e. due.none_before p.request (h.failed_in unended e)) in
-    let is : at_entry rooms s q good (At (entry_of begun)) ≡ nothing (going_on later q) = pdv_taken rooms s q good begun taken ∙ pdv_comes q good begun (Goes later) goes in
-    let plain : at_entry rooms s p good (At (entry_of begun)) ≡ nothing (going_on later p) = pdv_taken rooms s p good begun taken ∙ pdv_comes p good begun (Goes later) goes in
+    let is : at_entry rooms s q good (At (entry_of started)) ≡ nothing (going_on later q) = pdv_taken rooms s q good started taken ∙ pdv_arrives q good started (Goes later) goes in
+    let plain : at_entry rooms s p good (At (entry_of started)) ≡ nothing (going_on later p) = pdv_taken rooms s p good started taken ∙ pdv_arrives p good started (Goes later) goes in
     let nil : counted_pdv (going_on later q) [] ≡ [] = if_nothing (takes_pdvs q) in
     let now : so_far (going_on later q) [] ≡ later = ap (λ (xs : List ℕ). with_pdv xs later) nil in
     let draft : IsDraft p.request later (x.failed || p.filing_failed) sn (drafting_in z) = subst (λ (b : Bool). IsDraft p.request later (x.failed || b) sn (drafting_in z)) (sym unfailed) x.draft in
-    let c = subst (λ (m : Begun). Carried k.depth k.most z sn p.request m (x.failed || p.filing_failed)) (sym now) (x.walks, draft) in
+    let c = subst (λ (m : Started). Carried k.depth k.most z sn p.request m (x.failed || p.filing_failed)) (sym now) (x.walks, draft) in
     let pends : Pends (record k { join = j; storing = z; decided = decision.DataDue }) sn (going_on later q) [] [] = record {
       state_is = h.state_is;
       refused_is = h.refused_is;
@@ -145,7 +145,7 @@ does_due rooms s p begun room k j z l so sn later h taken goes shows due announc
       body_is = h.body_is;
       join_is = subst (λ (xs : List ℕ). ShowsMessage k.room j later xs) (sym nil) shows;
       agreed = h.agreed;
-      none_left = λ e. let wrong : is_established Sta6 ≡ false = sym (ap is_established six) ∙ e in absurd cc;
+      none_remaining = λ e. let wrong : is_established Sta6 ≡ false = sym (ap is_established six) ∙ e in absurd cc;
       unagreed = h.unagreed;
       walks = c.0;
       draft = c.1;
@@ -154,7 +154,7 @@ does_due rooms s p begun room k j z l so sn later h taken goes shows due announc
     record {
       outcome = record { wire = None; filing = x.failed; finding = good };
       fair = record {
-        verdict = verdict_by rooms s p q good begun (Goes later) taken goes tt;
+        verdict = verdict_by rooms s p q good started (Goes later) taken goes tt;
         wire = tt;
         filing = λ y. subst (λ (g : Advance). MayFail p g.next) (sym plain) (unfailed, inr (x.may y).1);
       };
@@ -175,8 +175,8 @@ does_due rooms s p begun room k j z l so sn later h taken goes shows due announc
 
 -- ---- and go on
 
-pub appends_none : (rooms : Rooms) (s : Settings) (p : Progress) (k : Kept) (begun : List ℕ) (d : Devices) → Pends k d.store p [] begun → Appends rooms s p k [] begun d d
-appends_none rooms s p k begun d h = record {
+pub appends_none : (rooms : Rooms) (s : Settings) (p : Progress) (k : Kept) (started : List ℕ) (d : Devices) → Pends k d.store p [] started → Appends rooms s p k [] started d d
+appends_none rooms s p k started d h = record {
   failed = false;
   last = λ e. absurd cc;
   pends = h;
@@ -187,22 +187,22 @@ appends_none rooms s p k begun d h = record {
   };
 }
 
-pub does_append : (rooms : Rooms) (s : Settings) (p : Progress) (begun part : List ℕ) (k : Kept) (j : Joining) (z : Stored) (l : Line) (so sn : Store) → Pends k so p [] begun → takes_pdvs p ≡ true → 6 ≤ length begun
-    → ShowsMessage k.room j p.message (begun ++ part) → GoesOn part k.storing z so sn → Appends rooms s p (record k { join = j; storing = z }) [] (begun ++ part) (devices l so) (devices l sn)
-does_append rooms s p begun part k j z l so sn h taken six shows g =
-    let old = subst (λ (xs : List ℕ). Carried k.depth k.most k.storing so p.request (with_pdv xs p.message) p.filing_failed) (counted_taken p begun taken) (carried k so p [] begun h) in
-    let x = goes_on_so k.depth k.most p.request (with_pdv begun p.message) p.filing_failed (get_or begun 4 0) part so sn k.storing z old g in
-    let more = part_more begun part p.message six in
-    let counts = counted_taken p (begun ++ part) taken in
-    let now : so_far p (begun ++ part) ≡ with_fragment (get_or begun 4 0) part (with_pdv begun p.message) = ap (λ (xs : List ℕ). with_pdv xs p.message) counts ∙ more in
-    let longer : 6 ≤ length (begun ++ part) = omega (arith, length-append begun part) in
+pub does_append : (rooms : Rooms) (s : Settings) (p : Progress) (started part : List ℕ) (k : Kept) (j : Joining) (z : Stored) (l : Line) (so sn : Store) → Pends k so p [] started → takes_pdvs p ≡ true → 6 ≤ length started
+    → ShowsMessage k.room j p.message (started ++ part) → Continues part k.storing z so sn → Appends rooms s p (record k { join = j; storing = z }) [] (started ++ part) (devices l so) (devices l sn)
+does_append rooms s p started part k j z l so sn h taken six shows g =
+    let old = subst (λ (xs : List ℕ). Carried k.depth k.most k.storing so p.request (with_pdv xs p.message) p.filing_failed) (counted_taken p started taken) (carried k so p [] started h) in
+    let x = continues_so k.depth k.most p.request (with_pdv started p.message) p.filing_failed (get_or started 4 0) part so sn k.storing z old g in
+    let more = part_more started part p.message six in
+    let counts = counted_taken p (started ++ part) taken in
+    let now : so_far p (started ++ part) ≡ with_fragment (get_or started 4 0) part (with_pdv started p.message) = ap (λ (xs : List ℕ). with_pdv xs p.message) counts ∙ more in
+    let longer : 6 ≤ length (started ++ part) = omega (arith, length-append started part) in
     let store : x.failed ≡ true → InStore p.request p.message =
-    λ y. pdv_store p.request (begun ++ part) p.message longer (subst (λ (m : Begun). InStore p.request m) (sym more) (x.may y).1) in
-    let c = subst (λ (m : Begun). Carried k.depth k.most z sn p.request m (x.failed || p.filing_failed)) (sym now) (x.walks, x.draft) in
+    λ y. pdv_store p.request (started ++ part) p.message longer (subst (λ (m : Started). InStore p.request m) (sym more) (x.may y).1) in
+    let c = subst (λ (m : Started). Carried k.depth k.most z sn p.request m (x.failed || p.filing_failed)) (sym now) (x.walks, x.draft) in
     record {
       failed = x.failed;
       last = λ y. ((x.may y).0, inl (store y));
-      pends = pends_joined k sn (absorb x.failed p) j z (begun ++ part) (aside_absorbed k p x.failed (aside_of k so p begun h)) (subst (λ (xs : List ℕ). ShowsMessage k.room j p.message xs) (sym counts) shows) c
+      pends = pends_joined k sn (absorb x.failed p) j z (started ++ part) (aside_absorbed k p x.failed (aside_of k so p started h)) (subst (λ (xs : List ℕ). ShowsMessage k.room j p.message xs) (sym counts) shows) c
           (λ n e. by n store (either_failed x.failed p.filing_failed e));
       gains = record {
         line = ap (λ (y : Option (List ℕ)). record { sent = y; failures = l.failures }) (sent_nothing l.sent) ∙ ap (λ (n : ℕ). record { sent = append_known l.sent []; failures = n }) (omega arith);

@@ -13,20 +13,20 @@ use Rattle.negotiate.specs.Settings.{Settings}
 use Rattle.negotiate.specs.declared.proposals.Context.{Context}
 use Rattle.negotiate.specs.Contexts.{context_of}
 use Rattle.part10.specs.File.{File}
-use Rattle.part10.specs.Store.{Shelf, Store, committed, told_after}
+use Rattle.part10.specs.Store.{Shelf, Store, committed, reported_after}
 use Rattle.dimse.specs.declared.detail.Detail.{Detail}
 use Rattle.dimse.specs.declared.fault.DimseFault.{DimseFault}
 use Rattle.dimse.specs.Command.{CommandRecord, is_request}
 use Rattle.dimse.specs.Reading.{command_in}
 use Rattle.sequence.specs.Tree.{no_elements}
 use Rattle.dimse.specs.Status.{success, class_not_supported, out_of_resources, data_set_mismatch}
-use Rattle.dimse.specs.Messages.{Message, Begun, NoMessage, InSet, Ends, brought}
+use Rattle.dimse.specs.Messages.{Message, Started, NoMessage, InSet, Ends, brought}
 use Rattle.dimse.specs.Joining.{Joining, ShowsMessage, pdv_of, with_pdv}
 use Rattle.dimse.specs.Reply.{reply_bytes, reply_command, fragment_size, command_pdus, fragments, fragments_in}
 use Rattle.engine.specs.Timeline.{At, Finding, good}
 use Rattle.engine.specs.Devices.{Devices, devices, files_in, with_files, line_with, IsFront}
-use Rattle.engine.specs.Drafts.{IsDraft, TellsDraft}
-use Rattle.engine.specs.Progress.{Progress, Advance, absorb, left, deciding}
+use Rattle.engine.specs.Drafts.{IsDraft, ReportsDraft}
+use Rattle.engine.specs.Progress.{Progress, Advance, absorb, remaining, deciding}
 use Rattle.engine.specs.Reached.{takes_pdvs}
 use Rattle.decisions.specs.declared.decision.Decision.{Decision}
 use Rattle.decisions.specs.declared.decision.Decision.TheVariants as decision
@@ -36,17 +36,17 @@ use Rattle.engine.specs.Run.{Rooms, at_entry, fails, counted}
 use Rattle.engine.specs.Run as run
 use Rattle.engine.specs.Fair.{InStore}
 use Rattle.engine.specs.Kept.{Kept, Pends, counted_pdv}
-use Rattle.engine.specs.machine.Messages.{Aside, HasCome, Ended, Concludes}
+use Rattle.engine.specs.machine.Messages.{Aside, HasReceived, Ended, Concludes}
 use Rattle.engine.specs.machine.Storing as storing
 use Rattle.engine.specs.StoredData.{Stored, Nothing, Walks, not_walked, walked, drafting_in}
 use Rattle.engine.specs.machine.Storing.{BeginsStore, Begins, Drops, EndsDraft, commit_failed, dropped, EndsStore}
 use Rattle.engine.specs.machine.Verdicts.{EndsAs}
-use Rattle.engine.specs.machine.PerformsReaction.{ComesTo, Unfiled, is_left}
+use Rattle.engine.specs.machine.PerformsReaction.{Reaches, Unfiled, is_remaining}
 use Rattle.engine.specs.machine.Does.{Does}
 use Rattle.engine.proofs.StoresAreKept.DraftAndWalk.{none_carried, meta_by, file_due, undrafted, drafted, drops_unfiled, files_kept}
 use Rattle.engine.proofs.FieldsShow.AfterAnEvent.{settled_failed, pends_decided}
 use Rattle.engine.proofs.FieldsShow.TriedIsDone.{if_nothing, line_same, line_gained, files_cut, filed_nothing}
-use Rattle.engine.proofs.MarksAreDone.PdvJoined.{entry_of, pdv_taken, pdv_comes, verdict_by}
+use Rattle.engine.proofs.MarksAreDone.PdvJoined.{entry_of, pdv_taken, pdv_arrives, verdict_by}
 use Rattle.engine.proofs.FieldsShow.NothingCounts.{no_store}
 use Rattle.engine.proofs.StoresAreKept.WalkIsJudged.{fault_is_failure}
 
@@ -95,8 +95,8 @@ replied_absorbed p b f m r = grind (arith, common_steps)
 
 -- ---- a command that does not read, and an echo
 
-module _ (rooms : Rooms) (s : Settings) (p : Progress) (m : Message) (come : Begun) (store : Store) where
-  pub unread_ended : (l : Line) (f : DimseFault) → command_in m.command ≡ Err f → Ended rooms s p m come decision.Nothing (Ok tt) (devices l store) (devices l store)
+module _ (rooms : Rooms) (s : Settings) (p : Progress) (m : Message) (received : Started) (store : Store) where
+  pub unread_ended : (l : Line) (f : DimseFault) → command_in m.command ≡ Err f → Ended rooms s p m received decision.Nothing (Ok tt) (devices l store) (devices l store)
   unread_ended l f e = record {
     finding = good;
     decided_is = ap (λ (r : Result CommandRecord DimseFault). (replied p good m r).next.decided) (sym e);
@@ -115,7 +115,7 @@ module _ (rooms : Rooms) (s : Settings) (p : Progress) (m : Message) (come : Beg
 
   pub echo_ended : (r : Result (Unit {0}) WireFailed) (lo ln : Line) (c : CommandRecord) (status id maximum : ℕ) (accepted : Option Context) → command_in m.command ≡ Ok c → c.field ≡ 0x0030
       → status ≡ echo_status accepted c → accepted ≡ context_of (request_record p.request) m.context → id ≡ m.context → maximum ≡ (request_record p.request).maximum
-      → Sends (reply_bytes c status None id maximum) r lo ln → Ended rooms s p m come (decision.Replied status None) r (devices lo store) (devices ln store)
+      → Sends (reply_bytes c status None id maximum) r lo ln → Ended rooms s p m received (decision.Replied status None) r (devices lo store) (devices ln store)
   echo_ended r lo ln c status id maximum accepted e field st a i x sends =
       let is : finding_on accepted c good ≡ record { status = echo_status accepted c; detail = None } = ap (λ (n : ℕ). if nat_eq n 0x0030 then record { status = echo_status accepted c; detail = None } else good) field in
       let text : reply_bytes c status None id maximum ≡ (replied p good m (command_in m.command)).sent =
@@ -171,40 +171,40 @@ put r id c set f context field ok accepted =
     ap (λ (n : ℕ). if nat_eq n 0x0001 && nat_eq f.status success then file_in r (context_of r id) c set else []) field
     ∙ ap (λ (n : ℕ). if nat_eq n success then file_in r (context_of r id) c set else []) ok ∙ ap (λ (o : Option Context). file_in r o c set) accepted
 
-told_put : (told : Option Shelf) (file : List ℕ) → TellsDraft told file → option_map (λ (shelf : Shelf). shelf.files) (told_after committed told) ≡ with_files (file ∷ []) (option_map (λ (shelf : Shelf). shelf.files) told)
-told_put None file h = refl
-told_put (Some shelf) file h = ap (λ (xs : List ℕ). Some (shelf.files ++ xs ∷ [])) h
+reported_put : (reported : Option Shelf) (file : List ℕ) → ReportsDraft reported file → option_map (λ (shelf : Shelf). shelf.files) (reported_after committed reported) ≡ with_files (file ∷ []) (option_map (λ (shelf : Shelf). shelf.files) reported)
+reported_put None file h = refl
+reported_put (Some shelf) file h = ap (λ (xs : List ℕ). Some (shelf.files ++ xs ∷ [])) h
 
--- the store is judged, and this came of its draft
-pub record StoreEnds (depth most : ℕ) (request : Requested) (m : Message) (come : Begun) (c : CommandRecord) (before : Bool) (f : Finding) (old new : Store) : Type 0 where
+-- the store is judged, and this became of its draft
+pub record StoreEnds (depth most : ℕ) (request : Requested) (m : Message) (received : Started) (c : CommandRecord) (before : Bool) (f : Finding) (old new : Store) : Type 0 where
   pub failed_then : Bool
-  pub may : failed_then ≡ true → (before ≡ false) × InStore request come
+  pub may : failed_then ≡ true → (before ≡ false) × InStore request received
   pub verdict : (context : Context) → context_of (request_record request) m.context ≡ Some context → Verdict depth most context c m.set (failed_then || before) f
   pub files : files_in new ≡ with_files (file_put (request_record request) m.context c m.set f) (files_in old)
   pub count : new.failures ≡ old.failures + counted failed_then
 
-module _ (depth most : ℕ) (request : Requested) (m : Message) (come : Begun) (c : CommandRecord) (before : Bool) (f : Finding) (old new : Store) where
+module _ (depth most : ℕ) (request : Requested) (m : Message) (received : Started) (c : CommandRecord) (before : Bool) (f : Finding) (old new : Store) where
   kept_files : (f.status ≡ success → ⊥) → files_in new ≡ files_in old → files_in new ≡ with_files (file_put (request_record request) m.context c m.set f) (files_in old)
   kept_files h e = e ∙ filed_nothing (files_in old) ∙ ap (λ (fs : List (List ℕ)). with_files fs (files_in old)) (sym (not_put (request_record request) m.context c m.set f h))
 
   -- nothing was walked
-  pub unwalked_ends : come ≡ InSet m.context m.command m.set → command_in m.command ≡ Ok c → (InStore request come → ⊥) → f ≡ record { status = class_not_supported; detail = None } → new ≡ old
-      → StoreEnds depth most request m come c before f old new
+  pub unwalked_ends : received ≡ InSet m.context m.command m.set → command_in m.command ≡ Ok c → (InStore request received → ⊥) → f ≡ record { status = class_not_supported; detail = None } → new ≡ old
+      → StoreEnds depth most request m received c before f old new
   unwalked_ends is e none found same = record {
     failed_then = false;
     may = λ x. absurd cc;
     verdict = λ context accepted. subst (λ (x : Finding). Verdict depth most context c m.set before x) (sym found) (record {
       elements = no_elements;
-      first = inl (λ of. none (record { id = m.context; command = m.command; set = m.set; asked = c; context = context; begun = is; spelled = e; accepted = accepted; of_context = of }), refl);
+      first = inl (λ of. none (record { id = m.context; command = m.command; set = m.set; asked = c; context = context; started = is; spelled = e; accepted = accepted; of_context = of }), refl);
     });
     files = kept_files (λ ok. let wrong : class_not_supported ≡ success = sym (ap (λ (x : Finding). x.status) found) ∙ ok in absurd cc) (ap files_in same);
     count = ap (λ (x : Store). x.failures) same ∙ omega arith;
   }
 
-  module _ (is : come ≡ InSet m.context m.command m.set) (e : command_in m.command ≡ Ok c) (field : c.field ≡ 0x0001) (store : InStore request come) (drafting : Bool) (h : IsDraft request come before old drafting)
+  module _ (is : received ≡ InSet m.context m.command m.set) (e : command_in m.command ≡ Ok c) (field : c.field ≡ 0x0001) (store : InStore request received) (drafting : Bool) (h : IsDraft request received before old drafting)
       (ends : EndsStore depth most store.context c store.set drafting f old new) where
     same_message : InSet store.id store.command store.set ≡ InSet m.context m.command m.set
-    same_message = sym store.begun ∙ is
+    same_message = sym store.started ∙ is
 
     same_id : store.id ≡ m.context
     same_id = let x = same_message in cc
@@ -225,26 +225,26 @@ module _ (depth most : ℕ) (request : Requested) (m : Message) (come : Begun) (
     accepted_here = ap (context_of (request_record request)) (sym same_id) ∙ store.accepted
 
     judged : Verdict depth most store.context c m.set (ends.failed_then || before) f
-    judged = subst (λ (b : Bool). Verdict depth most store.context c m.set (ends.failed_then || b) f) (undrafted request come before old drafting h store)
+    judged = subst (λ (b : Bool). Verdict depth most store.context c m.set (ends.failed_then || b) f) (undrafted request received before old drafting h store)
         (subst (λ (xs : List ℕ). Verdict depth most store.context c xs (ends.failed_then || not drafting) f) same_set (ends.verdict of_context))
 
     by : (b : Bool) → b ≡ ends.failed_then → EndsDraft drafting f old new b
-        → (b ≡ true → (before ≡ false) × InStore request come) × (files_in new ≡ with_files (file_put (request_record request) m.context c m.set f) (files_in old)) × (new.failures ≡ old.failures + counted b)
+        → (b ≡ true → (before ≡ false) × InStore request received) × (files_in new ≡ with_files (file_put (request_record request) m.context c m.set f) (files_in old)) × (new.failures ≡ old.failures + counted b)
     by _ eq (storing.filed d ok step) =
-        let due = drafted request come before old drafting h d in
+        let due = drafted request received before old drafting h d in
         let file : due.0 ≡ File (meta_by request store.context c) m.set =
-        file_due request come before due.0 due.1 store ∙ ap (λ (a : CommandRecord). File (meta_by request store.context a) store.set) same_asked ∙ ap (λ (xs : List ℕ). File (meta_by request store.context c) xs) same_set in
+        file_due request received before due.0 due.1 store ∙ ap (λ (a : CommandRecord). File (meta_by request store.context a) store.set) same_asked ∙ ap (λ (xs : List ℕ). File (meta_by request store.context c) xs) same_set in
         let one : file_put (request_record request) m.context c m.set f ≡ due.0 ∷ [] = put (request_record request) m.context c m.set f store.context field ok accepted_here ∙ ap (λ (xs : List ℕ). xs ∷ []) (sym file) in
-        (λ x. absurd cc, ap files_in step ∙ told_put old.told due.0 due.2.bytes ∙ ap (λ (fs : List (List ℕ)). with_files fs (files_in old)) (sym one), ap (λ (x : Store). x.failures) step ∙ omega arith)
+        (λ x. absurd cc, ap files_in step ∙ reported_put old.reported due.0 due.2.bytes ∙ ap (λ (fs : List (List ℕ)). with_files fs (files_in old)) (sym one), ap (λ (x : Store). x.failures) step ∙ omega arith)
     by _ eq (commit_failed d step) =
-        let due = drafted request come before old drafting h d in
+        let due = drafted request received before old drafting h d in
         let bad = subst (λ (b : Bool). Verdict depth most store.context c m.set (b || before) f) (sym eq) judged in
-        (λ x. (due.1.unfailed, store), kept_files (failed_store bad) (ap files_in step ∙ files_kept old.told), ap (λ (x : Store). x.failures) step)
+        (λ x. (due.1.unfailed, store), kept_files (failed_store bad) (ap files_in step ∙ files_kept old.reported), ap (λ (x : Store). x.failures) step)
     by _ eq (dropped n step) =
         let u = drops_unfiled drafting old new step in
         (λ x. absurd cc, kept_files n u.files, u.count ∙ omega arith)
 
-    pub walked_ends : StoreEnds depth most request m come c before f old new
+    pub walked_ends : StoreEnds depth most request m received c before f old new
     walked_ends =
         let r = by ends.failed_then refl ends.draft in
         record {
@@ -257,10 +257,10 @@ module _ (depth most : ℕ) (request : Requested) (m : Message) (come : Begun) (
         }
 
 -- the store is answered
-pub store_ended : (rooms : Rooms) (s : Settings) (p : Progress) (m : Message) (come : Begun) (c : CommandRecord) (f : Finding) (old new : Store) (r : Result (Unit {0}) WireFailed) (lo ln : Line) (id maximum : ℕ)
-    → command_in m.command ≡ Ok c → c.field ≡ 0x0001 → id ≡ m.context → maximum ≡ (request_record p.request).maximum → StoreEnds rooms.depth s.max_data p.request m come c p.filing_failed f old new
-    → Sends (reply_bytes c f.status f.detail id maximum) r lo ln → Ended rooms s p m come (decision.Replied f.status f.detail) r (devices lo old) (devices ln new)
-store_ended rooms s p m come c f old new r lo ln id maximum e field i x ends sends =
+pub store_ended : (rooms : Rooms) (s : Settings) (p : Progress) (m : Message) (received : Started) (c : CommandRecord) (f : Finding) (old new : Store) (r : Result (Unit {0}) WireFailed) (lo ln : Line) (id maximum : ℕ)
+    → command_in m.command ≡ Ok c → c.field ≡ 0x0001 → id ≡ m.context → maximum ≡ (request_record p.request).maximum → StoreEnds rooms.depth s.max_data p.request m received c p.filing_failed f old new
+    → Sends (reply_bytes c f.status f.detail id maximum) r lo ln → Ended rooms s p m received (decision.Replied f.status f.detail) r (devices lo old) (devices ln new)
+store_ended rooms s p m received c f old new r lo ln id maximum e field i x ends sends =
     let accepted = context_of (request_record p.request) m.context in
     let is : finding_on accepted c f ≡ f = ap (λ (n : ℕ). if nat_eq n 0x0030 then record { status = echo_status accepted c; detail = None } else f) field in
     let text : reply_bytes c f.status f.detail id maximum ≡ (replied p f m (command_in m.command)).sent =
@@ -279,14 +279,14 @@ store_ended rooms s p m come c f old new r lo ln id maximum e field i x ends sen
       count = ends.count;
     }
 
-pub judged_store : (depth most : ℕ) (request : Requested) (m : Message) (come : Begun) (c : CommandRecord) (before : Bool) (f : Finding) (old new : Store) (stored : Stored) → Walks depth most request come stored
-    → IsDraft request come before old (drafting_in stored) → HasCome m come → command_in m.command ≡ Ok c → (c.field ≡ 0x0001) × (c.with_data ≡ true)
+pub judged_store : (depth most : ℕ) (request : Requested) (m : Message) (received : Started) (c : CommandRecord) (before : Bool) (f : Finding) (old new : Store) (stored : Stored) → Walks depth most request received stored
+    → IsDraft request received before old (drafting_in stored) → HasReceived m received → command_in m.command ≡ Ok c → (c.field ≡ 0x0001) × (c.with_data ≡ true)
     → (stored ≡ Nothing → (f ≡ record { status = class_not_supported; detail = None }) × (new ≡ old))
-    → EndsAs c f old new stored → StoreEnds depth most request m come c before f old new
-judged_store depth most request m come c before f old new stored w h (inr (is, alone)) e (field, with_set) none ends = let wrong : true ≡ false = sym with_set ∙ alone c e in absurd cc
-judged_store depth most request m come c before f old new _ (not_walked idle) h (inl is) e (field, with_set) none ends = unwalked_ends depth most request m come c before f old new is e idle (none refl).0 (none refl).1
-judged_store depth most request m come c before f old new _ (walked {drafting = drafting} store takes) h (inl is) e (field, with_set) none ends =
-    walked_ends depth most request m come c before f old new is e field store drafting h (ends store.context depth most store.set takes)
+    → EndsAs c f old new stored → StoreEnds depth most request m received c before f old new
+judged_store depth most request m received c before f old new stored w h (inr (is, alone)) e (field, with_set) none ends = let wrong : true ≡ false = sym with_set ∙ alone c e in absurd cc
+judged_store depth most request m received c before f old new _ (not_walked idle) h (inl is) e (field, with_set) none ends = unwalked_ends depth most request m received c before f old new is e idle (none refl).0 (none refl).1
+judged_store depth most request m received c before f old new _ (walked {drafting = drafting} store takes) h (inl is) e (field, with_set) none ends =
+    walked_ends depth most request m received c before f old new is e field store drafting h (ends store.context depth most store.set takes)
 
 -- a request that is no echo is a store, and has data
 pub is_store : (field : ℕ) (announced : Bool) (instance : Option (List ℕ)) → is_request field announced instance ≡ true → (field ≡ 0x0030 → ⊥) → (field ≡ 0x0001) × (announced ≡ true)
@@ -322,17 +322,17 @@ ended_pends p old j z store h six quiet none =
       body_is = h.body_is;
       join_is = subst (λ (xs : List ℕ). ShowsMessage old.room j NoMessage xs) (sym nil) quiet;
       agreed = h.agreed;
-      none_left = λ e. refl;
+      none_remaining = λ e. refl;
       unagreed = h.unagreed;
       walks = c.0;
       draft = c.1;
       failed_in = λ n e. absurd cc;
     }
 
-pub concludes : (rooms : Rooms) (s : Settings) (p : Progress) (m : Message) (come : Begun) (d : Decision) (r : Result (Unit {0}) WireFailed) (old new : Kept) (j : Joining) (z : Stored) (lo ln : Line) (so sm sl sn : Store)
-    → Aside old p → old.state ≡ Sta6 → ShowsMessage old.room j NoMessage [] → z ≡ Nothing → Ended rooms s p m come d r (devices lo so) (devices ln sm) → Unfiled sm sl
-    → ComesTo Sta6 r (record old { join = j; storing = z; decided = d }) new sl sn → Concludes rooms s p m come new (devices lo so) (devices ln sn)
-concludes rooms s p m come d (Ok u) old new j z lo ln so sm sl sn h six quiet none e gone settles = record {
+pub concludes : (rooms : Rooms) (s : Settings) (p : Progress) (m : Message) (received : Started) (d : Decision) (r : Result (Unit {0}) WireFailed) (old new : Kept) (j : Joining) (z : Stored) (lo ln : Line) (so sm sl sn : Store)
+    → Aside old p → old.state ≡ Sta6 → ShowsMessage old.room j NoMessage [] → z ≡ Nothing → Ended rooms s p m received d r (devices lo so) (devices ln sm) → Unfiled sm sl
+    → Reaches Sta6 r (record old { join = j; storing = z; decided = d }) new sl sn → Concludes rooms s p m received new (devices lo so) (devices ln sn)
+concludes rooms s p m received d (Ok u) old new j z lo ln so sm sl sn h six quiet none e gone settles = record {
   finding = e.finding;
   failed = e.failed;
   wire = None;
@@ -340,40 +340,40 @@ concludes rooms s p m come d (Ok u) old new j z lo ln so sm sl sn h six quiet no
   verdict = e.verdict;
   fair = tt;
   pends = subst (λ (q : Progress). Pends new sn q [] []) (ap (λ (x : Decision). deciding x (ended_message p)) e.decided_is ∙ sym (replied_next p e.finding m (command_in m.command)))
-      (subst (λ (k : Kept). Pends k sn (deciding d (ended_message p)) [] []) (sym (settles.same (ap is_left settles.state_is) ∙ ap (λ (st : State). record old { join = j; storing = z; decided = d; state = st }) settles.state_is))
+      (subst (λ (k : Kept). Pends k sn (deciding d (ended_message p)) [] []) (sym (settles.same (ap is_remaining settles.state_is) ∙ ap (λ (st : State). record old { join = j; storing = z; decided = d; state = st }) settles.state_is))
       (pends_decided d (record old { join = j; storing = z; state = Sta6 }) sn (ended_message p) [] [] (ended_pends p old j z sn h six quiet none)));
   line = e.sends;
   files = settles.unfiled.files ∙ gone.files ∙ e.files;
   count = settles.unfiled.count ∙ gone.count ∙ e.count;
 }
-concludes rooms s p m come d (Err x) old new j z lo ln so sm sl sn h six quiet none e gone settles = record {
+concludes rooms s p m received d (Err x) old new j z lo ln so sm sl sn h six quiet none e gone settles = record {
   finding = e.finding;
   failed = e.failed;
   wire = Some e.sends.count;
   may = e.may;
   verdict = e.verdict;
   fair = (e.due, e.sends.few);
-  pends = subst (λ (y : Decision). Pends new sn (left Sta1 (deciding y p)) [] []) e.decided_is (settled_failed p d Sta6 x (record old { join = j; storing = z; decided = d }) new sl sn [] [] refl settles);
+  pends = subst (λ (y : Decision). Pends new sn (remaining Sta1 (deciding y p)) [] []) e.decided_is (settled_failed p d Sta6 x (record old { join = j; storing = z; decided = d }) new sl sn [] [] refl settles);
   line = e.sends.line;
   files = settles.unfiled.files ∙ gone.files ∙ e.files;
   count = settles.unfiled.count ∙ gone.count ∙ e.count;
 }
 
-pub does_concluded : (rooms : Rooms) (s : Settings) (p : Progress) (begun : List ℕ) (m : Message) (come : Begun) (k : Kept) (old new : Devices) → takes_pdvs p ≡ true → brought p.message (pdv_of begun) ≡ Ends m
-    → (InStore p.request come → InStore p.request p.message) → Concludes rooms s p m come k old new → Does rooms s p (At (entry_of begun)) k [] [] old new
-does_concluded rooms s p begun m come k old new taken e to x =
+pub does_concluded : (rooms : Rooms) (s : Settings) (p : Progress) (started : List ℕ) (m : Message) (received : Started) (k : Kept) (old new : Devices) → takes_pdvs p ≡ true → brought p.message (pdv_of started) ≡ Ends m
+    → (InStore p.request received → InStore p.request p.message) → Concludes rooms s p m received k old new → Does rooms s p (At (entry_of started)) k [] [] old new
+does_concluded rooms s p started m received k old new taken e to x =
     let q = absorb x.failed p in
-    let is : at_entry rooms s q x.finding (At (entry_of begun)) ≡ replied p x.finding m (command_in m.command) =
-    pdv_taken rooms s q x.finding begun taken ∙ pdv_comes q x.finding begun (Ends m) e ∙ replied_absorbed p x.failed x.finding m (command_in m.command) in
+    let is : at_entry rooms s q x.finding (At (entry_of started)) ≡ replied p x.finding m (command_in m.command) =
+    pdv_taken rooms s q x.finding started taken ∙ pdv_arrives q x.finding started (Ends m) e ∙ replied_absorbed p x.failed x.finding m (command_in m.command) in
     record {
       outcome = record { wire = x.wire; filing = x.failed; finding = x.finding };
       fair = record {
-        verdict = verdict_by rooms s p q x.finding begun (Ends m) taken e x.verdict;
+        verdict = verdict_by rooms s p q x.finding started (Ends m) taken e x.verdict;
         wire = subst (λ (g : Advance). IsFront x.wire g.sent) (sym is) x.fair;
         filing = λ y. ((x.may y).0, inl (to (x.may y).1));
       };
       pends = subst (λ (g : Advance). Pends k new.store (run.cut x.wire p g).next [] []) (sym is) x.pends;
       line = x.line ∙ line_gained x.wire p (replied p x.finding m (command_in m.command)) old.line ∙ ap (λ (g : Advance). line_with (run.cut x.wire p g).sent (fails x.wire) old.line) (sym is);
-      files = x.files ∙ ap (λ (fs : List (List ℕ)). with_files fs (files_in old.store)) (sym (files_cut x.wire p (at_entry rooms s q x.finding (At (entry_of begun))) ∙ ap (λ (g : Advance). g.files) is));
+      files = x.files ∙ ap (λ (fs : List (List ℕ)). with_files fs (files_in old.store)) (sym (files_cut x.wire p (at_entry rooms s q x.finding (At (entry_of started))) ∙ ap (λ (g : Advance). g.files) is));
       count = x.count;
     }

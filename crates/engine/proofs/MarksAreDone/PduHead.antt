@@ -16,15 +16,15 @@ use Rattle.decisions.specs.declared.decision.Decision.{Decision}
 use Rattle.decisions.specs.declared.decision.Decision.TheVariants as decision
 use Rattle.engine.specs.Progress.{Progress, Advance, decided_at, nothing, done, refusing, is_due, is_established}
 use Rattle.engine.specs.Heads.{HeadEvent, NoEvent, AtOnce, TooLong, event_of, is_known, has_four_bytes, is_abort, out_of_place, request_length, data_length, head_event}
-use Rattle.engine.specs.machine.PerformsReaction.{is_left, Stays}
+use Rattle.engine.specs.machine.PerformsReaction.{is_remaining, Stays}
 use Rattle.engine.proofs.FieldsShow.TriedIsDone.{stays_invalid}
 
 -- an action that answers by an abort leaves the association
-pub abort_leaves : (st : State) (e : Event) → is_abort (table st e).0 ≡ true → is_left (table st e).1 ≡ true
+pub abort_leaves : (st : State) (e : Event) → is_abort (table st e).0 ≡ true → is_remaining (table st e).1 ≡ true
 abort_leaves st e h = grind arith
 
-left_stays : (st : State) (e : Event) → is_left (table st e).1 ≡ true → Stays st e
-left_stays st e h = λ n. let x : true ≡ false = sym h ∙ n in absurd cc
+remaining_stays : (st : State) (e : Event) → is_remaining (table st e).1 ≡ true → Stays st e
+remaining_stays st e h = λ n. let x : true ≡ false = sym h ∙ n in absurd cc
 
 -- ---- which of two
 
@@ -41,7 +41,7 @@ invalid_stays st e r q h = subst (λ (x : Event). Stays st x) (same_event Invali
 pub head_stays : (room most : ℕ) (st : State) (kind n : ℕ) (e : Event) (r : ℕ) → head_event room most st kind n ≡ AtOnce e r → Stays st e
 head_stays room most st kind n e r =
     let out = either (is_abort (table st (event_of kind)).0) (AtOnce (event_of kind) 2) NoEvent (AtOnce e r) (Stays st e)
-    (λ t h. subst (λ (x : Event). Stays st x) (same_event (event_of kind) e 2 r h) (left_stays st (event_of kind) (abort_leaves st (event_of kind) t))) (λ t h. absurd cc) in
+    (λ t h. subst (λ (x : Event). Stays st x) (same_event (event_of kind) e 2 r h) (remaining_stays st (event_of kind) (abort_leaves st (event_of kind) t))) (λ t h. absurd cc) in
     let of_data = either (nat_lt most n || nat_lt n 6) (AtOnce Invalid 6) NoEvent (AtOnce e r) (Stays st e) (λ t h. invalid_stays st e 6 r h) (λ t h. absurd cc) in
     let short = either (nat_lt n 68) (AtOnce Invalid 6) NoEvent (AtOnce e r) (Stays st e) (λ t h. invalid_stays st e 6 r h) (λ t h. absurd cc) in
     let request = either (nat_lt room n) TooLong (if nat_lt n 68 then AtOnce Invalid 6 else NoEvent) (AtOnce e r) (Stays st e) (λ t h. absurd cc) (λ t h. short h) in

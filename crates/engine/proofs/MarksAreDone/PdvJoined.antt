@@ -24,8 +24,8 @@ use Rattle.dimse.specs.declared.joined.Joined.{Joined}
 use Rattle.dimse.specs.declared.joined.Joined.TheVariants as joined
 use Rattle.dimse.specs.Command.{CommandRecord}
 use Rattle.dimse.specs.Reading.{command_in}
-use Rattle.dimse.specs.Messages.{Message, message_by, Begun, NoMessage, InCommand, InSet, Brought, Goes, Ends, Refuses, brought, refusal, head_refusal, if_context, with_command, completed, with_fragment}
-use Rattle.dimse.specs.Joining.{Joining, ShowsMessage, InContext, Joins, ok_unless, without_set, pdv_of, goes_on, lending, with_pdv}
+use Rattle.dimse.specs.Messages.{Message, message_by, Started, NoMessage, InCommand, InSet, Brought, Goes, Ends, Refuses, brought, refusal, head_refusal, if_context, with_command, completed, with_fragment}
+use Rattle.dimse.specs.Joining.{Joining, ShowsMessage, InContext, Joins, ok_unless, without_set, pdv_of, continues, lending, with_pdv}
 use Rattle.engine.specs.Timeline.{At, Finding, good}
 use Rattle.decisions.specs.declared.decision.Decision.TheVariants as decision
 use Rattle.dimse.specs.Messages as message
@@ -37,7 +37,7 @@ use Rattle.engine.specs.Fair.{InStore, IsVerdict, message_at}
 use Rattle.engine.specs.Held.{is_ended}
 use Rattle.engine.specs.Kept.{Kept, Pends, counted_body, counted_pdv, takes_pdvs_in}
 use Rattle.engine.specs.machine.Does.{Does}
-use Rattle.engine.specs.machine.Messages.{with_join, Aside, HasCome}
+use Rattle.engine.specs.machine.Messages.{with_join, Aside, HasReceived}
 use Rattle.engine.specs.StoredData.{Stored}
 use Rattle.engine.proofs.StoresAreKept.DraftAndWalk.{Carried, so_far, carried, no_store_yet, long_pdv, store_fragment, head_carried}
 use Rattle.engine.specs.Devices.{Devices}
@@ -54,8 +54,8 @@ established_when st r h = grind (arith, common_steps)
 pub taken_state : (p : Progress) → takes_pdvs p ≡ true → p.state ≡ Sta6
 taken_state p h = established_when p.state p.refused h
 
-pub counted_taken : (p : Progress) (begun : List ℕ) → takes_pdvs p ≡ true → counted_pdv p begun ≡ begun
-counted_taken p begun t = ap (λ (x : Bool). if x then begun else []) t
+pub counted_taken : (p : Progress) (started : List ℕ) → takes_pdvs p ≡ true → counted_pdv p started ≡ started
+counted_taken p started t = ap (λ (x : Bool). if x then started else []) t
 
 pub pends_dropped : (k : Kept) (store : Store) (p : Progress) (body b c : List ℕ) → takes_pdvs p ≡ false → Pends k store p body b → Pends k store p body c
 pends_dropped k store p body b c t h =
@@ -68,7 +68,7 @@ pends_dropped k store p body b c t h =
       body_is = h.body_is;
       join_is = subst (λ (xs : List ℕ). ShowsMessage k.room k.join p.message xs) same h.join_is;
       agreed = h.agreed;
-      none_left = h.none_left;
+      none_remaining = h.none_remaining;
       unagreed = h.unagreed;
       walks = d.0;
       draft = d.1;
@@ -77,8 +77,8 @@ pends_dropped k store p body b c t h =
 
 -- ---- beside the message
 
-pub aside_of : (k : Kept) (store : Store) (p : Progress) (begun : List ℕ) → Pends k store p [] begun → Aside k p
-aside_of k store p begun h = record { state_is = h.state_is; refused_is = h.refused_is; decided_is = h.decided_is; body_is = h.body_is; agreed = h.agreed; none_left = h.none_left; unagreed = h.unagreed }
+pub aside_of : (k : Kept) (store : Store) (p : Progress) (started : List ℕ) → Pends k store p [] started → Aside k p
+aside_of k store p started h = record { state_is = h.state_is; refused_is = h.refused_is; decided_is = h.decided_is; body_is = h.body_is; agreed = h.agreed; none_remaining = h.none_remaining; unagreed = h.unagreed }
 
 -- of another join the same is aside
 pub aside_joined : (k : Kept) (p : Progress) (j : Joining) → Aside k p → Aside (with_join j k) p
@@ -88,38 +88,38 @@ aside_joined k p j h = record {
   decided_is = h.decided_is;
   body_is = h.body_is;
   agreed = h.agreed;
-  none_left = h.none_left;
+  none_remaining = h.none_remaining;
   unagreed = h.unagreed;
 }
 
 pub aside_absorbed : (k : Kept) (p : Progress) (failed : Bool) → Aside k p → Aside k (absorb failed p)
-aside_absorbed k p failed h = record { state_is = h.state_is; refused_is = h.refused_is; decided_is = h.decided_is; body_is = h.body_is; agreed = h.agreed; none_left = h.none_left; unagreed = h.unagreed }
+aside_absorbed k p failed h = record { state_is = h.state_is; refused_is = h.refused_is; decided_is = h.decided_is; body_is = h.body_is; agreed = h.agreed; none_remaining = h.none_remaining; unagreed = h.unagreed }
 
-pub pends_joined : (k : Kept) (store : Store) (p : Progress) (j : Joining) (stored : Stored) (begun : List ℕ) → Aside k p → ShowsMessage k.room j p.message (counted_pdv p begun)
-    → Carried k.depth k.most stored store p.request (so_far p begun) p.filing_failed → (is_ended p.state ≡ false → p.filing_failed ≡ true → InStore p.request p.message)
-    → Pends (record k { join = j; storing = stored }) store p [] begun
-pends_joined k store p j stored begun h shows c failed = record {
+pub pends_joined : (k : Kept) (store : Store) (p : Progress) (j : Joining) (stored : Stored) (started : List ℕ) → Aside k p → ShowsMessage k.room j p.message (counted_pdv p started)
+    → Carried k.depth k.most stored store p.request (so_far p started) p.filing_failed → (is_ended p.state ≡ false → p.filing_failed ≡ true → InStore p.request p.message)
+    → Pends (record k { join = j; storing = stored }) store p [] started
+pends_joined k store p j stored started h shows c failed = record {
   state_is = h.state_is;
   refused_is = h.refused_is;
   decided_is = h.decided_is;
   body_is = h.body_is;
   join_is = shows;
   agreed = h.agreed;
-  none_left = h.none_left;
+  none_remaining = h.none_remaining;
   unagreed = h.unagreed;
   walks = c.0;
   draft = c.1;
   failed_in = failed;
 }
 
--- the head of a PDV came
-pub pends_headed : (k : Kept) (store : Store) (p : Progress) (j : Joining) (begun : List ℕ) → length begun ≡ 6 → takes_pdvs p ≡ true → Pends k store p [] [] → ShowsMessage k.room j p.message begun → Pends (with_join j k) store p [] begun
-pends_headed k store p j begun six t h shows =
-    let counts = counted_taken p begun t in
+-- the head of a PDV was received
+pub pends_headed : (k : Kept) (store : Store) (p : Progress) (j : Joining) (started : List ℕ) → length started ≡ 6 → takes_pdvs p ≡ true → Pends k store p [] [] → ShowsMessage k.room j p.message started → Pends (with_join j k) store p [] started
+pends_headed k store p j started six t h shows =
+    let counts = counted_taken p started t in
     let base = subst (λ (xs : List ℕ). Carried k.depth k.most k.storing store p.request (with_pdv xs p.message) p.filing_failed) (none_counted_pdv p) (carried k store p [] [] h) in
     let c = subst (λ (xs : List ℕ). Carried k.depth k.most k.storing store p.request (with_pdv xs p.message) p.filing_failed) (sym counts)
-    (head_carried k.depth k.most k.storing store p.request begun p.message p.filing_failed six base) in
-    pends_joined k store p j k.storing begun (aside_of k store p [] h) (subst (λ (xs : List ℕ). ShowsMessage k.room j p.message xs) (sym counts) shows) c h.failed_in
+    (head_carried k.depth k.most k.storing store p.request started p.message p.filing_failed six base) in
+    pends_joined k store p j k.storing started (aside_of k store p [] h) (subst (λ (xs : List ℕ). ShowsMessage k.room j p.message xs) (sym counts) shows) c h.failed_in
 
 -- ---- the head of a PDV
 
@@ -159,22 +159,22 @@ join_between k store p body h =
     let shows : ShowsMessage k.room k.join p.message [] = subst (λ (xs : List ℕ). ShowsMessage k.room k.join p.message xs) (if_nothing (takes_pdvs p)) h.join_is in
     ap (λ (j : Joining). j.message) shows.shows
 
-pub context_shown : (k : Kept) (store : Store) (p : Progress) (body begun : List ℕ) (id : ℕ) → Pends k store p body begun → takes_pdvs p ≡ true → context_in k.additional k.table id ≡ context_of (request_record p.request) id
-context_shown k store p body begun id h t = (h.agreed (taken_state p t)).contexts id
+pub context_shown : (k : Kept) (store : Store) (p : Progress) (body started : List ℕ) (id : ℕ) → Pends k store p body started → takes_pdvs p ≡ true → context_in k.additional k.table id ≡ context_of (request_record p.request) id
+context_shown k store p body started id h t = (h.agreed (taken_state p t)).contexts id
 
 -- ---- a whole PDV
 
 -- the entry
 abbrev pub entry_of : List ℕ → mark.Mark
-entry_of begun = Pdv (get_or begun 4 0) (get_or begun 5 0) (drop 6 begun)
+entry_of started = Pdv (get_or started 4 0) (get_or started 5 0) (drop 6 started)
 
-pub pdv_taken : (rooms : Rooms) (s : Settings) (p : Progress) (f : Finding) (begun : List ℕ) → takes_pdvs p ≡ true → at_entry rooms s p f (At (entry_of begun)) ≡ at_pdv p f (pdv_of begun)
-pdv_taken rooms s p f begun t =
-    taken_when (is_established p.state) p.refused (at_pdv p f (pdv_of begun)) (nothing p) ∙ ap (λ (y : Bool). if y then at_pdv p f (pdv_of begun) else nothing p) t
+pub pdv_taken : (rooms : Rooms) (s : Settings) (p : Progress) (f : Finding) (started : List ℕ) → takes_pdvs p ≡ true → at_entry rooms s p f (At (entry_of started)) ≡ at_pdv p f (pdv_of started)
+pdv_taken rooms s p f started t =
+    taken_when (is_established p.state) p.refused (at_pdv p f (pdv_of started)) (nothing p) ∙ ap (λ (y : Bool). if y then at_pdv p f (pdv_of started) else nothing p) t
 
-pub pdv_dropped : (rooms : Rooms) (s : Settings) (p : Progress) (begun : List ℕ) → takes_pdvs p ≡ false → at_entry rooms s p good (At (entry_of begun)) ≡ nothing p
-pdv_dropped rooms s p begun t =
-    taken_when (is_established p.state) p.refused (at_pdv p good (pdv_of begun)) (nothing p) ∙ ap (λ (y : Bool). if y then at_pdv p good (pdv_of begun) else nothing p) t
+pub pdv_dropped : (rooms : Rooms) (s : Settings) (p : Progress) (started : List ℕ) → takes_pdvs p ≡ false → at_entry rooms s p good (At (entry_of started)) ≡ nothing p
+pdv_dropped rooms s p started t =
+    taken_when (is_established p.state) p.refused (at_pdv p good (pdv_of started)) (nothing p) ∙ ap (λ (y : Bool). if y then at_pdv p good (pdv_of started) else nothing p) t
 
 -- what a PDV brings to the message comes to this
 abbrev pub by_brought : Progress → Finding → message.Pdv → Brought → Advance
@@ -183,53 +183,53 @@ by_brought p f pdv (Ends m) = replied p f m (command_in m.command)
 by_brought p f pdv (Refuses fault) = user_aborts (deciding (command_refused p pdv fault) p)
 
 pub brought_is : (p : Progress) (f : Finding) (pdv : message.Pdv) (b : Brought) →
-    ◌≡◌ {A = Advance} (elim b [ Goes begun ↦ nothing (going_on begun p) | Ends m ↦ replied p f m (command_in m.command) | Refuses fault ↦ user_aborts (deciding (command_refused p pdv fault) p) ]) (by_brought p f pdv b)
+    ◌≡◌ {A = Advance} (elim b [ Goes started ↦ nothing (going_on started p) | Ends m ↦ replied p f m (command_in m.command) | Refuses fault ↦ user_aborts (deciding (command_refused p pdv fault) p) ]) (by_brought p f pdv b)
 brought_is p f pdv (Goes later) = refl
 brought_is p f pdv (Ends m) = refl
 brought_is p f pdv (Refuses fault) = refl
 
-pub pdv_comes : (p : Progress) (f : Finding) (begun : List ℕ) (b : Brought) → brought p.message (pdv_of begun) ≡ b → at_pdv p f (pdv_of begun) ≡ by_brought p f (pdv_of begun) b
-pdv_comes p f begun b e = brought_is p f (pdv_of begun) (brought p.message (pdv_of begun)) ∙ ap (by_brought p f (pdv_of begun)) e
+pub pdv_arrives : (p : Progress) (f : Finding) (started : List ℕ) (b : Brought) → brought p.message (pdv_of started) ≡ b → at_pdv p f (pdv_of started) ≡ by_brought p f (pdv_of started) b
+pdv_arrives p f started b e = brought_is p f (pdv_of started) (brought p.message (pdv_of started)) ∙ ap (by_brought p f (pdv_of started)) e
 
-pub verdict_by : (rooms : Rooms) (s : Settings) (p q : Progress) (f : Finding) (begun : List ℕ) (b : Brought) → takes_pdvs p ≡ true → brought p.message (pdv_of begun) ≡ b → IsVerdict rooms s q f (message_by b)
-    → IsVerdict rooms s q f (message_at p (At (entry_of begun)))
-verdict_by rooms s p q f begun b t e h =
-    subst (λ (o : Option Message). IsVerdict rooms s q f o) (sym (ap (λ (x : Bool). if x then message_by (brought p.message (pdv_of begun)) else None) t ∙ ap message_by e)) h
+pub verdict_by : (rooms : Rooms) (s : Settings) (p q : Progress) (f : Finding) (started : List ℕ) (b : Brought) → takes_pdvs p ≡ true → brought p.message (pdv_of started) ≡ b → IsVerdict rooms s q f (message_by b)
+    → IsVerdict rooms s q f (message_at p (At (entry_of started)))
+verdict_by rooms s p q f started b t e h =
+    subst (λ (o : Option Message). IsVerdict rooms s q f o) (sym (ap (λ (x : Bool). if x then message_by (brought p.message (pdv_of started)) else None) t ∙ ap message_by e)) h
 
-pub verdict_none : (rooms : Rooms) (s : Settings) (p : Progress) (begun : List ℕ) → takes_pdvs p ≡ false → IsVerdict rooms s p good (message_at p (At (entry_of begun)))
-verdict_none rooms s p begun t =
-    subst (λ (o : Option Message). IsVerdict rooms s p good o) (sym (ap (λ (x : Bool). if x then message_by (brought p.message (pdv_of begun)) else None) t)) tt
+pub verdict_none : (rooms : Rooms) (s : Settings) (p : Progress) (started : List ℕ) → takes_pdvs p ≡ false → IsVerdict rooms s p good (message_at p (At (entry_of started)))
+verdict_none rooms s p started t =
+    subst (λ (o : Option Message). IsVerdict rooms s p good o) (sym (ap (λ (x : Bool). if x then message_by (brought p.message (pdv_of started)) else None) t)) tt
 
 -- ---- the end of a PDV at the join
 
--- a PDV that is taken goes on with the message that the join shows, and the join ends it with this result
-pub record EndsPdv (k : Kept) (p : Progress) (begun : List ℕ) (j : Joining) (r : Result Joined DimseFault) : Type 0 where
+-- a PDV that is taken continues with the message that the join shows, and the join ends it with this result
+pub record EndsPdv (k : Kept) (p : Progress) (started : List ℕ) (j : Joining) (r : Result Joined DimseFault) : Type 0 where
   pub taken : takes_pdvs p ≡ true
-  pub shows : ShowsMessage k.room k.join p.message begun
-  pub joins : Joins k.room p.message (brought p.message (pdv_of begun)) k.join j r
+  pub shows : ShowsMessage k.room k.join p.message started
+  pub joins : Joins k.room p.message (brought p.message (pdv_of started)) k.join j r
 
-pub ends_pdv : (k : Kept) (store : Store) (p : Progress) (begun : List ℕ) (j : Joining) (given r : Result Joined DimseFault) → 6 ≤ length begun → Pends k store p [] begun → takes_pdvs_in k ≡ true
-    → ((m : Begun) (b : List ℕ) → 6 ≤ length b → ShowsMessage k.room k.join m b → Joins k.room m (brought m (pdv_of b)) k.join j given) → given ≡ r → EndsPdv k p begun j r
-ends_pdv k store p begun j given r six h takes ends is =
-    let taken = sym (takes_shown k store p [] begun h) ∙ takes in
-    let shows = subst (λ (xs : List ℕ). ShowsMessage k.room k.join p.message xs) (counted_taken p begun taken) h.join_is in
-    record { taken = taken; shows = shows; joins = subst (λ (x : Result Joined DimseFault). Joins k.room p.message (brought p.message (pdv_of begun)) k.join j x) is (ends p.message begun six shows) }
+pub ends_pdv : (k : Kept) (store : Store) (p : Progress) (started : List ℕ) (j : Joining) (given r : Result Joined DimseFault) → 6 ≤ length started → Pends k store p [] started → takes_pdvs_in k ≡ true
+    → ((m : Started) (b : List ℕ) → 6 ≤ length b → ShowsMessage k.room k.join m b → Joins k.room m (brought m (pdv_of b)) k.join j given) → given ≡ r → EndsPdv k p started j r
+ends_pdv k store p started j given r six h takes ends is =
+    let taken = sym (takes_shown k store p [] started h) ∙ takes in
+    let shows = subst (λ (xs : List ℕ). ShowsMessage k.room k.join p.message xs) (counted_taken p started taken) h.join_is in
+    record { taken = taken; shows = shows; joins = subst (λ (x : Result Joined DimseFault). Joins k.room p.message (brought p.message (pdv_of started)) k.join j x) is (ends p.message started six shows) }
 
 -- what is carried of the store, with the PDV
-pub carried_taken : (k : Kept) (store : Store) (p : Progress) (begun : List ℕ) → takes_pdvs p ≡ true → Pends k store p [] begun → Carried k.depth k.most k.storing store p.request (with_pdv begun p.message) p.filing_failed
-carried_taken k store p begun taken h =
-    subst (λ (xs : List ℕ). Carried k.depth k.most k.storing store p.request (with_pdv xs p.message) p.filing_failed) (counted_taken p begun taken) (carried k store p [] begun h)
+pub carried_taken : (k : Kept) (store : Store) (p : Progress) (started : List ℕ) → takes_pdvs p ≡ true → Pends k store p [] started → Carried k.depth k.most k.storing store p.request (with_pdv started p.message) p.filing_failed
+carried_taken k store p started taken h =
+    subst (λ (xs : List ℕ). Carried k.depth k.most k.storing store p.request (with_pdv xs p.message) p.filing_failed) (counted_taken p started taken) (carried k store p [] started h)
 
 -- a PDV that is not taken does nothing
-pub does_dropped : (rooms : Rooms) (s : Settings) (k : Kept) (p : Progress) (begun : List ℕ) (d : Devices) → takes_pdvs_in k ≡ false → Pends k d.store p [] begun → Does rooms s p (At (entry_of begun)) k [] [] d d
-does_dropped rooms s k p begun d drops h =
-    let dropped = sym (takes_shown k d.store p [] begun h) ∙ drops in
-    does_nothing rooms s p (At (entry_of begun)) k [] [] d (pdv_dropped rooms s p begun dropped) (verdict_none rooms s p begun dropped) (pends_dropped k d.store p [] begun [] dropped h)
+pub does_dropped : (rooms : Rooms) (s : Settings) (k : Kept) (p : Progress) (started : List ℕ) (d : Devices) → takes_pdvs_in k ≡ false → Pends k d.store p [] started → Does rooms s p (At (entry_of started)) k [] [] d d
+does_dropped rooms s k p started d drops h =
+    let dropped = sym (takes_shown k d.store p [] started h) ∙ drops in
+    does_nothing rooms s p (At (entry_of started)) k [] [] d (pdv_dropped rooms s p started dropped) (verdict_none rooms s p started dropped) (pends_dropped k d.store p [] started [] dropped h)
 
 -- ---- by what the join returned
 
--- a whole command set that goes on announces data
-whole_goes : (context : ℕ) (command : List ℕ) (later : Begun) (r : Result CommandRecord DimseFault) → with_command context command r ≡ Goes later
+-- a whole command set that continues announces data
+whole_goes : (context : ℕ) (command : List ℕ) (later : Started) (r : Result CommandRecord DimseFault) → with_command context command r ≡ Goes later
     → (later ≡ InSet context command []) × ((c : CommandRecord) → r ≡ Ok c → c.with_data ≡ true)
 whole_goes context command later (Err f) e = absurd cc
 whole_goes context command later (Ok c) e = by c.with_data refl e where
@@ -238,20 +238,20 @@ whole_goes context command later (Ok c) e = by c.with_data refl e where
   by true w h = (cc, λ d f. let same : c ≡ d = cc in sym (ap (λ (x : CommandRecord). x.with_data) same) ∙ w)
   by false w h = absurd cc
 
-more_row : (before : Begun) (last : Bool) (context : ℕ) (bytes : List ℕ) (later : Begun) → (if last then completed (with_fragment context bytes before) else Goes (with_fragment context bytes before)) ≡ Goes later
-    → joined.More ≡ goes_on before later → later ≡ with_fragment context bytes before
+more_row : (before : Started) (last : Bool) (context : ℕ) (bytes : List ℕ) (later : Started) → (if last then completed (with_fragment context bytes before) else Goes (with_fragment context bytes before)) ≡ Goes later
+    → joined.More ≡ continues before later → later ≡ with_fragment context bytes before
 more_row before false context bytes later e g = cc
 more_row NoMessage true context bytes later e g =
-    let x : joined.More ≡ joined.DataDue = g ∙ ap (goes_on NoMessage) (whole_goes context bytes later (command_in bytes) e).0 in absurd cc
+    let x : joined.More ≡ joined.DataDue = g ∙ ap (continues NoMessage) (whole_goes context bytes later (command_in bytes) e).0 in absurd cc
 more_row (InCommand first command) true context bytes later e g =
-    let x : joined.More ≡ joined.DataDue = g ∙ ap (goes_on (InCommand first command)) (whole_goes first (command ++ bytes) later (command_in (command ++ bytes)) e).0 in absurd cc
+    let x : joined.More ≡ joined.DataDue = g ∙ ap (continues (InCommand first command)) (whole_goes first (command ++ bytes) later (command_in (command ++ bytes)) e).0 in absurd cc
 more_row (InSet first command set) true context bytes later e g = absurd cc
 
 -- a data set is due
-pub record IsDataDue (room : ℕ) (before : Begun) (h : PdvHead) (bytes : List ℕ) (later : Begun) : Type 0 where
+pub record IsDataDue (room : ℕ) (before : Started) (h : PdvHead) (bytes : List ℕ) (later : Started) : Type 0 where
   pub command : List ℕ
   pub later_is : later ≡ InSet h.context command []
-  pub came : with_fragment h.context bytes before ≡ InCommand h.context command
+  pub received : with_fragment h.context bytes before ≡ InCommand h.context command
   pub announced : (c : CommandRecord) → command_in command ≡ Ok c → c.with_data ≡ true
   pub none_before : (request : Requested) → InStore request before → ⊥
 
@@ -259,24 +259,24 @@ same_context : (a first : ℕ) (t : Bool) (o : Option DimseFault) → nat_eq a f
 same_context a first true o e h = sym (grind (arith, nat_tests))
 same_context a first false o e h = absurd cc
 
-due_row : (room : ℕ) (before : Begun) (h : PdvHead) (last : Bool) (bytes : List ℕ) (later : Begun) → head_refusal room before h ≡ None
-    → (if last then completed (with_fragment h.context bytes before) else Goes (with_fragment h.context bytes before)) ≡ Goes later → joined.DataDue ≡ goes_on before later → IsDataDue room before h bytes later
+due_row : (room : ℕ) (before : Started) (h : PdvHead) (last : Bool) (bytes : List ℕ) (later : Started) → head_refusal room before h ≡ None
+    → (if last then completed (with_fragment h.context bytes before) else Goes (with_fragment h.context bytes before)) ≡ Goes later → joined.DataDue ≡ continues before later → IsDataDue room before h bytes later
 due_row room NoMessage h false bytes later r e g =
     let is : later ≡ InCommand h.context bytes = cc in
-    let x : joined.DataDue ≡ joined.More = g ∙ ap (goes_on NoMessage) is in absurd cc
+    let x : joined.DataDue ≡ joined.More = g ∙ ap (continues NoMessage) is in absurd cc
 due_row room NoMessage h true bytes later r e g =
     let w = whole_goes h.context bytes later (command_in bytes) e in
-    record { command = bytes; later_is = w.0; came = refl; announced = w.1; none_before = λ request s. no_store request NoMessage refl s }
+    record { command = bytes; later_is = w.0; received = refl; announced = w.1; none_before = λ request s. no_store request NoMessage refl s }
 due_row room (InCommand first command) h false bytes later r e g =
     let is : later ≡ InCommand first (command ++ bytes) = cc in
-    let x : joined.DataDue ≡ joined.More = g ∙ ap (goes_on (InCommand first command)) is in absurd cc
+    let x : joined.DataDue ≡ joined.More = g ∙ ap (continues (InCommand first command)) is in absurd cc
 due_row room (InCommand first command) h true bytes later r e g =
     let w = whole_goes first (command ++ bytes) later (command_in (command ++ bytes)) e in
     let id = same_context h.context first (nat_eq h.context first) _ refl r in
     record {
       command = command ++ bytes;
       later_is = w.0 ∙ ap (λ (n : ℕ). InSet n (command ++ bytes) []) id;
-      came = ap (λ (n : ℕ). InCommand n (command ++ bytes)) id;
+      received = ap (λ (n : ℕ). InCommand n (command ++ bytes)) id;
       announced = w.1;
       none_before = λ request s. no_store_yet request (InCommand first command) first command refl s;
     }
@@ -293,8 +293,8 @@ echo_of context command m (Ok c) is e = by c.with_data refl e where
       let same : record { context = context; command = command; set = [] } ≡ m = cc in
       (sym (ap (λ (x : Message). x.context) same), sym (ap (λ (x : Message). x.command) same), λ d f. let is-d : c ≡ d = cc in sym (ap (λ (x : CommandRecord). x.with_data) is-d) ∙ w)
 
-ends_row : (room : ℕ) (before : Begun) (h : PdvHead) (last : Bool) (bytes : List ℕ) (m : Message) → head_refusal room before h ≡ None
-    → (if last then completed (with_fragment h.context bytes before) else Goes (with_fragment h.context bytes before)) ≡ Ends m → HasCome m (with_fragment h.context bytes before) × (m.context ≡ h.context)
+ends_row : (room : ℕ) (before : Started) (h : PdvHead) (last : Bool) (bytes : List ℕ) (m : Message) → head_refusal room before h ≡ None
+    → (if last then completed (with_fragment h.context bytes before) else Goes (with_fragment h.context bytes before)) ≡ Ends m → HasReceived m (with_fragment h.context bytes before) × (m.context ≡ h.context)
 ends_row room before h false bytes m r e = absurd cc
 ends_row room NoMessage h true bytes m r e =
     let a = echo_of h.context bytes m (command_in bytes) refl e in
@@ -308,57 +308,57 @@ ends_row room (InSet first command set) h true bytes m r e =
     let same : record { context = first; command = command; set = set ++ bytes } ≡ m = cc in
     (inl (ap (λ (x : Message). InSet x.context x.command x.set) same), sym (ap (λ (x : Message). x.context) same) ∙ same_context h.context first (nat_eq h.context first) _ refl r)
 
-module _ (room : ℕ) (before : Begun) (begun : List ℕ) (six : 6 ≤ length begun) (fine : head_refusal room before (pdv_head_of begun) ≡ None) (old new : Joining) where
-  pub goes_of : Joins room before (brought before (pdv_of begun)) old new (Ok joined.More) → (later : Begun) × (brought before (pdv_of begun) ≡ Goes later) × ShowsMessage room new later [] × (later ≡ with_pdv begun before) × (joined.More ≡ goes_on before later)
-  goes_of j = by (brought before (pdv_of begun)) refl j where
-    by : (b : Brought) → brought before (pdv_of begun) ≡ b → Joins room before b old new (Ok joined.More) → (later : Begun) × (brought before (pdv_of begun) ≡ Goes later) × ShowsMessage room new later [] × (later ≡ with_pdv begun before) × (joined.More ≡ goes_on before later)
+module _ (room : ℕ) (before : Started) (started : List ℕ) (six : 6 ≤ length started) (fine : head_refusal room before (pdv_head_of started) ≡ None) (old new : Joining) where
+  pub goes_of : Joins room before (brought before (pdv_of started)) old new (Ok joined.More) → (later : Started) × (brought before (pdv_of started) ≡ Goes later) × ShowsMessage room new later [] × (later ≡ with_pdv started before) × (joined.More ≡ continues before later)
+  goes_of j = by (brought before (pdv_of started)) refl j where
+    by : (b : Brought) → brought before (pdv_of started) ≡ b → Joins room before b old new (Ok joined.More) → (later : Started) × (brought before (pdv_of started) ≡ Goes later) × ShowsMessage room new later [] × (later ≡ with_pdv started before) × (joined.More ≡ continues before later)
     by (Goes later) is (e, h) =
-        let more : joined.More ≡ goes_on before later = let x : ◌≡◌ {A = Result Joined DimseFault} (Ok joined.More) (Ok (goes_on before later)) = e in cc in
-        (later, is, h, more_row before (is_last (get_or begun 5 0)) (get_or begun 4 0) (drop 6 begun) later is more ∙ sym (long_pdv begun before six), more)
+        let more : joined.More ≡ continues before later = let x : ◌≡◌ {A = Result Joined DimseFault} (Ok joined.More) (Ok (continues before later)) = e in cc in
+        (later, is, h, more_row before (is_last (get_or started 5 0)) (get_or started 4 0) (drop 6 started) later is more ∙ sym (long_pdv started before six), more)
     by (Ends m) is (e, h) = let x : ◌≡◌ {A = Result Joined DimseFault} (Ok joined.More) (Ok joined.Message) = e in absurd cc
     by (Refuses f) is (e, h) = let x : ◌≡◌ {A = Result Joined DimseFault} (Ok joined.More) (Err f) = e in absurd cc
 
-  pub due_of : Joins room before (brought before (pdv_of begun)) old new (Ok joined.DataDue)
-      → (later : Begun) × (brought before (pdv_of begun) ≡ Goes later) × ShowsMessage room new later [] × IsDataDue room before (pdv_head_of begun) (drop 6 begun) later × (joined.DataDue ≡ goes_on before later)
-  due_of j = by (brought before (pdv_of begun)) refl j where
-    by : (b : Brought) → brought before (pdv_of begun) ≡ b → Joins room before b old new (Ok joined.DataDue)
-        → (later : Begun) × (brought before (pdv_of begun) ≡ Goes later) × ShowsMessage room new later [] × IsDataDue room before (pdv_head_of begun) (drop 6 begun) later × (joined.DataDue ≡ goes_on before later)
+  pub due_of : Joins room before (brought before (pdv_of started)) old new (Ok joined.DataDue)
+      → (later : Started) × (brought before (pdv_of started) ≡ Goes later) × ShowsMessage room new later [] × IsDataDue room before (pdv_head_of started) (drop 6 started) later × (joined.DataDue ≡ continues before later)
+  due_of j = by (brought before (pdv_of started)) refl j where
+    by : (b : Brought) → brought before (pdv_of started) ≡ b → Joins room before b old new (Ok joined.DataDue)
+        → (later : Started) × (brought before (pdv_of started) ≡ Goes later) × ShowsMessage room new later [] × IsDataDue room before (pdv_head_of started) (drop 6 started) later × (joined.DataDue ≡ continues before later)
     by (Goes later) is (e, h) =
-        let due : joined.DataDue ≡ goes_on before later = let x : ◌≡◌ {A = Result Joined DimseFault} (Ok joined.DataDue) (Ok (goes_on before later)) = e in cc in
-        (later, is, h, due_row room before (pdv_head_of begun) (is_last (get_or begun 5 0)) (drop 6 begun) later fine is due, due)
+        let due : joined.DataDue ≡ continues before later = let x : ◌≡◌ {A = Result Joined DimseFault} (Ok joined.DataDue) (Ok (continues before later)) = e in cc in
+        (later, is, h, due_row room before (pdv_head_of started) (is_last (get_or started 5 0)) (drop 6 started) later fine is due, due)
     by (Ends m) is (e, h) = let x : ◌≡◌ {A = Result Joined DimseFault} (Ok joined.DataDue) (Ok joined.Message) = e in absurd cc
     by (Refuses f) is (e, h) = let x : ◌≡◌ {A = Result Joined DimseFault} (Ok joined.DataDue) (Err f) = e in absurd cc
 
-  not_message : (a b : Begun) → joined.Message ≡ goes_on a b → ⊥
+  not_message : (a b : Started) → joined.Message ≡ continues a b → ⊥
   not_message a b h = grind (arith, common_steps)
 
-  pub ends_of : Joins room before (brought before (pdv_of begun)) old new (Ok joined.Message)
-      → (m : Message) × (brought before (pdv_of begun) ≡ Ends m) × (new ≡ lending m.command) × HasCome m (with_pdv begun before) × (m.context ≡ get_or begun 4 0)
-  ends_of j = by (brought before (pdv_of begun)) refl j where
-    by : (b : Brought) → brought before (pdv_of begun) ≡ b → Joins room before b old new (Ok joined.Message)
-        → (m : Message) × (brought before (pdv_of begun) ≡ Ends m) × (new ≡ lending m.command) × HasCome m (with_pdv begun before) × (m.context ≡ get_or begun 4 0)
+  pub ends_of : Joins room before (brought before (pdv_of started)) old new (Ok joined.Message)
+      → (m : Message) × (brought before (pdv_of started) ≡ Ends m) × (new ≡ lending m.command) × HasReceived m (with_pdv started before) × (m.context ≡ get_or started 4 0)
+  ends_of j = by (brought before (pdv_of started)) refl j where
+    by : (b : Brought) → brought before (pdv_of started) ≡ b → Joins room before b old new (Ok joined.Message)
+        → (m : Message) × (brought before (pdv_of started) ≡ Ends m) × (new ≡ lending m.command) × HasReceived m (with_pdv started before) × (m.context ≡ get_or started 4 0)
     by (Goes later) is (e, h) =
-        let wrong : joined.Message ≡ goes_on before later = let x : ◌≡◌ {A = Result Joined DimseFault} (Ok joined.Message) (Ok (goes_on before later)) = e in cc in
+        let wrong : joined.Message ≡ continues before later = let x : ◌≡◌ {A = Result Joined DimseFault} (Ok joined.Message) (Ok (continues before later)) = e in cc in
         absurd (not_message before later wrong)
     by (Ends m) is (e, h) =
-        let r = ends_row room before (pdv_head_of begun) (is_last (get_or begun 5 0)) (drop 6 begun) m fine is in
-        (m, is, h, subst (λ (x : Begun). HasCome m x) (sym (long_pdv begun before six)) r.0, r.1)
+        let r = ends_row room before (pdv_head_of started) (is_last (get_or started 5 0)) (drop 6 started) m fine is in
+        (m, is, h, subst (λ (x : Started). HasReceived m x) (sym (long_pdv started before six)) r.0, r.1)
     by (Refuses f) is (e, h) = let x : ◌≡◌ {A = Result Joined DimseFault} (Ok joined.Message) (Err f) = e in absurd cc
 
-  pub refuses_of : (f : DimseFault) → Joins room before (brought before (pdv_of begun)) old new (Err f) → (brought before (pdv_of begun) ≡ Refuses f) × (new ≡ old)
-  refuses_of f j = by (brought before (pdv_of begun)) refl j where
-    by : (b : Brought) → brought before (pdv_of begun) ≡ b → Joins room before b old new (Err f) → (brought before (pdv_of begun) ≡ Refuses f) × (new ≡ old)
-    by (Goes later) is (e, h) = let x : ◌≡◌ {A = Result Joined DimseFault} (Err f) (Ok (goes_on before later)) = e in absurd cc
+  pub refuses_of : (f : DimseFault) → Joins room before (brought before (pdv_of started)) old new (Err f) → (brought before (pdv_of started) ≡ Refuses f) × (new ≡ old)
+  refuses_of f j = by (brought before (pdv_of started)) refl j where
+    by : (b : Brought) → brought before (pdv_of started) ≡ b → Joins room before b old new (Err f) → (brought before (pdv_of started) ≡ Refuses f) × (new ≡ old)
+    by (Goes later) is (e, h) = let x : ◌≡◌ {A = Result Joined DimseFault} (Err f) (Ok (continues before later)) = e in absurd cc
     by (Ends m) is (e, h) = let x : ◌≡◌ {A = Result Joined DimseFault} (Err f) (Ok joined.Message) = e in absurd cc
     by (Refuses g) is (e, h) = (is ∙ ap (λ (x : DimseFault). Refuses x) (let x : ◌≡◌ {A = Result Joined DimseFault} (Err f) (Err g) = e in cc), h)
 
--- the message goes on
-pub pends_going_on : (k : Kept) (store : Store) (p : Progress) (j : Joining) (later : Begun) (begun : List ℕ) → Pends k store p [] begun → takes_pdvs p ≡ true → ShowsMessage k.room j later []
-    → later ≡ with_pdv begun p.message → joined.More ≡ goes_on p.message later → 6 ≤ length begun → Pends (with_join j k) store (going_on later p) [] []
-pends_going_on k store p j later begun h t shows is more six =
+-- the message continues
+pub pends_going_on : (k : Kept) (store : Store) (p : Progress) (j : Joining) (later : Started) (started : List ℕ) → Pends k store p [] started → takes_pdvs p ≡ true → ShowsMessage k.room j later []
+    → later ≡ with_pdv started p.message → joined.More ≡ continues p.message later → 6 ≤ length started → Pends (with_join j k) store (going_on later p) [] []
+pends_going_on k store p j later started h t shows is more six =
     let none : counted_pdv (going_on later p) [] ≡ [] = none_counted_pdv (going_on later p) in
-    let same : so_far p begun ≡ so_far (going_on later p) [] = ap (λ (xs : List ℕ). with_pdv xs p.message) (counted_taken p begun t) ∙ sym is ∙ sym (ap (λ (xs : List ℕ). with_pdv xs later) none) in
-    let c = subst (λ (x : Begun). Carried k.depth k.most k.storing store p.request x p.filing_failed) same (carried k store p [] begun h) in
+    let same : so_far p started ≡ so_far (going_on later p) [] = ap (λ (xs : List ℕ). with_pdv xs p.message) (counted_taken p started t) ∙ sym is ∙ sym (ap (λ (xs : List ℕ). with_pdv xs later) none) in
+    let c = subst (λ (x : Started). Carried k.depth k.most k.storing store p.request x p.filing_failed) same (carried k store p [] started h) in
     record {
       state_is = h.state_is;
       refused_is = h.refused_is;
@@ -366,22 +366,22 @@ pends_going_on k store p j later begun h t shows is more six =
       body_is = h.body_is;
       join_is = subst (λ (xs : List ℕ). ShowsMessage k.room j later xs) (sym none) shows;
       agreed = h.agreed;
-      none_left = λ e. let x : is_established Sta6 ≡ false = sym (ap is_established (taken_state p t)) ∙ e in absurd cc;
+      none_remaining = λ e. let x : is_established Sta6 ≡ false = sym (ap is_established (taken_state p t)) ∙ e in absurd cc;
       unagreed = h.unagreed;
       walks = c.0;
       draft = c.1;
       failed_in = λ n e.
-          subst (λ (x : Begun). InStore p.request x) (sym (is ∙ long_pdv begun p.message six)) (store_fragment p.request (get_or begun 4 0) (drop 6 begun) p.message (h.failed_in n e));
+          subst (λ (x : Started). InStore p.request x) (sym (is ∙ long_pdv started p.message six)) (store_fragment p.request (get_or started 4 0) (drop 6 started) p.message (h.failed_in n e));
     }
 
-pub aborted_pdv : (p : Progress) (begun : List ℕ) → takes_pdvs p ≡ true → counted_pdv (done [] 0 p event.UserAborts).next begun ≡ []
-aborted_pdv p begun t = ap (λ (st : State). counted_pdv (done [] 0 (record p { state = st }) event.UserAborts).next begun) (taken_state p t)
+pub aborted_pdv : (p : Progress) (started : List ℕ) → takes_pdvs p ≡ true → counted_pdv (done [] 0 p event.UserAborts).next started ≡ []
+aborted_pdv p started t = ap (λ (st : State). counted_pdv (done [] 0 (record p { state = st }) event.UserAborts).next started) (taken_state p t)
 
 pub aborted_body : (p : Progress) → takes_pdvs p ≡ true → counted_body (done [] 0 p event.UserAborts).next [] ≡ []
 aborted_body p t = ap (λ (st : State). counted_body (done [] 0 (record p { state = st }) event.UserAborts).next []) (taken_state p t)
 
-pub tries_still : (p q : Progress) (k : Kept) (body begun : List ℕ) (d : Devices) → Pends k d.store q body begun → PerformsReaction p (nothing q) k body begun d d
-tries_still p q k body begun d h = tries_from p q (nothing q) k body begun d d (tries_nothing q k body begun d h)
+pub tries_still : (p q : Progress) (k : Kept) (body started : List ℕ) (d : Devices) → Pends k d.store q body started → PerformsReaction p (nothing q) k body started d d
+tries_still p q k body started d h = tries_from p q (nothing q) k body started d d (tries_nothing q k body started d h)
 
 -- ---- the context of a value
 
@@ -392,9 +392,9 @@ one_context first context other e = elim (cases_Bool (nat_eq context first)) [
 ]
 
 -- a value has the context of the message that it is joined to
-pub pdv_context : (room : ℕ) (join : Joining) (m : Begun) (begun : List ℕ) (id : ℕ) → 6 ≤ length begun → ShowsMessage room join m begun → InContext join.message id → id ≡ get_or begun 4 0
-pdv_context room join m begun id six h is = go m (h.accepted six) (subst (λ (x : Begun). InContext (without_set x) id) (long_pdv begun m six) (subst (λ (j : Joining). InContext j.message id) h.shows is)) where
-  go : (x : Begun) → head_refusal room x (pdv_head_of begun) ≡ None → InContext (without_set (with_fragment (get_or begun 4 0) (drop 6 begun) x)) id → id ≡ get_or begun 4 0
+pub pdv_context : (room : ℕ) (join : Joining) (m : Started) (started : List ℕ) (id : ℕ) → 6 ≤ length started → ShowsMessage room join m started → InContext join.message id → id ≡ get_or started 4 0
+pdv_context room join m started id six h is = go m (h.accepted six) (subst (λ (x : Started). InContext (without_set x) id) (long_pdv started m six) (subst (λ (j : Joining). InContext j.message id) h.shows is)) where
+  go : (x : Started) → head_refusal room x (pdv_head_of started) ≡ None → InContext (without_set (with_fragment (get_or started 4 0) (drop 6 started) x)) id → id ≡ get_or started 4 0
   go NoMessage fine e = e
-  go (InCommand first command) fine e = e ∙ sym (one_context first (get_or begun 4 0) _ fine)
-  go (InSet first command set) fine e = e ∙ sym (one_context first (get_or begun 4 0) _ fine)
+  go (InCommand first command) fine e = e ∙ sym (one_context first (get_or started 4 0) _ fine)
+  go (InSet first command set) fine e = e ∙ sym (one_context first (get_or started 4 0) _ fine)

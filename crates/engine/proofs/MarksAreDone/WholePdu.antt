@@ -11,7 +11,7 @@ use Rattle.pdu.specs.Marks.{End}
 use Rattle.negotiate.specs.Settings.{Settings}
 use Rattle.engine.specs.Timeline.{At, good}
 use Rattle.decisions.specs.declared.decision.Decision.TheVariants as decision
-use Rattle.engine.specs.Progress.{Progress, Advance, at_start, left, deciding, deciding_unless_ended, nothing, done, is_due, is_established}
+use Rattle.engine.specs.Progress.{Progress, Advance, at_start, remaining, deciding, deciding_unless_ended, nothing, done, is_due, is_established}
 use Rattle.engine.specs.Held.{is_ended}
 use Rattle.engine.specs.Requests.{at_request}
 use Rattle.engine.specs.Devices.{Devices, line_after, IsFront}
@@ -21,7 +21,7 @@ use Rattle.engine.specs.machine.PerformsReaction.{PerformsReaction}
 use Rattle.engine.specs.machine.Does.{Does}
 use Rattle.engine.specs.machine.Tries.{TriesRequest}
 use Rattle.engine.proofs.FieldsShow.TriedIsDone.{does_by, none_counted_body}
-use Rattle.engine.proofs.MarksAreDone.WholeRequest.{LeavesOrStands, request_comes}
+use Rattle.engine.proofs.MarksAreDone.WholeRequest.{LeavesOrStands, request_arrives}
 use Rattle.engine.proofs.FieldsShow.ByState.{due_is}
 use Rattle.negotiate.specs.Taken.{Taken}
 
@@ -31,8 +31,8 @@ by_kind s p body seven one five =
     if seven then done [] 0 (deciding_unless_ended decision.Aborted p) event.Abort
     else (if one && is_due p.state then at_request s p body else (if five && is_established p.state then released (deciding decision.Released p) else nothing p))
 
-pub refused_shown : (k : Kept) (store : Store) (p : Progress) (body begun : List ℕ) → Pends k store p body begun → is_ended k.state ≡ false → k.refused ≡ p.refused
-refused_shown k store p body begun h lives = h.refused_is (ap is_ended (sym h.state_is) ∙ lives)
+pub refused_shown : (k : Kept) (store : Store) (p : Progress) (body started : List ℕ) → Pends k store p body started → is_ended k.state ≡ false → k.refused ≡ p.refused
+refused_shown k store p body started h lives = h.refused_is (ap is_ended (sym h.state_is) ∙ lives)
 
 -- one that was refused gives nothing
 pub refused_end : (rooms : Rooms) (s : Settings) (p : Progress) (kind : ℕ) (body : List ℕ) → p.refused ≡ true → at_entry rooms s p good (At (End kind body)) ≡ nothing p
@@ -58,9 +58,9 @@ whole_other s p kind body a b c =
 
 -- ---- bytes of a body that do not count
 
-came_to : (additional : Taken) (body : List ℕ) (p : Progress) (g first : Advance) (xs : List ℕ) → LeavesOrStands additional body p g first → counted_body g.next xs ≡ []
-came_to additional body p g first xs (a, b, inl (x, is)) = ap (λ (q : Progress). counted_body q xs) is
-came_to additional body p g first xs (a, b, inr (x, is)) = ap (λ (q : Progress). counted_body q xs) is
+received_to : (additional : Taken) (body : List ℕ) (p : Progress) (g first : Advance) (xs : List ℕ) → LeavesOrStands additional body p g first → counted_body g.next xs ≡ []
+received_to additional body p g first xs (a, b, inl (x, is)) = ap (λ (q : Progress). counted_body q xs) is
+received_to additional body p g first xs (a, b, inr (x, is)) = ap (λ (q : Progress). counted_body q xs) is
 
 pends_recounted : (k : Kept) (store : Store) (q : Progress) (xs : List ℕ) → counted_body q xs ≡ [] → Pends k store q xs [] → Pends k store q [] []
 pends_recounted k store q xs e h = record {
@@ -70,7 +70,7 @@ pends_recounted k store q xs e h = record {
   body_is = h.body_is ∙ e ∙ sym (none_counted_body q);
   join_is = h.join_is;
   agreed = h.agreed;
-  none_left = h.none_left;
+  none_remaining = h.none_remaining;
   unagreed = h.unagreed;
   walks = h.walks;
   draft = h.draft;
@@ -90,7 +90,7 @@ tries_recounted p g k xs old new e t = by t.wire refl where
   by (Some n) is = record {
     wire = Some n;
     fair = subst (λ (x : Option ℕ). IsFront x g.sent) (sym is) t.fair;
-    pends = pends_recounted k new.store (left Sta1 (deciding g.next.decided p)) xs refl (subst (λ (x : Option ℕ). Pends k new.store (cut x p g).next xs []) (sym is) t.pends);
+    pends = pends_recounted k new.store (remaining Sta1 (deciding g.next.decided p)) xs refl (subst (λ (x : Option ℕ). Pends k new.store (cut x p g).next xs []) (sym is) t.pends);
     line = t.line ∙ ap (λ (x : Option ℕ). line_after x g.sent old.line) (sym is);
     unfiled = t.unfiled;
   }
@@ -104,8 +104,8 @@ not_due : (a c : Bool) → (a && c) ≡ false → (c && a) ≡ false
 not_due a c e = grind (arith, common_steps)
 
 -- no request is due
-pub undue : (k : Kept) (store : Store) (p : Progress) (kind : ℕ) (body begun : List ℕ) → Pends k store p body begun → takes_body_in k kind ≡ false → k.refused ≡ false → (nat_eq kind 1 && is_due p.state) ≡ false
-undue k store p kind body begun h e r =
+pub undue : (k : Kept) (store : Store) (p : Progress) (kind : ℕ) (body started : List ℕ) → Pends k store p body started → takes_body_in k kind ≡ false → k.refused ≡ false → (nat_eq kind 1 && is_due p.state) ≡ false
+undue k store p kind body started h e r =
     not_due (is_due p.state) (nat_eq kind 1) (ap (λ (st : State). is_due st && nat_eq kind 1) (sym h.state_is) ∙ ap (λ (t : Bool). is_due k.state && (not t && nat_eq kind 1)) (sym r) ∙ e)
 
 uncounted_kind : (due kept refused one : Bool) (body : List ℕ) → (due ≡ true → kept ≡ refused) → (due && (not kept && one)) ≡ false → ◌≡◌ {A = List ℕ} (if due && not refused then (if one then body else []) else []) []
@@ -128,8 +128,8 @@ does_request rooms s p kind body k n old new e h tries =
     let due : is_due p.state ≡ true = ap is_due (sym h.state_is) ∙ is.0 in
     let unrefused : p.refused ≡ false = sym (h.refused_is (due_lives p.state due)) ∙ is.1 in
     let one : kind ≡ 1 = eqb-true kind 1 is.2 in
-    let comes = request_comes s body p (due_is p.state due) in
+    let arrives = request_arrives s body p (due_is p.state due) in
     does_by rooms s p (At (End kind body)) (at_request s p body) n [] [] old new
-    (taken_end rooms s p kind body unrefused ∙ ap (λ (x : ℕ). at_end s p x body) one ∙ ap (λ (t : Bool). if t then at_request s p body else nothing p) due) comes.1 tt
-    (tries_recounted p (at_request s p body) n body old new (came_to s.additional body p (at_request s p body) (at_request s at_start body) body comes)
+    (taken_end rooms s p kind body unrefused ∙ ap (λ (x : ℕ). at_end s p x body) one ∙ ap (λ (t : Bool). if t then at_request s p body else nothing p) due) arrives.1 tt
+    (tries_recounted p (at_request s p body) n body old new (received_to s.additional body p (at_request s p body) (at_request s at_start body) body arrives)
     (tries p body (subst (λ (x : ℕ). Pends k old.store p (body_in x body) []) one h) unrefused due))

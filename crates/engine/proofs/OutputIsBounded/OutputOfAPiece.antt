@@ -22,8 +22,8 @@ use Rattle.pdu.specs.Refusal.{request_fault}
 use Rattle.pdu.specs.Texts.{reject_text, release_text, abort_text}
 use Rattle.pdu.specs.Marks.{Mark, Head, PdvHead, Pdv, BadPdv, Leftover, End, pdv_size, is_leftover, frame_kind, frame_length, new_marks}
 use Rattle.pdu.specs.Pdvs.{DataSpot, data_spot}
-use Rattle.pdu.specs.Spot.{Spot, Opening, Plain, InPdv, spot, spot_of, room_left}
-use Rattle.pdu.specs.Parts.{Comes, IsUnfinishedPdv, in_head, in_fragment, end_mark}
+use Rattle.pdu.specs.Spot.{Spot, Opening, Plain, InPdv, spot, spot_of, room_remaining}
+use Rattle.pdu.specs.Parts.{Arrives, IsUnfinishedPdv, in_head, in_fragment, end_mark}
 use Rattle.pdu.proofs.Public.{new_nothing, new_then, new_rest, rest_is_rest, unfinished_pdv, head_part, head_done, plain_part, pdv_head_part, pdv_head_bad, pdv_head_done, pdv_head_whole, fragment_part, fragment_done}
 use Rattle.negotiate.specs.declared.answer.Answer.{Answer}
 use Rattle.negotiate.specs.declared.answer.Answer.TheVariants.{Accept, Reject}
@@ -57,12 +57,12 @@ use Rattle.engine.proofs.StoresAreKept.DraftAndWalk.{is_long}
 
 -- ---- one byte
 
-few_of : (r c : List ℕ) (ms : List Mark) (s : Spot) → Comes r c ms s → length ms ≤ 3 → IsRest (r ++ c) ⊎ IsFrame (r ++ c) → length (new_marks r c) ≤ 4
-few_of r c ms s comes few (inl rest) = omega (arith, ap length (comes.goes_on rest).marks, few)
-few_of r c ms s comes few (inr frame) = omega (arith, ap length (comes.ends frame).marks, length-append ms (end_mark (r ++ c) ∷ []), few)
+few_of : (r c : List ℕ) (ms : List Mark) (s : Spot) → Arrives r c ms s → length ms ≤ 3 → IsRest (r ++ c) ⊎ IsFrame (r ++ c) → length (new_marks r c) ≤ 4
+few_of r c ms s arrives few (inl rest) = omega (arith, ap length (arrives.continues rest).marks, few)
+few_of r c ms s arrives few (inr frame) = omega (arith, ap length (arrives.ends frame).marks, length-append ms (end_mark (r ++ c) ∷ []), few)
 
-few_left : (t : Bool) → length (if t then Leftover ∷ [] else []) ≤ 1
-few_left t = grind (arith, common_steps)
+few_remaining : (t : Bool) → length (if t then Leftover ∷ [] else []) ≤ 1
+few_remaining t = grind (arith, common_steps)
 
 never_opening : (d : DataSpot) → spot_of d ≡ Opening → ⊥
 never_opening d h = grind (arith, common_steps)
@@ -89,13 +89,13 @@ module _ (r : List ℕ) (b : ℕ) (rest : IsRest r) where
     | inr none ↦ inr (record { headed = omega (arith, six); filled = omega (arith, six, none) })
   ]
 
-  has_room : 6 ≤ length r → 1 ≤ room_left r
+  has_room : 6 ≤ length r → 1 ≤ room_remaining r
   has_room le = let short : length r < 6 + frame_length r = rest le in omega (arith, short)
 
   later : 6 ≤ length r → IsRest (r ++ c) ⊎ IsFrame (r ++ c)
   later le =
       let m = more r c le in
-      elim (cases_lt 1 (room_left r)) [ inl lt ↦ inl (m.goes lt) | inr ge ↦ inr (m.ends rest (omega (arith, has_room le, ge))) ]
+      elim (cases_lt 1 (room_remaining r)) [ inl lt ↦ inl (m.goes lt) | inr ge ↦ inr (m.ends rest (omega (arith, has_room le, ge))) ]
 
   in_head_of : (part : List ℕ) → 6 ≤ length r → spot r ≡ InPdv part → length part < 6 → length (new_marks r c) ≤ 4
   in_head_of part le e lt =
@@ -106,11 +106,11 @@ module _ (r : List ℕ) (b : ℕ) (rest : IsRest r) where
             let six : length (part ++ c) ≡ 6 = omega (arith, total, five, lt) in
             elim (cases_lt (big_number 4 (part ++ c)) 2) [
               | inl low ↦ few_of r c _ _ (pdv_head_bad r c part rest e lt six (inl low)) (omega arith) (later le)
-              | inr least ↦ elim (cases_lt (room_left r + length part) (pdv_size (part ++ c))) [
+              | inr least ↦ elim (cases_lt (room_remaining r + length part) (pdv_size (part ++ c))) [
                 | inl big ↦ few_of r c _ _ (pdv_head_bad r c part rest e lt six (inr big)) (omega arith) (later le)
                 | inr fits ↦ elim (cases_lt 2 (big_number 4 (part ++ c))) [
                   | inl some ↦ few_of r c _ _ (pdv_head_done r c part rest e lt six some fits) (omega arith) (later le)
-                  | inr none ↦ few_of r c _ _ (pdv_head_whole r c part rest e (has_room le) lt six (omega (arith, none, least))) (omega (arith, few_left (is_leftover (room_left r - 1)))) (later le)
+                  | inr none ↦ few_of r c _ _ (pdv_head_whole r c part rest e (has_room le) lt six (omega (arith, none, least))) (omega (arith, few_remaining (is_leftover (room_remaining r - 1)))) (later le)
                 ]
               ]
             ]
@@ -121,10 +121,10 @@ module _ (r : List ℕ) (b : ℕ) (rest : IsRest r) where
       let total : length (part ++ c) ≡ length part + 1 = length-append part c in
       elim (cases_lt (length (part ++ c)) (pdv_size part)) [
         | inl lt ↦ few_of r c _ _ (fragment_part r c part rest e ge lt) (omega arith) (later le)
-        | inr full ↦ few_of r c _ _ (fragment_done r c part rest e (has_room le) ge (omega (arith, total, full, short))) (omega (arith, few_left (is_leftover (room_left r - 1)))) (later le)
+        | inr full ↦ few_of r c _ _ (fragment_done r c part rest e (has_room le) ge (omega (arith, total, full, short))) (omega (arith, few_remaining (is_leftover (room_remaining r - 1)))) (later le)
       ]
 
-  unfinished : (part : List ℕ) → 6 ≤ length r → spot r ≡ InPdv part → 6 ≤ length part → IsUnfinishedPdv (room_left r + length part) part → length (new_marks r c) ≤ 4
+  unfinished : (part : List ℕ) → 6 ≤ length r → spot r ≡ InPdv part → 6 ≤ length part → IsUnfinishedPdv (room_remaining r + length part) part → length (new_marks r c) ≤ 4
   unfinished part le e ge (in_head lt) = absurd (omega (arith, ge, lt))
   unfinished part le e ge (in_fragment h l f short) = in_fragment_of part le e ge short
 
@@ -190,12 +190,12 @@ pdv_head_few p head refused None = omega (arith, done_few [] invalid_parameter (
 pdv_head_few p head None (Some accepted) = omega arith
 pdv_head_few p head (Some fault) (Some accepted) = omega (arith, done_few [] 0 (deciding (decision.FragmentRefused head fault) p) event.UserAborts)
 
-pdv_few : (p : Progress) (finding : Finding) (pdv : messages.Pdv) (b : Brought) → Few (30 + elim b [ Goes begun ↦ 0 | Ends m ↦ length (replied p finding m (command_in m.command)).sent | Refuses fault ↦ 0 ]) (elim b [
-  | Goes begun ↦ nothing (going_on begun p)
+pdv_few : (p : Progress) (finding : Finding) (pdv : messages.Pdv) (b : Brought) → Few (30 + elim b [ Goes started ↦ 0 | Ends m ↦ length (replied p finding m (command_in m.command)).sent | Refuses fault ↦ 0 ]) (elim b [
+  | Goes started ↦ nothing (going_on started p)
   | Ends m ↦ replied p finding m (command_in m.command)
   | Refuses fault ↦ user_aborts (deciding (command_refused p pdv fault) p)
 ])
-pdv_few p finding pdv (Goes begun) = omega arith
+pdv_few p finding pdv (Goes started) = omega arith
 pdv_few p finding pdv (Ends m) = omega arith
 pdv_few p finding pdv (Refuses fault) = omega (arith, done_few [] 0 (deciding (command_refused p pdv fault) p) event.UserAborts)
 
@@ -236,7 +236,7 @@ module _ (rooms : Rooms) (s : Settings) where
   mark_few q finding (PdvHead n context control) = pick (is_established q.state) _ _ _ (pdv_head_few q (value_head n context control) (refusal rooms.command q.message n context control) (context_of (requested.request_record q.request) context)) (omega arith)
   mark_few q finding (Pdv context control fragment) = pick (is_established q.state) _ _ _ (pdv_few q finding (record { context = context; control = control; fragment = fragment }) (brought q.message (record { context = context; control = control; fragment = fragment }))) (omega arith)
   mark_few q finding BadPdv = pick (is_established q.state) _ _ _ (omega (arith, done_few [] invalid_parameter (deciding decision.ValueInvalid q) event.Invalid)) (omega arith)
-  mark_few q finding Leftover = pick (is_established q.state) _ _ _ (omega (arith, done_few [] invalid_parameter (deciding (decision.BytesLeft (value_end q.decided)) q) event.Invalid)) (omega arith)
+  mark_few q finding Leftover = pick (is_established q.state) _ _ _ (omega (arith, done_few [] invalid_parameter (deciding (decision.BytesRemaining (value_end q.decided)) q) event.Invalid)) (omega arith)
   mark_few q finding (End kind body) = end_few s q kind body
 
   -- the later marks of a refused PDU give nothing
@@ -275,8 +275,8 @@ entries_few : (before piece : List ℕ) → length (entries before (Bytes piece 
 entries_few before piece = omega (arith, ap length (append-nil (map At (new_marks before piece))), length-map (new_marks before piece) At, few_marks before piece)
 
 pub bounded_output : BoundedOutput
-bounded_output rooms s p story before piece most told each =
-    let few : length story ≤ 4 * length piece = omega (arith, length-map story (λ (h : Happened). h.0), ap length told, entries_few before piece) in
+bounded_output rooms s p story before piece most reported each =
+    let few : length story ≤ 4 * length piece = omega (arith, length-map story (λ (h : Happened). h.0), ap length reported, entries_few before piece) in
     omega (arith, sent_few rooms s most p story each, mul-le (length story) (30 + most) (4 * length piece) (30 + most) few (omega arith))
 
 -- ---- answers are short
@@ -292,8 +292,8 @@ replied_short p finding m (Ok command) e =
     let f = finding_on (context_of r m.context) command finding in
     omega (arith, reply_bounded m.command command f.status f.detail m.context r.maximum e)
 
-brought_short : (p : Progress) (finding : Finding) (b : Brought) → (elim b [ Goes begun ↦ 0 | Ends m ↦ length (replied p finding m (command_in m.command)).sent | Refuses fault ↦ 0 ]) ≤ longest_accept
-brought_short p finding (Goes begun) = omega arith
+brought_short : (p : Progress) (finding : Finding) (b : Brought) → (elim b [ Goes started ↦ 0 | Ends m ↦ length (replied p finding m (command_in m.command)).sent | Refuses fault ↦ 0 ]) ≤ longest_accept
+brought_short p finding (Goes started) = omega arith
 brought_short p finding (Ends m) = replied_short p finding m (command_in m.command) refl
 brought_short p finding (Refuses fault) = omega arith
 
@@ -314,5 +314,5 @@ stories_answer_shortly rooms s p (h ∷ story) each =
     (answers_are_short s (absorb h.1.filing p) h.1.finding h.0 each.0, stories_answer_shortly rooms s (gives rooms s p h).next story each.1)
 
 pub output_of_a_piece : OutputOfAPiece
-output_of_a_piece rooms s p story before piece told each =
-    omega (arith, bounded_output rooms s p story before piece longest_accept told (stories_answer_shortly rooms s p story each))
+output_of_a_piece rooms s p story before piece reported each =
+    omega (arith, bounded_output rooms s p story before piece longest_accept reported (stories_answer_shortly rooms s p story each))

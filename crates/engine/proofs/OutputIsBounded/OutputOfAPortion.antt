@@ -20,7 +20,7 @@ use Rattle.pdu.specs.Frames.{rest_of}
 use Rattle.pdu.specs.Marks.{Mark, Head, PdvHead, Pdv, BadPdv, Leftover, End, pdv_size, new_marks}
 use Rattle.pdu.specs.Parts.{IsUnfinishedPdv, in_head, end_mark}
 use Rattle.pdu.specs.Parts as unfinished
-use Rattle.pdu.specs.Spot.{room_left}
+use Rattle.pdu.specs.Spot.{room_remaining}
 use Rattle.pdu.specs.Steps.{bytes_due}
 use Rattle.pdu.specs.Texts.{release_text, abort_text}
 use Rattle.pdu.proofs.Public.{new_nothing, new_then, new_rest, head_part, plain_part, pdv_head_part, fragment_part, unfinished_pdv, marks_within}
@@ -39,7 +39,7 @@ use Rattle.engine.specs.Stands.{Stands}
 use Rattle.engine.specs.Timeline as timeline
 use Rattle.engine.specs.Timeline.{Entry, Shut, TimedOut, Aborted, Finding, Happened, entries, entries_of}
 use Rattle.engine.proofs.HeldBytes.HeldIsWithinRooms.{bytes_parts}
-use Rattle.engine.proofs.AlongTimelines.HeadsComeFirst.{Opened, Between, opens_at, AreHeadedAt, timeline_headed}
+use Rattle.engine.proofs.AlongTimelines.HeadsAreFirst.{Opened, Between, opens_at, AreHeadedAt, timeline_headed}
 use Rattle.engine.proofs.WholeRun.OneInputMore.{stream_then}
 use Rattle.engine.proofs.OutputIsBounded.OutputOfAPiece.{cut_few, few_bytes_but_answers, few_marks, sent_few, stories_answer_shortly}
 use Rattle.engine.proofs.PiecesAreDone.FramesAndMarks.{more}
@@ -49,32 +49,32 @@ use Rattle.engine.proofs.PiecesAreDone.SkippedPdu.{dropped_by}
 
 -- ---- less than what is to come of a part completes no mark
 
-front_body : (kind left : ℕ) (r c : List ℕ) → AtBody kind left r [] → length c < left → new_marks r c ≡ []
-front_body kind left r c (in_body some inside none) lt = ((plain_part r c inside.rest inside.spot_is).goes_on ((more r c inside.headed).goes (omega (arith, inside.left_is, lt)))).marks
-front_body kind left r c (after_body over) lt = absurd (let e = over.due_is in cc)
+front_body : (kind remaining : ℕ) (r c : List ℕ) → AtBody kind remaining r [] → length c < remaining → new_marks r c ≡ []
+front_body kind remaining r c (in_body some inside none) lt = ((plain_part r c inside.rest inside.spot_is).continues ((more r c inside.headed).goes (omega (arith, inside.remaining_is, lt)))).marks
+front_body kind remaining r c (after_body over) lt = absurd (let e = over.due_is in cc)
 
-front_fragment : (left most : ℕ) (r c : List ℕ) → InFragment left most r [] → length c < most → new_marks r c ≡ []
-front_fragment left most r c f lt =
-    let room : pdv_size f.part ≤ room_left r + length f.part = by (unfinished_pdv r f.part f.inside.rest f.inside.spot_is) in
-    ((fragment_part r c f.part f.inside.rest f.inside.spot_is f.headed (omega (arith, lt, f.more_is, length-append f.part c))).goes_on
+front_fragment : (remaining most : ℕ) (r c : List ℕ) → InFragment remaining most r [] → length c < most → new_marks r c ≡ []
+front_fragment remaining most r c f lt =
+    let room : pdv_size f.part ≤ room_remaining r + length f.part = by (unfinished_pdv r f.part f.inside.rest f.inside.spot_is) in
+    ((fragment_part r c f.part f.inside.rest f.inside.spot_is f.headed (omega (arith, lt, f.more_is, length-append f.part c))).continues
     ((more r c f.inside.headed).goes (omega (arith, lt, f.more_is, room)))).marks
   where
-    by : IsUnfinishedPdv (room_left r + length f.part) f.part → pdv_size f.part ≤ room_left r + length f.part
+    by : IsUnfinishedPdv (room_remaining r + length f.part) f.part → pdv_size f.part ≤ room_remaining r + length f.part
     by (in_head short) = absurd (omega (arith, short, f.headed))
     by (unfinished.in_fragment headed least fits short) = fits
 
 pub front_nothing : (q : Position) (r c : List ℕ) → At q r [] → length c < bytes_due q → new_marks r c ≡ []
 front_nothing (position.Head bytes) r c a lt = (head_part r c (omega (arith, lt, ap length a.bytes_are, length-append r c))).marks
-front_nothing (position.Body kind left) r c a lt = front_body kind left r c a lt
-front_nothing (position.PdvHead left bytes) r c a lt =
-    let room : length c < left = omega (arith, lt, min-le_left left (6 - length bytes.items)) in
-    let short : length c < 6 - length bytes.items = omega (arith, lt, min-le_right left (6 - length bytes.items)) in
+front_nothing (position.Body kind remaining) r c a lt = front_body kind remaining r c a lt
+front_nothing (position.PdvHead remaining bytes) r c a lt =
+    let room : length c < remaining = omega (arith, lt, min-le_left remaining (6 - length bytes.items)) in
+    let short : length c < 6 - length bytes.items = omega (arith, lt, min-le_right remaining (6 - length bytes.items)) in
     let i = a.inside in
-    ((pdv_head_part r c bytes.items i.rest i.spot_is (omega (arith, short, length-append bytes.items c))).goes_on ((more r c i.headed).goes (omega (arith, room, i.left_is)))).marks
-front_nothing (position.Fragment left most) r c (in_fragment some f) lt = front_fragment left most r c f lt
-front_nothing (position.Fragment left most) r c (after_fragment none f) lt = absurd (let e = f.due_is in cc)
-front_nothing (position.Leftover left) r c a lt = absurd (omega (arith, lt))
-front_nothing (position.Skipped kind left) r c a lt = absurd (let e = a.due_is in cc)
+    ((pdv_head_part r c bytes.items i.rest i.spot_is (omega (arith, short, length-append bytes.items c))).continues ((more r c i.headed).goes (omega (arith, room, i.remaining_is)))).marks
+front_nothing (position.Fragment remaining most) r c (in_fragment some f) lt = front_fragment remaining most r c f lt
+front_nothing (position.Fragment remaining most) r c (after_fragment none f) lt = absurd (let e = f.due_is in cc)
+front_nothing (position.Leftover remaining) r c a lt = absurd (omega (arith, lt))
+front_nothing (position.Skipped kind remaining) r c a lt = absurd (let e = a.due_is in cc)
 
 few_after : (r front last : List ℕ) → new_marks r front ≡ [] → length last ≤ 1 → length (new_marks r (front ++ last)) ≤ 4
 few_after r front last none one =
@@ -141,11 +141,11 @@ module _ (rooms : Rooms) (s : Settings) where
   -- what comes after them is all that is sent
   past_inner : (ms : List Mark) (es : List Entry) (p : Progress) (story : List Happened) → AreInner ms → takes_pdvs p ≡ false → entries_of story ≡ map timeline.At ms ++ es → AnswersHave rooms s longest_accept p story
       → length (sent_of rooms s p story) ≤ length es * 4650
-  past_inner [] es p story i t told short =
-      let number : length story ≡ length es = sym (length-map story (λ (h : Happened). h.0)) ∙ ap length told in
+  past_inner [] es p story i t reported short =
+      let number : length story ≡ length es = sym (length-map story (λ (h : Happened). h.0)) ∙ ap length reported in
       subst (λ (n : ℕ). length (sent_of rooms s p story) ≤ n * 4650) number (sent_few rooms s longest_accept p story short)
-  past_inner (m ∷ ms) es p [] i t told short = absurd cc
-  past_inner (m ∷ ms) es p (h ∷ story) i t told short =
+  past_inner (m ∷ ms) es p [] i t reported short = absurd cc
+  past_inner (m ∷ ms) es p (h ∷ story) i t reported short =
       let at : h.0 ≡ timeline.At m = cc in
       let q = absorb h.1.filing p in
       let g : at_entry rooms s q h.1.finding h.0 ≡ nothing q = ap (at_entry rooms s q h.1.finding) at ∙ inner_nothing q h.1.finding m i.0 t in
@@ -158,37 +158,37 @@ module _ (rooms : Rooms) (s : Settings) where
   -- ---- what a portion has an association send
 
   few_marked : (p : Progress) (story : List Happened) (ms : List Mark) → entries_of story ≡ map timeline.At ms → length ms ≤ 4 → AnswersHave rooms s longest_accept p story → length (sent_of rooms s p story) ≤ most_sent
-  few_marked p story ms told few short = omega (arith, sent_few rooms s longest_accept p story short, length-map story (λ (h : Happened). h.0), ap length told, length-map ms timeline.At, few)
+  few_marked p story ms reported few short = omega (arith, sent_few rooms s longest_accept p story short, length-map story (λ (h : Happened). h.0), ap length reported, length-map ms timeline.At, few)
 
   skipped_few : (q : Position) (r c : List ℕ) (p : Progress) (story : List Happened) → SkipsAt q r → takes_pdvs p ≡ false → length c ≤ bytes_due q → entries_of story ≡ map timeline.At (new_marks r c)
       → AnswersHave rooms s longest_accept p story → length (sent_of rooms s p story) ≤ most_sent
-  skipped_few (position.Head bytes) r c p story a t le told short = absurd a
-  skipped_few (position.Body kind left) r c p story a t le told short = absurd a
-  skipped_few (position.PdvHead left bytes) r c p story a t le told short = absurd a
-  skipped_few (position.Fragment left most) r c p story a t le told short = absurd a
-  skipped_few (position.Leftover left) r c p story a t le told short = absurd a
-  skipped_few (position.Skipped kind left) r c p story a t le told short =
+  skipped_few (position.Head bytes) r c p story a t le reported short = absurd a
+  skipped_few (position.Body kind remaining) r c p story a t le reported short = absurd a
+  skipped_few (position.PdvHead remaining bytes) r c p story a t le reported short = absurd a
+  skipped_few (position.Fragment remaining most) r c p story a t le reported short = absurd a
+  skipped_few (position.Leftover remaining) r c p story a t le reported short = absurd a
+  skipped_few (position.Skipped kind remaining) r c p story a t le reported short =
       let within = marks_within r c a.1 a.2 in
-      elim (cases_lt (length c) (room_left r)) [
+      elim (cases_lt (length c) (room_remaining r)) [
         | inl lt ↦
-            let inner : AreInner (new_marks r c) = within.goes_on ((more r c a.2).goes lt) in
-            let few = past_inner (new_marks r c) [] p story inner t (told ∙ sym (append-nil (map timeline.At (new_marks r c)))) short in
+            let inner : AreInner (new_marks r c) = within.continues ((more r c a.2).goes lt) in
+            let few = past_inner (new_marks r c) [] p story inner t (reported ∙ sym (append-nil (map timeline.At (new_marks r c)))) short in
             omega (arith, few)
         | inr ge ↦
             let w = within.ends ((more r c a.2).ends a.1 (omega (arith, ge, le, a.4))) in
             let last : List Mark = end_mark (r ++ c) ∷ [] in
-            let few = past_inner w.inner (timeline.At (end_mark (r ++ c)) ∷ []) p story w.are_inner t (told ∙ ap (map timeline.At) w.marks ∙ map-append timeline.At w.inner last) short in
+            let few = past_inner w.inner (timeline.At (end_mark (r ++ c)) ∷ []) p story w.are_inner t (reported ∙ ap (map timeline.At) w.marks ∙ map-append timeline.At w.inner last) short in
             omega (arith, few)
       ]
 
   stands_few : (f : Fields) (r c : List ℕ) (p : Progress) (story : List Happened) → StandsAt f.position f.kept r [] → takes_pdvs_in f.kept ≡ takes_pdvs p → length c ≤ bytes_due f.position
       → entries_of story ≡ map timeline.At (new_marks r c) → AnswersHave rooms s longest_accept p story → length (sent_of rooms s p story) ≤ most_sent
-  stands_few f r c p story (reads a) same le told short = few_marked p story (new_marks r c) told (few_of_part f.position r c a le) short
-  stands_few f r c p story (skips a u none) same le told short = skipped_few f.position r c p story a (sym same ∙ u.pdvs) le told short
+  stands_few f r c p story (reads a) same le reported short = few_marked p story (new_marks r c) reported (few_of_part f.position r c a le) short
+  stands_few f r c p story (skips a u none) same le reported short = skipped_few f.position r c p story a (sym same ∙ u.pdvs) le reported short
 
   pub sends_few : (inputs : List Received) (story : List Happened) (failed : Bool) (f : Fields) (store : Store) (most : ℕ) → Stands rooms s inputs story failed f store
       → (most ≡ 1) ⊎ ((is_ended f.kept.state ≡ false) × (most ≡ bytes_due f.position)) → SendsFew rooms s inputs story most
-  sends_few inputs story failed f store most h how piece after le bytes told = by how where
+  sends_few inputs story failed f store most h how piece after le bytes reported = by how where
     stream : List ℕ
     stream = stream_of inputs
 
@@ -196,10 +196,10 @@ module _ (rooms : Rooms) (s : Settings) where
     p = progress_of rooms s at_start story
 
     short : AnswersHave rooms s longest_accept p after
-    short = stories_answer_shortly rooms s p after (subst (AllByRecursion IsOfBytes) (sym told) (piece_of_bytes inputs piece bytes))
+    short = stories_answer_shortly rooms s p after (subst (AllByRecursion IsOfBytes) (sym reported) (piece_of_bytes inputs piece bytes))
 
     marked : entries_of after ≡ map timeline.At (new_marks stream piece)
-    marked = told ∙ entries_of_piece stream piece
+    marked = reported ∙ entries_of_piece stream piece
 
     by : (most ≡ 1) ⊎ ((is_ended f.kept.state ≡ false) × (most ≡ bytes_due f.position)) → length (sent_of rooms s p after) ≤ most_sent
     by (inl one) = few_marked p after (new_marks stream piece) marked (omega (arith, few_marks stream piece, le, one)) short
@@ -214,8 +214,8 @@ module _ (rooms : Rooms) (s : Settings) where
 pub entries_of_more : EntriesOfMore
 entries_of_more rooms s inputs input story after failed failed_then h g =
     let all : entries_of story ++ entries_of after ≡ entries [] inputs ++ entries (stream_of inputs) (input ∷ []) =
-    sym (map-append (λ (x : Happened). x.0) story after) ∙ g.told ∙ entries_append inputs (input ∷ []) in
-    append_cancel_left (entries [] inputs) (entries_of after) (entries (stream_of inputs) (input ∷ [])) (ap (λ (es : List Entry). es ++ entries_of after) (sym h.told) ∙ all)
+    sym (map-append (λ (x : Happened). x.0) story after) ∙ g.reported ∙ entries_append inputs (input ∷ []) in
+    append_cancel_left (entries [] inputs) (entries_of after) (entries (stream_of inputs) (input ∷ [])) (ap (λ (es : List Entry). es ++ entries_of after) (sym h.reported) ∙ all)
 
 closed_silent : (state : State) → bytes_sent [] release_text abort_text (sending (table state event.Closed).0 (table state event.Closed).1 0) ≡ []
 closed_silent state = grind (arith, common_steps)
@@ -224,26 +224,26 @@ expired_silent : (state : State) → bytes_sent [] release_text abort_text (send
 expired_silent state = grind (arith, common_steps)
 
 entry_silent : (rooms : Rooms) (s : Settings) (p : Progress) (finding : Finding) (before : List ℕ) (input : Received) (e : Entry) → IsSilent input → entries before (input ∷ []) ≡ e ∷ [] → (at_entry rooms s p finding e).sent ≡ []
-entry_silent rooms s p finding before (Bytes piece) e i told = absurd i
-entry_silent rooms s p finding before Close e i told = let at : e ≡ Shut = cc in ap (λ (x : Entry). (at_entry rooms s p finding x).sent) at ∙ closed_silent p.state
-entry_silent rooms s p finding before Expiry e i told = let at : e ≡ TimedOut = cc in ap (λ (x : Entry). (at_entry rooms s p finding x).sent) at ∙ expired_silent p.state
-entry_silent rooms s p finding before UserAbort e i told = absurd i
+entry_silent rooms s p finding before (Bytes piece) e i reported = absurd i
+entry_silent rooms s p finding before Close e i reported = let at : e ≡ Shut = cc in ap (λ (x : Entry). (at_entry rooms s p finding x).sent) at ∙ closed_silent p.state
+entry_silent rooms s p finding before Expiry e i reported = let at : e ≡ TimedOut = cc in ap (λ (x : Entry). (at_entry rooms s p finding x).sent) at ∙ expired_silent p.state
+entry_silent rooms s p finding before UserAbort e i reported = absurd i
 
 one_entry : (before : List ℕ) (input : Received) → IsSilent input → length (entries before (input ∷ [])) ≡ 1
 one_entry before input h = grind (arith, common_steps)
 
 pub silent_sends_nothing : SilentSendsNothing
-silent_sends_nothing rooms s p before input [] i told = refl
-silent_sends_nothing rooms s p before input (h ∷ a ∷ after) i told = absurd (omega (arith, ap length told, one_entry before input i))
-silent_sends_nothing rooms s p before input (h ∷ []) i told =
+silent_sends_nothing rooms s p before input [] i reported = refl
+silent_sends_nothing rooms s p before input (h ∷ a ∷ after) i reported = absurd (omega (arith, ap length reported, one_entry before input i))
+silent_sends_nothing rooms s p before input (h ∷ []) i reported =
     let q = absorb h.1.filing p in
-    let none = cut_nothing rooms s h.1.wire p (at_entry rooms s q h.1.finding h.0) (entry_silent rooms s q h.1.finding before input h.0 i (sym told)) in
+    let none = cut_nothing rooms s h.1.wire p (at_entry rooms s q h.1.finding h.0) (entry_silent rooms s q h.1.finding before input h.0 i (sym reported)) in
     append-nil (gives rooms s p h).sent ∙ none
 
 pub aborts_shortly : AbortsShortly
-aborts_shortly rooms s p before [] told = omega arith
-aborts_shortly rooms s p before (h ∷ a ∷ after) told = absurd (omega (arith, ap length told))
-aborts_shortly rooms s p before (h ∷ []) told =
+aborts_shortly rooms s p before [] reported = omega arith
+aborts_shortly rooms s p before (h ∷ a ∷ after) reported = absurd (omega (arith, ap length reported))
+aborts_shortly rooms s p before (h ∷ []) reported =
     let at : h.0 ≡ Aborted = cc in
     let q = absorb h.1.filing p in
     let few : length (at_entry rooms s q h.1.finding h.0).sent ≤ 30 = subst (λ (e : Entry). length (at_entry rooms s q h.1.finding e).sent ≤ 30) (sym at) (omega (arith, few_bytes_but_answers rooms s q h.1.finding Aborted)) in

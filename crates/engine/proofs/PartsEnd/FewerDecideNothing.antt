@@ -40,10 +40,10 @@ module _ (rooms : Rooms) (s : Settings) where
   none_filed (Some k) p q = refl
 
   inner_decide_nothing : (ms : List Mark) (p : Progress) (story : List Happened) → AreInner ms → takes_pdvs p ≡ false → entries_of story ≡ map timeline.At ms → DecidesNothing rooms s p story
-  inner_decide_nothing [] p [] i t told = record { decided = refl; sent = refl; files = refl }
-  inner_decide_nothing [] p (h ∷ story) i t told = absurd cc
-  inner_decide_nothing (m ∷ ms) p [] i t told = absurd cc
-  inner_decide_nothing (m ∷ ms) p (h ∷ story) i t told =
+  inner_decide_nothing [] p [] i t reported = record { decided = refl; sent = refl; files = refl }
+  inner_decide_nothing [] p (h ∷ story) i t reported = absurd cc
+  inner_decide_nothing (m ∷ ms) p [] i t reported = absurd cc
+  inner_decide_nothing (m ∷ ms) p (h ∷ story) i t reported =
       let at : h.0 ≡ timeline.At m = cc in
       let others : entries_of story ≡ map timeline.At ms = cc in
       let q = absorb h.1.filing p in
@@ -66,22 +66,22 @@ module _ (rooms : Rooms) (s : Settings) where
   none_decide_nothing p (h ∷ story) e = absurd cc
 
   skipped_decide_nothing : (q : Position) (r c : List ℕ) (p : Progress) (story : List Happened) → SkipsAt q r → takes_pdvs p ≡ false → length c < bytes_due q → entries_of story ≡ map timeline.At (new_marks r c) → DecidesNothing rooms s p story
-  skipped_decide_nothing (position.Head bytes) r c p story a t lt told = absurd a
-  skipped_decide_nothing (position.Body kind left) r c p story a t lt told = absurd a
-  skipped_decide_nothing (position.PdvHead left bytes) r c p story a t lt told = absurd a
-  skipped_decide_nothing (position.Fragment left most) r c p story a t lt told = absurd a
-  skipped_decide_nothing (position.Leftover left) r c p story a t lt told = absurd a
-  skipped_decide_nothing (position.Skipped kind left) r c p story a t lt told =
-      inner_decide_nothing (new_marks r c) p story ((marks_within r c a.1 a.2).goes_on ((more r c a.2).goes (omega (arith, lt, a.4)))) t told
+  skipped_decide_nothing (position.Head bytes) r c p story a t lt reported = absurd a
+  skipped_decide_nothing (position.Body kind remaining) r c p story a t lt reported = absurd a
+  skipped_decide_nothing (position.PdvHead remaining bytes) r c p story a t lt reported = absurd a
+  skipped_decide_nothing (position.Fragment remaining most) r c p story a t lt reported = absurd a
+  skipped_decide_nothing (position.Leftover remaining) r c p story a t lt reported = absurd a
+  skipped_decide_nothing (position.Skipped kind remaining) r c p story a t lt reported =
+      inner_decide_nothing (new_marks r c) p story ((marks_within r c a.1 a.2).continues ((more r c a.2).goes (omega (arith, lt, a.4)))) t reported
 
   stands_decide_nothing : (f : Fields) (r c : List ℕ) (p : Progress) (story : List Happened) → StandsAt f.position f.kept r [] → takes_pdvs_in f.kept ≡ takes_pdvs p → length c < bytes_due f.position
       → entries_of story ≡ map timeline.At (new_marks r c) → DecidesNothing rooms s p story
-  stands_decide_nothing f r c p story (reads a) same lt told = none_decide_nothing p story (told ∙ ap (map timeline.At) (front_nothing f.position r c a lt))
-  stands_decide_nothing f r c p story (skips a u none) same lt told = skipped_decide_nothing f.position r c p story a (sym same ∙ u.pdvs) lt told
+  stands_decide_nothing f r c p story (reads a) same lt reported = none_decide_nothing p story (reported ∙ ap (map timeline.At) (front_nothing f.position r c a lt))
+  stands_decide_nothing f r c p story (skips a u none) same lt reported = skipped_decide_nothing f.position r c p story a (sym same ∙ u.pdvs) lt reported
 
   pub fewer_decide_nothing : (inputs : List Received) (story : List Happened) (failed : Bool) (f : Fields) (store : Store) (most : ℕ) → Stands rooms s inputs story failed f store
       → (most ≡ 1) ⊎ ((is_ended f.kept.state ≡ false) × (most ≡ bytes_due f.position)) → DecidesNothingBefore rooms s inputs story most
-  fewer_decide_nothing inputs story failed f store most h how piece after lt told = by how where
+  fewer_decide_nothing inputs story failed f store most h how piece after lt reported = by how where
     stream : List ℕ
     stream = stream_of inputs
 
@@ -89,7 +89,7 @@ module _ (rooms : Rooms) (s : Settings) where
     p = progress_of rooms s at_start story
 
     marked : entries_of after ≡ map timeline.At (new_marks stream piece)
-    marked = told ∙ entries_of_piece stream piece
+    marked = reported ∙ entries_of_piece stream piece
 
     none_before : (c : List ℕ) → length c < 1 → new_marks stream c ≡ []
     none_before [] l = new_nothing stream
@@ -105,6 +105,6 @@ module _ (rooms : Rooms) (s : Settings) where
 
 pub fewer_keep_the_decision : FewerKeepTheDecision
 fewer_keep_the_decision rooms s inputs story failed piece most seen seen_new old new h before lt x =
-    let told = entries_of_more rooms s inputs (Bytes piece) story x.more failed x.failed_then h.story_is x.stands.story_is in
+    let reported = entries_of_more rooms s inputs (Bytes piece) story x.more failed x.failed_then h.story_is x.stands.story_is in
     x.stands.shows.frame.pends.decided_is ∙ ap (λ (q : Progress). q.decided) (progress_then rooms s at_start story x.more)
-    ∙ (before piece x.more lt told).decided ∙ sym h.shows.frame.pends.decided_is
+    ∙ (before piece x.more lt reported).decided ∙ sym h.shows.frame.pends.decided_is

@@ -10,9 +10,9 @@ use Rattle.pdu.specs.declared.position.Position.TheVariants as position
 use Rattle.pdu.specs.Deframing.{At, AtBody, AtPdvHead, in_body, after_body, in_fragment, after_fragment, InFragment, SkipsAt}
 use Rattle.pdu.specs.Frames.{IsFrame, IsRest, rest_of}
 use Rattle.pdu.specs.Marks.{Mark, pdv_size, new_marks, frame_length}
-use Rattle.pdu.specs.Parts.{Comes, IsUnfinishedPdv, in_head, end_mark}
+use Rattle.pdu.specs.Parts.{Arrives, IsUnfinishedPdv, in_head, end_mark}
 use Rattle.pdu.specs.Parts as unfinished
-use Rattle.pdu.specs.Spot.{Spot, room_left}
+use Rattle.pdu.specs.Spot.{Spot, room_remaining}
 use Rattle.pdu.specs.Steps.{bytes_due}
 use Rattle.pdu.proofs.Public.{new_rest, head_done, plain_part, pdv_head_part, pdv_head_bad, pdv_head_done, pdv_head_whole, fragment_done, unfinished_pdv, marks_within}
 use Rattle.negotiate.specs.Settings.{Settings}
@@ -38,18 +38,18 @@ some_first : (m : Mark) (ms xs : List Mark) → xs ≡ m ∷ ms → xs ≢ []
 some_first m ms xs e none = absurd cc
 
 -- of bytes that complete a PDU
-ends_some : (r c : List ℕ) (ms : List Mark) (at : Spot) → Comes r c ms at → IsFrame (r ++ c) → new_marks r c ≢ []
-ends_some r c ms at comes frame = some_last ms (end_mark (r ++ c)) (new_marks r c) (comes.ends frame).marks
+ends_some : (r c : List ℕ) (ms : List Mark) (at : Spot) → Arrives r c ms at → IsFrame (r ++ c) → new_marks r c ≢ []
+ends_some r c ms at arrives frame = some_last ms (end_mark (r ++ c)) (new_marks r c) (arrives.ends frame).marks
 
 -- of bytes that have a mark inside a PDU
-comes_some : (r c : List ℕ) (m : Mark) (ms : List Mark) (at : Spot) → Comes r c (m ∷ ms) at → IsRest (r ++ c) ⊎ IsFrame (r ++ c) → new_marks r c ≢ []
-comes_some r c m ms at comes (inl rest) = some_first m ms (new_marks r c) (comes.goes_on rest).marks
-comes_some r c m ms at comes (inr frame) = ends_some r c (m ∷ ms) at comes frame
+arrives_some : (r c : List ℕ) (m : Mark) (ms : List Mark) (at : Spot) → Arrives r c (m ∷ ms) at → IsRest (r ++ c) ⊎ IsFrame (r ++ c) → new_marks r c ≢ []
+arrives_some r c m ms at arrives (inl rest) = some_first m ms (new_marks r c) (arrives.continues rest).marks
+arrives_some r c m ms at arrives (inr frame) = ends_some r c (m ∷ ms) at arrives frame
 
--- a PDU goes on or is complete
-rest_or_frame : (r c : List ℕ) → IsRest r → 6 ≤ length r → length c ≤ room_left r → IsRest (r ++ c) ⊎ IsFrame (r ++ c)
+-- a PDU continues or is complete
+rest_or_frame : (r c : List ℕ) → IsRest r → 6 ≤ length r → length c ≤ room_remaining r → IsRest (r ++ c) ⊎ IsFrame (r ++ c)
 rest_or_frame r c rest headed le =
-    elim (cases_lt (length c) (room_left r)) [
+    elim (cases_lt (length c) (room_remaining r)) [
       | inl lt ↦ inl ((more r c headed).goes lt)
       | inr ge ↦ inr ((more r c headed).ends rest (omega (arith, le, ge)))
     ]
@@ -58,54 +58,54 @@ rest_or_frame r c rest headed le =
 
 head_some : (r c : List ℕ) → length r < 6 → length (r ++ c) ≡ 6 → new_marks r c ≢ []
 head_some r c short whole =
-    comes_some r c _ _ _ (head_done r c short whole) (elim (cases_lt 0 (frame_length (r ++ c))) [
+    arrives_some r c _ _ _ (head_done r c short whole) (elim (cases_lt 0 (frame_length (r ++ c))) [
       | inl lt ↦ inl (λ _. omega (arith, lt, whole))
       | inr none ↦ inr (record { headed = omega (arith, whole); filled = omega (arith, none, whole) })
     ])
 
-body_some : (kind left : ℕ) (r c : List ℕ) → AtBody kind left r [] → length c ≡ left → new_marks r c ≢ []
-body_some kind left r c (in_body some inside none) e =
-    ends_some r c _ _ (plain_part r c inside.rest inside.spot_is) ((more r c inside.headed).ends inside.rest (e ∙ inside.left_is))
-body_some kind left r c (after_body over) e = absurd (let d = over.due_is in cc)
+body_some : (kind remaining : ℕ) (r c : List ℕ) → AtBody kind remaining r [] → length c ≡ remaining → new_marks r c ≢ []
+body_some kind remaining r c (in_body some inside none) e =
+    ends_some r c _ _ (plain_part r c inside.rest inside.spot_is) ((more r c inside.headed).ends inside.rest (e ∙ inside.remaining_is))
+body_some kind remaining r c (after_body over) e = absurd (let d = over.due_is in cc)
 
-module _ (left : ℕ) (b r c : List ℕ) (a : AtPdvHead left b r []) (within : length c ≤ left) where
+module _ (remaining : ℕ) (b r c : List ℕ) (a : AtPdvHead remaining b r []) (within : length c ≤ remaining) where
   reaches : IsRest (r ++ c) ⊎ IsFrame (r ++ c)
-  reaches = rest_or_frame r c a.inside.rest a.inside.headed (omega (arith, within, a.inside.left_is))
+  reaches = rest_or_frame r c a.inside.rest a.inside.headed (omega (arith, within, a.inside.remaining_is))
 
   -- the head of a presentation data value is whole
   whole_some : length (b ++ c) ≡ 6 → new_marks r c ≢ []
   whole_some whole =
       let i = a.inside in
-      let fits : length c ≤ room_left r = omega (arith, within, i.left_is) in
+      let fits : length c ≤ room_remaining r = omega (arith, within, i.remaining_is) in
       elim (cases_lt (big_number 4 (b ++ c)) 2) [
-        | inl few ↦ comes_some r c _ _ _ (pdv_head_bad r c b i.rest i.spot_is a.short whole (inl few)) reaches
-        | inr least ↦ elim (cases_lt (room_left r + length b) (pdv_size (b ++ c))) [
-          | inl past ↦ comes_some r c _ _ _ (pdv_head_bad r c b i.rest i.spot_is a.short whole (inr past)) reaches
+        | inl few ↦ arrives_some r c _ _ _ (pdv_head_bad r c b i.rest i.spot_is a.short whole (inl few)) reaches
+        | inr least ↦ elim (cases_lt (room_remaining r + length b) (pdv_size (b ++ c))) [
+          | inl past ↦ arrives_some r c _ _ _ (pdv_head_bad r c b i.rest i.spot_is a.short whole (inr past)) reaches
           | inr within ↦ elim (cases_lt 2 (big_number 4 (b ++ c))) [
-            | inl some ↦ comes_some r c _ _ _ (pdv_head_done r c b i.rest i.spot_is a.short whole some within) reaches
-            | inr none ↦ comes_some r c _ _ _ (pdv_head_whole r c b i.rest i.spot_is fits a.short whole (omega (arith, least, none))) reaches
+            | inl some ↦ arrives_some r c _ _ _ (pdv_head_done r c b i.rest i.spot_is a.short whole some within) reaches
+            | inr none ↦ arrives_some r c _ _ _ (pdv_head_whole r c b i.rest i.spot_is fits a.short whole (omega (arith, least, none))) reaches
           ]
         ]
       ]
 
-  pdv_head_some : (length c ≡ left) ⊎ (length (b ++ c) ≡ 6) → length (b ++ c) ≤ 6 → new_marks r c ≢ []
+  pdv_head_some : (length c ≡ remaining) ⊎ (length (b ++ c) ≡ 6) → length (b ++ c) ≤ 6 → new_marks r c ≢ []
   pdv_head_some (inr whole) le = whole_some whole
   pdv_head_some (inl all) le =
       elim (cases_lt (length (b ++ c)) 6) [
         | inl short ↦
             let i = a.inside in
-            ends_some r c _ _ (pdv_head_part r c b i.rest i.spot_is short) ((more r c i.headed).ends i.rest (all ∙ i.left_is))
+            ends_some r c _ _ (pdv_head_part r c b i.rest i.spot_is short) ((more r c i.headed).ends i.rest (all ∙ i.remaining_is))
         | inr ge ↦ whole_some (omega (arith, le, ge))
       ]
 
-fragment_some : (left most : ℕ) (r c : List ℕ) → InFragment left most r [] → length c ≡ most → new_marks r c ≢ []
-fragment_some left most r c f e =
-    let room : pdv_size f.part ≤ room_left r + length f.part = by (unfinished_pdv r f.part f.inside.rest f.inside.spot_is) in
-    let fits : length c ≤ room_left r = omega (arith, e, f.more_is, room) in
-    comes_some r c _ _ _ (fragment_done r c f.part f.inside.rest f.inside.spot_is fits f.headed (omega (arith, e, f.more_is, length-append f.part c)))
+fragment_some : (remaining most : ℕ) (r c : List ℕ) → InFragment remaining most r [] → length c ≡ most → new_marks r c ≢ []
+fragment_some remaining most r c f e =
+    let room : pdv_size f.part ≤ room_remaining r + length f.part = by (unfinished_pdv r f.part f.inside.rest f.inside.spot_is) in
+    let fits : length c ≤ room_remaining r = omega (arith, e, f.more_is, room) in
+    arrives_some r c _ _ _ (fragment_done r c f.part f.inside.rest f.inside.spot_is fits f.headed (omega (arith, e, f.more_is, length-append f.part c)))
     (rest_or_frame r c f.inside.rest f.inside.headed fits)
   where
-    by : IsUnfinishedPdv (room_left r + length f.part) f.part → pdv_size f.part ≤ room_left r + length f.part
+    by : IsUnfinishedPdv (room_remaining r + length f.part) f.part → pdv_size f.part ≤ room_remaining r + length f.part
     by (in_head short) = absurd (omega (arith, short, f.headed))
     by (unfinished.in_fragment headed least fits short) = fits
 
@@ -114,26 +114,26 @@ min_is m n = elim (cases_lt m n) [ inl lt ↦ inl (omega (arith, lt)) | inr ge �
 
 part_some : (q : Position) (r c : List ℕ) → At q r [] → length c ≡ bytes_due q → new_marks r c ≢ []
 part_some (position.Head bytes) r c a e = head_some r c a.short (omega (arith, e, ap length a.bytes_are, length-append r c, a.short))
-part_some (position.Body kind left) r c a e = body_some kind left r c a e
-part_some (position.PdvHead left bytes) r c a e =
+part_some (position.Body kind remaining) r c a e = body_some kind remaining r c a e
+part_some (position.PdvHead remaining bytes) r c a e =
     let b = bytes.items in
     let total = length-append b c in
-    let fewer = min-le_right left (6 - length b) in
-    pdv_head_some left b r c a (omega (arith, e, min-le_left left (6 - length b)))
-    (elim (min_is left (6 - length b)) [ inl all ↦ inl (e ∙ all) | inr whole ↦ inr (omega (arith, e, whole, total, a.short)) ])
+    let fewer = min-le_right remaining (6 - length b) in
+    pdv_head_some remaining b r c a (omega (arith, e, min-le_left remaining (6 - length b)))
+    (elim (min_is remaining (6 - length b)) [ inl all ↦ inl (e ∙ all) | inr whole ↦ inr (omega (arith, e, whole, total, a.short)) ])
     (omega (arith, e, total, fewer, a.short))
-part_some (position.Fragment left most) r c (in_fragment some f) e = fragment_some left most r c f e
-part_some (position.Fragment left most) r c (after_fragment none f) e = absurd (let d = f.due_is in cc)
-part_some (position.Leftover left) r c a e = absurd (let d = a.due_is in cc)
-part_some (position.Skipped kind left) r c a e = absurd (let d = a.due_is in cc)
+part_some (position.Fragment remaining most) r c (in_fragment some f) e = fragment_some remaining most r c f e
+part_some (position.Fragment remaining most) r c (after_fragment none f) e = absurd (let d = f.due_is in cc)
+part_some (position.Leftover remaining) r c a e = absurd (let d = a.due_is in cc)
+part_some (position.Skipped kind remaining) r c a e = absurd (let d = a.due_is in cc)
 
 skipped_some : (q : Position) (r c : List ℕ) → SkipsAt q r → length c ≡ bytes_due q → new_marks r c ≢ []
 skipped_some (position.Head bytes) r c a e = absurd a
-skipped_some (position.Body kind left) r c a e = absurd a
-skipped_some (position.PdvHead left bytes) r c a e = absurd a
-skipped_some (position.Fragment left most) r c a e = absurd a
-skipped_some (position.Leftover left) r c a e = absurd a
-skipped_some (position.Skipped kind left) r c a e =
+skipped_some (position.Body kind remaining) r c a e = absurd a
+skipped_some (position.PdvHead remaining bytes) r c a e = absurd a
+skipped_some (position.Fragment remaining most) r c a e = absurd a
+skipped_some (position.Leftover remaining) r c a e = absurd a
+skipped_some (position.Skipped kind remaining) r c a e =
     let w = (marks_within r c a.1 a.2).ends ((more r c a.2).ends a.1 (e ∙ a.4)) in
     some_last w.inner (end_mark (r ++ c)) (new_marks r c) w.marks
 
@@ -141,24 +141,24 @@ skipped_some (position.Skipped kind left) r c a e =
 
 part_due : (q : Position) (r : List ℕ) → At q r [] → 0 < bytes_due q
 part_due (position.Head bytes) r a = omega (arith, a.short, ap length a.bytes_are)
-part_due (position.Body kind left) r (in_body some inside none) = some
-part_due (position.Body kind left) r (after_body over) = absurd (let d = over.due_is in cc)
-part_due (position.PdvHead left bytes) r a =
+part_due (position.Body kind remaining) r (in_body some inside none) = some
+part_due (position.Body kind remaining) r (after_body over) = absurd (let d = over.due_is in cc)
+part_due (position.PdvHead remaining bytes) r a =
     let i = a.inside in
-    let some : 0 < left = omega (arith, i.left_is, i.rest i.headed) in
-    elim (min_is left (6 - length bytes.items)) [ inl all ↦ omega (arith, all, some) | inr whole ↦ omega (arith, whole, a.short) ]
-part_due (position.Fragment left most) r (in_fragment some f) = some
-part_due (position.Fragment left most) r (after_fragment none f) = absurd (let d = f.due_is in cc)
-part_due (position.Leftover left) r a = absurd (let d = a.due_is in cc)
-part_due (position.Skipped kind left) r a = absurd (let d = a.due_is in cc)
+    let some : 0 < remaining = omega (arith, i.remaining_is, i.rest i.headed) in
+    elim (min_is remaining (6 - length bytes.items)) [ inl all ↦ omega (arith, all, some) | inr whole ↦ omega (arith, whole, a.short) ]
+part_due (position.Fragment remaining most) r (in_fragment some f) = some
+part_due (position.Fragment remaining most) r (after_fragment none f) = absurd (let d = f.due_is in cc)
+part_due (position.Leftover remaining) r a = absurd (let d = a.due_is in cc)
+part_due (position.Skipped kind remaining) r a = absurd (let d = a.due_is in cc)
 
 skipped_due : (q : Position) (r : List ℕ) → SkipsAt q r → 0 < bytes_due q
 skipped_due (position.Head bytes) r a = absurd a
-skipped_due (position.Body kind left) r a = absurd a
-skipped_due (position.PdvHead left bytes) r a = absurd a
-skipped_due (position.Fragment left most) r a = absurd a
-skipped_due (position.Leftover left) r a = absurd a
-skipped_due (position.Skipped kind left) r a = a.0
+skipped_due (position.Body kind remaining) r a = absurd a
+skipped_due (position.PdvHead remaining bytes) r a = absurd a
+skipped_due (position.Fragment remaining most) r a = absurd a
+skipped_due (position.Leftover remaining) r a = absurd a
+skipped_due (position.Skipped kind remaining) r a = a.0
 
 -- ---- after some inputs
 

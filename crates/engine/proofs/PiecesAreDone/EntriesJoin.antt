@@ -78,11 +78,11 @@ module _ (rooms : Rooms) (s : Settings) where
 
   -- ---- none, one and more
 
-  pub does_none : (p : Progress) (k : Kept) (body begun : List ℕ) (d : Devices) → Pends k d.store p body begun → DoesAll rooms s p [] k body begun d d
-  does_none p k body begun d h = record {
+  pub does_none : (p : Progress) (k : Kept) (body started : List ℕ) (d : Devices) → Pends k d.store p body started → DoesAll rooms s p [] k body started d d
+  does_none p k body started d h = record {
     story = [];
     failed = false;
-    told = refl;
+    reported = refl;
     fair = tt;
     last = λ e. absurd cc;
     pends = h;
@@ -90,14 +90,14 @@ module _ (rooms : Rooms) (s : Settings) where
   }
 
   -- a part of a fragment
-  abbrev pub does_appended : (p : Progress) (k : Kept) (body begun : List ℕ) (d e : Devices) → Appends rooms s p k body begun d e → DoesAll rooms s p [] k body begun d e
-  does_appended p k body begun d e a = record { story = []; failed = a.failed; told = refl; fair = tt; last = a.last; pends = a.pends; gains = a.gains }
+  abbrev pub does_appended : (p : Progress) (k : Kept) (body started : List ℕ) (d e : Devices) → Appends rooms s p k body started d e → DoesAll rooms s p [] k body started d e
+  does_appended p k body started d e a = record { story = []; failed = a.failed; reported = refl; fair = tt; last = a.last; pends = a.pends; gains = a.gains }
 
-  abbrev pub does_one : (p : Progress) (x : Entry) (k : Kept) (body begun : List ℕ) (d e : Devices) → Does rooms s p x k body begun d e → DoesAll rooms s p (x ∷ []) k body begun d e
-  does_one p x k body begun d e h = record {
+  abbrev pub does_one : (p : Progress) (x : Entry) (k : Kept) (body started : List ℕ) (d e : Devices) → Does rooms s p x k body started d e → DoesAll rooms s p (x ∷ []) k body started d e
+  does_one p x k body started d e h = record {
     story = (x, h.outcome) ∷ [];
     failed = false;
-    told = refl;
+    reported = refl;
     fair = (h.fair, tt);
     last = λ e. absurd cc;
     pends = h.pends;
@@ -109,10 +109,10 @@ module _ (rooms : Rooms) (s : Settings) where
   }
 
   -- some entries, and then others from where these led
-  pub joined : (p : Progress) (xs ys : List Entry) (k n : Kept) (b f body begun : List ℕ) (d e g : Devices) → (h : DoesAll rooms s p xs k b f d e)
-      → (j : DoesAll rooms s (absorb h.failed (progress_of rooms s p h.story)) ys n body begun e g)
-      → (z : DoesAll rooms s p (xs ++ ys) n body begun d g) × (absorb z.failed (progress_of rooms s p z.story) ≡ absorb j.failed (progress_of rooms s (absorb h.failed (progress_of rooms s p h.story)) j.story))
-  joined p xs ys k n b f body begun d e g h j =
+  pub joined : (p : Progress) (xs ys : List Entry) (k n : Kept) (b f body started : List ℕ) (d e g : Devices) → (h : DoesAll rooms s p xs k b f d e)
+      → (j : DoesAll rooms s (absorb h.failed (progress_of rooms s p h.story)) ys n body started e g)
+      → (z : DoesAll rooms s p (xs ++ ys) n body started d g) × (absorb z.failed (progress_of rooms s p z.story) ≡ absorb j.failed (progress_of rooms s (absorb h.failed (progress_of rooms s p h.story)) j.story))
+  joined p xs ys k n b f body started d e g h j =
       let q = progress_of rooms s p h.story in
       let zs = push h.failed j.story in
       let last = still_failed h.failed j.story j.failed in
@@ -123,7 +123,7 @@ module _ (rooms : Rooms) (s : Settings) where
         record {
           story = h.story ++ zs;
           failed = last;
-          told = map-append (λ (x : Happened). x.0) h.story zs ∙ ap (λ (es : List Entry). entries_of h.story ++ es) (push_entries h.failed j.story) ∙ rw (h.told, j.told) refl;
+          reported = map-append (λ (x : Happened). x.0) h.story zs ∙ ap (λ (es : List Entry). entries_of h.story ++ es) (push_entries h.failed j.story) ∙ rw (h.reported, j.reported) refl;
           fair = fair_then rooms s p h.story zs h.fair (push_fair h.failed q j.story h.last j.fair);
           last = λ t. rw (progress_then rooms s p h.story zs) (push_last h.failed j.failed q j.story h.last j.last t);
           pends = rw (progress_then rooms s p h.story zs) (rw (push_progress h.failed j.failed q j.story) j.pends);
@@ -136,11 +136,11 @@ module _ (rooms : Rooms) (s : Settings) where
         there,
       )
 
-  pub does_then : (p : Progress) (xs ys : List Entry) (k n : Kept) (b f body begun : List ℕ) (d e g : Devices) → (h : DoesAll rooms s p xs k b f d e)
-      → DoesAll rooms s (absorb h.failed (progress_of rooms s p h.story)) ys n body begun e g → DoesAll rooms s p (xs ++ ys) n body begun d g
-  does_then p xs ys k n b f body begun d e g h j = (joined p xs ys k n b f body begun d e g h j).0
+  pub does_then : (p : Progress) (xs ys : List Entry) (k n : Kept) (b f body started : List ℕ) (d e g : Devices) → (h : DoesAll rooms s p xs k b f d e)
+      → DoesAll rooms s (absorb h.failed (progress_of rooms s p h.story)) ys n body started e g → DoesAll rooms s p (xs ++ ys) n body started d g
+  does_then p xs ys k n b f body started d e g h j = (joined p xs ys k n b f body started d e g h j).0
 
   -- the first entry, and the others from where it led
-  pub does_more : (p : Progress) (x : Entry) (ys : List Entry) (k n : Kept) (b f body begun : List ℕ) (d e g : Devices) → (h : Does rooms s p x k b f d e)
-      → DoesAll rooms s (gives rooms s p (x, h.outcome)).next ys n body begun e g → DoesAll rooms s p (x ∷ ys) n body begun d g
-  does_more p x ys k n b f body begun d e g h j = does_then p (x ∷ []) ys k n b f body begun d e g (does_one p x k b f d e h) j
+  pub does_more : (p : Progress) (x : Entry) (ys : List Entry) (k n : Kept) (b f body started : List ℕ) (d e g : Devices) → (h : Does rooms s p x k b f d e)
+      → DoesAll rooms s (gives rooms s p (x, h.outcome)).next ys n body started e g → DoesAll rooms s p (x ∷ ys) n body started d g
+  does_more p x ys k n b f body started d e g h j = does_then p (x ∷ []) ys k n b f body started d e g (does_one p x k b f d e h) j

@@ -14,9 +14,9 @@ use Rattle.pdu.specs.declared.event.Event.TheVariants as event
 use Rattle.pdu.specs.Heads.{pdu_head_of}
 use Rattle.pdu.specs.Frames.{IsFrame, IsRest, rest_of}
 use Rattle.pdu.specs.Marks.{Mark, Head, Pdv, BadPdv, Leftover, End, pdv_size, head_mark, pdv_mark, frame_kind, frame_length, new_marks}
-use Rattle.pdu.specs.Spot.{InPdv, spot, room_left}
+use Rattle.pdu.specs.Spot.{InPdv, spot, room_remaining}
 use Rattle.pdu.specs.Parts as parts
-use Rattle.pdu.specs.Parts.{Comes, end_mark, leftover_marks}
+use Rattle.pdu.specs.Parts.{Arrives, end_mark, leftover_marks}
 use Rattle.pdu.specs.Events.{marks_among}
 use Rattle.pdu.specs.Deframing.{At, AtHead, AtBody, in_body, after_body, AtPdvHead, AtFragment, in_fragment, after_fragment, IsOver, Took}
 use Rattle.pdu.specs.Steps.{body_kind, IsInHead, FollowsHead, FollowsPdv, HeadIsWhole, PdvHeadIsWhole, IsLent, Steps}
@@ -27,7 +27,7 @@ use Rattle.engine.specs.Timeline as timeline
 use Rattle.engine.specs.Progress.{Progress, absorb}
 use Rattle.engine.specs.Devices.{Devices}
 use Rattle.engine.specs.Run.{Rooms, progress_of}
-use Rattle.engine.specs.Reached.{begun_in}
+use Rattle.engine.specs.Reached.{started_in}
 use Rattle.engine.specs.Kept.{Kept, Pends, body_in}
 use Rattle.engine.specs.machine.Does.{Does, DoesAll, Appends}
 use Rattle.engine.specs.FrameFields.{body_of, reads}
@@ -36,69 +36,69 @@ use Rattle.engine.specs.machine.Events.{Takes}
 use Rattle.engine.proofs.FieldsShow.NothingCounts.{pends_short}
 use Rattle.engine.proofs.PiecesAreDone.EntriesJoin.{does_none, does_one, does_appended}
 use Rattle.engine.proofs.PiecesAreDone.EventShape.{EndsFrom, Shaped}
-use Rattle.engine.proofs.PiecesAreDone.FramesAndMarks.{more, body_in_none, body_none, body_of_data, no_items, data_body, whole_mark, no_marks, first_mark, later_marks, mark_of_head, mark_of_bad, mark_of_end, Quiet, Settled, settled, quiet_in_head, quiet_in_pdv_head, quiet_after_pdv, quiet_plain, at_rest, rest_or_frame, comes_marks, short_rest, body_of_end}
+use Rattle.engine.proofs.PiecesAreDone.FramesAndMarks.{more, body_in_none, body_none, body_of_data, no_items, data_body, whole_mark, no_marks, first_mark, later_marks, mark_of_head, mark_of_bad, mark_of_end, Quiet, Settled, settled, quiet_in_head, quiet_in_pdv_head, quiet_after_pdv, quiet_plain, at_rest, rest_or_frame, arrives_marks, short_rest, body_of_end}
 
 -- ---- what is pending where the deframer stands in a head
 
-pends_as : (k : Kept) (store : Store) (p : Progress) (b f body begun : List ℕ) → body ≡ b → begun ≡ f → Pends k store p body begun → Pends k store p b f
-pends_as k store p b f body begun e h pends = subst (λ (x : List ℕ). Pends k store p b x) h (subst (λ (x : List ℕ). Pends k store p x begun) e pends)
+pends_as : (k : Kept) (store : Store) (p : Progress) (b f body started : List ℕ) → body ≡ b → started ≡ f → Pends k store p body started → Pends k store p b f
+pends_as k store p b f body started e h pends = subst (λ (x : List ℕ). Pends k store p b x) h (subst (λ (x : List ℕ). Pends k store p x started) e pends)
 
-pub pending_none : (r : List ℕ) (due : List Mark) (body begun : List ℕ) → due ≡ [] → Pending r due body begun → (body ≡ body_of r) × (begun ≡ begun_in (spot r))
-pending_none r due body begun e h = subst (λ (ms : List Mark). Pending r ms body begun) e h
+pub pending_none : (r : List ℕ) (due : List Mark) (body started : List ℕ) → due ≡ [] → Pending r due body started → (body ≡ body_of r) × (started ≡ started_in (spot r))
+pending_none r due body started e h = subst (λ (ms : List Mark). Pending r ms body started) e h
 
-pends_open : (k : Kept) (store : Store) (p : Progress) (r : List ℕ) (due : List Mark) (body begun : List ℕ) → length r < 6 → due ≡ [] → Pending r due body begun → Pends k store p body begun → Pends k store p [] []
-pends_open k store p r due body begun lt none h pends =
-    let x = pending_none r due body begun none h in
-    pends_as k store p [] [] body begun (x.0 ∙ body_none r (omega arith)) (x.1 ∙ ap begun_in (spot_opening r lt)) pends
+pends_open : (k : Kept) (store : Store) (p : Progress) (r : List ℕ) (due : List Mark) (body started : List ℕ) → length r < 6 → due ≡ [] → Pending r due body started → Pends k store p body started → Pends k store p [] []
+pends_open k store p r due body started lt none h pends =
+    let x = pending_none r due body started none h in
+    pends_as k store p [] [] body started (x.0 ∙ body_none r (omega arith)) (x.1 ∙ ap started_in (spot_opening r lt)) pends
 
-pends_in_pdv : (k : Kept) (store : Store) (p : Progress) (left : ℕ) (bytes r : List ℕ) (due : List Mark) (body begun : List ℕ) → AtPdvHead left bytes r due → Pending r due body begun → Pends k store p body begun → Pends k store p [] []
-pends_in_pdv k store p left bytes r due body begun a h pends =
-    let x = pending_none r due body begun a.none_due h in
-    pends_short k store p [] bytes [] a.short (omega arith) (pends_as k store p [] bytes body begun (x.0 ∙ body_of_data r a.inside.kind_is) (x.1 ∙ ap begun_in a.inside.spot_is) pends)
+pends_in_pdv : (k : Kept) (store : Store) (p : Progress) (remaining : ℕ) (bytes r : List ℕ) (due : List Mark) (body started : List ℕ) → AtPdvHead remaining bytes r due → Pending r due body started → Pends k store p body started → Pends k store p [] []
+pends_in_pdv k store p remaining bytes r due body started a h pends =
+    let x = pending_none r due body started a.none_due h in
+    pends_short k store p [] bytes [] a.short (omega arith) (pends_as k store p [] bytes body started (x.0 ∙ body_of_data r a.inside.kind_is) (x.1 ∙ ap started_in a.inside.spot_is) pends)
 
 -- an unfinished frame
 
 -- after the head of a frame that has no presentation data values
-head_settled : (r c : List ℕ) (kind left : ℕ) (later : List Mark) → length r < 6 → length (r ++ c) ≡ 6 → left ≡ frame_length (r ++ c) → (m : Mark) → new_marks r c ≡ m ∷ later → AtBody kind left (rest_of (r ++ c)) later → Settled (rest_of (r ++ c)) later
-head_settled r c kind left later lt six left_is m all (in_body some i none) = record {
-  begun = [];
+head_settled : (r c : List ℕ) (kind remaining : ℕ) (later : List Mark) → length r < 6 → length (r ++ c) ≡ 6 → remaining ≡ frame_length (r ++ c) → (m : Mark) → new_marks r c ≡ m ∷ later → AtBody kind remaining (rest_of (r ++ c)) later → Settled (rest_of (r ++ c)) later
+head_settled r c kind remaining later lt six remaining_is m all (in_body some i none) = record {
+  started = [];
   short = omega arith;
-  pending = subst (λ (ms : List Mark). Pending (rest_of (r ++ c)) ms [] []) (sym none) (sym (body_none (rest_of (r ++ c)) (short_rest r c lt six)), sym (ap begun_in i.spot_is));
+  pending = subst (λ (ms : List Mark). Pending (rest_of (r ++ c)) ms [] []) (sym none) (sym (body_none (rest_of (r ++ c)) (short_rest r c lt six)), sym (ap started_in i.spot_is));
 }
-head_settled r c kind left later lt six left_is m all (after_body o) =
+head_settled r c kind remaining later lt six remaining_is m all (after_body o) =
     let f = r ++ c in
-    let w : IsFrame f = record { headed = omega (arith, six); filled = omega (arith, six, left_is, o.none_left) } in
+    let w : IsFrame f = record { headed = omega (arith, six); filled = omega (arith, six, remaining_is, o.none_remaining) } in
     let x = ((head_done r c lt six).ends w).marks in
     let ends : later ≡ end_mark f ∷ [] = later_marks m (Head (frame_kind f) (frame_length f)) later (end_mark f ∷ []) (sym all ∙ x) in
     let body : o.body ≡ drop 6 f = body_of_end kind (frame_kind f) o.body (drop 6 f) (sym o.due_is ∙ ends) in
     let nothing : o.body ≡ [] = body ∙ drop_all 6 f (omega (arith, six)) in
-    record { begun = []; short = omega arith; pending = subst (λ (ms : List Mark). Pending (rest_of f) ms [] []) (sym o.due_is) (sym (ap (λ (b : List ℕ). body_in kind b) nothing ∙ body_in_none kind), refl) }
+    record { started = []; short = omega arith; pending = subst (λ (ms : List Mark). Pending (rest_of f) ms [] []) (sym o.due_is) (sym (ap (λ (b : List ℕ). body_in kind b) nothing ∙ body_in_none kind), refl) }
 
 after_head_settled : (r c : List ℕ) (head : PduHead) (new : Position) (later : List Mark) → length r < 6 → length (r ++ c) ≡ 6 → head ≡ pdu_head_of (r ++ c) → (m : Mark) → new_marks r c ≡ m ∷ later
     → FollowsHead head new → At new (rest_of (r ++ c)) later → Settled (rest_of (r ++ c)) later
 after_head_settled r c head (position.Head bytes) later lt six is m all w at = absurd w
-after_head_settled r c head (position.Body kind left) later lt six is m all w at = head_settled r c kind left later lt six (w.1 ∙ ap (λ (h : PduHead). h.length) is) m all at
-after_head_settled r c head (position.PdvHead left bytes) later lt six is m all w at = settled (position.PdvHead left bytes) (rest_of (r ++ c)) later tt at
-after_head_settled r c head (position.Fragment left more) later lt six is m all w at = absurd w
-after_head_settled r c head (position.Leftover left) later lt six is m all w at = absurd w
-after_head_settled r c head (position.Skipped kind left) later lt six is m all w at = absurd w
+after_head_settled r c head (position.Body kind remaining) later lt six is m all w at = head_settled r c kind remaining later lt six (w.1 ∙ ap (λ (h : PduHead). h.length) is) m all at
+after_head_settled r c head (position.PdvHead remaining bytes) later lt six is m all w at = settled (position.PdvHead remaining bytes) (rest_of (r ++ c)) later tt at
+after_head_settled r c head (position.Fragment remaining more) later lt six is m all w at = absurd w
+after_head_settled r c head (position.Leftover remaining) later lt six is m all w at = absurd w
+after_head_settled r c head (position.Skipped kind remaining) later lt six is m all w at = absurd w
 
-fragment_room : (r b : List ℕ) → IsRest r → spot r ≡ InPdv b → 6 ≤ length b → pdv_size b ≤ room_left r + length b
+fragment_room : (r b : List ℕ) → IsRest r → spot r ≡ InPdv b → 6 ≤ length b → pdv_size b ≤ room_remaining r + length b
 fragment_room r b rest is six = go (unfinished_pdv r b rest is) where
-  go : parts.IsUnfinishedPdv (room_left r + length b) b → pdv_size b ≤ room_left r + length b
+  go : parts.IsUnfinishedPdv (room_remaining r + length b) b → pdv_size b ≤ room_remaining r + length b
   go (parts.in_head lt) = absurd (omega arith)
   go (parts.in_fragment le two fits lt) = fits
 
 module _ (rooms : Rooms) (set : Settings) where
   -- fewer than six bytes of a value count for nothing
-  does_short : (p : Progress) (es : List timeline.Entry) (k : Kept) (begun : List ℕ) (d e : Devices) → length begun < 6 → DoesAll rooms set p es k [] [] d e → DoesAll rooms set p es k [] begun d e
-  does_short p es k begun d e lt h = record {
+  does_short : (p : Progress) (es : List timeline.Entry) (k : Kept) (started : List ℕ) (d e : Devices) → length started < 6 → DoesAll rooms set p es k [] [] d e → DoesAll rooms set p es k [] started d e
+  does_short p es k started d e lt h = record {
     story = h.story;
     failed = h.failed;
-    told = h.told;
+    reported = h.reported;
     fair = h.fair;
     last = h.last;
-    pends = pends_short k e.store (absorb h.failed (progress_of rooms set p h.story)) [] [] begun (omega arith) lt h.pends;
+    pends = pends_short k e.store (absorb h.failed (progress_of rooms set p h.story)) [] [] started (omega arith) lt h.pends;
     gains = h.gains;
   }
 
@@ -110,8 +110,8 @@ module _ (rooms : Rooms) (set : Settings) where
     later = later;
     all = all;
     body = [];
-    begun = s.begun;
-    does = does_short p (timeline.At m ∷ []) k s.begun d e s.short (does_one rooms set p (timeline.At m) k [] [] d e did);
+    started = s.started;
+    does = does_short p (timeline.At m ∷ []) k s.started d e s.short (does_one rooms set p (timeline.At m) k [] [] d e did);
     pending = s.pending;
     is_at = reads at;
     none_due = λ wrong. absurd cc;
@@ -124,15 +124,15 @@ module _ (rooms : Rooms) (set : Settings) where
       handled_settled new k p r due c m later d e all (settled new (rest_of (r ++ c)) later quiet at) at did
 
   -- the same where these bytes of a value are pending
-  handled_value : (new : Position) (k : Kept) (p : Progress) (r : List ℕ) (due : List Mark) (c : List ℕ) (m : Mark) (later : List Mark) (begun : List ℕ) (d e : Devices) → due ++ new_marks r c ≡ m ∷ later
-      → At new (rest_of (r ++ c)) later → Does rooms set p (timeline.At m) k [] begun d e → Pending (rest_of (r ++ c)) later [] begun → Handles rooms set (record { position = new; kept = k }) p r due c true d e
-  handled_value new k p r due c m later begun d e all at did pending = record {
+  handled_value : (new : Position) (k : Kept) (p : Progress) (r : List ℕ) (due : List Mark) (c : List ℕ) (m : Mark) (later : List Mark) (started : List ℕ) (d e : Devices) → due ++ new_marks r c ≡ m ∷ later
+      → At new (rest_of (r ++ c)) later → Does rooms set p (timeline.At m) k [] started d e → Pending (rest_of (r ++ c)) later [] started → Handles rooms set (record { position = new; kept = k }) p r due c true d e
+  handled_value new k p r due c m later started d e all at did pending = record {
     marks = m ∷ [];
     later = later;
     all = all;
     body = [];
-    begun = begun;
-    does = does_one rooms set p (timeline.At m) k [] begun d e did;
+    started = started;
+    does = does_one rooms set p (timeline.At m) k [] started d e did;
     pending = pending;
     is_at = reads at;
     none_due = λ wrong. absurd cc;
@@ -148,8 +148,8 @@ module _ (rooms : Rooms) (set : Settings) where
         later = [];
         all = all;
         body = [];
-        begun = s.begun;
-        does = does_short p [] k s.begun d d s.short (does_none rooms set p k [] [] d pends);
+        started = s.started;
+        does = does_short p [] k s.started d d s.short (does_none rooms set p k [] [] d pends);
         pending = s.pending;
         is_at = reads at;
         none_due = λ _. refl;
@@ -181,59 +181,59 @@ module _ (rooms : Rooms) (set : Settings) where
           later = [];
           all = all;
           body = h.body;
-          begun = h.begun;
-          does = does_none rooms set p k h.body h.begun d h.pends;
-          pending = subst (λ (x : List ℕ). Pending x [] h.body h.begun) (sym same) (subst (λ (ms : List Mark). Pending r ms h.body h.begun) none h.pending);
+          started = h.started;
+          does = does_none rooms set p k h.body h.started d h.pends;
+          pending = subst (λ (x : List ℕ). Pending x [] h.body h.started) (sym same) (subst (λ (ms : List Mark). Pending r ms h.body h.started) none h.pending);
           is_at = reads at;
           none_due = λ _. refl;
         }
 
     go : (x : Position) → Steps x n c None new → At x r due → Handles rooms set (record { position = new; kept = k }) p r due c false d d
-    go (position.Head bytes) w a = handled_still new k p r due c d all (quiet_in_head new w) at (pends_open k d.store p r due h.body h.begun a.short none h.pending h.pends)
-    go (position.Body kind left) w a = stays w.0
-    go (position.PdvHead left bytes) w a = handled_still new k p r due c d all (quiet_in_pdv_head new w) at (pends_in_pdv k d.store p left bytes.items r due h.body h.begun a h.pending h.pends)
-    go (position.Fragment left more) w a = stays w.0
-    go (position.Leftover left) w a = absurd w
-    go (position.Skipped kind left) w a = absurd (let wrong : End kind a.body ∷ [] ≡ [] = sym a.due_is ∙ none in cc)
+    go (position.Head bytes) w a = handled_still new k p r due c d all (quiet_in_head new w) at (pends_open k d.store p r due h.body h.started a.short none h.pending h.pends)
+    go (position.Body kind remaining) w a = stays w.0
+    go (position.PdvHead remaining bytes) w a = handled_still new k p r due c d all (quiet_in_pdv_head new w) at (pends_in_pdv k d.store p remaining bytes.items r due h.body h.started a h.pending h.pends)
+    go (position.Fragment remaining more) w a = stays w.0
+    go (position.Leftover remaining) w a = absurd w
+    go (position.Skipped kind remaining) w a = absurd (let wrong : End kind a.body ∷ [] ≡ [] = sym a.due_is ∙ none in cc)
 
   -- ---- the head of a frame
 
   handled_head : (new : Position) (bytes c : List ℕ) (head : PduHead) (k k2 : Kept) (p : Progress) (r : List ℕ) (due : List Mark) (d d2 : Devices) → AtHead bytes r due → HeadIsWhole (bytes ++ c) head new
       → Took new r due c (Some (event.PduHead head)) → (Pends k d.store p [] [] → Does rooms set p (timeline.At (Head head.kind head.length)) k2 [] [] d d2)
-      → (body begun : List ℕ) → Pending r due body begun → Pends k d.store p body begun → Handles rooms set (record { position = new; kept = k2 }) p r due c true d d2
-  handled_head new bytes c head k k2 p r due d d2 a w t takes body begun pending pends =
+      → (body started : List ℕ) → Pending r due body started → Pends k d.store p body started → Handles rooms set (record { position = new; kept = k2 }) p r due c true d d2
+  handled_head new bytes c head k k2 p r due d d2 a w t takes body started pending pends =
       let is : bytes ++ c ≡ r ++ c = ap (λ (x : List ℕ). x ++ c) a.bytes_are in
       let six : length (r ++ c) ≡ 6 = ap length (sym is) ∙ w.all in
       let head_is : head ≡ pdu_head_of (r ++ c) = w.head_is ∙ ap pdu_head_of is in
-      let told = t.reports in
-      let m = told.mark in
-      let m_is : m ≡ Head head.kind head.length = mark_of_head head m told.same in
-      let all : due ++ new_marks r c ≡ Head head.kind head.length ∷ t.later = mark_taken new r due c (event.PduHead head) t told ∙ ap (λ (x : Mark). x ∷ t.later) m_is in
+      let reported = t.reports in
+      let m = reported.mark in
+      let m_is : m ≡ Head head.kind head.length = mark_of_head head m reported.same in
+      let all : due ++ new_marks r c ≡ Head head.kind head.length ∷ t.later = mark_taken new r due c (event.PduHead head) t reported ∙ ap (λ (x : Mark). x ∷ t.later) m_is in
       let marks : new_marks r c ≡ Head head.kind head.length ∷ t.later = subst (λ (ms : List Mark). ms ++ new_marks r c ≡ Head head.kind head.length ∷ t.later) a.none_due all in
       let s = after_head_settled r c head new t.later a.short six head_is (Head head.kind head.length) marks w.follows t.is_at in
-      handled_settled new k2 p r due c (Head head.kind head.length) t.later d d2 all s t.is_at (takes (pends_open k d.store p r due body begun a.short a.none_due pending pends))
+      handled_settled new k2 p r due c (Head head.kind head.length) t.later d d2 all s t.is_at (takes (pends_open k d.store p r due body started a.short a.none_due pending pends))
 
   -- ---- a body
 
-  handled_body : (new : Position) (kind left n : ℕ) (part c : List ℕ) (k k2 : Kept) (p : Progress) (r : List ℕ) (due : List Mark) (d : Devices) → length c ≡ n → IsLent part c n left new (position.Body kind (left - n)) → 0 < length c → due ≡ []
-      → AtBody kind left r due → (later : List Mark) → due ++ new_marks r c ≡ later → At new (rest_of (r ++ c)) later
+  handled_body : (new : Position) (kind remaining n : ℕ) (part c : List ℕ) (k k2 : Kept) (p : Progress) (r : List ℕ) (due : List Mark) (d : Devices) → length c ≡ n → IsLent part c n remaining new (position.Body kind (remaining - n)) → 0 < length c → due ≡ []
+      → AtBody kind remaining r due → (later : List Mark) → due ++ new_marks r c ≡ later → At new (rest_of (r ++ c)) later
       → ((body : List ℕ) → Pends k d.store p (body_in kind body) [] → Pends k2 d.store p (body_in kind (body ++ part)) [])
-      → (body begun : List ℕ) → Pending r due body begun → Pends k d.store p body begun → Handles rooms set (record { position = new; kept = k2 }) p r due c true d d
-  handled_body new kind left n part c k k2 p r due d size lent some none (after_body o) later all at takes body begun pending pends = absurd (omega (arith, o.none_left, lent.within, size, some))
-  handled_body new kind left n part c k k2 p r due d size lent some none (in_body lt i none_too) later all at takes body begun pending pends =
-      let x = pending_none r due body begun none pending in
-      let was : Pends k d.store p (body_in kind (drop 6 r)) [] = subst (λ (z : ℕ). Pends k d.store p (body_in z (drop 6 r)) []) i.kind_is (pends_as k d.store p (body_of r) [] body begun x.0 (x.1 ∙ ap begun_in i.spot_is) pends) in
+      → (body started : List ℕ) → Pending r due body started → Pends k d.store p body started → Handles rooms set (record { position = new; kept = k2 }) p r due c true d d
+  handled_body new kind remaining n part c k k2 p r due d size lent some none (after_body o) later all at takes body started pending pends = absurd (omega (arith, o.none_remaining, lent.within, size, some))
+  handled_body new kind remaining n part c k k2 p r due d size lent some none (in_body lt i none_too) later all at takes body started pending pends =
+      let x = pending_none r due body started none pending in
+      let was : Pends k d.store p (body_in kind (drop 6 r)) [] = subst (λ (z : ℕ). Pends k d.store p (body_in z (drop 6 r)) []) i.kind_is (pends_as k d.store p (body_of r) [] body started x.0 (x.1 ∙ ap started_in i.spot_is) pends) in
       let m = more r c i.headed in
       let now : Pends k2 d.store p (body_in kind (drop 6 r ++ c)) [] = subst (λ (z : List ℕ). Pends k2 d.store p (body_in kind (drop 6 r ++ z)) []) lent.part_is (takes (drop 6 r) was) in
       let body_is : body_of (r ++ c) ≡ body_in kind (drop 6 r ++ c) = rw (m.kind, m.body, i.kind_is) refl in
-      let comes = plain_part r c i.rest i.spot_is in
+      let arrives = plain_part r c i.rest i.spot_is in
       let marks : new_marks r c ≡ later = subst (λ (ms : List Mark). ms ++ new_marks r c ≡ later) none all in
-      let due_then : Pending (rest_of (r ++ c)) later (body_of (r ++ c)) [] = elim (rest_or_frame r c i.rest i.headed (omega (arith, i.left_is, lent.within, size))) [
+      let due_then : Pending (rest_of (r ++ c)) later (body_of (r ++ c)) [] = elim (rest_or_frame r c i.rest i.headed (omega (arith, i.remaining_is, lent.within, size))) [
         | inl q ↦
-            let g = comes.goes_on q in
-            subst (λ (z : List ℕ). Pending z later (body_of (r ++ c)) []) (sym g.rest) (subst (λ (ms : List Mark). Pending (r ++ c) ms (body_of (r ++ c)) []) (sym g.marks ∙ marks) (refl, sym (ap begun_in g.spot_is)))
+            let g = arrives.continues q in
+            subst (λ (z : List ℕ). Pending z later (body_of (r ++ c)) []) (sym g.rest) (subst (λ (ms : List Mark). Pending (r ++ c) ms (body_of (r ++ c)) []) (sym g.marks ∙ marks) (refl, sym (ap started_in g.spot_is)))
         | inr w ↦
-            let e = comes.ends w in
+            let e = arrives.ends w in
             subst (λ (ms : List Mark). Pending (rest_of (r ++ c)) ms (body_of (r ++ c)) []) (sym e.marks ∙ marks) (refl, refl)
       ] in
       record {
@@ -241,7 +241,7 @@ module _ (rooms : Rooms) (set : Settings) where
         later = later;
         all = all;
         body = body_of (r ++ c);
-        begun = [];
+        started = [];
         does = does_none rooms set p k2 (body_of (r ++ c)) [] d (subst (λ (z : List ℕ). Pends k2 d.store p z []) (sym body_is) now);
         pending = due_then;
         is_at = reads at;
@@ -250,62 +250,62 @@ module _ (rooms : Rooms) (set : Settings) where
 
   -- ---- the head of a value
 
-  handled_pdv_head : (new : Position) (left n : ℕ) (bytes c : List ℕ) (head : declared.PdvHead) (k k2 : Kept) (p : Progress) (r : List ℕ) (due : List Mark) (d d2 : Devices) → length c ≡ n → AtPdvHead left bytes r due
-      → PdvHeadIsWhole left n (bytes ++ c) (event.PdvHead head) new → Took new r due c (Some (event.PdvHead head))
+  handled_pdv_head : (new : Position) (remaining n : ℕ) (bytes c : List ℕ) (head : declared.PdvHead) (k k2 : Kept) (p : Progress) (r : List ℕ) (due : List Mark) (d d2 : Devices) → length c ≡ n → AtPdvHead remaining bytes r due
+      → PdvHeadIsWhole remaining n (bytes ++ c) (event.PdvHead head) new → Took new r due c (Some (event.PdvHead head))
       → (Pends k d.store p [] [] → Does rooms set p (timeline.At (head_mark (bytes ++ c))) k2 [] (bytes ++ c) d d2)
-      → (body begun : List ℕ) → Pending r due body begun → Pends k d.store p body begun → Handles rooms set (record { position = new; kept = k2 }) p r due c true d d2
-  handled_pdv_head new left n bytes c head k k2 p r due d d2 size a w t takes body begun pending pends =
+      → (body started : List ℕ) → Pending r due body started → Pends k d.store p body started → Handles rooms set (record { position = new; kept = k2 }) p r due c true d d2
+  handled_pdv_head new remaining n bytes c head k k2 p r due d d2 size a w t takes body started pending pends =
       let v = bytes ++ c in
       let i = a.inside in
       let f = w.follows in
-      let told = t.reports in
-      let all : due ++ new_marks r c ≡ told.mark ∷ t.later = mark_taken new r due c (event.PdvHead head) t told in
-      let marks : new_marks r c ≡ told.mark ∷ t.later = subst (λ (ms : List Mark). ms ++ new_marks r c ≡ told.mark ∷ t.later) a.none_due all in
-      let did = takes (pends_in_pdv k d.store p left bytes r due body begun a pending pends) in
+      let reported = t.reports in
+      let all : due ++ new_marks r c ≡ reported.mark ∷ t.later = mark_taken new r due c (event.PdvHead head) t reported in
+      let marks : new_marks r c ≡ reported.mark ∷ t.later = subst (λ (ms : List Mark). ms ++ new_marks r c ≡ reported.mark ∷ t.later) a.none_due all in
+      let did = takes (pends_in_pdv k d.store p remaining bytes r due body started a pending pends) in
       let total : length v ≡ length bytes + length c = length-append bytes c in
       let two : 2 ≤ big_number 4 v = f.1 in
-      let fits : big_number 4 v ≤ (left - n) + 2 = f.2 in
+      let fits : big_number 4 v ≤ (remaining - n) + 2 = f.2 in
       let finish = λ (ys : List Mark) (is : new_marks r c ≡ head_mark v ∷ ys) (then : Pending (rest_of (r ++ c)) ys [] v).
-      (let m_is : told.mark ≡ head_mark v = first_mark told.mark (head_mark v) t.later ys (sym marks ∙ is) in
-      let later_is : t.later ≡ ys = later_marks told.mark (head_mark v) t.later ys (sym marks ∙ is) in
+      (let m_is : reported.mark ≡ head_mark v = first_mark reported.mark (head_mark v) t.later ys (sym marks ∙ is) in
+      let later_is : t.later ≡ ys = later_marks reported.mark (head_mark v) t.later ys (sym marks ∙ is) in
       handled_value new k2 p r due c (head_mark v) t.later v d d2 (all ∙ ap (λ (x : Mark). x ∷ t.later) m_is) t.is_at did (subst (λ (ms : List Mark). Pending (rest_of (r ++ c)) ms [] v) (sym later_is) then)) in
       elim (cases_lt 2 (big_number 4 v)) [
         | inl lt ↦
-            let comes = pdv_head_done r c bytes i.rest i.spot_is a.short w.all lt (omega (arith, i.left_is, size, total, w.within, fits, w.all)) in
-            let g = comes.goes_on ((more r c i.headed).goes (omega (arith, i.left_is, size, w.within, fits, lt))) in
-            finish [] g.marks (subst (λ (z : List ℕ). Pending z [] [] v) (sym g.rest) (sym (data_body r c bytes i.rest i.spot_is), sym (ap begun_in g.spot_is)))
+            let arrives = pdv_head_done r c bytes i.rest i.spot_is a.short w.all lt (omega (arith, i.remaining_is, size, total, w.within, fits, w.all)) in
+            let g = arrives.continues ((more r c i.headed).goes (omega (arith, i.remaining_is, size, w.within, fits, lt))) in
+            finish [] g.marks (subst (λ (z : List ℕ). Pending z [] [] v) (sym g.rest) (sym (data_body r c bytes i.rest i.spot_is), sym (ap started_in g.spot_is)))
         | inr ge ↦
             let is_two : big_number 4 v ≡ 2 = omega (arith, two, ge) in
-            let room : length c ≤ room_left r = omega (arith, i.left_is, size, w.within) in
-            let y = comes_marks r c (head_mark v ∷ pdv_mark v ∷ leftover_marks (room_left r - length c)) _ (pdv_head_whole r c bytes i.rest i.spot_is room a.short w.all is_two) i.rest i.headed room in
-            finish (pdv_mark v ∷ (leftover_marks (room_left r - length c) ++ y.0)) y.1 (refl, omega (arith, w.all), omega (arith, w.all, is_two), refl)
+            let room : length c ≤ room_remaining r = omega (arith, i.remaining_is, size, w.within) in
+            let y = arrives_marks r c (head_mark v ∷ pdv_mark v ∷ leftover_marks (room_remaining r - length c)) _ (pdv_head_whole r c bytes i.rest i.spot_is room a.short w.all is_two) i.rest i.headed room in
+            finish (pdv_mark v ∷ (leftover_marks (room_remaining r - length c) ++ y.0)) y.1 (refl, omega (arith, w.all), omega (arith, w.all, is_two), refl)
       ]
 
   -- ---- a fragment
 
-  handled_fragment : (new : Position) (left due_more n : ℕ) (part c : List ℕ) (k k2 : Kept) (p : Progress) (r : List ℕ) (due : List Mark) (d d2 : Devices) → length c ≡ n → IsLent part c n due_more new (position.Fragment (left - n) (due_more - n)) → 0 < length c → due ≡ []
-      → AtFragment left due_more r due → (later : List Mark) → due ++ new_marks r c ≡ later → At new (rest_of (r ++ c)) later
+  handled_fragment : (new : Position) (remaining due_more n : ℕ) (part c : List ℕ) (k k2 : Kept) (p : Progress) (r : List ℕ) (due : List Mark) (d d2 : Devices) → length c ≡ n → IsLent part c n due_more new (position.Fragment (remaining - n) (due_more - n)) → 0 < length c → due ≡ []
+      → AtFragment remaining due_more r due → (later : List Mark) → due ++ new_marks r c ≡ later → At new (rest_of (r ++ c)) later
       → ((b : List ℕ) → 6 ≤ length b → Pends k d.store p [] b → Appends rooms set p k2 [] (b ++ part) d d2)
-      → (body begun : List ℕ) → Pending r due body begun → Pends k d.store p body begun → Handles rooms set (record { position = new; kept = k2 }) p r due c true d d2
-  handled_fragment new left due_more n part c k k2 p r due d d2 size lent some none (after_fragment zero x) later all at takes body begun pending pends = absurd (omega (arith, zero, lent.within, size, some))
-  handled_fragment new left due_more n part c k k2 p r due d d2 size lent some none (in_fragment lt fr) later all at takes body begun pending pends =
-      let x = pending_none r due body begun none pending in
+      → (body started : List ℕ) → Pending r due body started → Pends k d.store p body started → Handles rooms set (record { position = new; kept = k2 }) p r due c true d d2
+  handled_fragment new remaining due_more n part c k k2 p r due d d2 size lent some none (after_fragment zero x) later all at takes body started pending pends = absurd (omega (arith, zero, lent.within, size, some))
+  handled_fragment new remaining due_more n part c k k2 p r due d d2 size lent some none (in_fragment lt fr) later all at takes body started pending pends =
+      let x = pending_none r due body started none pending in
       let i = fr.inside in
       let b = fr.part in
-      let was : Pends k d.store p [] b = pends_as k d.store p [] b body begun (x.0 ∙ body_of_data r i.kind_is) (x.1 ∙ ap begun_in i.spot_is) pends in
+      let was : Pends k d.store p [] b = pends_as k d.store p [] b body started (x.0 ∙ body_of_data r i.kind_is) (x.1 ∙ ap started_in i.spot_is) pends in
       let appended : Appends rooms set p k2 [] (b ++ c) d d2 = subst (λ (z : List ℕ). Appends rooms set p k2 [] (b ++ z) d d2) lent.part_is (takes b fr.headed was) in
       let total : length (b ++ c) ≡ length b + length c = length-append b c in
-      let fits : pdv_size b ≤ room_left r + length b = fragment_room r b i.rest i.spot_is fr.headed in
+      let fits : pdv_size b ≤ room_remaining r + length b = fragment_room r b i.rest i.spot_is fr.headed in
       let marks : new_marks r c ≡ later = subst (λ (ms : List Mark). ms ++ new_marks r c ≡ later) none all in
       let h = same_head b c fr.headed in
       let due_then : Pending (rest_of (r ++ c)) later [] (b ++ c) = elim (cases_lt (length c) due_more) [
         | inl short ↦
-            let g = (fragment_part r c b i.rest i.spot_is fr.headed (omega (arith, fr.more_is, total, short))).goes_on ((more r c i.headed).goes (omega (arith, fr.more_is, fits, short))) in
-            subst (λ (z : List ℕ). Pending z later [] (b ++ c)) (sym g.rest) (subst (λ (ms : List Mark). Pending (r ++ c) ms [] (b ++ c)) (sym g.marks ∙ marks) (sym (data_body r c b i.rest i.spot_is), sym (ap begun_in g.spot_is)))
+            let g = (fragment_part r c b i.rest i.spot_is fr.headed (omega (arith, fr.more_is, total, short))).continues ((more r c i.headed).goes (omega (arith, fr.more_is, fits, short))) in
+            subst (λ (z : List ℕ). Pending z later [] (b ++ c)) (sym g.rest) (subst (λ (ms : List Mark). Pending (r ++ c) ms [] (b ++ c)) (sym g.marks ∙ marks) (sym (data_body r c b i.rest i.spot_is), sym (ap started_in g.spot_is)))
         | inr ge ↦
-            let room : length c ≤ room_left r = omega (arith, fr.more_is, fits, lent.within, size) in
+            let room : length c ≤ room_remaining r = omega (arith, fr.more_is, fits, lent.within, size) in
             let whole : length (b ++ c) ≡ pdv_size b = omega (arith, fr.more_is, total, ge, lent.within, size) in
-            let y = comes_marks r c (pdv_mark (b ++ c) ∷ leftover_marks (room_left r - length c)) _ (fragment_done r c b i.rest i.spot_is room fr.headed whole) i.rest i.headed room in
+            let y = arrives_marks r c (pdv_mark (b ++ c) ∷ leftover_marks (room_remaining r - length c)) _ (fragment_done r c b i.rest i.spot_is room fr.headed whole) i.rest i.headed room in
             subst (λ (ms : List Mark). Pending (rest_of (r ++ c)) ms [] (b ++ c)) (sym y.1 ∙ marks) (refl, omega (arith, total, fr.headed), omega (arith, whole, h.number), refl)
       ] in
       record {
@@ -313,7 +313,7 @@ module _ (rooms : Rooms) (set : Settings) where
         later = later;
         all = all;
         body = [];
-        begun = b ++ c;
+        started = b ++ c;
         does = does_appended rooms set p k2 [] (b ++ c) d d2 appended;
         pending = due_then;
         is_at = reads at;
@@ -322,87 +322,87 @@ module _ (rooms : Rooms) (set : Settings) where
 
   -- ---- the end of a value
 
-  handled_value_end : (new : Position) (left due_more : ℕ) (c : List ℕ) (k k2 : Kept) (p : Progress) (r : List ℕ) (due : List Mark) (d d2 : Devices) → due_more ≡ 0 → FollowsPdv new → AtFragment left due_more r due
-      → At (position.Fragment left due_more) r due → Took new r due c (Some event.PdvEnd)
+  handled_value_end : (new : Position) (remaining due_more : ℕ) (c : List ℕ) (k k2 : Kept) (p : Progress) (r : List ℕ) (due : List Mark) (d d2 : Devices) → due_more ≡ 0 → FollowsPdv new → AtFragment remaining due_more r due
+      → At (position.Fragment remaining due_more) r due → Took new r due c (Some event.PdvEnd)
       → ((b : List ℕ) → 6 ≤ length b → length b ≡ pdv_size b → Pends k d.store p [] b → Does rooms set p (timeline.At (Pdv (get_or b 4 0) (get_or b 5 0) (drop 6 b))) k2 [] [] d d2)
-      → (body begun : List ℕ) → Pending r due body begun → Pends k d.store p body begun → Handles rooms set (record { position = new; kept = k2 }) p r due c true d d2
-  handled_value_end new left due_more c k k2 p r due d d2 zero follows (in_fragment lt fr) at t takes body begun pending pends = absurd (omega (arith, lt, zero))
-  handled_value_end new left due_more c k k2 p r due d d2 zero follows (after_fragment none x) at t takes body begun pending pends =
-      let h = subst (λ (ms : List Mark). Pending r ms body begun) x.due_is pending in
-      let told = t.reports in
-      let all : due ++ new_marks r c ≡ told.mark ∷ t.later = mark_taken new r due c event.PdvEnd t told in
-      let whole : Pdv x.context x.control x.fragment ∷ (x.later ++ new_marks r c) ≡ told.mark ∷ t.later = subst (λ (ms : List Mark). ms ++ new_marks r c ≡ told.mark ∷ t.later) x.due_is all in
-      let m_is : Pdv x.context x.control x.fragment ≡ told.mark = first_mark (Pdv x.context x.control x.fragment) told.mark (x.later ++ new_marks r c) t.later whole in
-      let was : Pends k d.store p [] begun = subst (λ (z : List ℕ). Pends k d.store p z begun) h.0 pends in
-      let mark : Pdv (get_or begun 4 0) (get_or begun 5 0) (drop 6 begun) ≡ told.mark = whole_mark begun h.2 ∙ h.3 ∙ m_is in
-      handled_quiet new k2 p r due c told.mark t.later d d2 all (quiet_after_pdv new follows) t.is_at (subst (λ (z : Mark). Does rooms set p (timeline.At z) k2 [] [] d d2) mark (takes begun h.1 h.2 was))
+      → (body started : List ℕ) → Pending r due body started → Pends k d.store p body started → Handles rooms set (record { position = new; kept = k2 }) p r due c true d d2
+  handled_value_end new remaining due_more c k k2 p r due d d2 zero follows (in_fragment lt fr) at t takes body started pending pends = absurd (omega (arith, lt, zero))
+  handled_value_end new remaining due_more c k k2 p r due d d2 zero follows (after_fragment none x) at t takes body started pending pends =
+      let h = subst (λ (ms : List Mark). Pending r ms body started) x.due_is pending in
+      let reported = t.reports in
+      let all : due ++ new_marks r c ≡ reported.mark ∷ t.later = mark_taken new r due c event.PdvEnd t reported in
+      let whole : Pdv x.context x.control x.fragment ∷ (x.later ++ new_marks r c) ≡ reported.mark ∷ t.later = subst (λ (ms : List Mark). ms ++ new_marks r c ≡ reported.mark ∷ t.later) x.due_is all in
+      let m_is : Pdv x.context x.control x.fragment ≡ reported.mark = first_mark (Pdv x.context x.control x.fragment) reported.mark (x.later ++ new_marks r c) t.later whole in
+      let was : Pends k d.store p [] started = subst (λ (z : List ℕ). Pends k d.store p z started) h.0 pends in
+      let mark : Pdv (get_or started 4 0) (get_or started 5 0) (drop 6 started) ≡ reported.mark = whole_mark started h.2 ∙ h.3 ∙ m_is in
+      handled_quiet new k2 p r due c reported.mark t.later d d2 all (quiet_after_pdv new follows) t.is_at (subst (λ (z : Mark). Does rooms set p (timeline.At z) k2 [] [] d d2) mark (takes started h.1 h.2 was))
 
   -- ---- the end of a frame
 
-  handled_over : (new : Position) (kind left : ℕ) (told : ℕ) (c : List ℕ) (k k2 : Kept) (p : Progress) (r : List ℕ) (due : List Mark) (d d2 : Devices) → told ≡ kind → IsInHead new → IsOver kind left r due → Took new r due c (Some (event.PduEnd told))
-      → ((body : List ℕ) → Pends k d.store p (body_in told body) [] → Does rooms set p (timeline.At (End told body)) k2 [] [] d d2)
-      → (body begun : List ℕ) → Pending r due body begun → Pends k d.store p body begun → Handles rooms set (record { position = new; kept = k2 }) p r due c true d d2
-  handled_over new kind left told c k k2 p r due d d2 same in_head o t takes body begun pending pends =
-      let h = subst (λ (ms : List Mark). Pending r ms body begun) o.due_is pending in
+  handled_over : (new : Position) (kind remaining : ℕ) (reported : ℕ) (c : List ℕ) (k k2 : Kept) (p : Progress) (r : List ℕ) (due : List Mark) (d d2 : Devices) → reported ≡ kind → IsInHead new → IsOver kind remaining r due → Took new r due c (Some (event.PduEnd reported))
+      → ((body : List ℕ) → Pends k d.store p (body_in reported body) [] → Does rooms set p (timeline.At (End reported body)) k2 [] [] d d2)
+      → (body started : List ℕ) → Pending r due body started → Pends k d.store p body started → Handles rooms set (record { position = new; kept = k2 }) p r due c true d d2
+  handled_over new kind remaining reported c k k2 p r due d d2 same in_head o t takes body started pending pends =
+      let h = subst (λ (ms : List Mark). Pending r ms body started) o.due_is pending in
       let report = t.reports in
-      let all : due ++ new_marks r c ≡ report.mark ∷ t.later = mark_taken new r due c (event.PduEnd told) t report in
+      let all : due ++ new_marks r c ≡ report.mark ∷ t.later = mark_taken new r due c (event.PduEnd reported) t report in
       let whole : End kind o.body ∷ new_marks r c ≡ report.mark ∷ t.later = subst (λ (ms : List Mark). ms ++ new_marks r c ≡ report.mark ∷ t.later) o.due_is all in
       let m_is : End kind o.body ≡ report.mark = first_mark (End kind o.body) report.mark (new_marks r c) t.later whole in
-      let was : Pends k d.store p (body_in told o.body) [] = pends_as k d.store p (body_in told o.body) [] body begun (h.0 ∙ ap (λ (x : ℕ). body_in x o.body) (sym same)) h.1 pends in
-      let mark : End told o.body ≡ report.mark = ap (λ (x : ℕ). End x o.body) same ∙ m_is in
+      let was : Pends k d.store p (body_in reported o.body) [] = pends_as k d.store p (body_in reported o.body) [] body started (h.0 ∙ ap (λ (x : ℕ). body_in x o.body) (sym same)) h.1 pends in
+      let mark : End reported o.body ≡ report.mark = ap (λ (x : ℕ). End x o.body) same ∙ m_is in
       handled_quiet new k2 p r due c report.mark t.later d d2 all (quiet_in_head new in_head) t.is_at (subst (λ (z : Mark). Does rooms set p (timeline.At z) k2 [] [] d d2) mark (takes o.body was))
 
-  handled_end : (q new : Position) (told : ℕ) (c : List ℕ) (k k2 : Kept) (p : Progress) (r : List ℕ) (due : List Mark) (d d2 : Devices) → IsInHead new → EndsFrom q told → At q r due → Took new r due c (Some (event.PduEnd told))
-      → ((body : List ℕ) → Pends k d.store p (body_in told body) [] → Does rooms set p (timeline.At (End told body)) k2 [] [] d d2)
-      → (body begun : List ℕ) → Pending r due body begun → Pends k d.store p body begun → Handles rooms set (record { position = new; kept = k2 }) p r due c true d d2
-  handled_end (position.Head bytes) new told c k k2 p r due d d2 in_head w a t takes body begun pending pends = absurd w
-  handled_end (position.Body kind left) new told c k k2 p r due d d2 in_head w a t takes body begun pending pends = go a where
-    go : AtBody kind left r due → Handles rooms set (record { position = new; kept = k2 }) p r due c true d d2
+  handled_end : (q new : Position) (reported : ℕ) (c : List ℕ) (k k2 : Kept) (p : Progress) (r : List ℕ) (due : List Mark) (d d2 : Devices) → IsInHead new → EndsFrom q reported → At q r due → Took new r due c (Some (event.PduEnd reported))
+      → ((body : List ℕ) → Pends k d.store p (body_in reported body) [] → Does rooms set p (timeline.At (End reported body)) k2 [] [] d d2)
+      → (body started : List ℕ) → Pending r due body started → Pends k d.store p body started → Handles rooms set (record { position = new; kept = k2 }) p r due c true d d2
+  handled_end (position.Head bytes) new reported c k k2 p r due d d2 in_head w a t takes body started pending pends = absurd w
+  handled_end (position.Body kind remaining) new reported c k k2 p r due d d2 in_head w a t takes body started pending pends = go a where
+    go : AtBody kind remaining r due → Handles rooms set (record { position = new; kept = k2 }) p r due c true d d2
     go (in_body lt i none) = absurd (omega (arith, lt, w.1))
-    go (after_body o) = handled_over new kind left told c k k2 p r due d d2 w.0 in_head o t takes body begun pending pends
-  handled_end (position.PdvHead left bytes) new told c k k2 p r due d d2 in_head w a t takes body begun pending pends =
+    go (after_body o) = handled_over new kind remaining reported c k k2 p r due d d2 w.0 in_head o t takes body started pending pends
+  handled_end (position.PdvHead remaining bytes) new reported c k k2 p r due d d2 in_head w a t takes body started pending pends =
       let report = t.reports in
-      let all : due ++ new_marks r c ≡ report.mark ∷ t.later = mark_taken new r due c (event.PduEnd told) t report in
-      let x = mark_of_end told report.mark report.same in
-      let was : Pends k d.store p (body_in told x.0) [] = subst (λ (z : ℕ). Pends k d.store p (body_in z x.0) []) (sym w) (pends_in_pdv k d.store p left bytes.items r due body begun a pending pends) in
+      let all : due ++ new_marks r c ≡ report.mark ∷ t.later = mark_taken new r due c (event.PduEnd reported) t report in
+      let x = mark_of_end reported report.mark report.same in
+      let was : Pends k d.store p (body_in reported x.0) [] = subst (λ (z : ℕ). Pends k d.store p (body_in z x.0) []) (sym w) (pends_in_pdv k d.store p remaining bytes.items r due body started a pending pends) in
       handled_quiet new k2 p r due c report.mark t.later d d2 all (quiet_in_head new in_head) t.is_at (subst (λ (z : Mark). Does rooms set p (timeline.At z) k2 [] [] d d2) (sym x.1) (takes x.0 was))
-  handled_end (position.Fragment left more) new told c k k2 p r due d d2 in_head w a t takes body begun pending pends = absurd w
-  handled_end (position.Leftover left) new told c k k2 p r due d d2 in_head w a t takes body begun pending pends = absurd w
-  handled_end (position.Skipped kind left) new told c k k2 p r due d d2 in_head w a t takes body begun pending pends = handled_over new kind left told c k k2 p r due d d2 w in_head a t takes body begun pending pends
+  handled_end (position.Fragment remaining more) new reported c k k2 p r due d d2 in_head w a t takes body started pending pends = absurd w
+  handled_end (position.Leftover remaining) new reported c k k2 p r due d d2 in_head w a t takes body started pending pends = absurd w
+  handled_end (position.Skipped kind remaining) new reported c k k2 p r due d d2 in_head w a t takes body started pending pends = handled_over new kind remaining reported c k k2 p r due d d2 w in_head a t takes body started pending pends
 
   -- ---- any event
 
   pub handled_event : (q new : Position) (n : ℕ) (c : List ℕ) (e : Event) (k k2 : Kept) (p : Progress) (r : List ℕ) (due : List Mark) (d d2 : Devices) → length c ≡ n → Shaped q n c e new → At q r due → Took new r due c (Some e)
       → Takes rooms set k k2 (body_kind new) e d d2 → ShowsDue (record { position = q; kept = k }) d.store p r due → Handles rooms set (record { position = new; kept = k2 }) p r due c true d d2
   handled_event q new n c (event.PduHead head) k k2 p r due d d2 size (bytes, is, w) here t takes h =
-      handled_head new bytes.items c head k k2 p r due d d2 (subst (λ (x : Position). At x r due) is here) w t (takes p) h.body h.begun h.pending h.pends
-  handled_event q new n c (event.Body part) k k2 p r due d d2 size (kind, left, is, lent) here t takes h =
+      handled_head new bytes.items c head k k2 p r due d d2 (subst (λ (x : Position). At x r due) is here) w t (takes p) h.body h.started h.pending h.pends
+  handled_event q new n c (event.Body part) k k2 p r due d d2 size (kind, remaining, is, lent) here t takes h =
       let some = t.reports.some in
       let all : due ++ new_marks r c ≡ t.later = marks_taken new r due c (Some (event.Body part)) t ∙ ap (λ (ms : List Mark). ms ++ t.later) (ap marks_among t.reports.lent ∙ among_body c) in
       let same : Takes rooms set k k2 kind (event.Body part) d d2 = subst (λ (x : Position). Takes rooms set k k2 (body_kind x) (event.Body part) d d2) lent.new_is takes in
       subst (λ (x : Devices). Handles rooms set (record { position = new; kept = k2 }) p r due c true d x) (sym same.0)
-      (handled_body new kind left n part.now c k k2 p r due d size lent some (t.prompt some) (subst (λ (x : Position). At x r due) is here) t.later all t.is_at (same.1 p) h.body h.begun h.pending h.pends)
-  handled_event q new n c (event.PdvHead head) k k2 p r due d d2 size (left, bytes, is, w) here t takes h =
-      handled_pdv_head new left n bytes.items c head k k2 p r due d d2 size (subst (λ (x : Position). At x r due) is here) w t (takes p (bytes.items ++ c) w.all w.follows.0) h.body h.begun h.pending h.pends
-  handled_event q new n c (event.Fragment part) k k2 p r due d d2 size (left, due_more, is, lent) here t takes h =
+      (handled_body new kind remaining n part.now c k k2 p r due d size lent some (t.prompt some) (subst (λ (x : Position). At x r due) is here) t.later all t.is_at (same.1 p) h.body h.started h.pending h.pends)
+  handled_event q new n c (event.PdvHead head) k k2 p r due d d2 size (remaining, bytes, is, w) here t takes h =
+      handled_pdv_head new remaining n bytes.items c head k k2 p r due d d2 size (subst (λ (x : Position). At x r due) is here) w t (takes p (bytes.items ++ c) w.all w.follows.0) h.body h.started h.pending h.pends
+  handled_event q new n c (event.Fragment part) k k2 p r due d d2 size (remaining, due_more, is, lent) here t takes h =
       let some = t.reports.some in
       let all : due ++ new_marks r c ≡ t.later = marks_taken new r due c (Some (event.Fragment part)) t ∙ ap (λ (ms : List Mark). ms ++ t.later) (ap marks_among t.reports.lent ∙ among_fragment c) in
-      handled_fragment new left due_more n part.now c k k2 p r due d d2 size lent some (t.prompt some) (subst (λ (x : Position). At x r due) is here) t.later all t.is_at (takes p) h.body h.begun h.pending h.pends
-  handled_event q new n c event.PdvEnd k k2 p r due d d2 size (left, due_more, is, zero, follows) here t takes h =
+      handled_fragment new remaining due_more n part.now c k k2 p r due d d2 size lent some (t.prompt some) (subst (λ (x : Position). At x r due) is here) t.later all t.is_at (takes p) h.body h.started h.pending h.pends
+  handled_event q new n c event.PdvEnd k k2 p r due d d2 size (remaining, due_more, is, zero, follows) here t takes h =
       let at = subst (λ (x : Position). At x r due) is here in
-      handled_value_end new left due_more c k k2 p r due d d2 zero follows at at t (takes p) h.body h.begun h.pending h.pends
-  handled_event q new n c event.BadPdv k k2 p r due d d2 size (left, bytes, is, w) here t takes h =
-      let told = t.reports in
-      let all : due ++ new_marks r c ≡ BadPdv ∷ t.later = mark_taken new r due c event.BadPdv t told ∙ ap (λ (x : Mark). x ∷ t.later) (mark_of_bad told.mark told.same) in
-      handled_quiet new k2 p r due c BadPdv t.later d d2 all (quiet_plain new (left - n) w.follows) t.is_at
-      (takes p (pends_in_pdv k d.store p left bytes.items r due h.body h.begun (subst (λ (x : Position). At x r due) is here) h.pending h.pends))
-  handled_event q new n c event.Leftover k k2 p r due d d2 size (left, is, e) here t takes h =
+      handled_value_end new remaining due_more c k k2 p r due d d2 zero follows at at t (takes p) h.body h.started h.pending h.pends
+  handled_event q new n c event.BadPdv k k2 p r due d d2 size (remaining, bytes, is, w) here t takes h =
+      let reported = t.reports in
+      let all : due ++ new_marks r c ≡ BadPdv ∷ t.later = mark_taken new r due c event.BadPdv t reported ∙ ap (λ (x : Mark). x ∷ t.later) (mark_of_bad reported.mark reported.same) in
+      handled_quiet new k2 p r due c BadPdv t.later d d2 all (quiet_plain new (remaining - n) w.follows) t.is_at
+      (takes p (pends_in_pdv k d.store p remaining bytes.items r due h.body h.started (subst (λ (x : Position). At x r due) is here) h.pending h.pends))
+  handled_event q new n c event.Leftover k k2 p r due d d2 size (remaining, is, e) here t takes h =
       let a = subst (λ (x : Position). At x r due) is here in
-      let x = subst (λ (ms : List Mark). Pending r ms h.body h.begun) a.due_is h.pending in
-      let told = t.reports in
-      let all : due ++ new_marks r c ≡ told.mark ∷ t.later = mark_taken new r due c event.Leftover t told in
-      let whole : Leftover ∷ new_marks r c ≡ told.mark ∷ t.later = subst (λ (ms : List Mark). ms ++ new_marks r c ≡ told.mark ∷ t.later) a.due_is all in
-      let m_is : Leftover ≡ told.mark = first_mark Leftover told.mark (new_marks r c) t.later whole in
-      handled_quiet new k2 p r due c told.mark t.later d d2 all (quiet_plain new left e) t.is_at
-      (subst (λ (z : Mark). Does rooms set p (timeline.At z) k2 [] [] d d2) m_is (takes p (pends_as k d.store p [] [] h.body h.begun x.0 x.1 h.pends)))
-  handled_event q new n c (event.PduEnd told) k k2 p r due d d2 size (s, from) here t takes h = handled_end q new told c k k2 p r due d d2 s from here t (takes p) h.body h.begun h.pending h.pends
+      let x = subst (λ (ms : List Mark). Pending r ms h.body h.started) a.due_is h.pending in
+      let reported = t.reports in
+      let all : due ++ new_marks r c ≡ reported.mark ∷ t.later = mark_taken new r due c event.Leftover t reported in
+      let whole : Leftover ∷ new_marks r c ≡ reported.mark ∷ t.later = subst (λ (ms : List Mark). ms ++ new_marks r c ≡ reported.mark ∷ t.later) a.due_is all in
+      let m_is : Leftover ≡ reported.mark = first_mark Leftover reported.mark (new_marks r c) t.later whole in
+      handled_quiet new k2 p r due c reported.mark t.later d d2 all (quiet_plain new remaining e) t.is_at
+      (subst (λ (z : Mark). Does rooms set p (timeline.At z) k2 [] [] d d2) m_is (takes p (pends_as k d.store p [] [] h.body h.started x.0 x.1 h.pends)))
+  handled_event q new n c (event.PduEnd reported) k k2 p r due d d2 size (s, from) here t takes h = handled_end q new reported c k k2 p r due d d2 s from here t (takes p) h.body h.started h.pending h.pends

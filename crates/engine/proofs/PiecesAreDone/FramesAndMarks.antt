@@ -1,5 +1,5 @@
 -- Where nothing of a body and no whole head of a value is pending, only the later marks are (`settled`); a frame with one
--- more part has the marks that come of it (`comes_marks`). Stands on the laws of `pdu`.
+-- more part has the marks that come of it (`arrives_marks`). Stands on the laws of `pdu`.
 use Rattle.std.proofs.Common.{◌≡◌, ℕ, ◌+◌, ◌-◌, ◌<◌, ◌≤◌, true, nat_eq, List, [], ◌∷◌, ◌++◌, length, take, drop, get_or, refl, sym, ap, subst, ◌∙◌, arith, inl, inr, ◌⊎◌}
 use Rattle.std.proofs.lemmas.Grind.{common_steps}
 use Rattle.std.proofs.lemmas.Bool.{cases_Bool, cases_lt}
@@ -10,16 +10,16 @@ use Rattle.pdu.specs.declared.head.PduHead.{PduHead}
 use Rattle.pdu.specs.declared.position.Position.{Position}
 use Rattle.pdu.specs.Frames.{IsFrame, IsRest, rest_of}
 use Rattle.pdu.specs.Marks.{Mark, Head, PdvHead, Pdv, BadPdv, Leftover, End, pdv_size, pdv_mark, frame_kind, frame_length, new_marks}
-use Rattle.pdu.specs.Spot.{InPdv, spot, room_left, Spot}
+use Rattle.pdu.specs.Spot.{InPdv, spot, room_remaining, Spot}
 use Rattle.pdu.specs.Events.{event_of}
 use Rattle.pdu.specs.Deframing.{At, AtBody, in_body, after_body, AtFragment, in_fragment, after_fragment, AfterPdv, over, leftover, another}
 use Rattle.pdu.specs.Steps.{IsInHead, IsInPdvHead, FollowsPdv}
 use Rattle.pdu.proofs.Public.{same_frame, spot_opening, in_data, rest_alone, head_done}
-use Rattle.engine.specs.Reached.{begun_in}
+use Rattle.engine.specs.Reached.{started_in}
 use Rattle.engine.specs.Kept.{body_in}
 use Rattle.engine.specs.FrameFields.{body_of}
 use Rattle.engine.specs.machine.Shows.{Pending}
-use Rattle.pdu.specs.Parts.{Comes, end_mark}
+use Rattle.pdu.specs.Parts.{Arrives, end_mark}
 use Rattle.pdu.specs.declared.position.Position.TheVariants as position
 use Rattle.pdu.specs.declared.event.Event.TheVariants as event
 
@@ -28,8 +28,8 @@ use Rattle.pdu.specs.declared.event.Event.TheVariants as event
 pub record More (r c : List ℕ) : Type 0 where
   pub kind : frame_kind (r ++ c) ≡ frame_kind r
   pub body : drop 6 (r ++ c) ≡ drop 6 r ++ c
-  pub goes : length c < room_left r → IsRest (r ++ c)
-  pub ends : IsRest r → length c ≡ room_left r → IsFrame (r ++ c)
+  pub goes : length c < room_remaining r → IsRest (r ++ c)
+  pub ends : IsRest r → length c ≡ room_remaining r → IsFrame (r ++ c)
 
 pub more : (r c : List ℕ) → 6 ≤ length r → More r c
 more r c le =
@@ -109,35 +109,35 @@ mark_of_end k (End kind body) e = let same : k ≡ kind = cc in (body, ap (λ (x
 
 abbrev pub Quiet : Position → Type 0
 Quiet (position.Head bytes) = Unit {0}
-Quiet (position.Body kind left) = kind ≡ 4
-Quiet (position.PdvHead left bytes) = Unit {0}
-Quiet (position.Fragment left more) = ⊥
-Quiet (position.Leftover left) = Unit {0}
-Quiet (position.Skipped kind left) = ⊥
+Quiet (position.Body kind remaining) = kind ≡ 4
+Quiet (position.PdvHead remaining bytes) = Unit {0}
+Quiet (position.Fragment remaining more) = ⊥
+Quiet (position.Leftover remaining) = Unit {0}
+Quiet (position.Skipped kind remaining) = ⊥
 
 pub record Settled (r : List ℕ) (later : List Mark) : Type 0 where
-  pub begun : List ℕ
-  pub short : length begun < 6
-  pub pending : Pending r later [] begun
+  pub started : List ℕ
+  pub short : length started < 6
+  pub pending : Pending r later [] started
 
 pub settled : (q : Position) (r : List ℕ) (later : List Mark) → Quiet q → At q r later → Settled r later
 settled (position.Head bytes) r later t a = record {
-  begun = [];
+  started = [];
   short = omega arith;
-  pending = subst (λ (ms : List Mark). Pending r ms [] []) (sym a.none_due) (sym (body_none r (omega (arith, a.short))), sym (ap begun_in (spot_opening r a.short)));
+  pending = subst (λ (ms : List Mark). Pending r ms [] []) (sym a.none_due) (sym (body_none r (omega (arith, a.short))), sym (ap started_in (spot_opening r a.short)));
 }
-settled (position.Body kind left) r later is a = go a where
-  go : AtBody kind left r later → Settled r later
-  go (in_body lt i none) = record { begun = []; short = omega arith; pending = subst (λ (ms : List Mark). Pending r ms [] []) (sym none) (sym (body_of_data r (i.kind_is ∙ is)), sym (ap begun_in i.spot_is)) }
-  go (after_body o) = record { begun = []; short = omega arith; pending = subst (λ (ms : List Mark). Pending r ms [] []) (sym o.due_is) (sym (ap (λ (k : ℕ). body_in k o.body) is), refl) }
-settled (position.PdvHead left bytes) r later t a = record {
-  begun = bytes.items;
+settled (position.Body kind remaining) r later is a = go a where
+  go : AtBody kind remaining r later → Settled r later
+  go (in_body lt i none) = record { started = []; short = omega arith; pending = subst (λ (ms : List Mark). Pending r ms [] []) (sym none) (sym (body_of_data r (i.kind_is ∙ is)), sym (ap started_in i.spot_is)) }
+  go (after_body o) = record { started = []; short = omega arith; pending = subst (λ (ms : List Mark). Pending r ms [] []) (sym o.due_is) (sym (ap (λ (k : ℕ). body_in k o.body) is), refl) }
+settled (position.PdvHead remaining bytes) r later t a = record {
+  started = bytes.items;
   short = a.short;
-  pending = subst (λ (ms : List Mark). Pending r ms [] bytes.items) (sym a.none_due) (sym (body_of_data r a.inside.kind_is), sym (ap begun_in a.inside.spot_is));
+  pending = subst (λ (ms : List Mark). Pending r ms [] bytes.items) (sym a.none_due) (sym (body_of_data r a.inside.kind_is), sym (ap started_in a.inside.spot_is));
 }
-settled (position.Fragment left more) r later t a = absurd t
-settled (position.Leftover left) r later t a = record { begun = []; short = omega arith; pending = subst (λ (ms : List Mark). Pending r ms [] []) (sym a.due_is) (refl, refl) }
-settled (position.Skipped kind left) r later t a = absurd t
+settled (position.Fragment remaining more) r later t a = absurd t
+settled (position.Leftover remaining) r later t a = record { started = []; short = omega arith; pending = subst (λ (ms : List Mark). Pending r ms [] []) (sym a.due_is) (refl, refl) }
+settled (position.Skipped kind remaining) r later t a = absurd t
 
 pub quiet_in_head : (q : Position) → IsInHead q → Quiet q
 quiet_in_head q h = grind (arith, common_steps)
@@ -148,41 +148,41 @@ quiet_in_pdv_head q h = grind (arith, common_steps)
 pub quiet_after_pdv : (q : Position) → FollowsPdv q → Quiet q
 quiet_after_pdv q h = grind (arith, common_steps)
 
-pub quiet_plain : (q : Position) (left : ℕ) → q ≡ position.Body 4 left → Quiet q
-quiet_plain q left is = subst Quiet (sym is) refl
+pub quiet_plain : (q : Position) (remaining : ℕ) → q ≡ position.Body 4 remaining → Quiet q
+quiet_plain q remaining is = subst Quiet (sym is) refl
 
 -- ---- where a frame or an unfinished one stands
 
 pub at_rest : (q : Position) (r : List ℕ) (due : List Mark) → At q r due → IsRest r
 at_rest (position.Head bytes) r due a = let lt : length r < 6 = a.short in λ le. absurd (omega arith)
-at_rest (position.Body kind left) r due a = go a where
-  go : AtBody kind left r due → IsRest r
+at_rest (position.Body kind remaining) r due a = go a where
+  go : AtBody kind remaining r due → IsRest r
   go (in_body lt i none) = i.rest
   go (after_body o) = λ le. absurd (omega (arith, ap length o.rest))
-at_rest (position.PdvHead left bytes) r due a = a.inside.rest
-at_rest (position.Fragment left more) r due a = go a where
-  by : (later : List Mark) → AfterPdv left r later → IsRest r
+at_rest (position.PdvHead remaining bytes) r due a = a.inside.rest
+at_rest (position.Fragment remaining more) r due a = go a where
+  by : (later : List Mark) → AfterPdv remaining r later → IsRest r
   by later (over o) = λ le. absurd (omega (arith, ap length o.rest))
   by later (leftover t l) = l.inside.rest
   by later (another lt t x) = x.inside.rest
 
-  go : AtFragment left more r due → IsRest r
+  go : AtFragment remaining more r due → IsRest r
   go (in_fragment lt f) = f.inside.rest
   go (after_fragment zero x) = by x.later x.next
-at_rest (position.Leftover left) r due a = a.inside.rest
-at_rest (position.Skipped kind left) r due a = λ le. absurd (omega (arith, ap length a.rest))
+at_rest (position.Leftover remaining) r due a = a.inside.rest
+at_rest (position.Skipped kind remaining) r due a = λ le. absurd (omega (arith, ap length a.rest))
 
 -- bytes that the frame has room for
-pub rest_or_frame : (r c : List ℕ) → IsRest r → 6 ≤ length r → length c ≤ room_left r → IsRest (r ++ c) ⊎ IsFrame (r ++ c)
-rest_or_frame r c rest headed le = elim (cases_lt (length c) (room_left r)) [
+pub rest_or_frame : (r c : List ℕ) → IsRest r → 6 ≤ length r → length c ≤ room_remaining r → IsRest (r ++ c) ⊎ IsFrame (r ++ c)
+rest_or_frame r c rest headed le = elim (cases_lt (length c) (room_remaining r)) [
   | inl lt ↦ inl ((more r c headed).goes lt)
   | inr ge ↦ inr ((more r c headed).ends rest (omega (arith, le)))
 ]
 
-pub comes_marks : (r c : List ℕ) (ms : List Mark) (s : Spot) → Comes r c ms s → IsRest r → 6 ≤ length r → length c ≤ room_left r → (ys : List Mark) × (new_marks r c ≡ ms ++ ys)
-comes_marks r c ms s comes rest headed le = elim (rest_or_frame r c rest headed le) [
-  | inl q ↦ ([], (comes.goes_on q).marks ∙ sym (append-nil ms))
-  | inr w ↦ (end_mark (r ++ c) ∷ [], (comes.ends w).marks)
+pub arrives_marks : (r c : List ℕ) (ms : List Mark) (s : Spot) → Arrives r c ms s → IsRest r → 6 ≤ length r → length c ≤ room_remaining r → (ys : List Mark) × (new_marks r c ≡ ms ++ ys)
+arrives_marks r c ms s arrives rest headed le = elim (rest_or_frame r c rest headed le) [
+  | inl q ↦ ([], (arrives.continues q).marks ∙ sym (append-nil ms))
+  | inr w ↦ (end_mark (r ++ c) ∷ [], (arrives.ends w).marks)
 ]
 
 -- where a head is whole

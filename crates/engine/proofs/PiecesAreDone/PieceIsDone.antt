@@ -12,14 +12,14 @@ use Rattle.engine.specs.Timeline.{At}
 use Rattle.engine.specs.Progress.{Progress, absorb}
 use Rattle.engine.specs.Devices.{Devices}
 use Rattle.engine.specs.Run.{Rooms, progress_of}
-use Rattle.engine.specs.Reached.{begun_in}
+use Rattle.engine.specs.Reached.{started_in}
 use Rattle.engine.specs.Held.{is_ended}
 use Rattle.engine.specs.Kept.{Kept, Pends}
 use Rattle.engine.specs.FrameFields.{StandsAt, Fields, ShowsFrame, body_of}
 use Rattle.engine.specs.machine.Shows.{ShowsDue, Handles, Pending, DoesPart}
 use Rattle.engine.proofs.PiecesAreDone.EntriesJoin.{does_none, does_then}
 
--- no frame has begun
+-- no frame has started
 pub empty_rest : IsRest []
 empty_rest = λ le. absurd (omega arith)
 
@@ -36,8 +36,8 @@ module _ (rooms : Rooms) (s : Settings) where
         later = [];
         all = new_nothing r;
         body = body_of r;
-        begun = begun_in (spot r);
-        does = does_none rooms s p f.kept (body_of r) (begun_in (spot r)) t h.pends;
+        started = started_in (spot r);
+        does = does_none rooms s p f.kept (body_of r) (started_in (spot r)) t h.pends;
         pending = rw same (refl, refl);
         is_at = rw same (h.framed still);
         none_due = λ wrong. refl;
@@ -49,7 +49,7 @@ module _ (rooms : Rooms) (s : Settings) where
   handled_then f g p r due a b m n t u v x more =
       let q : Progress = absorb x.does.failed (progress_of rooms s p x.does.story) in
       let rest = rest_of (r ++ a) in
-      let y = more q rest x.later (record { is_at = x.is_at; body = x.body; begun = x.begun; pending = x.pending; pends = x.does.pends }) in
+      let y = more q rest x.later (record { is_at = x.is_at; body = x.body; started = x.started; pending = x.pending; pends = x.does.pends }) in
       let where_then : rest_of (rest ++ b) ≡ rest_of (r ++ (a ++ b)) = sym (rest_rest (r ++ a) b) ∙ ap rest_of (append_assoc r a b) in
       let marks_are : new_marks r (a ++ b) ≡ new_marks r a ++ new_marks rest b = new_then r a b ∙ ap (λ (ms : List Mark). new_marks r a ++ ms) (new_rest (r ++ a) b) in
       record {
@@ -58,9 +58,9 @@ module _ (rooms : Rooms) (s : Settings) where
         all = ap (λ (ms : List Mark). due ++ ms) marks_are ∙ sym (append_assoc due (new_marks r a) (new_marks rest b)) ∙ ap (λ (ms : List Mark). ms ++ new_marks rest b) x.all
             ∙ append_assoc x.marks x.later (new_marks rest b) ∙ ap (λ (ms : List Mark). x.marks ++ ms) y.all ∙ sym (append_assoc x.marks y.marks y.later);
         body = y.body;
-        begun = y.begun;
-        does = rw (map-append At x.marks y.marks) (does_then rooms s p (map At x.marks) (map At y.marks) f.kept g.kept x.body x.begun y.body y.begun t u v x.does y.does);
-        pending = subst (λ (z : List ℕ). Pending z y.later y.body y.begun) where_then y.pending;
+        started = y.started;
+        does = rw (map-append At x.marks y.marks) (does_then rooms s p (map At x.marks) (map At y.marks) f.kept g.kept x.body x.started y.body y.started t u v x.does y.does);
+        pending = subst (λ (z : List ℕ). Pending z y.later y.body y.started) where_then y.pending;
         is_at = subst (λ (z : List ℕ). StandsAt g.position g.kept z y.later) where_then y.is_at;
         none_due = y.none_due;
       }
@@ -72,21 +72,21 @@ module _ (rooms : Rooms) (s : Settings) where
       let rest = rest_of (r ++ c) in
       let q : Progress = absorb x.does.failed (progress_of rooms s p x.does.story) in
       let all : new_marks r c ≡ x.marks = x.all ∙ ap (λ (ms : List Mark). x.marks ++ ms) none ∙ append-nil x.marks in
-      let is : (x.body ≡ body_of rest) × (x.begun ≡ begun_in (spot rest)) = subst (λ (ms : List Mark). Pending rest ms x.body x.begun) none x.pending in
+      let is : (x.body ≡ body_of rest) × (x.started ≡ started_in (spot rest)) = subst (λ (ms : List Mark). Pending rest ms x.body x.started) none x.pending in
       record {
         story = x.does.story;
         failed = x.does.failed;
-        told = x.does.told ∙ ap (λ (ms : List Mark). map At ms) (sym all);
+        reported = x.does.reported ∙ ap (λ (ms : List Mark). map At ms) (sym all);
         fair = x.does.fair;
         last = x.does.last;
         shows = record {
           framed = λ _. subst (λ (ms : List Mark). StandsAt f.position f.kept rest ms) none x.is_at;
-          pends = subst (λ (z : List ℕ). Pends f.kept u.store q (body_of rest) z) is.1 (subst (λ (z : List ℕ). Pends f.kept u.store q z x.begun) is.0 x.does.pends);
+          pends = subst (λ (z : List ℕ). Pends f.kept u.store q (body_of rest) z) is.1 (subst (λ (z : List ℕ). Pends f.kept u.store q z x.started) is.0 x.does.pends);
         };
         gains = x.does.gains;
       }
 
-  -- the heads were given up where the association has ended
+  -- the heads were released where the association has ended
   pub took_dropped : (f g : Fields) (p : Progress) (r c : List ℕ) (t u : Devices) → g.kept ≡ f.kept → (is_ended f.kept.state ≡ false → g ≡ f) → DoesPart rooms s f p r c t u → DoesPart rooms s g p r c t u
   took_dropped f g p r c t u kept same x =
       let q = absorb x.failed (progress_of rooms s p x.story) in
@@ -94,12 +94,12 @@ module _ (rooms : Rooms) (s : Settings) where
       record {
         story = x.story;
         failed = x.failed;
-        told = x.told;
+        reported = x.reported;
         fair = x.fair;
         last = x.last;
         shows = record {
           framed = λ still. subst (λ (h : Fields). StandsAt h.position h.kept rest []) (sym (same (ap is_ended x.shows.pends.state_is ∙ still))) (x.shows.framed still);
-          pends = subst (λ (k : Kept). Pends k u.store q (body_of rest) (begun_in (spot rest))) (sym kept) x.shows.pends;
+          pends = subst (λ (k : Kept). Pends k u.store q (body_of rest) (started_in (spot rest))) (sym kept) x.shows.pends;
         };
         gains = x.gains;
       }

@@ -33,7 +33,7 @@ use Rattle.engine.proofs.FieldsShow.TriedIsDone.{files_cut}
 -- ---- the entry where a message ends
 
 replied_by : (p : Progress) (finding : Finding) (pdv : messages.Pdv) (m : Message) (b : Brought) → message_by b ≡ Some m → by_brought p finding pdv b ≡ replied p finding m (command_in m.command)
-replied_by p finding pdv m (Goes begun) k = absurd cc
+replied_by p finding pdv m (Goes started) k = absurd cc
 replied_by p finding pdv m (Ends n) k = let same : n ≡ m = cc in ap (λ (z : Message). replied p finding z (command_in z.command)) same
 replied_by p finding pdv m (Refuses fault) k = absurd cc
 

@@ -20,7 +20,7 @@ use Rattle.sequence.specs.Rules.{Limits}
 use Rattle.sequence.specs.Wanted.{Values, kept_of, value_of}
 use Rattle.sequence.specs.FirstFault.{IsUnbroken, tag_of_tail}
 use Rattle.sequence.specs.Ending.{Fails, breaks_rule, ends_early}
-use Rattle.sequence.specs.Walk.{Told, Tells, going, refused}
+use Rattle.sequence.specs.Walk.{Report, Reports, going, refused}
 use Rattle.sequence.proofs.Public.{no_header}
 use Rattle.sequence.proofs.Public.{one_path}
 use Rattle.sequence.proofs.Public.{some_telling}
@@ -111,12 +111,12 @@ data Ends (s : Coding) (lim : Limits) (b : List ℕ) : Type 0 where
 pub whole_front : (s : Coding) (es : Elements) (b : List ℕ) → DataSet s 0 es b → Open s b es [] (last_of 0 es) (in_header [])
 whole_front s es b set = record {
   nested = subst (λ z. Nested s z es [] (last_of 0 es) (in_header [])) (append-nil b) (at_elements set (header_tail (no_header s)));
-  left = tt;
+  remaining = tt;
   innermost = tt;
 }
 
-none_left : (s : Coding) (last : ℕ) (tail : Tail) (t : List ℕ) → IsTail s last tail t → tail ≡ in_header [] → t ≡ []
-none_left s last tail t h k = grind (arith, common_steps)
+none_remaining : (s : Coding) (last : ℕ) (tail : Tail) (t : List ℕ) → IsTail s last tail t → tail ≡ in_header [] → t ≡ []
+none_remaining s last tail t h k = grind (arith, common_steps)
 
 some_path : (a : List PathEntry) (x y : PathEntry) → a ++ (x ∷ y ∷ []) ≡ [] → ⊥
 some_path [] x y e = cc
@@ -124,7 +124,7 @@ some_path (z ∷ a) x y e = cc
 
 front_whole : (s : Coding) (b : List ℕ) (es : Elements) (path : List PathEntry) (last : ℕ) (tail : Tail) → Nested s b es path last tail → path ≡ [] → tail ≡ in_header [] → DataSet s 0 es b
 front_whole s b es path last tail (at_elements {b = before} {t = t} set is_tail) e k =
-    subst (DataSet s 0 es) (sym (ap (λ z. before ++ z) (none_left s last tail t is_tail k) ∙ append-nil before)) set
+    subst (DataSet s 0 es) (sym (ap (λ z. before ++ z) (none_remaining s last tail t is_tail k) ∙ append-nil before)) set
 front_whole s b es path last tail (in_sequence_of q level part) e k = absurd cc
 front_whole s b es path last tail (in_item_of q {path = inside} level item level2 deeper) e k = absurd (some_path inside _ _ e)
 
@@ -146,9 +146,9 @@ ends_at s lim b es [] last (in_header (x ∷ t)) unbroken o = short_of s lim b e
 ends_at s lim b es [] last (in_value h v) unbroken o = short_of s lim b es [] last (in_value h v) unbroken o (λ e k. cc)
 ends_at s lim b es (e ∷ path) last tail unbroken o = short_of s lim b es (e ∷ path) last tail unbroken o (λ e k. cc)
 
-ends_told : (s : Coding) (lim : Limits) (b : List ℕ) (told : Told) → Tells s lim b told → Ends s lim b
-ends_told s lim b told (going {es = es} {path = path} {last = last} {tail = tail} unbroken o) = ends_at s lim b es path last tail unbroken o
-ends_told s lim b told (refused f o) = faulty _ (breaks_rule f)
+ends_reported : (s : Coding) (lim : Limits) (b : List ℕ) (reported : Report) → Reports s lim b reported → Ends s lim b
+ends_reported s lim b reported (going {es = es} {path = path} {last = last} {tail = tail} unbroken o) = ends_at s lim b es path last tail unbroken o
+ends_reported s lim b reported (refused f o) = faulty _ (breaks_rule f)
 
 -- ---- the finding
 
@@ -171,5 +171,5 @@ a_verdict_is_there depth most context command set failed bytes = by (of_context_
         (found.0, record { elements = es; first = inr (of, inr (whole, found.1)) })
 
     by : IsOfContext context command ⊎ (IsOfContext context command → ⊥) → (finding : Finding) × Verdict depth most context command set failed finding
-    by (inl of) = let k = some_telling (coding_in context.syntax) (limits depth most) set bytes in ending of (ends_told (coding_in context.syntax) (limits depth most) set k.0 k.1)
+    by (inl of) = let k = some_telling (coding_in context.syntax) (limits depth most) set bytes in ending of (ends_reported (coding_in context.syntax) (limits depth most) set k.0 k.1)
     by (inr other) = (failure class_not_supported, record { elements = no_elements; first = inl (other, refl) })

@@ -1,4 +1,4 @@
--- A walker that takes a part step by step has taken the data set with this part (`end_walk`), also after it refused
+-- A walker that consumes a part step by step has taken the data set with this part (`end_walk`), also after it refused
 -- (`stop_walk`). Stands on the laws of `sequence`.
 use Rattle.std.proofs.Common.{◌≡◌, ℕ, ◌<◌, List, [], ◌∷◌, ◌++◌, take, drop, length, Option, Some, None, suc, refl, sym, ap, subst, ◌∙◌, take-append-drop, append_assoc, append-nil, arith}
 use Rattle.element.specs.Numbers.{IsBytes}
@@ -16,7 +16,7 @@ back_bytes : (a b : List ℕ) → IsBytes (a ++ b) → IsBytes b
 back_bytes [] b h = h
 back_bytes (x ∷ a) b h = back_bytes a b (λ i. h (suc i))
 
--- of a part these bytes are left, and the walker took the others after the data set's
+-- of a part these bytes are left, and the walker consumed the others after the data set's
 pub record Walked {V D : ℕ} (w : Walker V D) (syntax : Coding) (lim : Limits) (set part rest : List ℕ) : Type 0 where
   pub done : List ℕ
   pub parts : part ≡ done ++ rest
@@ -49,7 +49,7 @@ refused_walked w syntax lim set part rest fault e bytes k = record {
   limits_are = k.takes.limits_are;
 }
 
--- a step that takes nothing of some bytes stands refused
+-- a step that consumes nothing of some bytes stands refused
 pub stop_walk : {V D : ℕ} (w new : Walker V D) (syntax : Coding) (lim : Limits) (set part rest : List ℕ) (n : ℕ) → (fault_of w ≡ None → 0 < length rest → 0 < n) → ((fault : Fault) → fault_of w ≡ Some fault → new ≡ w) → n ≡ 0 → 0 < length rest → IsBytes part → Walked w syntax lim set part rest → HasWalked new syntax lim (set ++ part)
 stop_walk w new syntax lim set part rest n takes_some same none some bytes k = by (fault_of w) refl
   where

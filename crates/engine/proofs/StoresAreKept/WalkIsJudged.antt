@@ -12,8 +12,8 @@ use Rattle.sequence.specs.Open.{in_header, last_of}
 use Rattle.sequence.specs.Tree.{Elements, no_elements}
 use Rattle.sequence.specs.Wanted.{Values, kept_of}
 use Rattle.sequence.specs.Ending.{IsWholeDataSet, Fails}
-use Rattle.sequence.specs.Walk.{Told, Tells, going, refused}
-use Rattle.sequence.specs.Taken.{StandsAt, walker_syntax, limits_of, told_by}
+use Rattle.sequence.specs.Walk.{Report, Reports, going, refused}
+use Rattle.sequence.specs.Taken.{StandsAt, walker_syntax, limits_of, reported_by}
 use Rattle.sequence.proofs.Public.{one_path, whole_breaks_no_rule}
 use Rattle.dimse.specs.Command.{CommandRecord}
 use Rattle.dimse.specs.Status.{success, out_of_resources, cannot_understand}
@@ -30,25 +30,25 @@ use Rattle.engine.proofs.StoresAreJudged.VerdictIsThere.{whole_front}
 
 -- ---- what a walker reports of a whole data set
 
-pub kept_told : {s : Coding} {lim : Limits} {b : List ℕ} {told : Told} {elements : Elements} → HasNoFault s lim b elements → Tells s lim b told → told.kept ≡ kept_of lim.wanted elements
-kept_told {s} {lim} {b} {told} {elements} h (going {es = es} {path = path} {last = last} {tail = tail} unbroken o) =
+pub kept_reported : {s : Coding} {lim : Limits} {b : List ℕ} {reported : Report} {elements : Elements} → HasNoFault s lim b elements → Reports s lim b reported → reported.kept ≡ kept_of lim.wanted elements
+kept_reported {s} {lim} {b} {reported} {elements} h (going {es = es} {path = path} {last = last} {tail = tail} unbroken o) =
     ap (kept_of lim.wanted) (one_path s b es elements path [] last (last_of 0 elements) tail (in_header []) o (whole_front s elements b h.whole)).0
-kept_told h (refused {p = p} {u = u} {rule = rule} {tag = tag} f o) = absurd (h.unbroken p u f.rest rule tag f.text f.breaks)
+kept_reported h (refused {p = p} {u = u} {rule = rule} {tag = tag} f o) = absurd (h.unbroken p u f.rest rule tag f.text f.breaks)
 
 -- the walker's data set is whole, and it kept what is wanted of its elements
 pub record IsRead {V D : ℕ} (w : Walker V D) (context : Context) (depth most : ℕ) (set : List ℕ) : Type 0 where
   pub elements : Elements
   pub fault_free : HasNoFault (coding_in context.syntax) (limits depth most) set elements
-  pub kept : (told_by w).kept ≡ kept_of wanted elements
+  pub kept : (reported_by w).kept ≡ kept_of wanted elements
 
 pub is_read : {V D : ℕ} (w : Walker V D) → ((b : List ℕ) → StandsAt w b → IsWholeDataSet (walker_syntax w) (limits_of w) b)
     → (context : Context) (depth most : ℕ) (set : List ℕ) → HasWalked w (coding_in context.syntax) (limits depth most) set → IsRead w context depth most set
 is_read w whole context depth most set k =
     let lim = limits depth most in
     let here : IsWholeDataSet (coding_in context.syntax) lim set = subst (λ z. IsWholeDataSet z lim set) k.syntax_is (subst (λ z. IsWholeDataSet (walker_syntax w) z set) k.limits_are (whole set k.stands)) in
-    let tells : Tells (coding_in context.syntax) lim set (told_by w) = subst (λ z. Tells z lim set (told_by w)) k.syntax_is (subst (λ z. Tells (walker_syntax w) z set (told_by w)) k.limits_are k.stands.tells) in
+    let reports : Reports (coding_in context.syntax) lim set (reported_by w) = subst (λ z. Reports z lim set (reported_by w)) k.syntax_is (subst (λ z. Reports (walker_syntax w) z set (reported_by w)) k.limits_are k.stands.reports) in
     let h : HasNoFault (coding_in context.syntax) lim set here.elements = record { whole = here.text; unbroken = whole_breaks_no_rule (coding_in context.syntax) lim set here } in
-    record { elements = here.elements; fault_free = h; kept = kept_told h tells }
+    record { elements = here.elements; fault_free = h; kept = kept_reported h reports }
 
 -- ---- the verdicts
 
@@ -69,18 +69,18 @@ differs_first : (x : Submitted) (values : Values) (finding : Finding) → values
 differs_first x values finding e (other_class other) = inl ((λ n. other (subst (λ z. NamesUid z class_tag x.command.class) (sym e) n)), refl)
 differs_first x values finding e (other_instance class other) = inr (subst (λ z. NamesUid z class_tag x.command.class) e class, inl ((λ n. other (subst (λ z. NamesInstance z x.command) (sym e) n)), refl))
 
-pub differs_fails : {V D : ℕ} (w : Walker V D) (command : CommandRecord) (finding : Finding) → ((b : List ℕ) → StandsAt w b → IsWholeDataSet (walker_syntax w) (limits_of w) b) → Differs (told_by w).kept command finding
+pub differs_fails : {V D : ℕ} (w : Walker V D) (command : CommandRecord) (finding : Finding) → ((b : List ℕ) → StandsAt w b → IsWholeDataSet (walker_syntax w) (limits_of w) b) → Differs (reported_by w).kept command finding
     → (context : Context) (depth most : ℕ) (set : List ℕ) → HasWalked w (coding_in context.syntax) (limits depth most) set → FailsAs depth most context command set finding
 differs_fails w command finding whole differs context depth most set k of filing =
     let r = is_read w whole context depth most set k in
     let x : Submitted = record { context = context; command = command; data_set = set; limits = limits depth most; elements = r.elements; failed = filing } in
-    record { elements = r.elements; first = inr (of, inr (r.fault_free, differs_first x (told_by w).kept finding r.kept differs)) }
+    record { elements = r.elements; first = inr (of, inr (r.fault_free, differs_first x (reported_by w).kept finding r.kept differs)) }
 
 pub differs_is_failure : (values : Values) (command : CommandRecord) (finding : Finding) → Differs values command finding → finding.status ≡ success → ⊥
 differs_is_failure values command finding h k = grind (arith, common_steps)
 
 -- the comparison of a whole data set is the judgement
-pub judged_by : {V D : ℕ} (w : Walker V D) (command : CommandRecord) (result : Result (Unit {0}) StoreStatus) → ((b : List ℕ) → StandsAt w b → IsWholeDataSet (walker_syntax w) (limits_of w) b) → Compared (told_by w).kept command result → WalkHasVerdict w command result
+pub judged_by : {V D : ℕ} (w : Walker V D) (command : CommandRecord) (result : Result (Unit {0}) StoreStatus) → ((b : List ℕ) → StandsAt w b → IsWholeDataSet (walker_syntax w) (limits_of w) b) → Compared (reported_by w).kept command result → WalkHasVerdict w command result
 judged_by w command (Ok u) whole named = λ context depth most set k.
     let r = is_read w whole context depth most set k in
     record { elements = r.elements; fault_free = r.fault_free; class = subst (λ z. NamesUid z class_tag command.class) r.kept named.0; instance = subst (λ z. NamesInstance z command) r.kept named.1 }

@@ -20,7 +20,7 @@ use Rattle.engine.specs.Progress.{Progress, absorb, at_start, done}
 use Rattle.engine.specs.Devices.{Devices, files_in}
 use Rattle.engine.specs.Run.{Rooms, gives, progress_of}
 use Rattle.engine.specs.Fair.{MayFail, IsStory}
-use Rattle.engine.specs.Reached.{reached, begun_in}
+use Rattle.engine.specs.Reached.{reached, started_in}
 use Rattle.engine.specs.Held.{is_ended}
 use Rattle.engine.specs.Drafts.{IsThere, Drafts}
 use Rattle.engine.specs.Stands.{Shows, Stands, drafting}
@@ -63,11 +63,11 @@ entry_outside event x entry h before = grind (arith, common_steps)
 stream_outside : (event : Event) (x : Received) (entry : Entry) → Outside event x entry → stream_of (x ∷ []) ≡ []
 stream_outside event x entry h = grind (arith, common_steps)
 
-does_outside : (rooms : Rooms) (s : Settings) (p : Progress) (new : Kept) (body begun : List ℕ) (old later : Devices) (event : Event) (x : Received) (entry : Entry) → Outside event x entry
-    → PerformsReaction p (done [] 0 p event) new body begun old later → Does rooms s p entry new body begun old later
-does_outside rooms s p new body begun old later _ _ _ closed t = does_by rooms s p Shut _ new body begun old later refl refl tt t
-does_outside rooms s p new body begun old later _ _ _ expired t = does_by rooms s p TimedOut _ new body begun old later refl refl tt t
-does_outside rooms s p new body begun old later _ _ _ aborted t = does_by rooms s p Aborted _ new body begun old later refl refl tt t
+does_outside : (rooms : Rooms) (s : Settings) (p : Progress) (new : Kept) (body started : List ℕ) (old later : Devices) (event : Event) (x : Received) (entry : Entry) → Outside event x entry
+    → PerformsReaction p (done [] 0 p event) new body started old later → Does rooms s p entry new body started old later
+does_outside rooms s p new body started old later _ _ _ closed t = does_by rooms s p Shut _ new body started old later refl refl tt t
+does_outside rooms s p new body started old later _ _ _ expired t = does_by rooms s p TimedOut _ new body started old later refl refl tt t
+does_outside rooms s p new body started old later _ _ _ aborted t = does_by rooms s p Aborted _ new body started old later refl refl tt t
 
 module _ (rooms : Rooms) (s : Settings) where
   -- what the entries of the new input did
@@ -89,7 +89,7 @@ module _ (rooms : Rooms) (s : Settings) where
         charged = pushed_charged failed a.story a.failed;
         stands = record {
           story_is = record {
-            told = map-append (λ (y : Happened). y.0) story more ∙ ap (λ (es : List Entry). entries_of story ++ es) (push_entries failed a.story ∙ a.told) ∙ ap (λ (es : List Entry). es ++ entries (stream_of inputs) (x ∷ [])) h.told ∙ sym (entries_append inputs (x ∷ []));
+            reported = map-append (λ (y : Happened). y.0) story more ∙ ap (λ (es : List Entry). entries_of story ++ es) (push_entries failed a.story ∙ a.reported) ∙ ap (λ (es : List Entry). es ++ entries (stream_of inputs) (x ∷ [])) h.reported ∙ sym (entries_append inputs (x ∷ []));
             fair = fair_then rooms s at_start story more h.fair (push_fair rooms s failed p a.story h.last a.fair);
             last = λ t. subst (λ (q : Progress). MayFail q q) (sym (progress_then rooms s at_start story more)) (push_last rooms s failed a.failed p a.story h.last a.last t);
           };
@@ -104,7 +104,7 @@ module _ (rooms : Rooms) (s : Settings) where
         drafts = same;
       }
 
-  -- bytes came
+  -- bytes were received
   pub moved_bytes : (inputs : List Received) (story : List Happened) (failed : Bool) (piece : List ℕ) (old_f f : Fields) (d e : Devices) → IsStory rooms s inputs story failed
       → (t : DoesPart rooms s f (absorb failed (progress_of rooms s at_start story)) (rest_of (stream_of inputs)) piece d e)
       → (is_ended f.kept.state ≡ true → deframing.At f.position [] []) → Drafts (drafting old_f) d.store (drafting f) e.store → Moved rooms s inputs story failed (Bytes piece) old_f f d e
@@ -115,14 +115,14 @@ module _ (rooms : Rooms) (s : Settings) where
       let now : entries stream (Bytes piece ∷ []) ≡ map At (new_marks (rest_of stream) piece) = append-nil (map At (new_marks stream piece)) ∙ ap (λ (ms : List Mark). map At ms) (new_rest stream piece) in
       let whole : rest_of (stream_of (inputs ++ Bytes piece ∷ [])) ≡ rest_of (rest_of stream ++ piece) =
       ap rest_of (stream_then inputs (Bytes piece ∷ []) ∙ ap (λ (c : List ℕ). stream ++ c) (append-nil piece)) ∙ rest_rest stream piece in
-      let a : DoesAll rooms s p (entries stream (Bytes piece ∷ [])) f.kept _ _ d e = record { story = t.story; failed = t.failed; told = t.told ∙ sym now; fair = t.fair; last = t.last; pends = t.shows.pends; gains = t.gains } in
+      let a : DoesAll rooms s p (entries stream (Bytes piece ∷ [])) f.kept _ _ d e = record { story = t.story; failed = t.failed; reported = t.reported ∙ sym now; fair = t.fair; last = t.last; pends = t.shows.pends; gains = t.gains } in
       let shown : Shows f e.store (record { progress = q; rest = rest_of (rest_of stream ++ piece) }) = record { frame = t.shows; headless = λ ended. headless (ap is_ended t.shows.pends.state_is ∙ ended) } in
       moved_by inputs story failed (Bytes piece) old_f f _ _ d e h a (subst (λ (r : List ℕ). Shows f e.store (record { progress = q; rest = r })) (sym whole) shown) same
 
-  -- another input came, which brings this one entry
+  -- another input was received, which brings this one entry
   pub moved_other : (inputs : List Received) (story : List Happened) (failed : Bool) (x : Received) (entry : Entry) (old_f f : Fields) (d e : Devices) → IsStory rooms s inputs story failed
       → entries (stream_of inputs) (x ∷ []) ≡ entry ∷ [] → stream_of (x ∷ []) ≡ []
-      → Does rooms s (absorb failed (progress_of rooms s at_start story)) entry f.kept (body_of (rest_of (stream_of inputs))) (begun_in (spot (rest_of (stream_of inputs)))) d e
+      → Does rooms s (absorb failed (progress_of rooms s at_start story)) entry f.kept (body_of (rest_of (stream_of inputs))) (started_in (spot (rest_of (stream_of inputs)))) d e
       → (is_ended f.kept.state ≡ false → StandsAt f.position f.kept (rest_of (stream_of inputs)) [])
       → (is_ended f.kept.state ≡ true → deframing.At f.position [] []) → Drafts (drafting old_f) d.store (drafting f) e.store → Moved rooms s inputs story failed x old_f f d e
   moved_other inputs story failed x entry old_f f d e h one none did framed headless same =
@@ -130,13 +130,13 @@ module _ (rooms : Rooms) (s : Settings) where
       let rest = rest_of (stream_of inputs) in
       let q = (gives rooms s p (entry, did.outcome)).next in
       let whole : rest_of (stream_of (inputs ++ x ∷ [])) ≡ rest = ap rest_of (stream_then inputs (x ∷ []) ∙ ap (λ (c : List ℕ). stream_of inputs ++ c) none ∙ append-nil (stream_of inputs)) in
-      let a : DoesAll rooms s p (entry ∷ []) f.kept (body_of rest) (begun_in (spot rest)) d e = does_one rooms s p entry f.kept (body_of rest) (begun_in (spot rest)) d e did in
+      let a : DoesAll rooms s p (entry ∷ []) f.kept (body_of rest) (started_in (spot rest)) d e = does_one rooms s p entry f.kept (body_of rest) (started_in (spot rest)) d e did in
       let shown : Shows f e.store (record { progress = q; rest = rest }) = record {
         frame = record { framed = λ still. framed (ap is_ended did.pends.state_is ∙ still); pends = did.pends };
         headless = λ ended. headless (ap is_ended did.pends.state_is ∙ ended);
       } in
-      let story_then : DoesAll rooms s p (entries (stream_of inputs) (x ∷ [])) f.kept (body_of rest) (begun_in (spot rest)) d e = record { story = a.story; failed = a.failed; told = a.told ∙ sym one; fair = a.fair; last = a.last; pends = a.pends; gains = a.gains } in
-      moved_by inputs story failed x old_f f (body_of rest) (begun_in (spot rest)) d e h story_then (subst (λ (r : List ℕ). Shows f e.store (record { progress = q; rest = r })) (sym whole) shown) same
+      let story_then : DoesAll rooms s p (entries (stream_of inputs) (x ∷ [])) f.kept (body_of rest) (started_in (spot rest)) d e = record { story = a.story; failed = a.failed; reported = a.reported ∙ sym one; fair = a.fair; last = a.last; pends = a.pends; gains = a.gains } in
+      moved_by inputs story failed x old_f f (body_of rest) (started_in (spot rest)) d e h story_then (subst (λ (r : List ℕ). Shows f e.store (record { progress = q; rest = r })) (sym whole) shown) same
 
   -- after the end
   pub moved_still : (inputs : List Received) (story : List Happened) (failed : Bool) (x : Received) (f : Fields) (d : Devices) → Stands rooms s inputs story failed f d.store → is_ended f.kept.state ≡ true → IsThere (drafting f) d.store → Moved rooms s inputs story failed x f f d d
@@ -148,11 +148,11 @@ module _ (rooms : Rooms) (s : Settings) where
       let k = stays rooms s p es is in
       let q = progress_of rooms s p (calm es) in
       let rest = rest_of (stream_of (inputs ++ x ∷ [])) in
-      let pends : Pends f.kept d.store q (body_of rest) (begun_in (spot rest)) = pends_ended f.kept d.store d.store p q _ _ _ _ over (k.state ∙ sym is) k.decided k.message h.shows.frame.pends in
-      let a : DoesAll rooms s p es f.kept (body_of rest) (begun_in (spot rest)) d d = record {
+      let pends : Pends f.kept d.store q (body_of rest) (started_in (spot rest)) = pends_ended f.kept d.store d.store p q _ _ _ _ over (k.state ∙ sym is) k.decided k.message h.shows.frame.pends in
+      let a : DoesAll rooms s p es f.kept (body_of rest) (started_in (spot rest)) d d = record {
         story = calm es;
         failed = false;
-        told = k.told;
+        reported = k.reported;
         fair = k.fair;
         last = λ wrong. absurd cc;
         pends = pends;
@@ -162,7 +162,7 @@ module _ (rooms : Rooms) (s : Settings) where
           count = omega (arith, k.filings);
         };
       } in
-      moved_by inputs story failed x f f (body_of rest) (begun_in (spot rest)) d d h.story_is a (record {
+      moved_by inputs story failed x f f (body_of rest) (started_in (spot rest)) d d h.story_is a (record {
         frame = record { framed = λ still. absurd (let yes : is_ended q.state ≡ true = ap is_ended k.state in cc); pends = pends };
         headless = λ e. h.shows.headless over;
       }) (record { there = there; own = λ mine. mine })
@@ -172,19 +172,19 @@ module _ (rooms : Rooms) (s : Settings) where
   stands_start q k store at h =
       let fields : Fields = record { position = q; kept = k } in
       let none : rest_of [] ≡ [] = rest_alone [] empty_rest in
-      let pends : Pends k store at_start (body_of []) (begun_in (spot [])) = rw spot_none h in
+      let pends : Pends k store at_start (body_of []) (started_in (spot [])) = rw spot_none h in
       let shown : Shows fields store (record { progress = at_start; rest = [] }) = record {
         frame = record { framed = λ _. reads at; pends = pends };
         headless = λ ended. absurd cc;
       } in
       let now : Shows fields store (reached rooms s [] [] false) = subst (λ (r : List ℕ). Shows fields store (record { progress = at_start; rest = r })) (sym none) shown in
       record {
-        story_is = record { told = refl; fair = tt; last = λ wrong. absurd cc };
+        story_is = record { reported = refl; fair = tt; last = λ wrong. absurd cc };
         shows = now;
         draft = now.frame.pends.draft;
       }
 
-  -- what a call leaves once heads are given up after the end
+  -- what a call leaves once heads are released after the end
   pub record Dropped (f g : Fields) : Type 0 where
     pub kept : g.kept ≡ f.kept
     pub same : is_ended f.kept.state ≡ false → g ≡ f
@@ -197,7 +197,7 @@ module _ (rooms : Rooms) (s : Settings) where
   drafts_kept : (old_f f g : Fields) (old new : Store) → g.kept ≡ f.kept → Drafts (drafting old_f) old (drafting f) new → Drafts (drafting old_f) old (drafting g) new
   drafts_kept old_f f g old new kept h = subst (λ (k : Kept). Drafts (drafting old_f) old (drafting_in k.storing) new) (sym kept) h
 
-  -- a call that takes bytes
+  -- a call that consumes bytes
   pub moved_feed : (inputs : List Received) (story : List Happened) (failed : Bool) (piece : List ℕ) (old_f f g : Fields) (d e : Devices) → Stands rooms s inputs story failed old_f d.store
       → is_ended old_f.kept.state ≡ false → ((p : Progress) (r : List ℕ) → IsRest r → is_ended p.state ≡ false → ShowsFrame old_f d.store p r → DoesPart rooms s f p r piece d e)
       → Dropped f g → Drafts (drafting old_f) d.store (drafting f) e.store → Moved rooms s inputs story failed (Bytes piece) old_f g d e
@@ -208,10 +208,10 @@ module _ (rooms : Rooms) (s : Settings) where
       moved_bytes inputs story failed piece old_f g d e h.story_is (took_dropped rooms s f g p (rest_of stream) piece d e dropped.kept dropped.same took) (headless_then f g dropped)
       (drafts_kept old_f f g d.store e.store dropped.kept same)
 
-  -- a call that takes another input
+  -- a call that consumes another input
   pub moved_call : (inputs : List Received) (story : List Happened) (failed : Bool) (event : Event) (x : Received) (entry : Entry) → Outside event x entry → (ps : Position) (k n : Kept) (g : Fields) (d e : Devices)
       → Stands rooms s inputs story failed (record { position = ps; kept = k }) d.store → is_ended k.state ≡ false
-      → ((p : Progress) (body begun : List ℕ) → Pends k d.store p body begun → PerformsReaction p (done [] 0 p event) n body begun d e)
+      → ((p : Progress) (body started : List ℕ) → Pends k d.store p body started → PerformsReaction p (done [] 0 p event) n body started d e)
       → ((kind : ℕ) → IsUncounted k kind → IsUncounted n kind)
       → Dropped (record { position = passed n ps; kept = n }) g → Drafts (drafting_in k.storing) d.store (drafting_in n.storing) e.store
       → Moved rooms s inputs story failed x (record { position = ps; kept = k }) g d e
@@ -219,8 +219,8 @@ module _ (rooms : Rooms) (s : Settings) where
       let p = absorb failed (progress_of rooms s at_start story) in
       let rest = rest_of (stream_of inputs) in
       let framed : StandsAt (passed n ps) n rest [] = stands_passed ps k n rest still (h.shows.frame.framed (sym (ap is_ended h.shows.frame.pends.state_is) ∙ there)) in
-      let does : Does rooms s p entry n (body_of rest) (begun_in (spot rest)) d e = does_outside rooms s p n _ _ d e event x entry o (tries p (body_of rest) (begun_in (spot rest)) h.shows.frame.pends) in
-      let did : Does rooms s p entry g.kept (body_of rest) (begun_in (spot rest)) d e = subst (λ (y : Kept). Does rooms s p entry y (body_of rest) (begun_in (spot rest)) d e) (sym dropped.kept) does in
+      let does : Does rooms s p entry n (body_of rest) (started_in (spot rest)) d e = does_outside rooms s p n _ _ d e event x entry o (tries p (body_of rest) (started_in (spot rest)) h.shows.frame.pends) in
+      let did : Does rooms s p entry g.kept (body_of rest) (started_in (spot rest)) d e = subst (λ (y : Kept). Does rooms s p entry y (body_of rest) (started_in (spot rest)) d e) (sym dropped.kept) does in
       moved_other inputs story failed x entry _ g d e h.story_is (entry_outside event x entry o (stream_of inputs)) (stream_outside event x entry o) did
       (λ still. subst (λ (y : Fields). StandsAt y.position y.kept rest []) (sym (dropped.same (ap (λ (y : Kept). is_ended y.state) (sym dropped.kept) ∙ still))) framed)
       (headless_then _ g dropped) (drafts_kept (record { position = ps; kept = k }) (record { position = passed n ps; kept = n }) g d.store e.store dropped.kept same)

@@ -1,11 +1,11 @@
--- A running association takes one turn more as the source gives it (`running_more`), and its turns are a run
+-- A running association runs one turn more as the source gives it (`running_more`), and its turns are a run
 -- (`turns_are_a_run`), reported as it stands (`answered_by`). Stands on AlongTimelines and FieldsShow/NothingCounts.
 use Rattle.std.proofs.Common.{◌≡◌, ◌≢◌, ℕ, zero, suc, ◌+◌, ◌*◌, ◌≤◌, Bool, false, List, [], ◌∷◌, ◌++◌, length, take, drop, option_map, Option, Some, None, refl, sym, ap, subst, ◌∙◌, arith, inl, inr}
 use Rattle.std.proofs.lemmas.Grind.{common_steps}
 use Rattle.std.proofs.lemmas.Bool.{cases_lt}
 use Rattle.std.proofs.lemmas.List.{append_assoc, append-nil, length-append, length-map, take-append-drop, take-append-le, take_all}
 use Rattle.acceptor.specs.declared.state.State.TheVariants.{Sta1, Sta6}
-use Rattle.part10.specs.Store.{Shelf, Store, told_after, without_draft, stepped}
+use Rattle.part10.specs.Store.{Shelf, Store, reported_after, without_draft, stepped}
 use Rattle.negotiate.specs.Settings.{Settings}
 use Rattle.engine.specs.declared.source.Input.{Input}
 use Rattle.engine.specs.declared.report.Report.{Report}
@@ -56,7 +56,7 @@ given_nothing (Some given) = ap (λ (xs : List Received). Some xs) (sym (append-
 
 follows_more : (old now next : Supply) (taken : List Received) (bytes : List ℕ) (kind : Input) → Follows old now taken → Gives now next bytes kind → Follows old next (taken ++ input_of kind bytes ∷ [])
 follows_more old now next taken bytes kind f g = record {
-  front = front_more old.to_come now.to_come next.to_come taken (input_of kind bytes) f.front g.first;
+  front = front_more old.expected now.expected next.expected taken (input_of kind bytes) f.front g.first;
   given = g.added ∙ ap (with_given (input_of kind bytes ∷ [])) f.given ∙ given_more old.given taken (input_of kind bytes ∷ []);
 }
 
@@ -64,7 +64,7 @@ front_start : (source : Option (List Received)) → TakesFront source source []
 front_start source = grind (arith, common_steps)
 
 follows_start : (source : Supply) → Follows source source []
-follows_start source = record { front = front_start source.to_come; given = given_nothing source.given }
+follows_start source = record { front = front_start source.expected; given = given_nothing source.given }
 
 pub follows_all : (old now : Option (List Received)) (taken all : List Received) → TakesFront old now taken → old ≡ Some all → LeavesOthers taken all now
 follows_all old now taken all f e = let g : TakesFront (Some all) now taken = subst (λ (x : Option (List Received)). TakesFront x now taken) e f in record { first = g.0; others = g.1 }
@@ -87,16 +87,16 @@ story_length story es e = sym (length-map story (λ (h : Happened). h.0)) ∙ ap
 -- with one input more, and its part of the story, it is as before
 story_before : (n : ℕ) (taken : List Received) (x : Received) (story more : List Happened) → entries_of story ≡ entries [] taken → n ≤ length taken
     → story_after n (taken ++ x ∷ []) (story ++ more) ≡ story_after n taken story
-story_before n taken x story more told h =
+story_before n taken x story more reported h =
     let same : take n (taken ++ x ∷ []) ≡ take n taken = length_take n taken (x ∷ []) h in
     let k = length (entries [] (take n taken)) in
     ap (λ (xs : List Received). take (length (entries [] xs)) (story ++ more)) same
-    ∙ take-append-le k story more (omega (arith, few_entries n taken h, story_length story (entries [] taken) told))
+    ∙ take-append-le k story more (omega (arith, few_entries n taken h, story_length story (entries [] taken) reported))
 
 story_whole : (taken : List Received) (story : List Happened) → entries_of story ≡ entries [] taken → story_after (length taken) taken story ≡ story
-story_whole taken story told =
+story_whole taken story reported =
     ap (λ (xs : List Received). take (length (entries [] xs)) story) (take_all (length taken) taken (omega arith))
-    ∙ take_all (length (entries [] taken)) story (omega (arith, story_length story (entries [] taken) told))
+    ∙ take_all (length (entries [] taken)) story (omega (arith, story_length story (entries [] taken) reported))
 
 module _ (rooms : Rooms) (s : Settings) where
   ends_last_start : EndsLast rooms s [] []
@@ -105,14 +105,14 @@ module _ (rooms : Rooms) (s : Settings) where
   -- the inputs so far did not end the association
   ends_last_more : (taken : List Received) (x : Received) (story more : List Happened) → entries_of story ≡ entries [] taken → (progress_of rooms s at_start story).state ≢ Sta1 → EndsLast rooms s taken story
       → EndsLast rooms s (taken ++ x ∷ []) (story ++ more)
-  ends_last_more taken x story more told open_still last n h e =
+  ends_last_more taken x story more reported open_still last n h e =
       let within : n ≤ length taken = omega (arith, h, length-append taken (x ∷ [])) in
       let state : (progress_of rooms s at_start (story_after n taken story)).state ≡ Sta1 =
-      ap (λ (t : List Happened). (progress_of rooms s at_start t).state) (sym (story_before n taken x story more told within)) ∙ e in
+      ap (λ (t : List Happened). (progress_of rooms s at_start t).state) (sym (story_before n taken x story more reported within)) ∙ e in
       elim (cases_lt n (length taken)) [
         | inl lt ↦ last n lt state
         | inr le ↦ open_still (ap (λ (t : List Happened). (progress_of rooms s at_start t).state)
-            (sym (ap (λ (k : ℕ). story_after k taken story) (omega (arith, le, within)) ∙ story_whole taken story told)) ∙ state)
+            (sym (ap (λ (k : ℕ). story_after k taken story) (omega (arith, le, within)) ∙ story_whole taken story reported)) ∙ state)
       ]
 
   -- ---- one turn more
@@ -143,7 +143,7 @@ module _ (rooms : Rooms) (s : Settings) where
           story = before.story ++ m.more;
           failed = m.failed_then;
           stands = m.stands;
-          last = ends_last_more r.taken (input_of kind bytes) before.story m.more before.stands.story_is.told
+          last = ends_last_more r.taken (input_of kind bytes) before.story m.more before.stands.story_is.reported
               (λ e. open_still (before.stands.shows.frame.pends.state_is ∙ e)) before.last;
           gains = gains_then rooms s at_start before.story m.more false before.failed m.failed_then old mid new before.gains m.gains;
         };
@@ -152,12 +152,12 @@ module _ (rooms : Rooms) (s : Settings) where
   -- ---- the end
 
   -- the draft is dropped
-  told_filed : (old now : Option Shelf) (files : List (List ℕ)) → option_map (λ shelf. shelf.files) now ≡ with_files files (option_map (λ shelf. shelf.files) old)
-      → told_after without_draft now ≡ told_after (filed files) old
-  told_filed None None files e = refl
-  told_filed None (Some shelf) files e = absurd cc
-  told_filed (Some old) None files e = absurd cc
-  told_filed (Some old) (Some now) files e =
+  reported_filed : (old now : Option Shelf) (files : List (List ℕ)) → option_map (λ shelf. shelf.files) now ≡ with_files files (option_map (λ shelf. shelf.files) old)
+      → reported_after without_draft now ≡ reported_after (filed files) old
+  reported_filed None None files e = refl
+  reported_filed None (Some shelf) files e = absurd cc
+  reported_filed (Some old) None files e = absurd cc
+  reported_filed (Some old) (Some now) files e =
       let same : now.files ≡ old.files ++ files = cc in
       ap (λ (fs : List (List ℕ)). Some (record { files = fs; draft = [] })) same
 
@@ -177,7 +177,7 @@ module _ (rooms : Rooms) (s : Settings) where
     held = held h.story h.failed h.stands;
     accepted_room = accepted;
     line = line ∙ h.gains.line;
-    told = ap (λ (x : Store). x.told) store ∙ told_filed old.store.told now.store.told (files_of rooms s at_start h.story) h.gains.files;
+    reported = ap (λ (x : Store). x.reported) store ∙ reported_filed old.store.reported now.store.reported (files_of rooms s at_start h.story) h.gains.files;
     count = omega (arith, ap (λ (x : Store). x.failures) store, h.gains.count);
   }
 

@@ -208,8 +208,8 @@ same_way rooms s p (x ∷ xs) (y ∷ ys) last last2 e fair fair2 w w2 k k2 accep
 module _ (rooms : Rooms) (s : Settings) (a b : List Received) (story story2 : List Happened) (failed failed2 : Bool) where
   one_way : DifferInCuts a b → IsStory rooms s a story failed → IsStory rooms s b story2 failed2 → IsUnfailed story failed → IsUnfailed story2 failed2 → SameWay rooms s at_start story story2
   one_way cuts h h2 calm calm2 =
-      let told = h.told ∙ (cuts_do_not_show rooms s a b cuts).0 ∙ sym h2.told in
-      same_way rooms s at_start story story2 failed failed2 told h.fair h2.fair calm.wire calm2.wire calm.filing calm2.filing (story_accepted rooms s a story h.told)
+      let reported = h.reported ∙ (cuts_do_not_show rooms s a b cuts).0 ∙ sym h2.reported in
+      same_way rooms s at_start story story2 failed failed2 reported h.fair h2.fair calm.wire calm2.wire calm.filing calm2.filing (story_accepted rooms s a story h.reported)
 
 pub one_run : OneRun
 one_run rooms s a b story story2 failed failed2 sent sent2 files files2 state ended cuts run run2 calm calm2 =

@@ -16,14 +16,14 @@ use Rattle.dimse.specs.Command.{command_element_bytes, store_command, command_of
 use Rattle.dimse.specs.Reading.{element_at, elements_in, elements_of, set_of, command_in}
 use Rattle.dimse.specs.Reply.{reply_command, fragments, reply_bytes}
 use Rattle.part10.specs.File.{identity_elements, implementation_elements, title_element}
-use Rattle.pdu.specs.Items.{items_of, left_over}
+use Rattle.pdu.specs.Items.{items_of, remainder}
 use Rattle.pdu.specs.Pieces.{pieces_of}
 use Rattle.pdu.specs.Refusal.{item_fault, items_fault}
 use Rattle.sequence.specs.Tree.{Elements, no_elements, value, IsElement, DataSet, nothing, value_then}
 use Rattle.sequence.specs.Rules.{Limits}
 use Rattle.sequence.specs.FirstFault.{IsUnbroken}
 use Rattle.sequence.specs.Wanted.{Values}
-use Rattle.sequence.specs.Walk.{Told, Tells, going, refused}
+use Rattle.sequence.specs.Walk.{Report, Reports, going, refused}
 use Rattle.sequence.proofs.Public.{one_store}
 use Rattle.engine.specs.Stores.{IsOfContext, HasNoFault, NamesUid, NamesInstance, limits, class_tag, instance_tag}
 use Rattle.engine.specs.StoreExamples.{data_set}
@@ -70,12 +70,12 @@ is_data_set = value_then class_header refl (record { even = refl; size = refl })
     (value_then instance_header refl (record { even = refl; size = refl }) nothing)
 
 -- where no fault is reported, there is none
-unbroken_told : (s : Coding) (lim : Limits) (b : List ℕ) (told : Told) → Tells s lim b told → told.fault ≡ None → IsUnbroken s lim b
-unbroken_told s lim b told (going ok o) e = ok
-unbroken_told s lim b told (refused f o) e = absurd cc
+unbroken_reported : (s : Coding) (lim : Limits) (b : List ℕ) (reported : Report) → Reports s lim b reported → reported.fault ≡ None → IsUnbroken s lim b
+unbroken_reported s lim b reported (going ok o) e = ok
+unbroken_reported s lim b reported (refused f o) e = absurd cc
 
 is_unbroken : IsUnbroken codings.Explicit (limits 64 (2 ^ 40)) data_set
-is_unbroken = unbroken_told codings.Explicit (limits 64 (2 ^ 40)) data_set _ one_store refl
+is_unbroken = unbroken_reported codings.Explicit (limits 64 (2 ^ 40)) data_set _ one_store refl
 
 no_fault : HasNoFault codings.Explicit (limits 64 (2 ^ 40)) data_set both
 no_fault = record { whole = is_data_set; unbroken = is_unbroken }
@@ -111,5 +111,5 @@ verdicts_on_one_image = (
 )
 
 pub the_file_of_a_store : TheFileOfAStore
-unfolding pieces_of items_of left_over item_fault items_fault class_named syntax_named transfer_named is_short command_element_bytes store_command command_of element_at elements_in elements_of set_of command_in reply_command fragments reply_bytes identity_elements implementation_elements title_element
+unfolding pieces_of items_of remainder item_fault items_fault class_named syntax_named transfer_named is_short command_element_bytes store_command command_of element_at elements_in elements_of set_of command_in reply_command fragments reply_bytes identity_elements implementation_elements title_element
 the_file_of_a_store = refl

@@ -15,10 +15,10 @@ use Rattle.dimse.specs.declared.fault.DimseFault.{DimseFault}
 use Rattle.dimse.specs.Command.{CommandRecord, command_element_bytes, store_command, command_of}
 use Rattle.dimse.specs.Reading.{element_at, elements_in, elements_of, set_of, command_in}
 use Rattle.dimse.specs.Reply.{reply_command, fragments, reply_bytes}
-use Rattle.dimse.specs.Messages.{Begun, NoMessage, InSet}
+use Rattle.dimse.specs.Messages.{Started, NoMessage, InSet}
 use Rattle.negotiate.specs.declared.proposals.Context.{Context}
 use Rattle.pdu.specs.Frames.{frames_of, rest_of}
-use Rattle.pdu.specs.Items.{items_of, left_over}
+use Rattle.pdu.specs.Items.{items_of, remainder}
 use Rattle.pdu.specs.Marks.{marks, new_marks, pdv_marks}
 use Rattle.pdu.specs.Pieces.{pieces_of}
 use Rattle.pdu.specs.Refusal.{item_fault, items_fault}
@@ -60,11 +60,11 @@ calm_fair : {p : Progress} {e : Entry} → IsVerdict rooms settings (absorb fals
 calm_fair v = record { verdict = v; wire = tt; filing = λ f. absurd cc }
 
 pub the_echo_runs : TheEchoRuns
-unfolding frames_of rest_of pieces_of marks new_marks pdv_marks items_of left_over item_fault items_fault class_named syntax_named transfer_named is_short command_element_bytes store_command command_of element_at elements_in elements_of set_of command_in reply_command fragments reply_bytes
+unfolding frames_of rest_of pieces_of marks new_marks pdv_marks items_of remainder item_fault items_fault class_named syntax_named transfer_named is_short command_element_bytes store_command command_of element_at elements_in elements_of set_of command_in reply_command fragments reply_bytes
 the_echo_runs = (
   record {
     story_is = record {
-      told = calm_entries (entries [] echo_inputs);
+      reported = calm_entries (entries [] echo_inputs);
       fair = (calm_fair tt, (calm_fair tt, (calm_fair tt, (calm_fair tt, (calm_fair (λ command context spelled f of. absurd (no_store command _ spelled refl f)), (calm_fair tt, (calm_fair tt, (calm_fair tt, (calm_fair tt, tt)))))))));
       last = λ e. absurd cc;
     };
@@ -79,14 +79,14 @@ not_in_set : (id : ℕ) (command set : List ℕ) → NoMessage ≡ InSet id comm
 not_in_set id command set e = cc
 
 no_store_in : (request : Requested) → InStore request NoMessage → ⊥
-no_store_in request store = not_in_set store.id store.command store.set store.begun
+no_store_in request store = not_in_set store.id store.command store.set store.started
 
-none_held : {r : Rooms} {s : Settings} {request : Requested} {b : Begun} {k : ℕ} → IsHeldOfMessage r s request b k → b ≡ NoMessage → k ≡ 0
-none_held {request = request} (walked store set) e = absurd (no_store_in request (subst (λ (m : Begun). InStore request m) e store))
+none_held : {r : Rooms} {s : Settings} {request : Requested} {b : Started} {k : ℕ} → IsHeldOfMessage r s request b k → b ≡ NoMessage → k ≡ 0
+none_held {request = request} (walked store set) e = absurd (no_store_in request (subst (λ (m : Started). InStore request m) e store))
 none_held (not_walked none) e = refl
 
 pub the_request_is_held : TheRequestIsHeld
-unfolding frames_of rest_of pieces_of marks new_marks pdv_marks spot items_of left_over item_fault items_fault class_named syntax_named transfer_named is_short
+unfolding frames_of rest_of pieces_of marks new_marks pdv_marks spot items_of remainder item_fault items_fault class_named syntax_named transfer_named is_short
 the_request_is_held = (
   record { of_set = 0; walked = not_walked (no_store_in _); sum = refl },
   λ n held. let sum : n ≡ 24 + held.of_set = held.sum in let none : held.of_set ≡ 0 = none_held held.walked refl in omega (arith, sum, none),
@@ -97,10 +97,10 @@ unfolding IsDistinct
 one_distinct id = (tt, tt)
 
 pub it_stands_established : ItStandsEstablished
-unfolding frames_of rest_of pieces_of marks new_marks pdv_marks spot items_of left_over item_fault items_fault class_named syntax_named transfer_named is_short
+unfolding frames_of rest_of pieces_of marks new_marks pdv_marks spot items_of remainder item_fault items_fault class_named syntax_named transfer_named is_short
 it_stands_established = (
   λ store. record {
-    story_is = record { told = calm_entries (entries [] request_inputs); fair = (calm_fair tt, (calm_fair tt, tt)); last = λ e. absurd cc };
+    story_is = record { reported = calm_entries (entries [] request_inputs); fair = (calm_fair tt, (calm_fair tt, tt)); last = λ e. absurd cc };
     shows = record {
       frame = record {
         framed = λ e. reads (record { short = omega arith; bytes_are = refl; none_due = refl });
@@ -111,7 +111,7 @@ it_stands_established = (
           body_is = refl;
           join_is = record { shows = refl; accepted = λ le. absurd (omega (arith, le)) };
           agreed = λ e. record { caller = refl; maximum = refl; rows = refl; contexts = context_in-context_rows nothing_additional (items.request_record (drop 6 request)) (one_distinct 1); count = refl };
-          none_left = λ e. absurd cc;
+          none_remaining = λ e. absurd cc;
           unagreed = λ e. absurd cc;
           failed_in = λ still failed. absurd cc;
           walks = storing.not_walked (no_store_in _);

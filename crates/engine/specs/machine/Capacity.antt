@@ -1,4 +1,4 @@
--- How many more bytes the buffers of an association must be able to take.
+-- How many more bytes the buffers of an association must be able to hold.
 use Rattle.std.specs.Prelude.{◌≡◌, ℕ, ◌+◌, ◌≤◌, false, length}
 use Rattle.acceptor.specs.declared.state.State.TheVariants.{Sta2, Sta6}
 use Rattle.pdu.specs.Types.{associate_rq}
@@ -10,4 +10,4 @@ BodyFits room kept kind n = kept.state ≡ Sta2 → kept.refused ≡ false → k
 
 -- the unfinished fragment, if it is handled, has at least n more bytes
 abbrev pub FragmentFits : Kept → ℕ → Type 0
-FragmentFits kept n = kept.state ≡ Sta6 → kept.refused ≡ false → n ≤ kept.join.left
+FragmentFits kept n = kept.state ≡ Sta6 → kept.refused ≡ false → n ≤ kept.join.remaining

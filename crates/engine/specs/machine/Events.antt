@@ -32,17 +32,17 @@ TakesBody old new kind part store = (p : Progress) (body : List ℕ) → Pends o
 
 -- the head of a presentation data value
 abbrev pub TakesPdvHead : Rooms → Settings → Kept → Kept → PdvHead → Devices → Devices → Type 0
-TakesPdvHead rooms s old new head d e = (p : Progress) (begun : List ℕ) → length begun ≡ pdv_head_size → head ≡ pdv_head_of begun
-    → Pends old d.store p [] [] → Does rooms s p (At (head_mark begun)) new [] begun d e
+TakesPdvHead rooms s old new head d e = (p : Progress) (started : List ℕ) → length started ≡ pdv_head_size → head ≡ pdv_head_of started
+    → Pends old d.store p [] [] → Does rooms s p (At (head_mark started)) new [] started d e
 
 -- a part of a fragment
 abbrev pub TakesFragment : Rooms → Settings → Kept → Kept → List ℕ → Devices → Devices → Type 0
-TakesFragment rooms s old new part d e = (p : Progress) (begun : List ℕ) → pdv_head_size ≤ length begun → Pends old d.store p [] begun → Appends rooms s p new [] (begun ++ part) d e
+TakesFragment rooms s old new part d e = (p : Progress) (started : List ℕ) → pdv_head_size ≤ length started → Pends old d.store p [] started → Appends rooms s p new [] (started ++ part) d e
 
 -- the end of a presentation data value
 abbrev pub TakesPdvEnd : Rooms → Settings → Kept → Kept → Devices → Devices → Type 0
-TakesPdvEnd rooms s old new d e = (p : Progress) (begun : List ℕ) → pdv_head_size ≤ length begun → length begun ≡ pdv_size begun → Pends old d.store p [] begun
-    → Does rooms s p (At (Pdv (pdv_context begun) (pdv_control begun) (pdv_content begun))) new [] [] d e
+TakesPdvEnd rooms s old new d e = (p : Progress) (started : List ℕ) → pdv_head_size ≤ length started → length started ≡ pdv_size started → Pends old d.store p [] started
+    → Does rooms s p (At (Pdv (pdv_context started) (pdv_control started) (pdv_content started))) new [] [] d e
 
 -- the end of a PDU of this type
 abbrev pub TakesEnd : Rooms → Settings → Kept → Kept → ℕ → Devices → Devices → Type 0
@@ -72,7 +72,7 @@ LeavesRoom room old new kind (event.PdvHead head) = FragmentFits new (head.lengt
 LeavesRoom room old new kind (event.Fragment part) = (m : ℕ) → FragmentFits old (length part.now + m) → FragmentFits new m
 LeavesRoom room old new kind other = Unit {0}
 
--- an event that does not come from the stream, with its input and its entry
+-- an event that is not of the stream, with its input and its entry
 pub data Outside : acceptor.Event → Received → Entry → Type 0 where
   closed : Outside happened.Closed Close Shut
   expired : Outside happened.Expired Expiry TimedOut

@@ -27,9 +27,9 @@ StaysThen state (due.Perform event answering) = Stays state event
 StaysThen state due.Release = state ≡ Sta6
 
 -- the fields are those of a state of the timeline in which the reaction has the effect g
-pub record LeavesDue (g : Advance) (due : Reaction) (new : Kept) (store : Store) (body begun : List ℕ) : Type 0 where
+pub record LeavesDue (g : Advance) (due : Reaction) (new : Kept) (store : Store) (body started : List ℕ) : Type 0 where
   pub shown : Progress
-  pub pends : Pends new store shown body begun
+  pub pends : Pends new store shown body started
   pub gives : g ≡ due_at due shown
 
 -- an entry was handled without devices: the reaction has the rest of its effect
@@ -38,8 +38,8 @@ Judges rooms s old new entry due store = (p : Progress) → Pends old store p []
 
 -- the same for the head of a presentation data value
 abbrev pub JudgesPdvHead : Rooms → Settings → Kept → Kept → PdvHead → Reaction → Store → Type 0
-JudgesPdvHead rooms s old new head due store = (p : Progress) (begun : List ℕ) → length begun ≡ pdv_head_size → head ≡ pdv_head_of begun → Pends old store p [] []
-    → LeavesDue (at_entry rooms s p good (At (head_mark begun))) due new store [] begun
+JudgesPdvHead rooms s old new head due store = (p : Progress) (started : List ℕ) → length started ≡ pdv_head_size → head ≡ pdv_head_of started → Pends old store p [] []
+    → LeavesDue (at_entry rooms s p good (At (head_mark started))) due new store [] started
 
 -- the same for the end of a PDU of this type, of whose body nothing is held any more
 abbrev pub JudgesEnd : Rooms → Settings → Kept → Kept → ℕ → Reaction → Store → Type 0

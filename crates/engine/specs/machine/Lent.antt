@@ -15,7 +15,7 @@ before line store lent = devices (line lent.wire.now) (store lent.filing.now)
 
 -- the devices at its end
 abbrev pub after : {W F : Type 0} → (W → Line) → (F → Store) → MutBor W × (MutBor F × Unit {0}) → model.Devices
-after line store left = devices (line left.0.now) (store left.1.0.now)
+after line store remaining = devices (line remaining.0.now) (store remaining.1.0.now)
 
 -- if the association has a draft, the filing has one
 abbrev pub DraftIsThere : Kept → Store → Type 0

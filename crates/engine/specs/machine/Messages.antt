@@ -1,4 +1,4 @@
--- The fields beside those of the message, and the effect of calls on the unfinished message.
+-- The fields except those of the message, and the effect of calls on the unfinished message.
 use Rattle.std.specs.Prelude.{◌≡◌, ◌⊎◌, ℕ, ◌+◌, ◌<◌, Bool, true, false, ◌||◌, List, [], length, Option, Some, Result, Ok, OnErr}
 use Rattle.acceptor.specs.declared.state.State.TheVariants.{Sta6}
 use Rattle.pdu.specs.declared.wire.WireFailed.{WireFailed}
@@ -7,7 +7,7 @@ use Rattle.pdu.specs.Sent.{Sends}
 use Rattle.negotiate.specs.Settings.{Settings, settings_of}
 use Rattle.dimse.specs.Command.{CommandRecord}
 use Rattle.dimse.specs.Reading.{command_in}
-use Rattle.dimse.specs.Messages.{Message, Begun, NoMessage, InCommand, InSet}
+use Rattle.dimse.specs.Messages.{Message, Started, NoMessage, InCommand, InSet}
 use Rattle.dimse.specs.Joining.{Joining}
 use Rattle.part10.specs.Store.{Store}
 use Rattle.engine.specs.Held.{is_ended}
@@ -41,11 +41,11 @@ pub record Aside (kept : Kept) (p : Progress) : Type 0 where
   pub body_is : kept.body ≡ counted_body p []
   pub agreed : p.state ≡ Sta6 → Agreed kept.caller kept.peer_max kept.table kept.additional (request_record p.request)
   pub unagreed : is_established p.state ≡ false → IsUnagreed kept.caller kept.peer_max kept.table
-  pub none_left : is_established p.state ≡ false → p.message ≡ NoMessage
+  pub none_remaining : is_established p.state ≡ false → p.message ≡ NoMessage
 
 -- More of a message was received (`failed_before`: a call of the filing had failed in it before): its data set was
 -- walked and is in the draft, no file was stored, and at most one call of the filing has failed now.
-pub record Proceeds (depth most : ℕ) (request : Requested) (message : Begun) (failed_before : Bool) (stored : Stored) (old new : Store) : Type 0 where
+pub record Proceeds (depth most : ℕ) (request : Requested) (message : Started) (failed_before : Bool) (stored : Stored) (old new : Store) : Type 0 where
   pub failed : Bool
   pub may : failed ≡ true → (failed_before ≡ false) × InStore request message
   pub walks : Walks depth most request message stored
@@ -69,16 +69,16 @@ BeginsData depth origin command stored_old stored_new old new = (request : Reque
 
 -- the received parts of a whole message: its command set and its data set, or its command set alone if it announces
 -- none
-abbrev pub HasCome : Message → Begun → Type 0
-HasCome m come = (come ≡ InSet m.context m.command m.set) ⊎ ((come ≡ InCommand m.context m.command) × ((c : CommandRecord) → command_in m.command ≡ Ok c → c.with_data ≡ false))
+abbrev pub HasReceived : Message → Started → Type 0
+HasReceived m received = (received ≡ InSet m.context m.command m.set) ⊎ ((received ≡ InCommand m.context m.command) × ((c : CommandRecord) → command_in m.command ≡ Ok c → c.with_data ≡ false))
 
 -- A whole message was answered, or the send failed: the bytes sent, the files stored and what is decided are those of
 -- the finding on it.
-pub record Ended (rooms : Rooms) (s : Settings) (p : Progress) (m : Message) (come : Begun) (decided : Decision) (result : Result (Unit {0}) WireFailed) (devices_old devices_new : Devices) : Type 0 where
+pub record Ended (rooms : Rooms) (s : Settings) (p : Progress) (m : Message) (received : Started) (decided : Decision) (result : Result (Unit {0}) WireFailed) (devices_old devices_new : Devices) : Type 0 where
   pub finding : Finding
   pub decided_is : decided ≡ (replied p finding m (command_in m.command)).next.decided
   pub failed : Bool
-  pub may : failed ≡ true → (p.filing_failed ≡ false) × InStore p.request come
+  pub may : failed ≡ true → (p.filing_failed ≡ false) × InStore p.request received
   pub verdict : IsVerdict rooms s (absorb failed p) finding (Some m)
   pub sends : Sends (replied p finding m (command_in m.command)).sent result devices_old.line devices_new.line
   pub due : OnErr result (0 < length (replied p finding m (command_in m.command)).sent)
@@ -87,16 +87,16 @@ pub record Ended (rooms : Rooms) (s : Settings) (p : Progress) (m : Message) (co
 
 -- the effect of the end of any message with this command set, in an association with these limits
 abbrev pub EndsMessage : ℕ → ℕ → ℕ → Origin → List ℕ → Stored → Decision × Result (Unit {0}) WireFailed → Devices → Devices → Type 0
-EndsMessage C V D origin command stored result d e = (A : ℕ) (p : Progress) (m : Message) (come : Begun) → IsFrom p.request origin → HasCome m come → command ≡ m.command → origin.context ≡ m.context
-    → Walks D origin.config.now.max_data p.request come stored → IsDraft p.request come p.filing_failed d.store (drafting_in stored)
-    → Ended (rooms_of A C V D) (origin_settings origin) p m come result.0 result.1 d e
+EndsMessage C V D origin command stored result d e = (A : ℕ) (p : Progress) (m : Message) (received : Started) → IsFrom p.request origin → HasReceived m received → command ≡ m.command → origin.context ≡ m.context
+    → Walks D origin.config.now.max_data p.request received stored → IsDraft p.request received p.filing_failed d.store (drafting_in stored)
+    → Ended (rooms_of A C V D) (origin_settings origin) p m received result.0 result.1 d e
 
 -- the effect of the end of a message on the devices, and on the fields
-pub record Concludes (rooms : Rooms) (s : Settings) (p : Progress) (m : Message) (come : Begun) (new : Kept) (devices_old devices_new : Devices) : Type 0 where
+pub record Concludes (rooms : Rooms) (s : Settings) (p : Progress) (m : Message) (received : Started) (new : Kept) (devices_old devices_new : Devices) : Type 0 where
   pub finding : Finding
   pub failed : Bool
   pub wire : Option ℕ
-  pub may : failed ≡ true → (p.filing_failed ≡ false) × InStore p.request come
+  pub may : failed ≡ true → (p.filing_failed ≡ false) × InStore p.request received
   pub verdict : IsVerdict rooms s (absorb failed p) finding (Some m)
   pub fair : IsFront wire (replied p finding m (command_in m.command)).sent
   pub pends : Pends new devices_new.store (cut wire p (replied p finding m (command_in m.command))).next [] []

@@ -26,10 +26,10 @@ pub record Unfiled (old new : Store) : Type 0 where
 
 -- the effect g in the state p was performed: its bytes were sent, or the send failed after some of them (`wire`), and
 -- the fields are those of the state afterwards
-pub record PerformsReaction (p : Progress) (g : Advance) (new : Kept) (body begun : List ℕ) (devices_old devices_new : Devices) : Type 0 where
+pub record PerformsReaction (p : Progress) (g : Advance) (new : Kept) (body started : List ℕ) (devices_old devices_new : Devices) : Type 0 where
   pub wire : Option ℕ
   pub fair : IsFront wire g.sent
-  pub pends : Pends new devices_new.store (cut wire p g).next body begun
+  pub pends : Pends new devices_new.store (cut wire p g).next body started
   pub line : devices_new.line ≡ line_after wire g.sent devices_old.line
   pub unfiled : Unfiled devices_old.store devices_new.store
 
@@ -45,12 +45,12 @@ state_after (Ok u) state = state
 state_after (Err f) state = Sta1
 
 -- in this state there is no association, or no longer, and nothing is held of it
-abbrev pub is_left : State → Bool
-is_left Sta1 = true
-is_left Sta13 = true
-is_left state = false
+abbrev pub is_remaining : State → Bool
+is_remaining Sta1 = true
+is_remaining Sta13 = true
+is_remaining state = false
 
-pub record IsLeft (kept : Kept) : Type 0 where
+pub record IsRemaining (kept : Kept) : Type 0 where
   pub unagreed : IsUnagreed kept.caller kept.peer_max kept.table
   pub body : kept.body ≡ []
   pub join : ShowsMessage kept.room kept.join NoMessage []
@@ -61,18 +61,18 @@ with_state state kept = record kept { state = state }
 
 -- after a send with this result the association is in the given state, or in Sta1 if the send failed; nothing else
 -- has changed, unless that state holds nothing of an association
-pub record ComesTo (state : State) (sent : Result (Unit {0}) WireFailed) (old new : Kept) (store_old store_new : Store) : Type 0 where
+pub record Reaches (state : State) (sent : Result (Unit {0}) WireFailed) (old new : Kept) (store_old store_new : Store) : Type 0 where
   pub state_is : new.state ≡ state_after sent state
   pub refused : new.refused ≡ old.refused
   pub decided : new.decided ≡ old.decided
-  pub left : is_left new.state ≡ true → IsLeft new
-  pub same : is_left new.state ≡ false → new ≡ with_state new.state old
-  pub store_same : is_left new.state ≡ false → store_new ≡ store_old
+  pub remaining : is_remaining new.state ≡ true → IsRemaining new
+  pub same : is_remaining new.state ≡ false → new ≡ with_state new.state old
+  pub store_same : is_remaining new.state ≡ false → store_new ≡ store_old
   pub unfiled : Unfiled store_old store_new
 
 -- the event ends the association or keeps the state
 abbrev pub Stays : State → Event → Type 0
-Stays state event = is_left (table state event).1 ≡ false → (table state event).1 ≡ state
+Stays state event = is_remaining (table state event).1 ≡ false → (table state event).1 ≡ state
 
 -- ---- the rejection of a request, by its source
 

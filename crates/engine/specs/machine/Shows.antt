@@ -12,7 +12,7 @@ use Rattle.engine.specs.Devices.{Devices}
 use Rattle.engine.specs.Run.{Rooms, progress_of}
 use Rattle.engine.specs.Fair.{MayFail, AreFair}
 use Rattle.engine.specs.Held.{is_ended}
-use Rattle.engine.specs.Reached.{begun_in}
+use Rattle.engine.specs.Reached.{started_in}
 use Rattle.engine.specs.FrameFields.{Fields, StandsAt, ShowsFrame, body_of}
 use Rattle.engine.specs.Gains.{Gains}
 use Rattle.engine.specs.Kept.{Pends, body_in}
@@ -25,7 +25,7 @@ use Rattle.engine.specs.machine.Does.{DoesAll}
 pub record DoesPart (rooms : Rooms) (s : Settings) (f : Fields) (p : Progress) (r c : List ℕ) (old new : Devices) : Type 0 where
   pub story : List Happened
   pub failed : Bool
-  pub told : entries_of story ≡ map timeline.At (new_marks r c)
+  pub reported : entries_of story ≡ map timeline.At (new_marks r c)
   pub fair : AreFair rooms s p story
   pub last : failed ≡ true → MayFail (progress_of rooms s p story) (progress_of rooms s p story)
   pub shows : ShowsFrame f new.store (absorb failed (progress_of rooms s p story)) (rest_of (r ++ c))
@@ -35,21 +35,21 @@ pub record DoesPart (rooms : Rooms) (s : Settings) (f : Fields) (p : Progress) (
 
 -- the received bytes of a request's body and of a presentation data value whose end has not been reported yet
 abbrev pub Pending : List ℕ → List Mark → List ℕ → List ℕ → Type 0
-Pending r [] body begun = (body ≡ body_of r) × (begun ≡ begun_in (spot r))
-Pending r (Head kind n ∷ later) body begun = (body ≡ []) × (begun ≡ [])
-Pending r (PdvHead n context control ∷ later) body begun = (body ≡ []) × (begun ≡ [])
-Pending r (Pdv context control fragment ∷ later) body begun = (body ≡ []) × (pdv_head_size ≤ length begun) × (length begun ≡ pdv_size begun) × (pdv_mark begun ≡ Pdv context control fragment)
-Pending r (BadPdv ∷ later) body begun = (body ≡ []) × (begun ≡ [])
-Pending r (Leftover ∷ later) body begun = (body ≡ []) × (begun ≡ [])
-Pending r (End kind whole ∷ later) body begun = (body ≡ body_in kind whole) × (begun ≡ [])
+Pending r [] body started = (body ≡ body_of r) × (started ≡ started_in (spot r))
+Pending r (Head kind n ∷ later) body started = (body ≡ []) × (started ≡ [])
+Pending r (PdvHead n context control ∷ later) body started = (body ≡ []) × (started ≡ [])
+Pending r (Pdv context control fragment ∷ later) body started = (body ≡ []) × (pdv_head_size ≤ length started) × (length started ≡ pdv_size started) × (pdv_mark started ≡ Pdv context control fragment)
+Pending r (BadPdv ∷ later) body started = (body ≡ []) × (started ≡ [])
+Pending r (Leftover ∷ later) body started = (body ≡ []) × (started ≡ [])
+Pending r (End kind whole ∷ later) body started = (body ≡ body_in kind whole) × (started ≡ [])
 
 -- the fields are those of this state of the timeline, after the bytes r of an unfinished PDU, with these marks due
 pub record ShowsDue (f : Fields) (store : Store) (p : Progress) (r : List ℕ) (due : List Mark) : Type 0 where
   pub is_at : StandsAt f.position f.kept r due
   pub body : List ℕ
-  pub begun : List ℕ
-  pub pending : Pending r due body begun
-  pub pends : Pends f.kept store p body begun
+  pub started : List ℕ
+  pub pending : Pending r due body started
+  pub pends : Pends f.kept store p body started
 
 -- Bytes were handled while marks were due: the events of some marks were handled, and the others are due afterwards;
 -- none is if there are no more events.
@@ -58,9 +58,9 @@ pub record Handles (rooms : Rooms) (s : Settings) (f : Fields) (p : Progress) (r
   pub later : List Mark
   pub all : due ++ new_marks r c ≡ marks ++ later
   pub body : List ℕ
-  pub begun : List ℕ
-  pub does : DoesAll rooms s p (map timeline.At marks) f.kept body begun old new
-  pub pending : Pending (rest_of (r ++ c)) later body begun
+  pub started : List ℕ
+  pub does : DoesAll rooms s p (map timeline.At marks) f.kept body started old new
+  pub pending : Pending (rest_of (r ++ c)) later body started
   pub is_at : StandsAt f.position f.kept (rest_of (r ++ c)) later
   pub none_due : more ≡ false → later ≡ []
 

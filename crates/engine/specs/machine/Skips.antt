@@ -12,5 +12,5 @@ passed kept q = if takes_pdvs_in kept || takes_body_in kept (body_kind q) then q
 
 -- the position is inside the head of a presentation data value
 abbrev pub in_pdv_head : Position → Bool
-in_pdv_head (position.PdvHead left bytes) = true
+in_pdv_head (position.PdvHead remaining bytes) = true
 in_pdv_head other = false

@@ -45,10 +45,10 @@ Grows bytes true true old new = new ≡ stepped (appended bytes) true old
 Grows bytes true false old new = new ≡ failed old
 
 -- a part of the data set was received
-abbrev pub GoesOn : List ℕ → Stored → Stored → Store → Store → Type 0
-GoesOn part Nothing now old new = (now ≡ Nothing) × (new ≡ old)
-GoesOn part (Walking before drafting) Nothing old new = ⊥
-GoesOn part (Walking before drafting) (Walking after drafting_new) old new =
+abbrev pub Continues : List ℕ → Stored → Stored → Store → Store → Type 0
+Continues part Nothing now old new = (now ≡ Nothing) × (new ≡ old)
+Continues part (Walking before drafting) Nothing old new = ⊥
+Continues part (Walking before drafting) (Walking after drafting_new) old new =
     ((coding : Coding) (lim : Limits) (set : List ℕ) → HasWalked before coding lim set → HasWalked after coding lim (set ++ part))
     × Grows part drafting drafting_new old new
 

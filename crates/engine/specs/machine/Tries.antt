@@ -9,7 +9,7 @@ use Rattle.engine.specs.machine.PerformsReaction.{PerformsReaction}
 
 -- the call performs the effect `due p` in the state p
 abbrev pub TriesDue : (Progress → Advance) → Kept → Kept → Devices → Devices → Type 0
-TriesDue due old new d e = (p : Progress) (body begun : List ℕ) → Pends old d.store p body begun → PerformsReaction p (due p) new body begun d e
+TriesDue due old new d e = (p : Progress) (body started : List ℕ) → Pends old d.store p body started → PerformsReaction p (due p) new body started d e
 
 -- the call performs the effect of a whole association request, which was awaited
 abbrev pub TriesRequest : Settings → Kept → Kept → Devices → Devices → Type 0

@@ -1,7 +1,6 @@
-//! Lists the fields of an [`Association`] and of its parts with their types, so that a reader sees that
-//! received bytes are in the deframer, in `body`, `caller`, `max_length` and `contexts`, in the join
-//! and in the walker alone. A field that is added to any of them does not compile until it is listed
-//! here.
+//! Lists the fields of an [`Association`] and of its parts with their types, to show that received
+//! bytes are only in the deframer, in `body`, `caller`, `max_length` and `contexts`, in the join
+//! and in the walker. A new field of any of these types does not compile until it is listed here.
 
 use super::Association;
 use crate::phase::{Message, Peer, Phase};
@@ -56,7 +55,7 @@ fn fields<const A: usize, const C: usize, const V: usize, const D: usize>(
     }
 }
 
-/// What was decided has numbers alone.
+/// Lists the fields of a decision, which has no received text.
 fn decision(decision: &Decision) {
     match decision {
         Decision::Nothing
@@ -86,7 +85,7 @@ fn decision(decision: &Decision) {
             pdv_head(head);
             let _ = *fault as u8;
         }
-        Decision::BytesLeft(end) => match end {
+        Decision::BytesRemaining(end) => match end {
             ValueEnd::Nothing | ValueEnd::DataDue => {}
             ValueEnd::Replied(status, detail) => reply(status, detail),
         },

@@ -1,4 +1,4 @@
-//! Handles received bytes, event by event.
+//! Handles received bytes, one event at a time.
 ghost use Rattle.std.specs.Prelude.{◌≡◌, ◌≤◌, ◌<◌, ◌+◌, ◌*◌, length, true, false};
 ghost use Rattle.pdu.specs.Deframed.{position_of};
 ghost use Rattle.pdu.specs.Steps.{events_due};
@@ -21,8 +21,8 @@ impl<'c, const A: usize, const C: usize, const V: usize, const D: usize> Associa
     ghost use Rattle.engine.specs.machine.Shows.{DoesNext, DoesPiece};
     ghost use Rattle.engine.specs.Fields.{fields_of, settings_in};
 
-    /// Reads bytes up to the next event, and handles the event. Returns how many bytes were read, and
-    /// whether there was an event.
+    /// Reads bytes up to the next event, and handles the event. Returns how many bytes were read,
+    /// and whether there was an event.
     fn take_event<W: Wire, F: Filing>(
         &mut self,
         piece: &[u8],

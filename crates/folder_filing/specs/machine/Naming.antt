@@ -1,4 +1,4 @@
--- The effects of the steps that give a draft its name.
+-- The effects of the steps that name a draft.
 use Rattle.std.specs.Prelude.{◌≡◌, ℕ, ◌+◌, ◌<◌, ◌⊎◌, Bool, List, ◌∷◌, Option, Some, None, Result, Ok, Err, ⊤}
 use Rattle.folder_filing.specs.declared.call.Call.{Call}
 use Rattle.folder_filing.specs.declared.call.Call.TheVariants.{Refused}
@@ -15,41 +15,41 @@ TriesLeave call (Ok None) old new = new ≡ call ∷ old
 TriesLeave call (Ok (Some obstacle)) old new = new ≡ old
 TriesLeave call (Err error) old new = new ≡ Refused ∷ old
 
--- after the calls `new`, which extend the calls `old`, the files have these places, `refused` calls have failed, and
+-- after the calls `new`, which extend the calls `old`, the files have these locations, `refused` calls have failed, and
 -- no file is lost where the draft with this number was synced, if that is asked for
 pub record Attempted (has_sync : Bool) (draft : ℕ) (names : List Location) (refused : ℕ) (old new : List Call) : Type 0 where
   pub standing : standing new ≡ names
   pub refusals : refusals new ≡ refused
   pub loses : (own : Own) → own.draft ≡ draft → IsWritten has_sync old → LosesNone has_sync own old → LosesNone has_sync own new
 
--- the effect of an attempt to name a file: one named place more, beside the draft's name where it was linked, or the
--- same ones; after an error one failed call more
+-- the effect of an attempt to name a file: one more named location, in addition to the draft's name if it was linked,
+-- or the same ones; after an error one failed call more
 abbrev pub NameLeaves : {E : Type 0} → Bool → ℕ → Location → Result Attempt E → List Call → List Call → Type 0
 NameLeaves has_sync draft place (Ok (Named file)) old new =
     Attempted has_sync draft (place ∷ standing old) (refusals old) old new × (file.place ≡ place) × (file.how ≡ Linked → was_written new ≡ is_written old)
 NameLeaves has_sync draft place (Ok (Met obstacle)) old new = Attempted has_sync draft (standing old) (refusals old) old new × (is_written new ≡ is_written old)
 NameLeaves has_sync draft place (Err error) old new = Attempted has_sync draft (standing old) (refusals old + 1) old new
 
--- after an error: the same places are named, and the last place is the same; or the name that was given could not be
--- removed, and its place is the last one
+-- after an error: the same locations are named, and the last location is the same; or the new name could not be
+-- removed, and its location is the last one
 abbrev pub LeavesPlace : Location → Naming → Naming → Type 0
 LeavesPlace place old new =
     ((standing new.calls ≡ standing old.calls) × (new.last ≡ old.last)) ⊎ ((standing new.calls ≡ place ∷ standing old.calls) × (new.last ≡ place))
 
--- the effect of an attempt to name a file on the state of the numbering: a place that was named is the last one
+-- the effect of an attempt to name a file on the state of the numbering: a location that was named is the last one
 abbrev pub PlaceLeaves : {E : Type 0} → Location → Result Attempt E → Naming → Naming → Type 0
 PlaceLeaves place (Ok (Named file)) old new = (standing new.calls ≡ place ∷ standing old.calls) × (refusals new.calls ≡ refusals old.calls) × (new.last ≡ place)
 PlaceLeaves place (Ok (Met obstacle)) old new =
     (standing new.calls ≡ standing old.calls) × (refusals new.calls ≡ refusals old.calls) × (new.last ≡ old.last) × (is_written new.calls ≡ is_written old.calls)
 PlaceLeaves place (Err error) old new = LeavesPlace place old new × (refusals old.calls < refusals new.calls)
 
--- the name of a file was synced, if one was given
+-- the name of a file was synced, if the file got one
 abbrev pub SyncsName : {E : Type 0} → Result Attempt E → List Call → Type 0
 SyncsName (Ok (Named file)) new = IsNameSynced new
 SyncsName (Ok (Met obstacle)) new = ⊤
 SyncsName (Err error) new = ⊤
 
--- the layout of the folder (with or without subfolders), the numbers in the file of numbers, whether names are synced, and
--- what is the filing's own stay the same
+-- the layout of the folder (with or without subfolders), the numbers in the file of numbers, whether names are synced,
+-- and what is the filing's own stay the same
 abbrev pub SameTerms : Naming → Naming → Type 0
 SameTerms old new = (new.layout ≡ old.layout) × (new.kept ≡ old.kept) × (new.has_sync ≡ old.has_sync) × (new.own ≡ old.own)

@@ -1,4 +1,4 @@
-//! Commits of a filing over a folder that are settled in groups.
+//! Commits of a filing that are settled in groups.
 ghost use Rattle.std.specs.Prelude.{◌≡◌, ◌∷◌, ◌++◌, ◌<◌, ◌&&◌, [], None, IfOk, OnOk, OnErr, is_some, not, true, false};
 ghost use Rattle.folder_filing.specs.Naming.{LeavesNames, WasRefused, is_written, refusals, standing};
 ghost use Rattle.folder_filing.specs.Settling.{SettlesNames, WritesOut, is_on_disk, is_unsettled, is_waiting, reported, settled};
@@ -21,7 +21,7 @@ impl<R: Files + Alloc + Clone + Drop> FolderFiling<R>
 where
     R::File: StoredFile,
 {
-    /// Returns whether commits are settled in groups. Without syncs they are not.
+    /// Returns whether commits are settled in groups; without syncs they are not.
     pub(super) fn has_groups(&self) -> bool {
         self.names.has_sync && self.folder.has_groups()
     }
@@ -31,7 +31,7 @@ where
         requires draft { is_some self.old.contents.draft ≡ true }
         requires none_waits { self.old.pending ≡ pending.Settled }
         ensures same_names { self.new.names ≡ self.old.names }
-        ensures waits { self.new.pending ≡ pending.Unnamed }
+        ensures has_pending { self.new.pending ≡ pending.Unnamed }
         ensures committed { self.new.contents.files ≡ self.old.contents.files ++ or_nothing self.old.contents.draft ∷ [] }
         ensures draft { self.new.contents.draft ≡ None }
         ensures same_count { self.new.contents.failures ≡ self.old.contents.failures }
@@ -43,7 +43,7 @@ where
         self.pending = Pending::Unnamed;
     }
 
-    /// Syncs the file that waits to the disk.
+    /// Syncs the file of the unsettled commit to the disk.
     fn sync_handed(&mut self) -> io::Result<()>
         ensures same { self.new.contents ≡ self.old.contents }
         ensures same_pending { self.new.pending ≡ self.old.pending }
@@ -63,7 +63,7 @@ where
         }
     }
 
-    /// Syncs the file that waits to the disk, and gives it its name. The name is not synced.
+    /// Syncs the file of the unsettled commit to the disk, and names it. The name is not synced.
     fn name_handed(&mut self) -> io::Result<Location>
         requires unnamed { self.old.pending ≡ pending.Unnamed }
         ensures same { self.new.contents ≡ self.old.contents }
@@ -72,16 +72,17 @@ where
         ensures own { self.new.names.own ≡ self.old.names.own }
         ensures named { IfOk result (λ place. standing self.new.names.calls ≡ place ∷ standing self.old.names.calls) }
         ensures settled { OnOk result (refusals self.new.names.calls ≡ refusals self.old.names.calls) }
-        ensures left { OnErr result (LeavesNames (standing self.old.names.calls) (standing self.new.names.calls)) }
+        ensures remaining { OnErr result (LeavesNames (standing self.old.names.calls) (standing self.new.names.calls)) }
         ensures refused { OnErr result (WasRefused self.old.names self.new.names) }
     {
         self.sync_handed()?;
         self.folder.name_draft(true, &mut self.names)
     }
 
-    /// Records that the file that waits is lost, with the error, and removes its draft name.
+    /// Records that the file of the unsettled commit is lost, with the error, and removes its draft
+    /// name.
     fn lose(&mut self, error: Error)
-        requires waits { is_waiting self.old.pending ≡ true }
+        requires has_pending { is_waiting self.old.pending ≡ true }
         ensures same { self.new.contents ≡ self.old.contents }
         ensures same_names { self.new.names ≡ self.old.names }
         ensures lost { self.new.pending ≡ pending.Lost }
@@ -93,7 +94,8 @@ where
         self.folder.discard_draft(&self.names.draft);
     }
 
-    /// Loses the file of this place, whose name could not be synced, and removes it.
+    /// Removes the file at this location, whose name could not be synced, and records that it is
+    /// lost.
     fn take_back(&mut self, place: Location)
         requires named { self.old.pending ≡ pending.Named place }
         ensures same { self.new.contents ≡ self.old.contents }
@@ -101,13 +103,13 @@ where
         ensures lost { self.new.pending ≡ pending.Lost }
     {
         self.pending = Pending::Lost;
-        // A name that cannot be removed stays, as after a failed commit that is no part of a group.
+        // A name that cannot be removed stays, as after a failed commit without groups.
         let _ = self.folder.remove_at(place, &mut self.names);
         self.lose(Error::other("the names of the group could not be synced"));
     }
 
-    /// Reports the commit of the file of this place, which waits, if this sync of names has it. Returns
-    /// whether it has; otherwise nothing changes.
+    /// Reports the unsettled commit of the file at this location, if this sync of names has the
+    /// file. Returns whether it has; otherwise nothing changes.
     fn report(&mut self, place: Location, synced: &NamesSynced<R::A>) -> bool
         requires named { self.old.pending ≡ pending.Named place }
         ensures covers { result ≡ is_synced place synced.now }
@@ -115,7 +117,7 @@ where
         ensures settled { result ≡ true → self.new.pending ≡ pending.Settled }
         ensures on_disk { result ≡ true → is_unsettled self.new ≡ false }
         ensures reported { result ≡ true → self.new.names ≡ reported place self.old.names }
-        ensures waits { result ≡ false → self.new ≡ self.old }
+        ensures has_pending { result ≡ false → self.new ≡ self.old }
     {
         let has = self.names.calls.has_synced(synced, place);
         if has {
@@ -132,11 +134,11 @@ where
 {
     type Synced = NamesSynced<R::A>;
 
-    ghost waits = { is_unsettled };
+    ghost has_pending = { is_unsettled };
 
     ghost covers = { λ f synced. is_on_disk f.pending synced };
 
-    fn waits(&self) -> bool {
+    fn has_pending(&self) -> bool {
         self.pending.is_waiting()
     }
 
@@ -146,11 +148,11 @@ where
         }
     }
 
-    /// Syncs the file that waits to the disk, and then gives it its name. If either fails, the file is
-    /// lost.
+    /// Syncs the file of the unsettled commit to the disk, and then names it. If either fails, the
+    /// file is lost.
     fn write_out(&mut self)
         ensures store { store_of self.new.contents ≡ store_of self.old.contents }
-        ensures waits { is_unsettled self.new ≡ is_unsettled self.old }
+        ensures has_pending { is_unsettled self.new ≡ is_unsettled self.old }
         ensures names { WritesOut self.old.pending self.new.pending self.old.names self.new.names }
     {
         if !matches!(self.pending, Pending::Unnamed) {
@@ -165,11 +167,12 @@ where
         }
     }
 
-    /// Settles the last commit. Fails, and loses the file, if this sync of names does not have it: it could
-    /// not be synced, or was named later; and fails if the file was lost before or was not written out.
+    /// Settles the last commit. Fails, and loses the file, if this sync of names does not have it,
+    /// because it could not be synced or was named later; fails also if the file was lost before or
+    /// is not written out.
     fn settle(&mut self, synced: &NamesSynced<R::A>) -> Result<(), FilingFailed>
         ensures store { store_of self.new.contents ≡ store_of self.old.contents }
-        ensures waits { is_unsettled self.new ≡ (is_unsettled self.old && not (is_on_disk self.old.pending synced.now)) }
+        ensures has_pending { is_unsettled self.new ≡ (is_unsettled self.old && not (is_on_disk self.old.pending synced.now)) }
         ensures settled { OnOk result (is_unsettled self.new ≡ false) }
         ensures lost { OnErr result (is_unsettled self.new ≡ true) }
         ensures pending { self.new.pending ≡ settled (is_on_disk self.old.pending synced.now) self.old.pending }

@@ -1,4 +1,4 @@
-//! Names that are synced together.
+//! Syncs the names of several files together.
 ghost use Rattle.std.specs.Prelude.{◌≡◌, ◌<◌, ◌+◌, ◌∷◌, OnOk, OnErr, drop};
 ghost use Rattle.folder_filing.specs.Naming.{Asks, IsNewest, IsOrderly, refusals, standing};
 ghost use Rattle.folder_filing.specs.declared.call.Call.TheVariants as seen;
@@ -30,8 +30,8 @@ where
         self.group.set_used(is_used);
     }
 
-    /// Fails if the path leads to another folder than the one that is locked. In a group that is checked
-    /// once, before the first name is given.
+    /// Fails if the path leads to another folder than the locked one. In a group the path is
+    /// checked once, before the first file is named.
     pub(super) fn check_group(&self, in_group: bool, calls: &mut FolderCalls) -> io::Result<()>
         ensures taken { OnOk result (calls.new ≡ calls.old) }
         ensures refused { OnErr result (Asks (standing calls.old) (refusals calls.old + 1) calls.old calls.new) }
@@ -44,8 +44,8 @@ where
         Ok(())
     }
 
-    /// Records a file that was just named, as one whose name is to be synced, and its subfolder, which stays
-    /// open until then, whatever becomes of its path.
+    /// Records that the name of a file must be synced, and keeps its subfolder open until then,
+    /// even if its path changes.
     pub(super) fn leave_unsynced(
         &self,
         file: NamedFile,
@@ -55,19 +55,20 @@ where
         ensures taken { OnOk result (calls.new ≡ calls.old) }
         ensures refused { OnErr result (calls.new ≡ seen.Refused ∷ calls.old) }
     {
-        if file.has_left() {
+        if file.has_remaining() {
             self.group.leave();
         }
         let folder = calls.passed(NamedFolder::of(self.rt.alloc(), open, file))?;
         calls.passed(self.group.add(self.rt.alloc(), folder))
     }
 
-    /// Syncs the folders of all files that were named since the last call, and after a rename to a subfolder
-    /// the folder of the drafts. A folder that cannot be synced costs its own files alone.
+    /// Syncs the folders of all files that were named since the last call, after a rename to a
+    /// subfolder first that of the drafts. If that fails, no name is synced; any other folder that
+    /// cannot be synced affects only its own files.
     pub(crate) fn sync_names(&self) -> NamesSynced<R::A> {
         let mut synced = NamesSynced::none(self.rt.alloc());
-        let (has_left, folders) = self.group.end(self.rt.alloc());
-        if has_left {
+        let (has_remaining, folders) = self.group.end(self.rt.alloc());
+        if has_remaining {
             if let Err(error) = self.folder.sync() {
                 synced.fail(error);
                 return synced;
@@ -83,15 +84,15 @@ where
         synced
     }
 
-    /// Removes the file of this place, the last one that the filing has named, as its name could not be
-    /// synced.
+    /// Removes the file at this location, the last one that the filing has named, because its name
+    /// could not be synced.
     pub(crate) fn remove_at(&self, place: Location, names: &mut GivenNames<R::A>) -> io::Result<()>
         requires newest { ∥ IsNewest place (standing names.old.calls) ∥₁ }
         ensures sync { names.new.has_sync ≡ names.old.has_sync }
         ensures own { names.new.own ≡ names.old.own }
         ensures removed { OnOk result (standing names.new.calls ≡ drop 1 (standing names.old.calls)) }
         ensures settled { OnOk result (refusals names.new.calls ≡ refusals names.old.calls) }
-        ensures left { OnErr result (standing names.new.calls ≡ standing names.old.calls) }
+        ensures remaining { OnErr result (standing names.new.calls ≡ standing names.old.calls) }
         ensures refused { OnErr result (refusals names.old.calls < refusals names.new.calls) }
         ensures orderly { ∥ IsOrderly names.old ∥₁ → ∥ IsOrderly names.new ∥₁ }
     {

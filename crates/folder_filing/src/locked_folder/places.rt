@@ -1,4 +1,4 @@
-//! How a draft is given its name: that of the next place that is free.
+//! Names a draft: it gets the name of the next free location.
 ghost use Rattle.std.specs.Prelude.{◌≡◌, ◌≤◌, ◌<◌, ◌+◌, ◌∷◌, None, IfOk, OnOk, OnErr, true, false};
 ghost use Rattle.folder_filing.specs.Naming.{IsKept, IsNameSynced, IsOrderly, IsWritten, KeepsAll, LeavesNames, LosesNone, WasRefused, refusals, standing};
 ghost use Rattle.folder_filing.specs.Locations.{next_location, order};
@@ -20,18 +20,19 @@ use std::io::{Error, ErrorKind};
 use std::rt::Files;
 use std::{fs, io};
 
-/// In a folder without subfolders, from this number on about a million are left: a warning is given.
+/// In a folder without subfolders, about a million numbers remain from this one on: a warning is
+/// logged.
 const LOW: u32 = 9_000_000;
 
-/// How many names a file is given at most, one after the other, while its subfolder is moved or removed.
+/// The greatest number of names that are tried for a file while its subfolder is moved or removed.
 const TRIES: u64 = 100;
 
-/// The error message once the greatest number is in use, with the remedy. The log has room for 80 bytes.
+/// The error message if the greatest number is in use, with the remedy. The log accepts 80 bytes.
 const NO_NUMBER: &str =
     "no number up to 9999999 is left: move the files and the file of numbers away";
 
-/// Returns the error for a folder whose last place has no place after it, in either layout.
-fn none_left(per: u32, folder: u32, file: u32) -> Error
+/// Returns the error for a folder in which no location follows the last one, in either layout.
+fn none_remaining(per: u32, folder: u32, file: u32) -> Error
     requires far { 18446744073709551615 ≤ order (record { folder = folder; file = file }) }
     ensures flat { next_location layout.Flat (record { folder = folder; file = file }) ≡ None }
     ensures levels { next_location (layout.Levels per) (record { folder = folder; file = file }) ≡ None }
@@ -44,7 +45,7 @@ impl<R: Files + Alloc + Clone + Drop> LockedFolder<R>
 where
     R::File: StoredFile,
 {
-    /// Makes sure that the file of numbers, if there is one, covers the number of this place.
+    /// Makes sure that the file of numbers, if there is one, covers the number of this location.
     fn keep_number(&self, place: Location, names: &mut GivenNames<R::A>) -> io::Result<()>
         ensures kept { OnOk result (IsKept names.old.layout names.new.kept place) }
         ensures keeps { KeepsAll names.old.kept names.new.kept }
@@ -62,11 +63,11 @@ where
         Ok(())
     }
 
-    /// Syncs the folder of a file that was just named and, after a rename, the folder of the draft, unless
-    /// that is turned off. In a group they are recorded instead:
+    /// Syncs the folder in which a file was just named and, after a rename, the folder of the
+    /// draft, unless syncing is turned off. In a group the folders are only recorded, and
     /// [`sync_names`](LockedFolder::sync_names) syncs them.
     ///
-    /// Returns `false` if the subfolder of a file that was linked was moved or removed meanwhile: then
+    /// Returns `false` if the subfolder of a linked file was moved or removed meanwhile: then
     /// nothing is synced or recorded.
     fn sync_name(
         &self,
@@ -97,7 +98,7 @@ where
             self.leave_unsynced(file, open, calls)?;
             return Ok(true);
         }
-        if file.has_left() {
+        if file.has_remaining() {
             calls.passed(self.folder.sync())?;
         }
         match &open {
@@ -107,15 +108,16 @@ where
         Ok(true)
     }
 
-    /// Gives a draft the target name. A subfolder that was moved or removed is created again. One that is
-    /// missing after that is an obstacle if the target says so and the draft is there.
+    /// Gives a draft the target name. If its subfolder was moved or removed, creates it. A
+    /// subfolder that is missing after that is an obstacle if the target allows it and the draft
+    /// exists, else an error.
     fn link(
         &self,
         draft: &DraftPath<R::A>,
         target: Target<'_>,
         calls: &mut FolderCalls,
     ) -> io::Result<Attempt>
-        ensures left { NameLeaves target.entry.has_sync draft.now target.entry.place result calls.old calls.new }
+        ensures remaining { NameLeaves target.entry.has_sync draft.now target.entry.place result calls.old calls.new }
     {
         let first = Target {
             folder: self.folder_before(target, calls)?,
@@ -135,18 +137,18 @@ where
         name_file(&self.rt, draft, again, calls)
     }
 
-    /// Sets the place of the last file, for this filing and the folder.
-    fn go_on(&self, place: Location, names: &mut GivenNames<R::A>)
+    /// Sets the location of the last file, for this filing and the folder.
+    fn continues(&self, place: Location, names: &mut GivenNames<R::A>)
         ensures last { names.new ≡ record names.old { last = place } }
     {
         self.last.set(place);
         names.last = place;
     }
 
-    /// Gives the draft the name of this place, which the file of numbers covers, and syncs the folder, as
-    /// [`sync_name`](LockedFolder::sync_name) does. After an error or an obstacle the file has its draft name
-    /// alone, unless the new name could not be removed. A subfolder that is moved or removed meanwhile is an
-    /// obstacle if `may_miss` is set, or else an error.
+    /// Gives the draft the name of this location, which the file of numbers covers, and syncs the
+    /// folder as [`sync_name`](LockedFolder::sync_name) does. After an error or an obstacle the
+    /// file has only its draft name, unless the new name could not be removed. A subfolder that is
+    /// moved or removed meanwhile is an obstacle if `may_miss` is set, else an error.
     fn name_at(
         &self,
         place: Location,
@@ -157,7 +159,7 @@ where
         requires kept { IsKept names.old.layout names.old.kept place }
         requires behind { order names.old.last < order place }
         requires written { IsWritten names.old.has_sync names.old.calls }
-        ensures left { PlaceLeaves place result names.old names.new }
+        ensures remaining { PlaceLeaves place result names.old names.new }
         ensures same { SameTerms names.old names.new }
         ensures synced { names.old.has_sync ≡ true → in_group ≡ false → SyncsName result names.new.calls }
         ensures loses { LosesNone names.old.has_sync names.old.own names.old.calls → LosesNone names.new.has_sync names.new.own names.new.calls }
@@ -177,7 +179,7 @@ where
         };
         let error = match self.sync_name(file, in_group, names) {
             Ok(true) => {
-                self.go_on(place, names);
+                self.continues(place, names);
                 return Ok(Attempt::Named(file));
             }
             Ok(false) => match names
@@ -191,13 +193,13 @@ where
             Err(error) => error,
         };
         if !self.is_there() || names.calls.remove(&self.rt, target).is_err() {
-            self.go_on(place, names);
+            self.continues(place, names);
         }
         Err(error)
     }
 
-    /// Returns the place after that of the last file, which the file of numbers covers then. If it is
-    /// in the next subfolder, that is created.
+    /// Returns the location after that of the last file, and makes the file of numbers cover it.
+    /// Creates its subfolder if it is the first one there.
     ///
     /// Fails with `StorageFull` if all numbers are in use.
     fn next_location(&self, names: &mut GivenNames<R::A>) -> io::Result<Location>
@@ -222,12 +224,13 @@ where
                 folder: place.folder,
                 file: 0,
             };
-            self.go_on(before, names);
+            self.continues(before, names);
         }
         Ok(place)
     }
 
-    /// Continues after a place, or a subfolder, whose name another program has used or moved away.
+    /// Continues the numbering after a location or a subfolder that another program uses or has
+    /// moved away.
     fn pass_over(&self, place: Location, obstacle: Obstacle, names: &mut GivenNames<R::A>)
         ensures behind { order place ≤ order names.new.last }
         ensures same { SameTerms names.old names.new }
@@ -240,17 +243,17 @@ where
             },
             _ => place,
         };
-        self.go_on(last, names);
+        self.continues(last, names);
     }
 
-    /// Returns whether few numbers are left after this place: `true` only once, for the first such
-    /// place. With subfolders it is always `false`, as there are far more numbers.
+    /// Returns whether few numbers remain after this location: `true` only once, for the first such
+    /// location. With subfolders it is always `false`, since there are far more numbers.
     pub(crate) fn runs_low(&self, place: Location) -> bool {
         matches!(self.layout, Layout::Flat) && place.file >= LOW && !self.has_run_low.replace(true)
     }
 
-    /// Gives the draft the next free name, after those that the filings of the folder gave, and returns
-    /// the place of the file. In a group the name is not synced.
+    /// Gives the draft the next free name, after those that the filings of the folder gave, and
+    /// returns the location of the file. In a group the name is not synced.
     ///
     /// Fails with `StorageFull` if all numbers are in use.
     pub(crate) fn name_draft(
@@ -263,7 +266,7 @@ where
         ensures own { names.new.own ≡ names.old.own }
         ensures named { IfOk result (λ place. standing names.new.calls ≡ place ∷ standing names.old.calls) }
         ensures settled { OnOk result (refusals names.new.calls ≡ refusals names.old.calls) }
-        ensures left { OnErr result (LeavesNames (standing names.old.calls) (standing names.new.calls)) }
+        ensures remaining { OnErr result (LeavesNames (standing names.old.calls) (standing names.new.calls)) }
         ensures refused { OnErr result (WasRefused names.old names.new) }
         ensures orderly { IsOrderly names.old → IsOrderly names.new }
         ensures synced { names.old.has_sync ≡ true → in_group ≡ false → OnOk result (IsNameSynced names.new.calls) }
@@ -281,6 +284,6 @@ where
             Layout::Flat => GREATEST,
             Layout::Levels { per } => per,
         };
-        Err(none_left(per, names.last.folder, names.last.file))
+        Err(none_remaining(per, names.last.folder, names.last.file))
     }
 }

@@ -1,4 +1,4 @@
-//! Subfolders of a locked folder.
+//! The subfolders of a locked folder.
 ghost use Rattle.std.specs.Prelude.{◌≡◌, ◌∷◌, None, IfOk, IfSome, OnOk, OnErr};
 ghost use Rattle.folder_filing.specs.declared.call.Call.TheVariants as seen;
 ghost use Rattle.folder_filing.specs.declared.naming.Named.TheVariants as how;
@@ -48,8 +48,8 @@ where
         }
     }
 
-    /// Returns the identity of the subfolder that a name is to be given in, or `None` if there is none. It is
-    /// not looked at without syncs.
+    /// Returns the identity of the subfolder in which a file is about to be named, or `None` if
+    /// there is none. Without syncs it is always `None`.
     pub(super) fn folder_before(
         &self,
         target: Target<'_>,
@@ -70,11 +70,13 @@ where
         }
     }
 
-    /// Opens the subfolder in which a file was just named, and syncs the folder, unless that was done since
-    /// the subfolder is in it. Returns `None` if there is none with its number, or not the one that had it
-    /// right before the file was named: no call says in which of them the file is.
+    /// Opens the subfolder in which a file was just named, and syncs its entry in the folder,
+    /// unless that was done since the subfolder is in it. Returns `None` if no subfolder has its
+    /// number now, or another one than right before the file was named: no system call shows which
+    /// one has the file.
     ///
-    /// Fails so if the file was renamed, since it has no other name then, and if a system call fails.
+    /// Fails in that case if the file was renamed, since it has no other name, and if a system call
+    /// fails.
     pub(super) fn open_subfolder(
         &self,
         file: NamedFile,

@@ -1,5 +1,5 @@
--- The effect of each part of the reading of File Meta Information: which bytes it took from the reader, or why the
--- bytes that the reader had left cannot be such a part.
+-- The effect of each part of the reading of File Meta Information: which bytes it read, or why the remaining bytes of
+-- the reader cannot be such a part.
 use Rattle.std.specs.Prelude.{◌≡◌, ◌≢◌, ℕ, ◌+◌, ◌%◌, ◌^◌, ◌<◌, ◌≤◌, Bool, List, ◌++◌, length, replicate, Option, Some, None, Result, Ok, Err, IfSome, ⊤, nat_eq, nat_lt, ◌&&◌, if◌then◌else◌, codes}
 use Rattle.std.specs.Io.KnownBytes.{Consumes}
 use Rattle.element.specs.declared.syntax.Syntax.TheVariants.{Explicit}
@@ -16,11 +16,11 @@ use Rattle.part10.specs.declared.reading.Found.{Found}
 use Rattle.part10.specs.File.{length_element}
 use Rattle.part10.specs.MetaText.{HasLetters, MetaElement, MetaElements, uid_at}
 
--- bytes with the property P were taken from the reader
+-- bytes with the property P were read
 abbrev pub Reads : Option (List ℕ) → Option (List ℕ) → (List ℕ → Type 0) → Type 0
 Reads old new P = (text : List ℕ) × Consumes old new text × P text
 
--- a part fails: a read failed, or the bytes that were left have the property P (`BadMeta`)
+-- a part fails: a read failed, or the remaining bytes have the property P (`BadMeta`)
 abbrev pub Breaks : MetaFault → Option (List ℕ) → (List ℕ → Type 0) → Type 0
 Breaks ReadFailed old P = ⊤
 Breaks BadMeta old P = IfSome old P
@@ -40,16 +40,16 @@ NoLetters OtherSyntax old = ⊥
 abbrev pub NoSize : List ℕ → Type 0
 NoSize rest = (n : ℕ) (back : List ℕ) → n < 2 ^ 32 → rest ≢ length_element n ++ back
 
--- a header of at most `left` bytes was taken, and `size` is the number of its bytes
-pub record HeaderRead (left : ℕ) (header : Header) (size : ℕ) (old new : Option (List ℕ)) : Type 0 where
+-- a header of at most `remaining` bytes was read, and `size` is the number of its bytes
+pub record HeaderRead (remaining : ℕ) (header : Header) (size : ℕ) (old new : Option (List ℕ)) : Type 0 where
   pub bytes : List ℕ
   pub spells : SpellsHeader Explicit header bytes
   pub taken : Consumes old new bytes
   pub counted : length bytes ≡ size
-  pub within : size ≤ left
+  pub within : size ≤ remaining
 
 abbrev pub NoHeader : ℕ → List ℕ → Type 0
-NoHeader left rest = (h : Header) (bytes back : List ℕ) → SpellsHeader Explicit h bytes → rest ≡ bytes ++ back → length bytes ≤ left → ⊥
+NoHeader remaining rest = (h : Header) (bytes back : List ℕ) → SpellsHeader Explicit h bytes → rest ≡ bytes ++ back → length bytes ≤ remaining → ⊥
 
 -- a text of `size` bytes; `padding` says whether they are padding alone
 abbrev pub IsPart : ℕ → Bool → List ℕ → Type 0
@@ -71,7 +71,7 @@ pub record IsElement (last : ℕ) (h : Header) (bytes value : List ℕ) : Type 0
   pub even : h.length % 2 ≡ 0
   pub size : length value ≡ h.length
 
-pub record ElementRead (last left : ℕ) (element : Element) (old new : Option (List ℕ)) : Type 0 where
+pub record ElementRead (last remaining : ℕ) (element : Element) (old new : Option (List ℕ)) : Type 0 where
   pub header : Header
   pub bytes : List ℕ
   pub value : List ℕ
@@ -80,10 +80,10 @@ pub record ElementRead (last left : ℕ) (element : Element) (old new : Option (
   pub number : element.number ≡ header.tag.1
   pub uid : element.uid ≡ uid_of value
   pub counted : length bytes + length value ≡ element.size
-  pub within : element.size ≤ left
+  pub within : element.size ≤ remaining
 
 abbrev pub NoElement : ℕ → ℕ → List ℕ → Type 0
-NoElement last left rest = (h : Header) (bytes value back : List ℕ) → IsElement last h bytes value → rest ≡ (bytes ++ value) ++ back → length bytes + length value ≤ left → ⊥
+NoElement last remaining rest = (h : Header) (bytes value back : List ℕ) → IsElement last h bytes value → rest ≡ (bytes ++ value) ++ back → length bytes + length value ≤ remaining → ⊥
 
 -- the UIDs that were found, after an element with this number
 abbrev pub noted : ℕ → Option (List ℕ) → Found → Found

@@ -3,7 +3,7 @@ use Rattle.std.specs.Prelude.{◌≡◌, ℕ, ◌<◌, false, List, get_or}
 use Rattle.std.specs.List.{list_any}
 use Rattle.pdu.specs.Types.{application_context_item, proposed_context_item, user_information_item}
 use Rattle.pdu.specs.declared.checking.ItemsSoFar.{ItemsSoFar}
-use Rattle.pdu.specs.Items.{is_kind, items_of, left_over}
+use Rattle.pdu.specs.Items.{is_kind, items_of, remainder}
 use Rattle.pdu.specs.Refusal.{has_id, list_fault, items_fault}
 
 pub record Knows (s : ItemsSoFar) (before : List (List ℕ)) : Type 0 where
@@ -16,4 +16,4 @@ pub record Knows (s : ItemsSoFar) (before : List (List ℕ)) : Type 0 where
 pub record Checks (s : ItemsSoFar) (rest text : List ℕ) : Type 0 where
   pub before : List (List ℕ)
   pub knows : Knows s before
-  pub same : list_fault before (items_of rest) (left_over rest) ≡ items_fault text
+  pub same : list_fault before (items_of rest) (remainder rest) ≡ items_fault text

@@ -1,5 +1,5 @@
-//! Lists the fields of a [`Deframer`] with their types, so that a reader sees that it holds received
-//! bytes of unfinished heads alone. A field that is added does not compile until it is listed here.
+//! Lists the fields of a [`Deframer`] with their types, to show that it holds no received bytes but
+//! those of an unfinished head. A field added to it does not compile until it is listed here.
 
 use super::Deframer;
 use crate::position::Position;
@@ -11,24 +11,24 @@ fn fields(deframer: &Deframer) {
         Position::Head(bytes) => {
             let _: &ArrayVec<u8, 6> = bytes;
         }
-        Position::Body { kind, left } => {
+        Position::Body { kind, remaining } => {
             let _: &u8 = kind;
-            let _: &u32 = left;
+            let _: &u32 = remaining;
         }
-        Position::PdvHead { left, bytes } => {
-            let _: &u32 = left;
+        Position::PdvHead { remaining, bytes } => {
+            let _: &u32 = remaining;
             let _: &ArrayVec<u8, 6> = bytes;
         }
-        Position::Fragment { left, more } => {
-            let _: &u32 = left;
+        Position::Fragment { remaining, more } => {
+            let _: &u32 = remaining;
             let _: &u32 = more;
         }
-        Position::Leftover { left } => {
-            let _: &u32 = left;
+        Position::Leftover { remaining } => {
+            let _: &u32 = remaining;
         }
-        Position::Skipped { kind, left } => {
+        Position::Skipped { kind, remaining } => {
             let _: &u8 = kind;
-            let _: &u32 = left;
+            let _: &u32 = remaining;
         }
     }
 }

@@ -13,7 +13,7 @@ use Rattle.sequence.specs.machine.Heading.{broken_whole}
 
 near_less : (near : Option ℕ) (a b : ℕ) → a ≤ b → passes near b ≡ false → passes near a ≡ false
 near_less None a b le e = refl
-near_less (Some left) a b le e = grind (arith, nat_tests)
+near_less (Some remaining) a b le e = grind (arith, nat_tests)
 
 counted_is : (near : Option ℕ) (size n : ℕ) (u : Bool) → is_undefined n ≡ u → passes near (size + counted_length n) ≡ false → (not u && passes near (size + n)) ≡ false
 counted_is near size n true e f = refl

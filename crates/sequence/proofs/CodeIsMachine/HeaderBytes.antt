@@ -81,7 +81,7 @@ last_one xs some =
     let one : length xs - 1 + 1 ≡ length xs = omega (arith, some) in
     sym (ap (λ z. take z xs) one ∙ take_all (length xs) xs (omega arith)) ∙ take_more xs (length xs - 1) 0 (omega (arith, some))
 
--- of a walker in a header, of which t came, after p bytes
+-- of a walker in a header, of which t were received, after p bytes
 module _ (lim : Limits) (f : Scope) (fs : List Scope) (p : ℕ) (t piece : List ℕ) (behind : length t ≤ p) where
   taken_text : (n : ℕ) → length t ≤ n → t ++ take (n - length t) piece ≡ take n (t ++ piece)
   taken_text n le = sym (take_both t piece n le)
@@ -111,25 +111,25 @@ module _ (lim : Limits) (f : Scope) (fs : List Scope) (p : ℕ) (t piece : List 
       keeps_headed lim f fs p (p - length t) t (take (n - length t) piece) values (omega (arith, size, lt)) (taken_quiet n lt le quiet)
       ∙ ap (λ z. keep_headed lim (broken lim (spot_of f fs (p - length t)) z) f fs z values) (taken_text n (omega (arith, lt)))
 
-  module _ (stage : Stage) (is : stage ≡ stages.Heading) (begun : ℕ) (begun-is : begun ≡ length t) where
-    pub refused_run : (n : ℕ) (rule : Rule) (tag : Tag) → IsEnd lim (spot_of f fs (p - length t)) (t ++ piece) (length t) (ends.Refused n rule tag) → at f fs (p - begun + n) (Stopped (rule_number rule) (p - begun) tag) ≡ run lim (at f fs p (mode_of stage p t)) (take (n - begun) piece)
+  module _ (stage : Stage) (is : stage ≡ stages.Heading) (started : ℕ) (started-is : started ≡ length t) where
+    pub refused_run : (n : ℕ) (rule : Rule) (tag : Tag) → IsEnd lim (spot_of f fs (p - length t)) (t ++ piece) (length t) (ends.Refused n rule tag) → at f fs (p - started + n) (Stopped (rule_number rule) (p - started) tag) ≡ run lim (at f fs p (mode_of stage p t)) (take (n - started) piece)
     refused_run n rule tag k =
-        subst (λ z. at f fs (p - z + n) (Stopped (rule_number rule) (p - z) tag) ≡ run lim (at f fs p (mode_of stage p t)) (take (n - z) piece)) (sym begun-is)
+        subst (λ z. at f fs (p - z + n) (Stopped (rule_number rule) (p - z) tag) ≡ run lim (at f fs p (mode_of stage p t)) (take (n - z) piece)) (sym started-is)
         (sym (ap (λ z. run lim (at f fs p (mode_of z p t)) (take (n - length t) piece)) is ∙ run_to n k.0.more k.0.some k.2 ∙ headed_refused lim f fs (p - length t + n) (p - length t) (take n (t ++ piece)) (rule_number rule) tag k.1))
 
-    pub refused_kept : (values : Values) (n : ℕ) (rule : Rule) (tag : Tag) → IsEnd lim (spot_of f fs (p - length t)) (t ++ piece) (length t) (ends.Refused n rule tag) → values ≡ keeps lim (at f fs p (mode_of stage p t)) values (take (n - begun) piece)
+    pub refused_kept : (values : Values) (n : ℕ) (rule : Rule) (tag : Tag) → IsEnd lim (spot_of f fs (p - length t)) (t ++ piece) (length t) (ends.Refused n rule tag) → values ≡ keeps lim (at f fs p (mode_of stage p t)) values (take (n - started) piece)
     refused_kept values n rule tag k =
-        subst (λ z. values ≡ keeps lim (at f fs p (mode_of stage p t)) values (take (n - z) piece)) (sym begun-is)
+        subst (λ z. values ≡ keeps lim (at f fs p (mode_of stage p t)) values (take (n - z) piece)) (sym started-is)
         (sym (ap (λ z. keeps lim (at f fs p (mode_of z p t)) values (take (n - length t) piece)) is ∙ keeps_to values n k.0.more k.0.some k.2 ∙ kept_refused lim f fs (p - length t) (take n (t ++ piece)) values (rule_number rule) tag k.1))
 
-    pub whole_run : (n : ℕ) (h : Header) (sh : Shape) → IsEnd lim (spot_of f fs (p - length t)) (t ++ piece) (length t) (ends.Whole n h sh) → take_header (p - begun + n) f fs h ≡ run lim (at f fs p (mode_of stage p t)) (take (n - begun) piece)
+    pub whole_run : (n : ℕ) (h : Header) (sh : Shape) → IsEnd lim (spot_of f fs (p - length t)) (t ++ piece) (length t) (ends.Whole n h sh) → take_header (p - started + n) f fs h ≡ run lim (at f fs p (mode_of stage p t)) (take (n - started) piece)
     whole_run n h sh k =
-        subst (λ z. take_header (p - z + n) f fs h ≡ run lim (at f fs p (mode_of stage p t)) (take (n - z) piece)) (sym begun-is)
+        subst (λ z. take_header (p - z + n) f fs h ≡ run lim (at f fs p (mode_of stage p t)) (take (n - z) piece)) (sym started-is)
         (sym (ap (λ z. run lim (at f fs p (mode_of z p t)) (take (n - length t) piece)) is ∙ run_to n k.0.more k.0.some k.2 ∙ headed_whole lim f fs (p - length t + n) (p - length t) (take n (t ++ piece)) h k.1.fine k.1.whole k.1.read))
 
-    pub whole_kept : (values : Values) (n : ℕ) (h : Header) (sh : Shape) → IsEnd lim (spot_of f fs (p - length t)) (t ++ piece) (length t) (ends.Whole n h sh) → keep_header lim f fs h values ≡ keeps lim (at f fs p (mode_of stage p t)) values (take (n - begun) piece)
+    pub whole_kept : (values : Values) (n : ℕ) (h : Header) (sh : Shape) → IsEnd lim (spot_of f fs (p - length t)) (t ++ piece) (length t) (ends.Whole n h sh) → keep_header lim f fs h values ≡ keeps lim (at f fs p (mode_of stage p t)) values (take (n - started) piece)
     whole_kept values n h sh k =
-        subst (λ z. keep_header lim f fs h values ≡ keeps lim (at f fs p (mode_of stage p t)) values (take (n - z) piece)) (sym begun-is)
+        subst (λ z. keep_header lim f fs h values ≡ keeps lim (at f fs p (mode_of stage p t)) values (take (n - z) piece)) (sym started-is)
         (sym (ap (λ z. keeps lim (at f fs p (mode_of z p t)) values (take (n - length t) piece)) is ∙ keeps_to values n k.0.more k.0.some k.2 ∙ kept_whole lim f fs (p - length t) (take n (t ++ piece)) values h k.1.fine k.1.whole k.1.read))
 
     made_by : (n : ℕ) (h : Header) (sh : Shape) → IsEnd lim (spot_of f fs (p - length t)) (t ++ piece) (length t) (ends.Whole n h sh) → IsUnfinishedHeader f.syntax t → IsMade f.syntax t (take (n - length t) piece) h
@@ -154,20 +154,20 @@ module _ (lim : Limits) (f : Scope) (fs : List Scope) (p : ℕ) (t piece : List 
             let q = taken_quiet n k.0.more k.0.some k.2 (length (take (n - length t) piece) - 1) (omega (arith, some)) (omega (arith, some)) in
             on_tail lim (spot_of f fs (p - length t)) (t ++ take (length (take (n - length t) piece) - 1) (take (n - length t) piece)) q.fine q.part
 
-    told_by : (new : Stage) (place : ℕ) (header : List ℕ) (k : ℕ) (h : Header) → IsMade f.syntax t (take k piece) h → ArrivesAt (mode_of new place header) (p + k) → IsTaken f.syntax t piece p k new header (Some h)
-    told_by stages.Heading place header k h m arrives = (m, arrives)
-    told_by (stages.Value tag left kept) place header k h m arrives = m
-    told_by (stages.Stopped fault) place header k h m arrives = (m, arrives)
+    reported_by : (new : Stage) (place : ℕ) (header : List ℕ) (k : ℕ) (h : Header) → IsMade f.syntax t (take k piece) h → ArrivesAt (mode_of new place header) (p + k) → IsTaken f.syntax t piece p k new header (Some h)
+    reported_by stages.Heading place header k h m arrives = (m, arrives)
+    reported_by (stages.Value tag remaining kept) place header k h m arrives = m
+    reported_by (stages.Stopped fault) place header k h m arrives = (m, arrives)
 
-    pub whole_told : (new : Stage) (place : ℕ) (header : List ℕ) (n : ℕ) (h : Header) (sh : Shape) → IsEnd lim (spot_of f fs (p - length t)) (t ++ piece) (length t) (ends.Whole n h sh) → IsUnfinishedHeader f.syntax t → ArrivesAt (mode_of new place header) (p - begun + n) → IsTaken f.syntax t piece p (n - begun) new header (Some h)
-    whole_told new place header n h sh k u arrives =
-        let end : p - begun + n ≡ p + (n - begun) = omega (arith, begun-is, k.0.more, behind) in
-        told_by new place header (n - begun) h (subst (λ z. IsMade f.syntax t (take (n - z) piece) h) (sym begun-is) (made_by n h sh k u)) (subst (ArrivesAt (mode_of new place header)) end arrives)
+    pub whole_reported : (new : Stage) (place : ℕ) (header : List ℕ) (n : ℕ) (h : Header) (sh : Shape) → IsEnd lim (spot_of f fs (p - length t)) (t ++ piece) (length t) (ends.Whole n h sh) → IsUnfinishedHeader f.syntax t → ArrivesAt (mode_of new place header) (p - started + n) → IsTaken f.syntax t piece p (n - started) new header (Some h)
+    whole_reported new place header n h sh k u arrives =
+        let end : p - started + n ≡ p + (n - started) = omega (arith, started-is, k.0.more, behind) in
+        reported_by new place header (n - started) h (subst (λ z. IsMade f.syntax t (take (n - z) piece) h) (sym started-is) (made_by n h sh k u)) (subst (ArrivesAt (mode_of new place header)) end arrives)
 
-    pub refused_told : (n : ℕ) (rule : Rule) (tag : Tag) (header : List ℕ) → IsEnd lim (spot_of f fs (p - length t)) (t ++ piece) (length t) (ends.Refused n rule tag) → IsTaken f.syntax t piece p (n - begun) (stages.Stopped (record { number = rule_number rule; place = p - begun; tag = tag })) header None
-    refused_told n rule tag header k = (omega (arith, begun-is, behind), omega (arith, begun-is, k.0.more))
+    pub refused_reported : (n : ℕ) (rule : Rule) (tag : Tag) (header : List ℕ) → IsEnd lim (spot_of f fs (p - length t)) (t ++ piece) (length t) (ends.Refused n rule tag) → IsTaken f.syntax t piece p (n - started) (stages.Stopped (record { number = rule_number rule; place = p - started; tag = tag })) header None
+    refused_reported n rule tag header k = (omega (arith, started-is, behind), omega (arith, started-is, k.0.more))
 
-    -- the header goes on
+    -- the header continues
 
     pub all_quiet : 0 < length piece → IsEnd lim (spot_of f fs (p - length t)) (t ++ piece) (length t) ends.Part → IsQuiet lim (spot_of f fs (p - length t)) (t ++ piece)
     all_quiet some k = subst (IsQuiet lim (spot_of f fs (p - length t))) (take_all (length (t ++ piece)) (t ++ piece) (omega arith)) (k (length (t ++ piece)) (omega (arith, some, length-append t piece)) (omega arith))
@@ -204,8 +204,8 @@ module _ (lim : Limits) (f : Scope) (fs : List Scope) (p : ℕ) (t piece : List 
         ∙ ap (keeps lim (at f fs p (Heading (p - length t) t)) values) piece_is
         ∙ ap (λ z. keeps lim (at f fs p (mode_of z p t)) values (take (length piece) piece)) (sym is)
 
-    pub part_told : (items : List ℕ) → items ≡ t ++ piece → 0 < length piece → IsEnd lim (spot_of f fs (p - length t)) (t ++ piece) (length t) ends.Part → IsTaken f.syntax t piece p (length piece) stage items None
-    part_told items items-is some k =
+    pub part_reported : (items : List ℕ) → items ≡ t ++ piece → 0 < length piece → IsEnd lim (spot_of f fs (p - length t)) (t ++ piece) (length t) ends.Part → IsTaken f.syntax t piece p (length piece) stage items None
+    part_reported items items-is some k =
         let q = all_quiet some k in
         subst (λ z. IsTaken f.syntax t piece p (length piece) z items None) (sym is) (refl, items-is, on_tail lim (spot_of f fs (p - length t)) (t ++ piece) q.fine q.part)
 

@@ -1,9 +1,9 @@
 -- The levels of the code are those of the machine after a push, a pop and a change of the innermost one (`level_opened`,
--- `level_left`, `last_set`), and so is their nearest end (`nearest_is`). Stands on the definitions alone.
+-- `level_remaining`, `last_set`), and so is their nearest end (`nearest_is`). Stands on the definitions alone.
 use Rattle.std.proofs.Common.{◌≡◌, ℕ, suc, ◌+◌, ◌-◌, ◌<◌, ◌≤◌, Bool, true, false, List, [], ◌∷◌, ◌++◌, length, get_or, take, drop, slice_set, nat_eq, Option, Some, None, refl, sym, ap, ◌∙◌, arith, not, ◌&&◌, ne_eqb, ◌≢◌, IsSome, ◌↔◌, length-append, append-nil, option_to_list}
 use Rattle.sequence.specs.declared.level.Scope.{Scope}
 use Rattle.sequence.specs.declared.level.Level.{Level}
-use Rattle.sequence.specs.machine.Machine.{stops_at, arrive, due, nearer, nearest, is_empty, is_none, less, spot_of, begun, begin_level, begin_value, leave, at, Reading}
+use Rattle.sequence.specs.machine.Machine.{stops_at, arrive, due, nearer, nearest, is_empty, is_none, less, spot_of, started, begin_level, begin_value, leave, at, Reading}
 use Rattle.element.specs.declared.tag.Tag.{Tag}
 use Rattle.element.specs.Header.{number}
 use Rattle.sequence.specs.declared.spot.Spot.{Spot}
@@ -44,10 +44,10 @@ pub arrive_stays : (root : Scope) (place : ℕ) (ls : List Level) → stops_at (
 arrive_stays root place ls e = stays_by (top_of root ls) (below_of root [] ls) place e
 
 -- the same of a pop that gave the innermost level
-pub left_one : (root : Scope) (place : ℕ) (old new : List Level) (o : Option Level) → old ≡ new ++ option_to_list o → stops_at (top_of root old).stop place ≡ true → root.stop ≡ None
+pub remaining_one : (root : Scope) (place : ℕ) (old new : List Level) (o : Option Level) → old ≡ new ++ option_to_list o → stops_at (top_of root old).stop place ≡ true → root.stop ≡ None
     → arrive place (top_of root new) (below_of root [] new) ≡ arrive place (top_of root old) (below_of root [] old)
-left_one root place old new None same e none = rw (same ∙ append-nil new) refl
-left_one root place old new (Some l) same e none =
+remaining_one root place old new None same e none = rw (same ∙ append-nil new) refl
+remaining_one root place old new (Some l) same e none =
     let k : stops_at (scope_of l).stop place ≡ true = ap (λ f. stops_at f.stop place) (sym (top_push root new l)) ∙ ap (λ z. stops_at (top_of root z).stop place) (sym same) ∙ e in
     rw same (sym (arrive_popped root place new l k))
 
@@ -79,14 +79,14 @@ spot_is root ls place f near open-ended none top-is near-is open-is =
 
 -- the last tag of the innermost level is another
 pub last_set : (root : Scope) (old mid new : List Level) (level made : Level) (tag : Tag) → old ≡ mid ++ level ∷ [] → new ≡ mid ++ made ∷ [] → scope_of made ≡ record (scope_of level) { last = number tag }
-    → (top_of root new ≡ begun (top_of root old) tag) × (below_of root [] new ≡ below_of root [] old)
+    → (top_of root new ≡ started (top_of root old) tag) × (below_of root [] new ≡ below_of root [] old)
 last_set root old mid new level made tag old-is new-is made-is =
     let t : top_of root old ≡ scope_of level = ap (top_of root) old-is ∙ top_push root mid level in
-    (ap (top_of root) new-is ∙ top_push root mid made ∙ made-is ∙ ap (λ f. begun f tag) (sym t), ap (below_of root []) new-is ∙ below_push root [] mid made ∙ sym (below_push root [] mid level) ∙ ap (below_of root []) (sym old-is))
+    (ap (top_of root) new-is ∙ top_push root mid made ∙ made-is ∙ ap (λ f. started f tag) (sym t), ap (below_of root []) new-is ∙ below_push root [] mid made ∙ sym (below_push root [] mid level) ∙ ap (below_of root []) (sym old-is))
 
 -- the same of levels whose last one is changed where it stands
 pub last_changed : (root : Scope) (items slice : List Level) (d made : Level) (tag : Tag) (n : ℕ) → slice ≡ items → 0 < length slice → scope_of made ≡ record (scope_of (get_or slice (length slice - 1) d)) { last = n } → n ≡ number tag
-    → (top_of root (refill (length items) items (slice_set slice (length slice - 1) made)) ≡ begun (top_of root items) tag) × (below_of root [] (refill (length items) items (slice_set slice (length slice - 1) made)) ≡ below_of root [] items)
+    → (top_of root (refill (length items) items (slice_set slice (length slice - 1) made)) ≡ started (top_of root items) tag) × (below_of root [] (refill (length items) items (slice_set slice (length slice - 1) made)) ≡ below_of root [] items)
 last_changed root items slice d made tag n same some made-is n-is =
     let size : length items ≡ length slice = sym (ap length same) in
     let one : length slice ≡ length slice - 1 + 1 = omega (arith, some) in
@@ -112,15 +112,15 @@ pub value_empty : (p : ℕ) (f : Scope) (fs : List Scope) (t : Tag) (n : ℕ) �
 unfolding begin_value
 value_empty p f fs t n z = rw z refl
 
-pub value_begun : (p : ℕ) (f : Scope) (fs : List Scope) (t : Tag) (n : ℕ) → n ≢ 0 → at f fs p (Reading t n) ≡ begin_value p f fs t n
+pub value_started : (p : ℕ) (f : Scope) (fs : List Scope) (t : Tag) (n : ℕ) → n ≢ 0 → at f fs p (Reading t n) ≡ begin_value p f fs t n
 unfolding begin_value
-value_begun p f fs t n some = let z : nat_eq n 0 ≡ false = ne_eqb n 0 some in rw z refl
+value_started p f fs t n some = let z : nat_eq n 0 ≡ false = ne_eqb n 0 some in rw z refl
 
-pub level_left : (root : Scope) (place : ℕ) (old new : List Level) (o : Option Level) → old ≡ new ++ option_to_list o → IsSome o ↔ (0 < length old) → arrive place (top_of root new) (below_of root [] new) ≡ leave place (top_of root old) (below_of root [] old)
+pub level_remaining : (root : Scope) (place : ℕ) (old new : List Level) (o : Option Level) → old ≡ new ++ option_to_list o → IsSome o ↔ (0 < length old) → arrive place (top_of root new) (below_of root [] new) ≡ leave place (top_of root old) (below_of root [] old)
 unfolding leave
-level_left root place old [] None same v = rw same refl
-level_left root place old (l ∷ ls) None same v = absurd (let some : IsSome {T = Level} None = v.1 (omega (arith, ap length same, length-append (l ∷ ls) [])) in cc)
-level_left root place old new (Some l) same v = rw same (rw (top_push root new l, below_push root [] new l) refl)
+level_remaining root place old [] None same v = rw same refl
+level_remaining root place old (l ∷ ls) None same v = absurd (let some : IsSome {T = Level} None = v.1 (omega (arith, ap length same, length-append (l ∷ ls) [])) in cc)
+level_remaining root place old new (Some l) same v = rw same (rw (top_push root new l, below_push root [] new l) refl)
 
 -- the nearest end, from the innermost level outwards
 

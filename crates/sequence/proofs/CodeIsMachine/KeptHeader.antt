@@ -1,4 +1,4 @@
--- The bytes of a header that are kept between two pieces break no rule and are not whole (`begun_quiet`, `begun_tail`).
+-- The bytes of a header that are kept between two pieces break no rule and are not whole (`started_quiet`, `started_tail`).
 -- Stands on MachineStands/UnbrokenHeader.
 use Rattle.std.proofs.Common.{◌≡◌, ℕ, ◌-◌, ◌<◌, Bool, true, false, not, ◌&&◌, List, [], ◌∷◌, ◌++◌, length, None, Some, is_none, refl, sym, ap, subst, ◌∙◌, arith, append-nil}
 use Rattle.sequence.specs.declared.coding.Coding.{Coding}
@@ -9,7 +9,7 @@ use Rattle.sequence.specs.declared.stage.Stage.TheVariants as stages
 use Rattle.sequence.specs.Open.{IsUnfinishedHeader}
 use Rattle.sequence.specs.Rules.{Limits, Broken}
 use Rattle.sequence.specs.machine.Machine.{spot_of}
-use Rattle.sequence.specs.machine.Heading.{IsQuiet, is_begun}
+use Rattle.sequence.specs.machine.Heading.{IsQuiet, is_started}
 use Rattle.sequence.specs.machine.Steps.{IsTaken}
 use Rattle.sequence.proofs.MachineStands.UnbrokenHeader.{on_tail}
 
@@ -25,28 +25,28 @@ not_true : (b : Bool) → not b ≡ true → b ≡ false
 not_true true e = absurd cc
 not_true false e = refl
 
-pub none_begun : (lim : Limits) (f : Scope) (fs : List Scope) (p : ℕ) (t : List ℕ) → t ≡ [] → is_begun lim f fs p t ≡ true
-none_begun lim f fs p [] e = refl
-none_begun lim f fs p (x ∷ t) e = absurd cc
+pub none_started : (lim : Limits) (f : Scope) (fs : List Scope) (p : ℕ) (t : List ℕ) → t ≡ [] → is_started lim f fs p t ≡ true
+none_started lim f fs p [] e = refl
+none_started lim f fs p (x ∷ t) e = absurd cc
 
-pub quiet_begun : (lim : Limits) (f : Scope) (fs : List Scope) (p : ℕ) (t : List ℕ) → IsQuiet lim (spot_of f fs (p - length t)) t → is_begun lim f fs p t ≡ true
-quiet_begun lim f fs p [] q = refl
-quiet_begun lim f fs p (x ∷ t) q = let fine = q.fine in let part = q.part in rw fine (ap not part)
+pub quiet_started : (lim : Limits) (f : Scope) (fs : List Scope) (p : ℕ) (t : List ℕ) → IsQuiet lim (spot_of f fs (p - length t)) t → is_started lim f fs p t ≡ true
+quiet_started lim f fs p [] q = refl
+quiet_started lim f fs p (x ∷ t) q = let fine = q.fine in let part = q.part in rw fine (ap not part)
 
-pub begun_quiet : (lim : Limits) (f : Scope) (fs : List Scope) (p : ℕ) (t : List ℕ) → is_begun lim f fs p t ≡ true → 0 < length t → IsQuiet lim (spot_of f fs (p - length t)) t
-begun_quiet lim f fs p [] e some = absurd (omega (arith, some))
-begun_quiet lim f fs p (x ∷ t) e some = let k = both _ _ e in record { fine = none_is _ k.0; part = not_true _ k.1 }
+pub started_quiet : (lim : Limits) (f : Scope) (fs : List Scope) (p : ℕ) (t : List ℕ) → is_started lim f fs p t ≡ true → 0 < length t → IsQuiet lim (spot_of f fs (p - length t)) t
+started_quiet lim f fs p [] e some = absurd (omega (arith, some))
+started_quiet lim f fs p (x ∷ t) e some = let k = both _ _ e in record { fine = none_is _ k.0; part = not_true _ k.1 }
 
 nothing_unfinished : (s : Coding) → IsUnfinishedHeader s []
 unfolding is_whole need
 nothing_unfinished s = record { part = refl; good = λ e. absurd cc }
 
-pub begun_tail : (lim : Limits) (f : Scope) (fs : List Scope) (p : ℕ) (t : List ℕ) → is_begun lim f fs p t ≡ true → IsUnfinishedHeader f.syntax t
-begun_tail lim f fs p [] e = nothing_unfinished f.syntax
-begun_tail lim f fs p (x ∷ t) e = let q = begun_quiet lim f fs p (x ∷ t) e (omega arith) in on_tail lim _ (x ∷ t) q.fine q.part
+pub started_tail : (lim : Limits) (f : Scope) (fs : List Scope) (p : ℕ) (t : List ℕ) → is_started lim f fs p t ≡ true → IsUnfinishedHeader f.syntax t
+started_tail lim f fs p [] e = nothing_unfinished f.syntax
+started_tail lim f fs p (x ∷ t) e = let q = started_quiet lim f fs p (x ∷ t) e (omega arith) in on_tail lim _ (x ∷ t) q.fine q.part
 
 -- of an empty piece nothing is taken
-pub none_told : (lim : Limits) (f : Scope) (fs : List Scope) (p : ℕ) (t piece : List ℕ) (stage : Stage) → is_begun lim f fs p t ≡ true → stage ≡ stages.Heading → piece ≡ [] → IsTaken f.syntax t piece p 0 stage t None
-none_told lim f fs p t piece stage b e none =
+pub none_reported : (lim : Limits) (f : Scope) (fs : List Scope) (p : ℕ) (t piece : List ℕ) (stage : Stage) → is_started lim f fs p t ≡ true → stage ≡ stages.Heading → piece ≡ [] → IsTaken f.syntax t piece p 0 stage t None
+none_reported lim f fs p t piece stage b e none =
     let all : t ≡ t ++ piece = sym (ap (λ z. t ++ z) none ∙ append-nil t) in
-    subst (λ z. IsTaken f.syntax t piece p 0 z t None) (sym e) (sym (ap length none), all, subst (IsUnfinishedHeader f.syntax) all (begun_tail lim f fs p t b))
+    subst (λ z. IsTaken f.syntax t piece p 0 z t None) (sym e) (sym (ap length none), all, subst (IsUnfinishedHeader f.syntax) all (started_tail lim f fs p t b))

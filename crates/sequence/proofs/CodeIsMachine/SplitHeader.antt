@@ -16,11 +16,11 @@ pub no_items : (t : List ℕ) → length t ≡ 0 → t ≡ []
 no_items [] e = refl
 no_items (x ∷ t) e = absurd (omega (arith, e))
 
--- a header that goes on has fewer than twelve bytes
-pub short_end : (lim : Limits) (spot : Spot) (bytes : List ℕ) (begun : ℕ) (e : End) → is_part e ≡ true → IsEnd lim spot bytes begun e → begun < length bytes → length bytes < 12
-short_end lim spot bytes begun (ends.Refused n rule tag) p k more = absurd cc
-short_end lim spot bytes begun (ends.Whole n h sh) p k more = absurd cc
-short_end lim spot bytes begun ends.Part p k more =
+-- a header that continues has fewer than twelve bytes
+pub short_end : (lim : Limits) (spot : Spot) (bytes : List ℕ) (started : ℕ) (e : End) → is_part e ≡ true → IsEnd lim spot bytes started e → started < length bytes → length bytes < 12
+short_end lim spot bytes started (ends.Refused n rule tag) p k more = absurd cc
+short_end lim spot bytes started (ends.Whole n h sh) p k more = absurd cc
+short_end lim spot bytes started ends.Part p k more =
     let q = k (length bytes) more (omega arith) in
     let all = take_all (length bytes) bytes (omega arith) in
     let short = part_short spot.syntax (take (length bytes) bytes) (on_tail lim spot (take (length bytes) bytes) q.fine q.part) in
@@ -37,15 +37,15 @@ kept_none (ends.Whole n h sh) bytes p = refl
 kept_none ends.Part bytes p = absurd cc
 
 module _ (lim : Limits) (spot : Spot) (t piece : List ℕ) (few : length t ≤ 11) (some : 0 < length piece) where
-  pub front_quiet : (begun : ℕ) (slice items : List ℕ) → begun ≡ length t → slice ≡ items → items ≡ take 12 (t ++ piece) → (0 < length t → IsQuiet lim spot t) → 0 < begun → IsQuiet lim spot (take begun slice)
-  front_quiet begun slice items begun-is slice-is items-is quiet more =
-      let same : take begun slice ≡ t =
-      (λ i. take (begun-is i) (slice-is i)) ∙ ap (take (length t)) items-is ∙ take-take (length t) 12 (t ++ piece) (omega (arith, few)) ∙ take_both t piece (length t) (omega arith)
+  pub front_quiet : (started : ℕ) (slice items : List ℕ) → started ≡ length t → slice ≡ items → items ≡ take 12 (t ++ piece) → (0 < length t → IsQuiet lim spot t) → 0 < started → IsQuiet lim spot (take started slice)
+  front_quiet started slice items started-is slice-is items-is quiet more =
+      let same : take started slice ≡ t =
+      (λ i. take (started-is i) (slice-is i)) ∙ ap (take (length t)) items-is ∙ take-take (length t) 12 (t ++ piece) (omega (arith, few)) ∙ take_both t piece (length t) (omega arith)
       ∙ ap (λ z. t ++ take z piece) (let none : length t - length t ≡ 0 = omega arith in none) ∙ append-nil t in
-      subst (IsQuiet lim spot) (sym same) (quiet (omega (arith, more, begun-is)))
+      subst (IsQuiet lim spot) (sym same) (quiet (omega (arith, more, started-is)))
 
-  pub split_end : (begun : ℕ) (slice items : List ℕ) (e : End) → begun ≡ length t → slice ≡ items → items ≡ take 12 (t ++ piece) → IsEnd lim spot slice begun e → IsEnd lim spot (t ++ piece) (length t) e
-  split_end begun slice items e begun-is slice-is items-is k = twelve_end lim spot (t ++ piece) (length t) e few (subst (λ z. IsEnd lim spot (take 12 (t ++ piece)) z e) begun-is (subst (λ z. IsEnd lim spot z begun e) (slice-is ∙ items-is) k))
+  pub split_end : (started : ℕ) (slice items : List ℕ) (e : End) → started ≡ length t → slice ≡ items → items ≡ take 12 (t ++ piece) → IsEnd lim spot slice started e → IsEnd lim spot (t ++ piece) (length t) e
+  split_end started slice items e started-is slice-is items-is k = twelve_end lim spot (t ++ piece) (length t) e few (subst (λ z. IsEnd lim spot (take 12 (t ++ piece)) z e) started-is (subst (λ z. IsEnd lim spot z started e) (slice-is ∙ items-is) k))
 
   pub split_kept : (items : List ℕ) (e : End) → items ≡ take 12 (t ++ piece) → is_part e ≡ true → IsEnd lim spot (t ++ piece) (length t) e → items ≡ kept_by e (t ++ piece)
   split_kept items e items-is p k =

@@ -17,7 +17,7 @@ use Rattle.sequence.specs.declared.shape.Shape.TheVariants.{Value, Sequence, Not
 use Rattle.sequence.specs.Shape.{is_undefined, shape}
 use Rattle.sequence.specs.Wanted.{Values}
 use Rattle.sequence.specs.Rules.{Limits, Broken, broken_due, broken_tag, broken, same_tag, counted_length, is_value, passes}
-use Rattle.sequence.specs.machine.Machine.{at, arrive, due, due_by, spot_of, Heading, stop_of, set_scope, sequence_scope, begin_level, begin_value, leave, begun, take_element, take_item, take_header}
+use Rattle.sequence.specs.machine.Machine.{at, arrive, due, due_by, spot_of, Heading, stop_of, set_scope, sequence_scope, begin_level, begin_value, leave, started, take_element, take_item, take_header}
 use Rattle.sequence.specs.machine.Scopes.{top_of, below_of}
 use Rattle.sequence.specs.machine.Keeping.{keep_shaped, keep_header, wanted_at, with_value}
 use Rattle.sequence.specs.machine.Spare.{stage_by}
@@ -94,14 +94,14 @@ element_header : (p : ℕ) (f : Scope) (fs : List Scope) (h : Header) (top : Sco
 unfolding take_header
 element_header p f fs h top sh m sh-is top-is = ap (λ z. take_element p f fs h z) (sh-is ∙ ap (λ z. shape z.syntax h) top-is) ∙ sym (if_false (is_marker h.tag) _ _ m)
 
-pub value_header : (p : ℕ) (f : Scope) (fs : List Scope) (h : Header) (top f2 : Scope) (fs2 : List Scope) → is_marker h.tag ≡ false → Value ≡ shape top.syntax h → top ≡ f → f2 ≡ begun f h.tag → fs2 ≡ fs
+pub value_header : (p : ℕ) (f : Scope) (fs : List Scope) (h : Header) (top f2 : Scope) (fs2 : List Scope) → is_marker h.tag ≡ false → Value ≡ shape top.syntax h → top ≡ f → f2 ≡ started f h.tag → fs2 ≡ fs
     → begin_value p f2 fs2 h.tag h.length ≡ take_header p f fs h
-value_header p f fs h top f2 fs2 m sh top-is f-is fs-is = ap (λ z. begin_value p z fs2 h.tag h.length) f-is ∙ ap (λ z. begin_value p (begun f h.tag) z h.tag h.length) fs-is ∙ element_header p f fs h top Value m sh top-is
+value_header p f fs h top f2 fs2 m sh top-is f-is fs-is = ap (λ z. begin_value p z fs2 h.tag h.length) f-is ∙ ap (λ z. begin_value p (started f h.tag) z h.tag h.length) fs-is ∙ element_header p f fs h top Value m sh top-is
 
-pub sequence_header : (p : ℕ) (f : Scope) (fs : List Scope) (h : Header) (top f2 g : Scope) (fs2 : List Scope) (inner : Coding) → is_marker h.tag ≡ false → Sequence inner ≡ shape top.syntax h → top ≡ f → f2 ≡ begun f h.tag → fs2 ≡ fs
+pub sequence_header : (p : ℕ) (f : Scope) (fs : List Scope) (h : Header) (top f2 g : Scope) (fs2 : List Scope) (inner : Coding) → is_marker h.tag ≡ false → Sequence inner ≡ shape top.syntax h → top ≡ f → f2 ≡ started f h.tag → fs2 ≡ fs
     → g ≡ sequence_scope inner (stop_of p h.length) → begin_level p g f2 fs2 h.length ≡ take_header p f fs h
 sequence_header p f fs h top f2 g fs2 inner m sh top-is f-is fs-is g-is =
-    ap (λ z. begin_level p z f2 fs2 h.length) g-is ∙ ap (λ z. begin_level p (sequence_scope inner (stop_of p h.length)) z fs2 h.length) f-is ∙ ap (λ z. begin_level p (sequence_scope inner (stop_of p h.length)) (begun f h.tag) z h.length) fs-is
+    ap (λ z. begin_level p z f2 fs2 h.length) g-is ∙ ap (λ z. begin_level p (sequence_scope inner (stop_of p h.length)) z fs2 h.length) f-is ∙ ap (λ z. begin_level p (sequence_scope inner (stop_of p h.length)) (started f h.tag) z h.length) fs-is
     ∙ element_header p f fs h top (Sequence inner) m sh top-is
 
 pub no_header : (p : ℕ) (f : Scope) (fs : List Scope) (h : Header) (top : Scope) → is_marker h.tag ≡ false → NotAllowed ≡ shape top.syntax h → top ≡ f → arrive p f fs ≡ take_header p f fs h
@@ -112,12 +112,12 @@ no_header p f fs h top m sh top-is = element_header p f fs h top NotAllowed m sh
 pub within_limit : (lim : Limits) (spot : Spot) (t : List ℕ) → broken lim spot t ≡ None → is_whole (layout spot.syntax) t ≡ true → spot.place + length t + counted_length (header_at (layout spot.syntax) t).length ≤ lim.bytes
 within_limit lim spot t ok w = ltb-false _ _ (is_sound lim spot (length t) (header_at (layout spot.syntax) t) ((unbroken_is lim spot t ok).whole_ok w)).short
 
-pub has_room_left : (lim : Limits) (spot : Spot) (t : List ℕ) → broken lim spot t ≡ None → is_whole (layout spot.syntax) t ≡ true → has_room lim.depth spot.depth spot.syntax (header_at (layout spot.syntax) t) ≡ true
-has_room_left lim spot t ok w = ap not (is_sound lim spot (length t) (header_at (layout spot.syntax) t) ((unbroken_is lim spot t ok).whole_ok w)).shallow
+pub has_room_remaining : (lim : Limits) (spot : Spot) (t : List ℕ) → broken lim spot t ≡ None → is_whole (layout spot.syntax) t ≡ true → has_room lim.depth spot.depth spot.syntax (header_at (layout spot.syntax) t) ≡ true
+has_room_remaining lim spot t ok w = ap not (is_sound lim spot (length t) (header_at (layout spot.syntax) t) ((unbroken_is lim spot t ok).whole_ok w)).shallow
 
 -- the length of a fragment is defined
-pub defined_left : (lim : Limits) (spot : Spot) (t : List ℕ) → broken lim spot t ≡ None → is_whole (layout spot.syntax) t ≡ true → is_marker (header_at (layout spot.syntax) t).tag ≡ true → has_fragments spot.syntax ≡ true → is_undefined (header_at (layout spot.syntax) t).length ≡ false
-defined_left lim spot t ok w = sound_fragment lim spot (length t) (header_at (layout spot.syntax) t) (is_sound lim spot (length t) (header_at (layout spot.syntax) t) ((unbroken_is lim spot t ok).whole_ok w))
+pub defined_remaining : (lim : Limits) (spot : Spot) (t : List ℕ) → broken lim spot t ≡ None → is_whole (layout spot.syntax) t ≡ true → is_marker (header_at (layout spot.syntax) t).tag ≡ true → has_fragments spot.syntax ≡ true → is_undefined (header_at (layout spot.syntax) t).length ≡ false
+defined_remaining lim spot t ok w = sound_fragment lim spot (length t) (header_at (layout spot.syntax) t) (is_sound lim spot (length t) (header_at (layout spot.syntax) t) ((unbroken_is lim spot t ok).whole_ok w))
 
 -- an element's tag is above the last one
 pub rises : (lim : Limits) (spot : Spot) (t : List ℕ) → broken lim spot t ≡ None → is_whole (layout spot.syntax) t ≡ true → is_marker (header_at (layout spot.syntax) t).tag ≡ false → spot.last < number (header_at (layout spot.syntax) t).tag
@@ -135,16 +135,16 @@ rises lim spot t ok w m = by spot.in_sequence refl
     by false here = (element_tag spot (header_at (layout spot.syntax) t).tag ok2 here m).0
 
 -- a wanted value has room, and an element's tag is above the last one
-pub fits_left : (lim : Limits) (spot : Spot) (t : List ℕ) → broken lim spot t ≡ None → is_whole (layout spot.syntax) t ≡ true → fits_wanted lim.wanted spot.depth spot.syntax (header_at (layout spot.syntax) t) ≡ true
-fits_left lim spot t ok w = ap not (is_sound lim spot (length t) (header_at (layout spot.syntax) t) ((unbroken_is lim spot t ok).whole_ok w)).fits
+pub fits_remaining : (lim : Limits) (spot : Spot) (t : List ℕ) → broken lim spot t ≡ None → is_whole (layout spot.syntax) t ≡ true → fits_wanted lim.wanted spot.depth spot.syntax (header_at (layout spot.syntax) t) ≡ true
+fits_remaining lim spot t ok w = ap not (is_sound lim spot (length t) (header_at (layout spot.syntax) t) ((unbroken_is lim spot t ok).whole_ok w)).fits
 
 -- what is kept
 
 pub wanted_is : (lim : Limits) (root : Scope) (levels : List Level) (t : ℕ) → (nat_eq (length levels) 0 && is_wanted lim.wanted t) ≡ wanted_at lim (below_of root [] levels) t
 wanted_is lim root levels t = ap (λ z. z && is_wanted lim.wanted t) (sym (below_empty root levels))
 
-pub kept_begun : (lim : Limits) (root : Scope) (levels : List Level) (t u : ℕ) (values new : Values) → u ≡ t → new ≡ (if (nat_eq (length levels) 0 && is_wanted lim.wanted u) then values ++ (u, []) ∷ [] else values) → new ≡ with_value lim (below_of root [] levels) t [] values
-kept_begun lim root levels t u values new same e =
+pub kept_started : (lim : Limits) (root : Scope) (levels : List Level) (t u : ℕ) (values new : Values) → u ≡ t → new ≡ (if (nat_eq (length levels) 0 && is_wanted lim.wanted u) then values ++ (u, []) ∷ [] else values) → new ≡ with_value lim (below_of root [] levels) t [] values
+kept_started lim root levels t u values new same e =
     e ∙ ap (λ z. if (nat_eq (length levels) 0 && is_wanted lim.wanted z) then values ++ (z, []) ∷ [] else values) same ∙ ap (λ z. if z then values ++ (t, []) ∷ [] else values) (wanted_is lim root levels t)
 
 pub keep_marker : (lim : Limits) (f : Scope) (fs : List Scope) (h : Header) (values : Values) → is_marker h.tag ≡ true → values ≡ keep_header lim f fs h values

@@ -1,4 +1,4 @@
--- The bytes of a value taken at once bring the machine where they bring it one by one (`run_ends`, `run_goes_on`), and keep
+-- The bytes of a value taken at once bring the machine where they bring it one by one (`run_ends`, `run_continues`), and keep
 -- the same (`run_kept`). Stands on StateAfterCall and GrammarLeads/TreesRun.
 use Rattle.std.proofs.Common.{◌≡◌, ℕ, ◌+◌, ◌-◌, ◌<◌, ◌≤◌, Bool, true, false, List, [], ◌∷◌, length, Some, None, nat_le, nat_eq, leb-true, leb-false, subst, refl, sym, ap, ◌∙◌, arith, if◌then◌else◌}
 use Rattle.std.proofs.lemmas.Bool.Decides.{nat_tests}
@@ -15,7 +15,7 @@ use Rattle.sequence.specs.declared.shape.Shape.TheVariants.{Value, Sequence, Not
 use Rattle.sequence.specs.Shape.{shape}
 use Rattle.sequence.specs.Wanted.{Values}
 use Rattle.sequence.specs.Rules.{Limits, Broken, broken_due, same_tag}
-use Rattle.sequence.specs.machine.Machine.{State, at, arrive, due, due_by, spot_of, stops_at, stop_of, set_scope, sequence_scope, begin_value, begin_level, leave, begun, take_element, take_item, take_header, ArrivesAt, Reading, read, run}
+use Rattle.sequence.specs.machine.Machine.{State, at, arrive, due, due_by, spot_of, stops_at, stop_of, set_scope, sequence_scope, begin_value, begin_level, leave, started, take_element, take_item, take_header, ArrivesAt, Reading, read, run}
 use Rattle.sequence.specs.machine.Scopes.{below_of}
 use Rattle.sequence.specs.machine.Keeping.{wanted_at, with_byte, keep_read, keeps}
 use Rattle.sequence.specs.Fields.{is_kept}
@@ -31,8 +31,8 @@ pub part_run : (lim : Limits) (f : Scope) (fs : List Scope) (t : Tag) (p q n m :
 unfolding run read
 part_run lim f fs t p q n m [] lt q-is m-is =
     let same : p ≡ q = omega arith in
-    let left : n ≡ m = omega arith in
-    λ i. at f fs (same i) (Reading t (left i))
+    let remaining : n ≡ m = omega arith in
+    λ i. at f fs (same i) (Reading t (remaining i))
 part_run lim f fs t p q n m (x ∷ v) lt q-is m-is =
     let le : nat_le n 1 ≡ false = grind (arith, nat_tests) in
     rw le (part_run lim f fs t (p + 1) q (n - 1) m v (omega arith) (omega arith) (omega arith))
@@ -57,22 +57,22 @@ part_kept lim f fs t p n values (x ∷ y ∷ v) le =
 
 -- of a walker in a value
 
-pub run_ends : (f : Scope) (fs : List Scope) (lim : Limits) (place end : ℕ) (stage : Stage) (header : List ℕ) (tag : Tag) (left : ℕ) (kept : Bool) (v : List ℕ) → stage ≡ stages.Value tag left kept → 0 < length v → length v ≡ left → end ≡ place + length v
+pub run_ends : (f : Scope) (fs : List Scope) (lim : Limits) (place end : ℕ) (stage : Stage) (header : List ℕ) (tag : Tag) (remaining : ℕ) (kept : Bool) (v : List ℕ) → stage ≡ stages.Value tag remaining kept → 0 < length v → length v ≡ remaining → end ≡ place + length v
     → arrive end f fs ≡ run lim (at f fs place (mode_of stage place header)) v
-run_ends f fs lim place end stage header tag left kept v e some size end-is =
-    sym (ap (λ z. run lim (at f fs place (mode_of z place header)) v) e ∙ reading_run lim f fs tag place end left v size (omega (arith, some, size)) (omega (arith, end-is, size)))
+run_ends f fs lim place end stage header tag remaining kept v e some size end-is =
+    sym (ap (λ z. run lim (at f fs place (mode_of z place header)) v) e ∙ reading_run lim f fs tag place end remaining v size (omega (arith, some, size)) (omega (arith, end-is, size)))
 
-pub run_goes_on : (f : Scope) (fs : List Scope) (lim : Limits) (place end : ℕ) (stage : Stage) (header : List ℕ) (tag : Tag) (left rest : ℕ) (kept : Bool) (v : List ℕ) → stage ≡ stages.Value tag left kept → length v < left → rest ≡ left - length v → end ≡ place + length v
+pub run_continues : (f : Scope) (fs : List Scope) (lim : Limits) (place end : ℕ) (stage : Stage) (header : List ℕ) (tag : Tag) (remaining rest : ℕ) (kept : Bool) (v : List ℕ) → stage ≡ stages.Value tag remaining kept → length v < remaining → rest ≡ remaining - length v → end ≡ place + length v
     → at f fs end (Reading tag rest) ≡ run lim (at f fs place (mode_of stage place header)) v
-run_goes_on f fs lim place end stage header tag left rest kept v e lt rest-is end-is =
-    sym (ap (λ z. run lim (at f fs place (mode_of z place header)) v) e ∙ part_run lim f fs tag place end left rest v lt end-is rest-is)
+run_continues f fs lim place end stage header tag remaining rest kept v e lt rest-is end-is =
+    sym (ap (λ z. run lim (at f fs place (mode_of z place header)) v) e ∙ part_run lim f fs tag place end remaining rest v lt end-is rest-is)
 
-pub run_kept : (lim : Limits) (f root : Scope) (levels : List Level) (stage : Stage) (tag : Tag) (left : ℕ) (kept : Bool) (place : ℕ) (header : List ℕ) (values new : Values) (v : List ℕ)
-    → stage ≡ stages.Value tag left kept → is_kept stage ≡ is_wanted_in lim.wanted levels stage → length v ≤ left → new ≡ (if kept then with_bytes values v else values)
+pub run_kept : (lim : Limits) (f root : Scope) (levels : List Level) (stage : Stage) (tag : Tag) (remaining : ℕ) (kept : Bool) (place : ℕ) (header : List ℕ) (values new : Values) (v : List ℕ)
+    → stage ≡ stages.Value tag remaining kept → is_kept stage ≡ is_wanted_in lim.wanted levels stage → length v ≤ remaining → new ≡ (if kept then with_bytes values v else values)
     → new ≡ keeps lim (at f (below_of root [] levels) place (mode_of stage place header)) values v
-run_kept lim f root levels stage tag left kept place header values new v e flag le new-is =
+run_kept lim f root levels stage tag remaining kept place header values new v e flag le new-is =
     let same : kept ≡ wanted_at lim (below_of root [] levels) (number tag) = ap is_kept (sym e) ∙ flag ∙ ap (is_wanted_in lim.wanted levels) e ∙ wanted_is lim root levels (number tag) in
-    new-is ∙ ap (λ z. if z then with_bytes values v else values) same ∙ sym (part_kept lim f (below_of root [] levels) tag place left values v le)
+    new-is ∙ ap (λ z. if z then with_bytes values v else values) same ∙ sym (part_kept lim f (below_of root [] levels) tag place remaining values v le)
     ∙ ap (λ z. keeps lim (at f (below_of root [] levels) place (mode_of z place header)) values v) (sym e)
 
 due_place : (y : Broken) (p : ℕ) (f : Scope) (fs : List Scope) → (due_by y f fs p).place ≡ p
@@ -102,8 +102,8 @@ leave_place p f [] = arrive_place p f []
 leave_place p f (g ∷ gs) = arrive_place p g gs
 
 element_place : (p : ℕ) (f : Scope) (fs : List Scope) (h : Header) (sh : Shape) → (take_element p f fs h sh).place ≡ p
-element_place p f fs h Value = begin_value_place p (begun f h.tag) fs h.tag h.length
-element_place p f fs h (Sequence inner) = begin_level_place p (sequence_scope inner (stop_of p h.length)) (begun f h.tag) fs h.length
+element_place p f fs h Value = begin_value_place p (started f h.tag) fs h.tag h.length
+element_place p f fs h (Sequence inner) = begin_level_place p (sequence_scope inner (stop_of p h.length)) (started f h.tag) fs h.length
 element_place p f fs h NotAllowed = arrive_place p f fs
 
 item_place : (p : ℕ) (f : Scope) (fs : List Scope) (h : Header) → (take_item p f fs h).place ≡ p
@@ -144,8 +144,8 @@ leave_arrives p f [] = arrive_arrives p f []
 leave_arrives p f (g ∷ gs) = arrive_arrives p g gs
 
 element_arrives : (p : ℕ) (f : Scope) (fs : List Scope) (h : Header) (sh : Shape) → ArrivesAt (take_element p f fs h sh).mode p
-element_arrives p f fs h Value = value_arrives p (begun f h.tag) fs h.tag h.length
-element_arrives p f fs h (Sequence inner) = level_arrives p (sequence_scope inner (stop_of p h.length)) (begun f h.tag) fs h.length
+element_arrives p f fs h Value = value_arrives p (started f h.tag) fs h.tag h.length
+element_arrives p f fs h (Sequence inner) = level_arrives p (sequence_scope inner (stop_of p h.length)) (started f h.tag) fs h.length
 element_arrives p f fs h NotAllowed = arrive_arrives p f fs
 
 item_arrives : (p : ℕ) (f : Scope) (fs : List Scope) (h : Header) → ArrivesAt (take_item p f fs h).mode p
@@ -157,13 +157,13 @@ take_arrives p f fs h =
     by_arrives (is_marker h.tag) _ _ p (by_arrives (same_tag h.tag item_tag) _ _ p (item_arrives p f fs h) (leave_arrives p f fs))
     (element_arrives p f fs h (shape f.syntax h))
 
-pub value_part_arrives : (f : Scope) (fs : List Scope) (lim : Limits) (place : ℕ) (stage : Stage) (header : List ℕ) (tag : Tag) (left : ℕ) (kept : Bool) (v : List ℕ) → stage ≡ stages.Value tag left kept → 0 < length v → length v ≤ left
+pub value_part_arrives : (f : Scope) (fs : List Scope) (lim : Limits) (place : ℕ) (stage : Stage) (header : List ℕ) (tag : Tag) (remaining : ℕ) (kept : Bool) (v : List ℕ) → stage ≡ stages.Value tag remaining kept → 0 < length v → length v ≤ remaining
     → ArrivesAt (run lim (at f fs place (mode_of stage place header)) v).mode (place + length v)
-value_part_arrives f fs lim place stage header tag left kept v e some le = by (nat_le left (length v)) refl
+value_part_arrives f fs lim place stage header tag remaining kept v e some le = by (nat_le remaining (length v)) refl
   where
-    by : (b : Bool) → nat_le left (length v) ≡ b → ArrivesAt (run lim (at f fs place (mode_of stage place header)) v).mode (place + length v)
+    by : (b : Bool) → nat_le remaining (length v) ≡ b → ArrivesAt (run lim (at f fs place (mode_of stage place header)) v).mode (place + length v)
     by true q =
-        let size : length v ≡ left = omega (arith, le, leb-true left (length v) q) in
-        subst (λ z. ArrivesAt z.mode (place + length v)) (run_ends f fs lim place (place + length v) stage header tag left kept v e some size refl) (arrive_arrives (place + length v) f fs)
+        let size : length v ≡ remaining = omega (arith, le, leb-true remaining (length v) q) in
+        subst (λ z. ArrivesAt z.mode (place + length v)) (run_ends f fs lim place (place + length v) stage header tag remaining kept v e some size refl) (arrive_arrives (place + length v) f fs)
     by false q =
-        subst (λ z. ArrivesAt z.mode (place + length v)) (run_goes_on f fs lim place (place + length v) stage header tag left (left - length v) kept v e (leb-false left (length v) q) refl refl) tt
+        subst (λ z. ArrivesAt z.mode (place + length v)) (run_continues f fs lim place (place + length v) stage header tag remaining (remaining - length v) kept v e (leb-false remaining (length v) q) refl refl) tt

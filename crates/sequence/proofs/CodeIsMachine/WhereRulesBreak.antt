@@ -43,7 +43,7 @@ quiet_is lim spot t due tag vr part =
     (none_when (nat_le 6 (length t) && not (is_plain (layout spot.syntax) (tag_at t))) _ (λ e. let k = both_true (nat_le 6 (length t)) (is_plain (layout spot.syntax) (tag_at t)) e in vr (leb-true 6 (length t) k.0) k.1))
     (none_when (is_whole (layout spot.syntax) t) _ (λ e. absurd (let k : true ≡ false = sym e ∙ part in cc)))
 
--- no bytes come between the fourth or the sixth and what came
+-- no bytes are between the fourth or the sixth and what was received
 abbrev pub IsSide : ℕ → ℕ → ℕ → Type 0
 IsSide k a b = (k ≤ a) ⊎ (b < k)
 
@@ -230,7 +230,7 @@ module _ (lim : Limits) (spot : Spot) (bytes : List ℕ) (a : ℕ) (more : a ≤
       before_size : (k m : ℕ) → need (layout spot.syntax) bytes ≡ Size k → m < k → m ≤ length bytes → is_whole (layout spot.syntax) (take m bytes) ≡ false
       before_size k m n lt most = not_whole_before spot.syntax bytes m (Size k) n (less_no k m lt) most
 
-      -- a header that goes on is longer than the bytes
+      -- a header that continues is longer than the bytes
       size_far : (k : ℕ) → need (layout spot.syntax) bytes ≡ Size k → (a < k → k ≤ length bytes → IsQuiet lim spot (take k bytes)) → k ≤ length bytes → ⊥
       size_far k n j le = by (nat_le k a) refl
         where
@@ -249,14 +249,14 @@ module _ (lim : Limits) (spot : Spot) (bytes : List ℕ) (a : ℕ) (more : a ≤
 
 -- the first byte examined apart
 
-pub first_end : (lim : Limits) (spot : Spot) (bytes : List ℕ) (begun : ℕ) (e : End) → begun ≡ 0 → is_part e ≡ false → IsExamined lim spot bytes 0 1 e → IsEnd lim spot bytes begun e
-first_end lim spot bytes begun e none p j = subst (λ z. IsEnd lim spot bytes z e) (sym none) (later_end lim spot bytes 0 1 e p j (λ m gt lt most. absurd (omega (arith, gt, lt))))
+pub first_end : (lim : Limits) (spot : Spot) (bytes : List ℕ) (started : ℕ) (e : End) → started ≡ 0 → is_part e ≡ false → IsExamined lim spot bytes 0 1 e → IsEnd lim spot bytes started e
+first_end lim spot bytes started e none p j = subst (λ z. IsEnd lim spot bytes z e) (sym none) (later_end lim spot bytes 0 1 e p j (λ m gt lt most. absurd (omega (arith, gt, lt))))
 
 pub first_quiet : (lim : Limits) (spot : Spot) (bytes : List ℕ) (e : End) → is_part e ≡ true → IsExamined lim spot bytes 0 1 e → 0 < length bytes → IsQuiet lim spot (take 1 bytes)
 first_quiet lim spot bytes e p j some = part_examined lim spot bytes 0 1 e p j (omega arith) (omega (arith, some))
 
-pub one_more : (lim : Limits) (spot : Spot) (bytes : List ℕ) (begun : ℕ) (e : End) → begun ≡ 0 → IsQuiet lim spot (take 1 bytes) → IsEnd lim spot bytes 1 e → IsEnd lim spot bytes begun e
-one_more lim spot bytes begun e none q k = subst (λ z. IsEnd lim spot bytes z e) (sym none) (by e k)
+pub one_more : (lim : Limits) (spot : Spot) (bytes : List ℕ) (started : ℕ) (e : End) → started ≡ 0 → IsQuiet lim spot (take 1 bytes) → IsEnd lim spot bytes 1 e → IsEnd lim spot bytes started e
+one_more lim spot bytes started e none q k = subst (λ z. IsEnd lim spot bytes z e) (sym none) (by e k)
   where
     before : (m n : ℕ) → 0 < m → m < n → ((m : ℕ) → 1 < m → m < n → IsQuiet lim spot (take m bytes)) → (b : Bool) → nat_le m 1 ≡ b → IsQuiet lim spot (take m bytes)
     before m n gt lt rest true le = subst (λ z. IsQuiet lim spot (take z bytes)) (let one : 1 ≡ m = omega (arith, leb-true m 1 le, gt) in one) q
@@ -291,10 +291,10 @@ quiet_front lim spot bytes k m n le ok lt =
 
 -- a whole header that is unbroken ends its bytes
 
-pub examined_end : (lim : Limits) (spot : Spot) (bytes : List ℕ) (begun k : ℕ) (e : End) → need (layout spot.syntax) bytes ≡ Size k → is_end e ≡ true → IsExamined lim spot bytes begun k e → IsEnd lim spot bytes begun e
-examined_end lim spot bytes begun k (ends.Refused n rule tag) size e j = absurd cc
-examined_end lim spot bytes begun k ends.Part size e j = absurd cc
-examined_end lim spot bytes begun k (ends.Whole n h sh) size e j =
+pub examined_end : (lim : Limits) (spot : Spot) (bytes : List ℕ) (started k : ℕ) (e : End) → need (layout spot.syntax) bytes ≡ Size k → is_end e ≡ true → IsExamined lim spot bytes started k e → IsEnd lim spot bytes started e
+examined_end lim spot bytes started k (ends.Refused n rule tag) size e j = absurd cc
+examined_end lim spot bytes started k ends.Part size e j = absurd cc
+examined_end lim spot bytes started k (ends.Whole n h sh) size e j =
     let same : k ≡ n = sym j.1 in
     (j.0, j.2, λ m gt lt. quiet_front lim spot bytes n m (size ∙ ap Size same) j.0.some j.2.fine lt)
 
@@ -314,14 +314,14 @@ whole_end lim spot bytes front is ok =
 
 -- the first twelve bytes decide
 
-twelve_count : (bytes : List ℕ) (begun n : ℕ) → IsCount begun n (length (take 12 bytes)) → IsCount begun n (length bytes)
-twelve_count bytes begun n k = record { more = k.more; some = (let s = length-take 12 bytes in omega (arith, s, k.some)); short = k.short }
+twelve_count : (bytes : List ℕ) (started n : ℕ) → IsCount started n (length (take 12 bytes)) → IsCount started n (length bytes)
+twelve_count bytes started n k = record { more = k.more; some = (let s = length-take 12 bytes in omega (arith, s, k.some)); short = k.short }
 
-twelve_part : (lim : Limits) (spot : Spot) (bytes : List ℕ) (begun m : ℕ) → begun ≤ 11 → IsEnd lim spot (take 12 bytes) begun ends.Part → begun < m → m ≤ length bytes → (q : Bool) → nat_le (length bytes) 12 ≡ q → IsQuiet lim spot (take m bytes)
-twelve_part lim spot bytes begun m le k lt most true e =
+twelve_part : (lim : Limits) (spot : Spot) (bytes : List ℕ) (started m : ℕ) → started ≤ 11 → IsEnd lim spot (take 12 bytes) started ends.Part → started < m → m ≤ length bytes → (q : Bool) → nat_le (length bytes) 12 ≡ q → IsQuiet lim spot (take m bytes)
+twelve_part lim spot bytes started m le k lt most true e =
     let all = take_all 12 bytes (leb-true (length bytes) 12 e) in
     subst (λ z. IsQuiet lim spot (take m z)) all (k m lt (omega (arith, ap length all, most)))
-twelve_part lim spot bytes begun m le k lt most false e =
+twelve_part lim spot bytes started m le k lt most false e =
     let long = leb-false (length bytes) 12 e in
     let size = length-take-le 12 bytes (omega (arith, long)) in
     let q = k 12 (omega (arith, le)) (omega (arith, size)) in
@@ -329,9 +329,9 @@ twelve_part lim spot bytes begun m le k lt most false e =
     let short = part_short spot.syntax (take 12 (take 12 bytes)) (on_tail lim spot (take 12 (take 12 bytes)) q.fine q.part) in
     absurd (omega (arith, short, size, ap length same))
 
-pub twelve_end : (lim : Limits) (spot : Spot) (bytes : List ℕ) (begun : ℕ) (e : End) → begun ≤ 11 → IsEnd lim spot (take 12 bytes) begun e → IsEnd lim spot bytes begun e
-twelve_end lim spot bytes begun (ends.Refused n rule tag) le k =
-    (twelve_count bytes begun n k.0, subst (λ z. IsRefused lim spot z rule tag) (take-take n 12 bytes k.0.short) k.1, λ m lt lt2. subst (IsQuiet lim spot) (take-take m 12 bytes (omega (arith, lt2, k.0.short))) (k.2 m lt lt2))
-twelve_end lim spot bytes begun (ends.Whole n h sh) le k =
-    (twelve_count bytes begun n k.0, subst (λ z. IsRead lim spot z h sh) (take-take n 12 bytes k.0.short) k.1, λ m lt lt2. subst (IsQuiet lim spot) (take-take m 12 bytes (omega (arith, lt2, k.0.short))) (k.2 m lt lt2))
-twelve_end lim spot bytes begun ends.Part le k = λ m lt most. twelve_part lim spot bytes begun m le k lt most (nat_le (length bytes) 12) refl
+pub twelve_end : (lim : Limits) (spot : Spot) (bytes : List ℕ) (started : ℕ) (e : End) → started ≤ 11 → IsEnd lim spot (take 12 bytes) started e → IsEnd lim spot bytes started e
+twelve_end lim spot bytes started (ends.Refused n rule tag) le k =
+    (twelve_count bytes started n k.0, subst (λ z. IsRefused lim spot z rule tag) (take-take n 12 bytes k.0.short) k.1, λ m lt lt2. subst (IsQuiet lim spot) (take-take m 12 bytes (omega (arith, lt2, k.0.short))) (k.2 m lt lt2))
+twelve_end lim spot bytes started (ends.Whole n h sh) le k =
+    (twelve_count bytes started n k.0, subst (λ z. IsRead lim spot z h sh) (take-take n 12 bytes k.0.short) k.1, λ m lt lt2. subst (IsQuiet lim spot) (take-take m 12 bytes (omega (arith, lt2, k.0.short))) (k.2 m lt lt2))
+twelve_end lim spot bytes started ends.Part le k = λ m lt most. twelve_part lim spot bytes started m le k lt most (nat_le (length bytes) 12) refl

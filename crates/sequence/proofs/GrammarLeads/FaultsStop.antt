@@ -36,18 +36,18 @@ nearer_is (Some n) b = refl
 near_over : (q : ℕ) (path : List PathEntry) (s : Coding) (last : ℕ) → less (nearer (top_over q path (set_scope s None last)).stop (nearest (below_over q path (set_scope s None last) []))) q ≡ near_of path
 near_over q [] s last = refl
 near_over q (e ∷ path) s last =
-    less_nearer (stop_at q e.left) (nearer (top_over q path (set_scope s None last)).stop (nearest (below_over q path (set_scope s None last) []))) q
-    ∙ ap (λ z. nearer z (less (nearer (top_over q path (set_scope s None last)).stop (nearest (below_over q path (set_scope s None last) []))) q)) (less_stop e.left q)
-    ∙ ap (λ z. nearer e.left z) (near_over q path s last)
-    ∙ nearer_is e.left (near_of path)
+    less_nearer (stop_at q e.remaining) (nearer (top_over q path (set_scope s None last)).stop (nearest (below_over q path (set_scope s None last) []))) q
+    ∙ ap (λ z. nearer z (less (nearer (top_over q path (set_scope s None last)).stop (nearest (below_over q path (set_scope s None last) []))) q)) (less_stop e.remaining q)
+    ∙ ap (λ z. nearer e.remaining z) (near_over q path s last)
+    ∙ nearer_is e.remaining (near_of path)
 
 pub depth_over : (q : ℕ) (path : List PathEntry) (f : Scope) → length (below_over q path f []) ≡ length path
 depth_over q [] f = refl
 depth_over q (e ∷ path) f = ap suc (depth_over q path f)
 
-none_left : (o : Option ℕ) (q : ℕ) → machine.is_none (stop_at q o) ≡ is_none o
-none_left None q = refl
-none_left (Some n) q = refl
+none_remaining : (o : Option ℕ) (q : ℕ) → machine.is_none (stop_at q o) ≡ is_none o
+none_remaining None q = refl
+none_remaining (Some n) q = refl
 
 and_true : (b : Bool) → (b && true) ≡ b
 and_true true = refl
@@ -57,7 +57,7 @@ pub spot_over : (q : ℕ) (path : List PathEntry) (s : Coding) (last : ℕ) → 
 spot_over q [] s last = refl
 spot_over q (e ∷ path) s last =
     let near = near_over q (e ∷ path) s last in
-    let ended : (machine.is_none (stop_at q e.left) && true) ≡ is_none e.left = and_true (machine.is_none (stop_at q e.left)) ∙ none_left e.left q in
+    let ended : (machine.is_none (stop_at q e.remaining) && true) ≡ is_none e.remaining = and_true (machine.is_none (stop_at q e.remaining)) ∙ none_remaining e.remaining q in
     let depth = depth_over q (e ∷ path) (set_scope s None last) in
     λ i. record { syntax = e.syntax; in_sequence = e.in_sequence; open_ended = ended i; near = near i; last = e.last; depth = depth i; place = q }
 
@@ -69,7 +69,7 @@ stays (Some n) q h = ne_eqb (q + n) q (λ same. h (ap Some (let z : n ≡ 0 = om
 pub arrive_over : (q : ℕ) (path : List PathEntry) (s : Coding) (last : ℕ) → IsInnermost path → arrive q (top_over q path (set_scope s None last)) (below_over q path (set_scope s None last) []) ≡ due (top_over q path (set_scope s None last)) (below_over q path (set_scope s None last) []) q
 unfolding arrive
 arrive_over q [] s last h = refl
-arrive_over q (e ∷ path) s last h = rw (stays e.left q h) refl
+arrive_over q (e ∷ path) s last h = rw (stays e.remaining q h) refl
 
 broken_nothing : (lim : Limits) (spot : Spot) → broken lim spot [] ≡ broken_due spot
 unfolding broken is_whole need
@@ -85,7 +85,7 @@ StopsAt n (Stopped rule p t) = p ≡ n
 StopsAt n (Heading begin t) = ⊥
 StopsAt n (Reading t k) = ⊥
 
--- of a header whose bytes break a rule, the machine takes no more
+-- of a header whose bytes break a rule, the machine consumes no more
 abbrev OneHeader : Coding → List ℕ → Type 0
 OneHeader s u = (w : List ℕ) (y : ℕ) (z : List ℕ) → u ≡ w ++ y ∷ z → is_whole (layout s) w ≡ false
 

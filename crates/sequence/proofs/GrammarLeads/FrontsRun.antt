@@ -9,7 +9,7 @@ use Rattle.sequence.specs.declared.shape.Shape.TheVariants.{Sequence}
 use Rattle.element.specs.Header.{number}
 use Rattle.sequence.specs.Shape.{is_undefined, undefined_length, shape}
 use Rattle.sequence.specs.Tree.{Elements, Items, IsElement, IsItem, DataSet, ItemList}
-use Rattle.sequence.specs.Open.{last_of, PathEntry, Tail, in_header, IsTail, header_tail, value_tail, IsItemTail, header_of_item, value_of_fragment, left_of, sequence_entry, item_entry, IsOpenLevel, Nested, at_elements, in_sequence_of, in_item_of}
+use Rattle.sequence.specs.Open.{last_of, PathEntry, Tail, in_header, IsTail, header_tail, value_tail, IsItemTail, header_of_item, value_of_fragment, remaining_of, sequence_entry, item_entry, IsOpenLevel, Nested, at_elements, in_sequence_of, in_item_of}
 use Rattle.sequence.specs.machine.Machine.{set_scope, sequence_scope, State, arrive, stop_of, begin_level, run}
 pub use Rattle.sequence.specs.Holding.{stop_at, scope_at}
 use Rattle.element.proofs.Public.{spelled_long}
@@ -34,14 +34,14 @@ below_append q [] e more f fs = refl
 below_append q (d ∷ path) e more f fs = λ i. top_append q path e more f i ∷ below_append q path e more f fs i
 
 -- what is left, and where the level stops
-pub stop_is : (p q n came : ℕ) → q ≡ p + came → (n ≢ undefined_length → came ≤ n) → stop_at q (left_of n came) ≡ stop_of p n
-stop_is p q n came q-is within = by (is_undefined n) refl
+pub stop_is : (p q n received : ℕ) → q ≡ p + received → (n ≢ undefined_length → received ≤ n) → stop_at q (remaining_of n received) ≡ stop_of p n
+stop_is p q n received q-is within = by (is_undefined n) refl
   where
-    by : (u : Bool) → is_undefined n ≡ u → stop_at q (left_of n came) ≡ stop_of p n
+    by : (u : Bool) → is_undefined n ≡ u → stop_at q (remaining_of n received) ≡ stop_of p n
     by true e = rw e refl
     by false e = rw e (ap Some (sums (within (λ same. absurd (let k : true ≡ false = sym (eq-eqb n undefined_length same) ∙ e in cc)))))
       where
-        sums : came ≤ n → q + (n - came) ≡ p + n
+        sums : received ≤ n → q + (n - received) ≡ p + n
         sums le = omega arith
 
 lasts_to_stop : (p n q : ℕ) → (n ≢ undefined_length → q ≤ p + n) → LastsTo (stop_of p n) q
@@ -122,19 +122,19 @@ in_item_leads lim s es b h hb inner is ib k kb b2 path last set el sh level item
     ∙ ap (λ z. arrive q (top_over q (path ++ (item_entry inner k.length (length b2) last ∷ sequence_entry inner h.length (length (ib ++ (kb ++ b2))) ∷ [])) (set_scope s stop (number h.tag))) z) (sym (below_append q path (item_entry inner k.length (length b2) last) (sequence_entry inner h.length (length (ib ++ (kb ++ b2))) ∷ []) (set_scope s stop (number h.tag)) fs)))
     wanted
 
-nothing_left : {s : Coding} {last : ℕ} {tail : Tail} {t : List ℕ} → IsTail s last tail t → tail ≡ in_header [] → t ≡ []
-nothing_left (header_tail part) e = cc
-nothing_left (value_tail v el sh lt) e = absurd cc
+nothing_remaining : {s : Coding} {last : ℕ} {tail : Tail} {t : List ℕ} → IsTail s last tail t → tail ≡ in_header [] → t ≡ []
+nothing_remaining (header_tail part) e = cc
+nothing_remaining (value_tail v el sh lt) e = absurd cc
 
-no_item_left : {s : Coding} {tail : Tail} {t : List ℕ} → IsItemTail s tail t → tail ≡ in_header [] → t ≡ []
-no_item_left (header_of_item part) e = cc
-no_item_left (value_of_fragment v it lt) e = absurd cc
+no_item_remaining : {s : Coding} {tail : Tail} {t : List ℕ} → IsItemTail s tail t → tail ≡ in_header [] → t ≡ []
+no_item_remaining (header_of_item part) e = cc
+no_item_remaining (value_of_fragment v it lt) e = absurd cc
 
 -- where a header is due, the machine has the levels of the path, or has stopped
 pub nested_run : (lim : Limits) {s : Coding} {b : List ℕ} {es : Elements} {path : List PathEntry} {last : ℕ} {tail : Tail} → Nested s b es path last tail → tail ≡ in_header [] → Leads lim s b path last
-nested_run lim (at_elements {s = s} {es = es} {b = b} {t = t} set tail) e = subst (λ z. Leads lim s (b ++ z) [] (last_of 0 es)) (sym (nothing_left tail e)) (elements_lead lim s es b set)
+nested_run lim (at_elements {s = s} {es = es} {b = b} {t = t} set tail) e = subst (λ z. Leads lim s (b ++ z) [] (last_of 0 es)) (sym (nothing_remaining tail e)) (elements_lead lim s es b set)
 nested_run lim (in_sequence_of {s = s} q {t = t} level tail) e =
-    let nil : t ≡ [] = no_item_left tail e in
+    let nil : t ≡ [] = no_item_remaining tail e in
     let none : q.item_bytes ++ t ≡ q.item_bytes = ap (λ z. q.item_bytes ++ z) nil ∙ append-nil q.item_bytes in
     subst (λ z. Leads lim s (q.before ++ (q.spelling ++ z)) (sequence_entry q.inner q.header.length (length z) ∷ []) (number q.header.tag)) (sym none)
     (in_sequence_leads lim s q.elements q.before q.header q.spelling q.inner q.items q.item_bytes q.elements-are q.header-is q.shaped (subst (λ z. IsOpenLevel q.header.length (length z)) none level) q.items-are)

@@ -6,7 +6,7 @@ use Rattle.element.specs.Header.{number}
 use Rattle.sequence.specs.Shape.{is_undefined, undefined_length}
 use Rattle.sequence.specs.Tree.{Elements, IsElement, DataSet}
 use Rattle.sequence.specs.declared.wanted.Want.{Want}
-use Rattle.sequence.specs.Open.{last_of, left_of, PathEntry, Tail, sequence_entry, item_entry, IsOpenLevel, Nested, in_item_of}
+use Rattle.sequence.specs.Open.{last_of, remaining_of, PathEntry, Tail, sequence_entry, item_entry, IsOpenLevel, Nested, in_item_of}
 use Rattle.sequence.specs.Wanted.{Values, kept_of}
 use Rattle.sequence.specs.Within.{FitRooms}
 use Rattle.sequence.specs.machine.Machine.{set_scope, sequence_scope, stop_of}
@@ -24,8 +24,8 @@ pub record IsFront (s : Coding) (ws : List Want) (values : Values) (n : ℕ) (b 
   pub kept : values ≡ kept_of ws elements
   pub fits : FitRooms ws elements
 
-came_by : (stop : Option ℕ) (p n k : ℕ) → stop ≡ stop_of p k → LastsTo stop n → k ≢ undefined_length → n ≤ p + k
-came_by stop p n k stop-is holds defined =
+received_by : (stop : Option ℕ) (p n k : ℕ) → stop ≡ stop_of p k → LastsTo stop n → k ≢ undefined_length → n ≤ p + k
+received_by stop p n k stop-is holds defined =
     let d : is_undefined k ≡ false = ne_eqb k undefined_length defined in
     let e : stop ≡ Some (p + k) = rw d at stop-is in
     subst (λ o. LastsTo o n) e holds
@@ -33,12 +33,12 @@ came_by stop p n k stop-is holds defined =
 plug_text : (q0 hb0 ib0 b0 hb eb b rest : List ℕ) → b0 ≡ q0 ++ (hb0 ++ ib0) → b ≡ b0 ++ (hb ++ eb) → q0 ++ (hb0 ++ (ib0 ++ (hb ++ (eb ++ rest)))) ≡ b ++ rest
 plug_text q0 hb0 ib0 b0 hb eb b rest e0 e = sym (ap (λ z. z ++ rest) (e ∙ ap (λ z. z ++ (hb ++ eb)) e0) ∙ simp append_assoc)
 
--- a place where the header of a level ended, and what came after it
-pub level_is : (stop : Option ℕ) (before came : List ℕ) (n k : ℕ) → n ≡ length before + length came → k ≢ 0 → stop ≡ stop_of (length before) k → LastsTo stop n → IsOpenLevel k (length came)
-level_is stop before came n k n-is some stop-is holds = record { some = some; within = λ d. let le = came_by stop (length before) n k stop-is holds d in omega (arith, le, n-is) }
+-- a place where the header of a level ended, and what followed it
+pub level_is : (stop : Option ℕ) (before received : List ℕ) (n k : ℕ) → n ≡ length before + length received → k ≢ 0 → stop ≡ stop_of (length before) k → LastsTo stop n → IsOpenLevel k (length received)
+level_is stop before received n k n-is some stop-is holds = record { some = some; within = λ d. let le = received_by stop (length before) n k stop-is holds d in omega (arith, le, n-is) }
 
-pub entry_scope : (in-sequence : Bool) (s : Coding) (stop : Option ℕ) (last p n k came : ℕ) → n ≡ p + came → IsOpenLevel k came → stop ≡ stop_of p k → ◌≡◌ {A = Scope} (record { in_sequence = in-sequence; syntax = s; stop = stop_at n (left_of k came); last = last }) (record { in_sequence = in-sequence; syntax = s; stop = stop; last = last })
-entry_scope in-sequence s stop last p n k came n-is level stop-is = let same = stop_is p n k came n-is level.within ∙ sym stop-is in λ i. record { in_sequence = in-sequence; syntax = s; stop = same i; last = last }
+pub entry_scope : (in-sequence : Bool) (s : Coding) (stop : Option ℕ) (last p n k received : ℕ) → n ≡ p + received → IsOpenLevel k received → stop ≡ stop_of p k → ◌≡◌ {A = Scope} (record { in_sequence = in-sequence; syntax = s; stop = stop_at n (remaining_of k received); last = last }) (record { in_sequence = in-sequence; syntax = s; stop = stop; last = last })
+entry_scope in-sequence s stop last p n k received n-is level stop-is = let same = stop_is p n k received n-is level.within ∙ sym stop-is in λ i. record { in_sequence = in-sequence; syntax = s; stop = same i; last = last }
 
 pub plug : {s : Coding} {ws : List Want} {values : Values} {s1 : Coding} {stop : Option ℕ} {last0 : ℕ} {fs : List Scope} {q : List ℕ} (rest : List ℕ) (tail : Tail) (path2 : List PathEntry) (last2 n : ℕ) → Reaches s ws values (set_scope s1 stop last0) fs q → n ≡ length (q ++ rest) → LastsTo stop n → AllLastTo fs n
     → ((es : Elements) (eb : List ℕ) → DataSet s1 0 es eb → last0 ≡ last_of 0 es → Nested s1 (eb ++ rest) es path2 last2 tail)

@@ -5,7 +5,7 @@ use Rattle.sequence.specs.declared.coding.Coding.{Coding}
 use Rattle.sequence.specs.declared.level.Scope.{Scope}
 use Rattle.sequence.specs.Shape.{is_undefined}
 use Rattle.sequence.specs.Tree.{Elements}
-use Rattle.sequence.specs.Open.{PathEntry, Tail, in_header, header_tail, header_of_item, left_of, item_entry, text_of, entry_of, IsOpenLevel, IsInnermost, Nested, at_elements, in_sequence_of, in_item_of, Open}
+use Rattle.sequence.specs.Open.{PathEntry, Tail, in_header, header_tail, header_of_item, remaining_of, item_entry, text_of, entry_of, IsOpenLevel, IsInnermost, Nested, at_elements, in_sequence_of, in_item_of, Open}
 use Rattle.sequence.specs.Wanted.{Values}
 use Rattle.sequence.specs.Rules.{Limits, Broken, broken_due}
 use Rattle.sequence.specs.machine.Machine.{set_scope, State, Mode, Heading, Reading, Stopped, spot_of, arrive, due, due_by, run, start}
@@ -29,24 +29,24 @@ record Cut (s : Coding) (b : List ℕ) (path : List PathEntry) : Type 0 where
   same : length path2 ≡ length path
   innermost : IsInnermost path2
 
-less_left : (n came came2 : ℕ) → came2 ≤ came → left_of n came ≢ Some 0 → left_of n came2 ≢ Some 0
-less_left n came came2 le some = by (is_undefined n) refl
+less_remaining : (n received received2 : ℕ) → received2 ≤ received → remaining_of n received ≢ Some 0 → remaining_of n received2 ≢ Some 0
+less_remaining n received received2 le some = by (is_undefined n) refl
   where
-    by : (u : Bool) → is_undefined n ≡ u → left_of n came2 ≢ Some 0
+    by : (u : Bool) → is_undefined n ≡ u → remaining_of n received2 ≢ Some 0
     by true e same = let k : None ≡ Some 0 = rw e at same in cc
     by false e same =
-        let k : Some (n - came2) ≡ Some 0 = rw e at same in
-        let z : n - came2 ≡ 0 = cc in
-        some (rw e (ap Some (let y : n - came ≡ 0 = omega (arith, z, le) in y)))
+        let k : Some (n - received2) ≡ Some 0 = rw e at same in
+        let z : n - received2 ≡ 0 = cc in
+        some (rw e (ap Some (let y : n - received ≡ 0 = omega (arith, z, le) in y)))
 
-less_level : (n came came2 : ℕ) → came2 ≤ came → IsOpenLevel n came → IsOpenLevel n came2
-less_level n came came2 le level = record { some = level.some; within = λ d. let w = level.within d in omega (arith, w, le) }
+less_level : (n received received2 : ℕ) → received2 ≤ received → IsOpenLevel n received → IsOpenLevel n received2
+less_level n received received2 le level = record { some = level.some; within = λ d. let w = level.within d in omega (arith, w, le) }
 
 front_innermost : (path : List PathEntry) (e : PathEntry) (more : List PathEntry) → IsInnermost (path ++ e ∷ more) → IsInnermost path
 front_innermost [] e more h = tt
 front_innermost (d ∷ path) e more h = h
 
-last_innermost : (path path2 : List PathEntry) (e e2 : PathEntry) (more more2 : List PathEntry) → length path2 ≡ length path → IsInnermost (path ++ e ∷ more) → IsInnermost path2 → (e.left ≢ Some 0 → e2.left ≢ Some 0) → IsInnermost (path2 ++ e2 ∷ more2)
+last_innermost : (path path2 : List PathEntry) (e e2 : PathEntry) (more more2 : List PathEntry) → length path2 ≡ length path → IsInnermost (path ++ e ∷ more) → IsInnermost path2 → (e.remaining ≢ Some 0 → e2.remaining ≢ Some 0) → IsInnermost (path2 ++ e2 ∷ more2)
 last_innermost [] [] e e2 more more2 same h h2 f = f h
 last_innermost [] (d ∷ path2) e e2 more more2 same h h2 f = absurd (omega arith)
 last_innermost (d ∷ path) [] e e2 more more2 same h h2 f = absurd (omega arith)
@@ -65,7 +65,7 @@ cut (in_sequence_of q {t = t} level tail) i =
       last = _;
       nested = in_sequence_of q (less_level q.header.length (length (q.item_bytes ++ t)) (length (q.item_bytes ++ [])) le level) (header_of_item (no_header q.inner));
       same = refl;
-      innermost = less_left q.header.length (length (q.item_bytes ++ t)) (length (q.item_bytes ++ [])) le i;
+      innermost = less_remaining q.header.length (length (q.item_bytes ++ t)) (length (q.item_bytes ++ [])) le i;
     }
 cut (in_item_of q {k = k} {kb = kb} {b2 = b2} {path = path} {last = last} level it level2 deeper) i =
     let c = cut deeper (front_innermost path _ _ i) in
@@ -81,7 +81,7 @@ cut (in_item_of q {k = k} {kb = kb} {b2 = b2} {path = path} {last = last} level 
       last = _;
       nested = in_item_of q (less_level q.header.length _ _ le level) it (less_level k.length _ _ le2 level2) c.nested;
       same = omega (arith, c.same, length-append c.path2 (item_entry q.inner k.length (length c.text) c.last ∷ entry_of q (kb ++ c.text) ∷ []), length-append path (item_entry q.inner k.length (length b2) last ∷ entry_of q (kb ++ b2) ∷ []));
-      innermost = last_innermost path c.path2 _ _ _ _ c.same i c.innermost (less_left k.length (length b2) (length c.text) le2);
+      innermost = last_innermost path c.path2 _ _ _ _ c.same i c.innermost (less_remaining k.length (length b2) (length c.text) le2);
     }
 
 deep_in : (s : Coding) (lim : Limits) (values : Values) (f : Scope) (fs : List Scope) (p : ℕ) (m : Mode) (b : List ℕ) → StandsIn s lim values f fs p m b → length fs ≤ lim.depth

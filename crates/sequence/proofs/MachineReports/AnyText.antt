@@ -1,4 +1,4 @@
--- The machine stands at any text (`stands`) and reports what is to be reported of it (`tells`); where it goes on no rule is
+-- The machine stands at any text (`stands`) and reports what is to be reported of it (`reports`); where it continues no rule is
 -- broken (`goes_unbroken`), and where it stops the first fault is (`stop_first`). Stands on FrontAtText, GrammarLeads and
 -- MachineStands.
 use Rattle.std.proofs.Common.{◌≡◌, ℕ, zero, suc, ◌+◌, ◌*◌, ◌≤◌, ◌⊎◌, Bool, true, false, List, [], ◌∷◌, ◌++◌, length, Some, None, is_some, refl, sym, ap, subst, ◌∙◌, inl, inr, arith, lit<, append_assoc, append-nil, length-append, if◌then◌else◌}
@@ -11,14 +11,14 @@ use Rattle.sequence.specs.declared.level.Scope.{Scope}
 use Rattle.sequence.specs.declared.spot.Spot.{Spot}
 use Rattle.sequence.specs.declared.wanted.Want.{Want}
 use Rattle.sequence.specs.Tree.{Elements, nothing}
-use Rattle.sequence.specs.Open.{PathEntry, Tail, in_header, in_value, IsLeft, Open}
-use Rattle.sequence.specs.Holding.{begun_in}
-use Rattle.sequence.specs.Wanted.{Values, is_wanted, kept_of, size_of_values, begun_bytes, held_of}
+use Rattle.sequence.specs.Open.{PathEntry, Tail, in_header, in_value, IsRemaining, Open}
+use Rattle.sequence.specs.Holding.{started_in}
+use Rattle.sequence.specs.Wanted.{Values, is_wanted, kept_of, size_of_values, started_bytes, held_of}
 use Rattle.sequence.specs.Rules.{Limits, broken}
 use Rattle.sequence.specs.FirstFault.{IsNoLater, spot_behind, Breaks, IsUnbroken, FirstFault}
-use Rattle.sequence.specs.Walk.{Tells, going, refused}
+use Rattle.sequence.specs.Walk.{Reports, going, refused}
 use Rattle.sequence.specs.machine.Machine.{set_scope, spot_of, arrive, due, State, at, Mode, Heading, Reading, Stopped, next, run, start}
-use Rattle.sequence.specs.machine.Reported.{told_in}
+use Rattle.sequence.specs.machine.Reported.{reported_in}
 use Rattle.sequence.specs.machine.Keeping.{keep, keeps, with_value, wanted_at}
 use Rattle.sequence.specs.Fields.{but_last}
 use Rattle.sequence.specs.machine.Standing.{IsBytes, at_root, AreNested, LastsTo, AllLastTo, IsHeading, IsReading, IsStopped, StandsIn, Stands}
@@ -71,14 +71,14 @@ stop_place n rule p t m e h = subst (StopsAt n) e h
 place_by : (s : Coding) (lim : Limits) (values : Values) (f : Scope) (fs : List Scope) (p : ℕ) (m : Mode) (b : List ℕ) → StandsIn s lim values f fs p m b → p ≤ length b
 place_by s lim values f fs p (Heading begin t) b h = omega (arith, h.0)
 place_by s lim values f fs p (Reading t n) b h = omega (arith, h.0)
-place_by s lim values f fs p (Stopped rule place t) b h = omega (arith, h.came, ap length h.text, length-append (h.before ++ h.u) h.rest)
+place_by s lim values f fs p (Stopped rule place t) b h = omega (arith, h.received, ap length h.text, length-append (h.before ++ h.u) h.rest)
 
 place_within : (s : Coding) (lim : Limits) (b : List ℕ) → IsBytes b → (run lim (start s) b).place ≤ length b
 place_within s lim b bytes =
     let st = run lim (start s) b in
     place_by s lim (keeps lim (start s) [] b) st.top st.below st.place st.mode b (stands s lim b bytes)
 
--- a text at which the machine goes on breaks no rule
+-- a text at which the machine continues breaks no rule
 pub goes_unbroken : (s : Coding) (lim : Limits) (b : List ℕ) → (HasStopped (run lim (start s) b).mode → ⊥) → IsUnbroken s lim b
 goes_unbroken s lim b going-on q v more n t e breaks = by (breaks_stop s lim q v n t breaks)
   where
@@ -121,21 +121,21 @@ stop_first s lim values f fs p rule place t b bytes state h = record {
         let same : run lim (start s) b ≡ run lim (start s) q = ap (run lim (start s)) text ∙ stays_stopped s lim q (v ++ more) k in
         let place-is : p ≡ (run lim (start s) q).place = ap (λ (z : State). z.place) (sym state ∙ same) in
         let far = place_within s lim q (front_bytes q (v ++ more) (subst IsBytes text bytes)) in
-        record { place = omega (arith, far, place-is, h.came, length-append h.before h.u); end = omega (arith, far, place-is, h.came, length-append q v) }
+        record { place = omega (arith, far, place-is, h.received, length-append h.before h.u); end = omega (arith, far, place-is, h.received, length-append q v) }
     by q v more e (inr k) =
         let stopped = stops_stopped (length q) _ k in
         let same : run lim (start s) b ≡ run lim (start s) (q ++ v) = ap (run lim (start s)) e ∙ stays_stopped s lim (q ++ v) more stopped in
         let place-is : p ≡ (run lim (start s) (q ++ v)).place = ap (λ (z : State). z.place) (sym state ∙ same) in
         let far = place_within s lim (q ++ v) (front_bytes (q ++ v) more (subst IsBytes e bytes)) in
         let begin : place ≡ length q = stop_place (length q) rule place t _ (ap (λ (z : State). z.mode) (sym same ∙ state)) k in
-        record { place = omega (arith, begin, h.place-is); end = omega (arith, far, place-is, h.came) }
+        record { place = omega (arith, begin, h.place-is); end = omega (arith, far, place-is, h.received) }
 
--- what is told
+-- what is reported
 
 pub levels_is : {s : Coding} {ws : List Want} {values : Values} {n : ℕ} {b : List ℕ} {tail : Tail} {f : Scope} {fs : List Scope} (x : IsFront s ws values n b tail f fs) → length x.path ≡ length fs
 levels_is {s = s} {n = n} {fs = fs} x = sym (depth_over n x.path (set_scope s None x.last)) ∙ ap length x.below
 
-no_value : (ws : List Want) (path : List PathEntry) (t : List ℕ) → begun_bytes ws path (in_header t) ≡ 0
+no_value : (ws : List Want) (path : List PathEntry) (t : List ℕ) → started_bytes ws path (in_header t) ≡ 0
 no_value ws [] t = refl
 no_value ws (e ∷ path) t = refl
 
@@ -172,13 +172,13 @@ heading_front s lim values f fs begin t b h =
     let x = y.front in
     record { elements = x.elements; path = x.path; last = x.last; front = y.is_open; kept = x.kept; levels = levels_is x }
 
-heading_tells : (s : Coding) (lim : Limits) (values : Values) (f : Scope) (fs : List Scope) (p begin : ℕ) (t b : List ℕ) → IsUnbroken s lim b → (p ≡ length b) × IsHeading s lim values f fs begin t b → Tells s lim b (told_in lim (at f fs p (Heading begin t)) values)
-heading_tells s lim values f fs p begin t b ok both =
+heading_reports : (s : Coding) (lim : Limits) (values : Values) (f : Scope) (fs : List Scope) (p begin : ℕ) (t b : List ℕ) → IsUnbroken s lim b → (p ≡ length b) × IsHeading s lim values f fs begin t b → Reports s lim b (reported_in lim (at f fs p (Heading begin t)) values)
+heading_reports s lim values f fs p begin t b ok both =
     let x = heading_front s lim values f fs begin t b both.1 in
     let held : held_of lim.wanted x.elements x.path (in_header t) ≡ length t + size_of_values values + 16 * length fs = omega (arith, no_value lim.wanted x.path t, x.levels, ap size_of_values x.kept) in
-    subst (Tells s lim b) (λ i. record { fault = None; levels = x.levels i; place = sym both.0 i; held = held i; kept = sym x.kept i }) (going ok x.front)
+    subst (Reports s lim b) (λ i. record { fault = None; levels = x.levels i; place = sym both.0 i; held = held i; kept = sym x.kept i }) (going ok x.front)
 
-value_held : (lim : Limits) (fs : List Scope) (path : List PathEntry) (h : Header) (v : List ℕ) (whole : Values) → length path ≡ length fs → size_of_values (with_value lim fs (number h.tag) v whole) ≡ size_of_values whole + begun_bytes lim.wanted path (in_value h v)
+value_held : (lim : Limits) (fs : List Scope) (path : List PathEntry) (h : Header) (v : List ℕ) (whole : Values) → length path ≡ length fs → size_of_values (with_value lim fs (number h.tag) v whole) ≡ size_of_values whole + started_bytes lim.wanted path (in_value h v)
 value_held lim [] (e ∷ path) h v whole same = absurd (omega arith)
 value_held lim (f ∷ fs) [] h v whole same = absurd (omega arith)
 value_held lim (f ∷ fs) (e ∷ path) h v whole same = omega arith
@@ -205,15 +205,15 @@ value_whole lim fs t v whole = by (wanted_at lim fs t)
     by false = refl
 
 -- the level before a value began ends where it ends
-begun_stop : (g : Scope) (h : Header) → (begun_in g h).stop ≡ g.stop
-begun_stop g h = by (is_marker h.tag)
+started_stop : (g : Scope) (h : Header) → (started_in g h).stop ≡ g.stop
+started_stop g h = by (is_marker h.tag)
   where
     by : (m : Bool) → (if m then g else record g { last = number h.tag }).stop ≡ g.stop
     by true = refl
     by false = refl
 
-round_stop : (f g : Scope) (h : Header) → f ≡ begun_in g h → f.stop ≡ g.stop
-round_stop f g h e = ap (λ (z : Scope). z.stop) e ∙ begun_stop g h
+round_stop : (f g : Scope) (h : Header) → f ≡ started_in g h → f.stop ≡ g.stop
+round_stop f g h e = ap (λ (z : Scope). z.stop) e ∙ started_stop g h
 
 pub reading_at : (s : Coding) (lim : Limits) (values : Values) (f : Scope) (fs : List Scope) (t : Tag) (n : ℕ) (b : List ℕ) (r : IsReading s lim values f fs t n b) → FrontAt s lim.wanted r.whole b (in_value r.h r.v) r.round fs
 reading_at s lim values f fs t n b r =
@@ -222,7 +222,7 @@ reading_at s lim values f fs t n b r =
     let here = less_all (f ∷ fs) (length b) (length b + 1) past (omega arith) in
     let stop = round_stop f r.round r.h r.top in
     let hold : AllLastTo (r.round ∷ fs) (length b) = (subst (λ o. LastsTo o (length b)) stop here.0, here.1) in
-    let nested : AreNested None (r.round ∷ fs) = subst (λ o. IsLeft o None × AreNested (if is_some o then o else None) fs) stop r.levels.nested in
+    let nested : AreNested None (r.round ∷ fs) = subst (λ o. IsRemaining o None × AreNested (if is_some o then o else None) fs) stop r.levels.nested in
     let x = subst (λ z. IsFront s lim.wanted r.whole (length b) z (in_value r.h r.v) r.round fs) (sym r.text) (front_reading r.h r.hb r.v (length b) r.reaches r.begins (omega (arith, r.size, r.more)) hold place) in
     record { front = x; is_open = open_of x nested (past_stays r.round.stop (length b) (subst (λ o. LastsTo o (length b + 1)) stop past.0)) }
 
@@ -232,32 +232,32 @@ reading_front s lim values f fs t n b r =
     let x = y.front in
     record { elements = x.elements; path = x.path; last = x.last; front = y.is_open; kept = x.kept; levels = levels_is x }
 
-reading_tells : (s : Coding) (lim : Limits) (values : Values) (f : Scope) (fs : List Scope) (p : ℕ) (t : Tag) (n : ℕ) (b : List ℕ) → IsUnbroken s lim b → (p ≡ length b) × IsReading s lim values f fs t n b → Tells s lim b (told_in lim (at f fs p (Reading t n)) values)
-reading_tells s lim values f fs p t n b ok both =
+reading_reports : (s : Coding) (lim : Limits) (values : Values) (f : Scope) (fs : List Scope) (p : ℕ) (t : Tag) (n : ℕ) (b : List ℕ) → IsUnbroken s lim b → (p ≡ length b) × IsReading s lim values f fs t n b → Reports s lim b (reported_in lim (at f fs p (Reading t n)) values)
+reading_reports s lim values f fs p t n b ok both =
     let r = both.1 in
     let x = reading_front s lim values f fs t n b r in
-    let values-held : size_of_values values ≡ size_of_values r.whole + begun_bytes lim.wanted x.path (in_value r.h r.v) = ap size_of_values r.kept ∙ value_held lim fs x.path r.h r.v r.whole x.levels in
+    let values-held : size_of_values values ≡ size_of_values r.whole + started_bytes lim.wanted x.path (in_value r.h r.v) = ap size_of_values r.kept ∙ value_held lim fs x.path r.h r.v r.whole x.levels in
     let held : held_of lim.wanted x.elements x.path (in_value r.h r.v) ≡ 0 + size_of_values values + 16 * length fs = omega (arith, values-held, x.levels, ap size_of_values x.kept) in
     let whole : (if wanted_at lim fs (number t) then but_last values else values) ≡ r.whole =
     ap (λ z. if wanted_at lim fs (number z) then but_last values else values) r.tagged ∙ ap (λ z. if wanted_at lim fs (number r.h.tag) then but_last z else z) r.kept ∙ value_whole lim fs (number r.h.tag) r.v r.whole in
-    subst (Tells s lim b) (λ i. record { fault = None; levels = x.levels i; place = sym both.0 i; held = held i; kept = sym (whole ∙ x.kept) i }) (going ok x.front)
+    subst (Reports s lim b) (λ i. record { fault = None; levels = x.levels i; place = sym both.0 i; held = held i; kept = sym (whole ∙ x.kept) i }) (going ok x.front)
 
-stopped_tells : (s : Coding) (lim : Limits) (values : Values) (f : Scope) (fs : List Scope) (p rule place : ℕ) (t : Tag) (b : List ℕ) → IsBytes b → run lim (start s) b ≡ at f fs p (Stopped rule place t) → IsStopped s lim values f fs p rule place t b → Tells s lim b (told_in lim (at f fs p (Stopped rule place t)) values)
-stopped_tells s lim values f fs p rule place t b bytes state h =
+stopped_reports : (s : Coding) (lim : Limits) (values : Values) (f : Scope) (fs : List Scope) (p rule place : ℕ) (t : Tag) (b : List ℕ) → IsBytes b → run lim (start s) b ≡ at f fs p (Stopped rule place t) → IsStopped s lim values f fs p rule place t b → Reports s lim b (reported_in lim (at f fs p (Stopped rule place t)) values)
+stopped_reports s lim values f fs p rule place t b bytes state h =
     let x = open_due s lim values f fs h.before h.due in
     let o = due_open s lim values f fs h.before h.due in
     let levels = levels_is x in
     let held : held_of lim.wanted x.elements x.path (in_header []) ≡ 0 + size_of_values values + 16 * length fs = omega (arith, no_value lim.wanted x.path [], levels, ap size_of_values x.kept) in
-    subst (Tells s lim b) (λ i. record { fault = Some (record { number = rule; place = sym h.place-is i; tag = t }); levels = levels i; place = sym h.came i; held = held i; kept = sym x.kept i })
+    subst (Reports s lim b) (λ i. record { fault = Some (record { number = rule; place = sym h.place-is i; tag = t }); levels = levels i; place = sym h.received i; held = held i; kept = sym x.kept i })
     (refused (stop_first s lim values f fs p rule place t b bytes state h) o)
 
-tells_by : (s : Coding) (lim : Limits) (values : Values) (f : Scope) (fs : List Scope) (p : ℕ) (m : Mode) (b : List ℕ) → IsBytes b → run lim (start s) b ≡ at f fs p m → StandsIn s lim values f fs p m b → Tells s lim b (told_in lim (at f fs p m) values)
-tells_by s lim values f fs p (Heading begin t) b bytes state h = heading_tells s lim values f fs p begin t b (goes_unbroken s lim b (λ k. subst (λ (z : State). HasStopped z.mode) state k)) h
-tells_by s lim values f fs p (Reading t n) b bytes state h = reading_tells s lim values f fs p t n b (goes_unbroken s lim b (λ k. subst (λ (z : State). HasStopped z.mode) state k)) h
-tells_by s lim values f fs p (Stopped rule place t) b bytes state h = stopped_tells s lim values f fs p rule place t b bytes state h
+reports_by : (s : Coding) (lim : Limits) (values : Values) (f : Scope) (fs : List Scope) (p : ℕ) (m : Mode) (b : List ℕ) → IsBytes b → run lim (start s) b ≡ at f fs p m → StandsIn s lim values f fs p m b → Reports s lim b (reported_in lim (at f fs p m) values)
+reports_by s lim values f fs p (Heading begin t) b bytes state h = heading_reports s lim values f fs p begin t b (goes_unbroken s lim b (λ k. subst (λ (z : State). HasStopped z.mode) state k)) h
+reports_by s lim values f fs p (Reading t n) b bytes state h = reading_reports s lim values f fs p t n b (goes_unbroken s lim b (λ k. subst (λ (z : State). HasStopped z.mode) state k)) h
+reports_by s lim values f fs p (Stopped rule place t) b bytes state h = stopped_reports s lim values f fs p rule place t b bytes state h
 
--- after any bytes the machine tells what is to be told
-pub tells : (s : Coding) (lim : Limits) (b : List ℕ) → IsBytes b → Tells s lim b (told_in lim (run lim (start s) b) (keeps lim (start s) [] b))
-tells s lim b bytes =
+-- after any bytes the machine reports what is to be reported
+pub reports : (s : Coding) (lim : Limits) (b : List ℕ) → IsBytes b → Reports s lim b (reported_in lim (run lim (start s) b) (keeps lim (start s) [] b))
+reports s lim b bytes =
     let st = run lim (start s) b in
-    tells_by s lim (keeps lim (start s) [] b) st.top st.below st.place st.mode b bytes refl (stands s lim b bytes)
+    reports_by s lim (keeps lim (start s) [] b) st.top st.below st.place st.mode b bytes refl (stands s lim b bytes)

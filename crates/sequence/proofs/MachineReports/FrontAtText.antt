@@ -1,4 +1,4 @@
--- Where the machine stands the text is a front whose path is the machine's levels: with a header due or begun
+-- Where the machine stands the text is a front whose path is the machine's levels: with a header due or started
 -- (`front_heading`, `due_open`), and in a value (`front_reading`). Stands on GrammarLeads, MachineStands and the laws of
 -- `element`.
 use Rattle.std.proofs.Common.{◌≡◌, ℕ, ◌+◌, ◌-◌, ◌<◌, ◌≤◌, ◌≢◌, Bool, true, false, List, [], ◌∷◌, ◌++◌, length, Option, Some, None, is_some, nat_lt, refl, sym, ap, subst, ◌∙◌, arith, append_assoc, append-nil, length-append, ltb-false, leb-false, ne_eqb, eq-eqb, if◌then◌else◌}
@@ -17,7 +17,7 @@ use Rattle.sequence.specs.declared.wanted.Want.{Want}
 use Rattle.sequence.specs.declared.shape.Shape.TheVariants.{Value}
 use Rattle.sequence.specs.Shape.{shape}
 use Rattle.sequence.specs.Tree.{IsElement}
-use Rattle.sequence.specs.Open.{PathEntry, Tail, in_header, in_value, header_tail, value_tail, IsItemTail, header_of_item, value_of_fragment, IsUnfinishedHeader, IsLeft, AreLeft, IsInnermost, Nested, at_elements, in_sequence_of, Open, sequence_entry}
+use Rattle.sequence.specs.Open.{PathEntry, Tail, in_header, in_value, header_tail, value_tail, IsItemTail, header_of_item, value_of_fragment, IsUnfinishedHeader, IsRemaining, AreRemaining, IsInnermost, Nested, at_elements, in_sequence_of, Open, sequence_entry}
 use Rattle.sequence.specs.Wanted.{Values}
 use Rattle.sequence.specs.Rules.{Limits, broken, passes, broken_need}
 use Rattle.sequence.specs.machine.Machine.{set_scope, stops_at, less}
@@ -34,19 +34,19 @@ use Rattle.sequence.proofs.MachineStands.HeaderDue.{no_header}
 abbrev pub all_over : ℕ → List PathEntry → Scope → List Scope
 all_over n path f = top_over n path f ∷ below_over n path f []
 
-left_of_by : (n : ℕ) (left near : Option ℕ) → IsLeft (stop_at n left) (stop_at n near) → IsLeft left near
-left_of_by n None near h = tt
-left_of_by n (Some a) None h = tt
-left_of_by n (Some a) (Some c) h = omega (arith, h)
+remaining_of_by : (n : ℕ) (remaining near : Option ℕ) → IsRemaining (stop_at n remaining) (stop_at n near) → IsRemaining remaining near
+remaining_of_by n None near h = tt
+remaining_of_by n (Some a) None h = tt
+remaining_of_by n (Some a) (Some c) h = omega (arith, h)
 
 over_some : (n : ℕ) (a c : Option ℕ) → (if is_some (stop_at n a) then stop_at n a else stop_at n c) ≡ stop_at n (if is_some a then a else c)
 over_some n None c = refl
 over_some n (Some a) c = refl
 
-pub paths_left : (n : ℕ) (near : Option ℕ) (path : List PathEntry) (f : Scope) → AreNested (stop_at n near) (all_over n path f) → AreLeft near path
-paths_left n near [] f h = tt
-paths_left n near (e ∷ path) f h =
-    (left_of_by n e.left near h.0, paths_left n (if is_some e.left then e.left else near) path f (subst (λ z. AreNested z (all_over n path f)) (over_some n e.left near) h.1))
+pub paths_remaining : (n : ℕ) (near : Option ℕ) (path : List PathEntry) (f : Scope) → AreNested (stop_at n near) (all_over n path f) → AreRemaining near path
+paths_remaining n near [] f h = tt
+paths_remaining n near (e ∷ path) f h =
+    (remaining_of_by n e.remaining near h.0, paths_remaining n (if is_some e.remaining then e.remaining else near) path f (subst (λ z. AreNested z (all_over n path f)) (over_some n e.remaining near) h.1))
 
 zero_stops : (n : ℕ) (o : Option ℕ) → o ≡ Some 0 → stops_at (stop_at n o) n ≡ false → ⊥
 zero_stops n None e h = cc
@@ -54,7 +54,7 @@ zero_stops n (Some a) e h = let z : a ≡ 0 = cc in let s : n + a ≡ n = omega 
 
 pub paths_inside : (n : ℕ) (path : List PathEntry) (f : Scope) → stops_at (top_over n path f).stop n ≡ false → IsInnermost path
 paths_inside n [] f h = tt
-paths_inside n (e ∷ path) f h = λ z. zero_stops n e.left z h
+paths_inside n (e ∷ path) f h = λ z. zero_stops n e.remaining z h
 
 pub all_is : (n : ℕ) (path : List PathEntry) (r f : Scope) (fs : List Scope) → top_over n path r ≡ f → below_over n path r [] ≡ fs → all_over n path r ≡ f ∷ fs
 all_is n path r f fs t d = λ i. t i ∷ d i
@@ -63,11 +63,11 @@ all_is n path r f fs t d = λ i. t i ∷ d i
 pub open_of : {s : Coding} {ws : List Want} {values : Values} {n : ℕ} {b : List ℕ} {tail : Tail} {f : Scope} {fs : List Scope} (x : IsFront s ws values n b tail f fs) → AreNested None (f ∷ fs) → stops_at f.stop n ≡ false → Open s b x.elements x.path x.last tail
 open_of {s = s} {n = n} {f = f} {fs = fs} x nested stays = record {
   nested = x.nested;
-  left = paths_left n None x.path (set_scope s None x.last) (subst (λ z. AreNested None z) (sym (all_is n x.path (set_scope s None x.last) f fs x.top x.below)) nested);
+  remaining = paths_remaining n None x.path (set_scope s None x.last) (subst (λ z. AreNested None z) (sym (all_is n x.path (set_scope s None x.last) f fs x.top x.below)) nested);
   innermost = paths_inside n x.path (set_scope s None x.last) (ap (λ z. stops_at z.stop n) x.top ∙ stays);
 }
 
--- where a header is due or begun
+-- where a header is due or started
 
 front_sequence : {s : Coding} {ws : List Want} {values : Values} {f : Scope} {fs : List Scope} {before : List ℕ} (t : List ℕ) (end : Tail) (n : ℕ) → Reaches s ws values f fs before → f.in_sequence ≡ true → IsItemTail f.syntax end t → AllLastTo (f ∷ fs) n → n ≡ length (before ++ t) → IsFront s ws values n (before ++ t) end f fs
 front_sequence t end n (at_root d e k fits) here tail hold n-is = absurd cc

@@ -18,17 +18,17 @@ use Rattle.sequence.specs.Open.{PathEntry, Tail, in_header, in_value, IsTail, he
 use Rattle.sequence.specs.Wanted.{Values, kept_of}
 use Rattle.sequence.specs.Rules.{Limits}
 use Rattle.sequence.specs.FirstFault.{IsUnbroken, FirstFault}
-use Rattle.sequence.specs.Walk.{Told, Tells, going, refused}
+use Rattle.sequence.specs.Walk.{Report, Reports, going, refused}
 use Rattle.sequence.specs.machine.Machine.{set_scope, State, at, Mode, Heading, Reading, Stopped, run, start}
 use Rattle.sequence.specs.machine.Keeping.{keeps, with_value}
 use Rattle.sequence.specs.Stored.{wants_of, values_of}
-use Rattle.sequence.specs.Holding.{scope_at, levels_at, with_begun, header_begun, value_due, pending_of, values_at, Holding, holding_of, Holds, of_all, before_fault}
+use Rattle.sequence.specs.Holding.{scope_at, levels_at, with_started, header_started, value_due, pending_of, values_at, Holding, holding_of, Holds, of_all, before_fault}
 use Rattle.sequence.specs.Fields.{scope_of, scopes_in, pending_by}
 use Rattle.sequence.specs.Taken.{holding_by}
 use Rattle.sequence.specs.machine.Scopes.{top_of, below_of}
 use Rattle.sequence.specs.machine.Spare.{head_room}
 use Rattle.sequence.specs.machine.Holding.{IsIn}
-use Rattle.sequence.specs.machine.State.{mode_of, top, below, state_of, kept_values, limits_of, walker_syntax, fault_by, fault_of, told_by, HoldsFront, StandsAt}
+use Rattle.sequence.specs.machine.State.{mode_of, top, below, state_of, kept_values, limits_of, walker_syntax, fault_by, fault_of, reported_by, HoldsFront, StandsAt}
 use Rattle.sequence.specs.machine.Standing.{IsStopped, StandsIn, Stands}
 use Rattle.sequence.proofs.GrammarLeads.TreesRun.{HasStopped}
 use Rattle.sequence.proofs.GrammarLeads.LevelsArePaths.{IsFront}
@@ -56,17 +56,17 @@ value_at lim (f ∷ fs) (e ∷ path) h v es same = refl
 fault_breaks : {s : Coding} {lim : Limits} {b p u : List ℕ} {rule : ℕ} {tag : Tag} → FirstFault s lim b p u rule tag → IsUnbroken s lim b → ⊥
 fault_breaks {p = p} {u = u} {rule = rule} {tag = tag} f ok = ok p u f.rest rule tag f.text f.breaks
 
-pub record IsTold (told : Told) (fault-is : Option Fault) (place-is : ℕ) : Type 0 where
-  pub fault : told.fault ≡ fault-is
-  pub place : told.place ≡ place-is
+pub record IsReported (reported : Report) (fault-is : Option Fault) (place-is : ℕ) : Type 0 where
+  pub fault : reported.fault ≡ fault-is
+  pub place : reported.place ≡ place-is
 
-pub tells_going : (s : Coding) (lim : Limits) (b : List ℕ) (told : Told) → IsUnbroken s lim b → Tells s lim b told → IsTold told None (length b)
-tells_going s lim b told ok (going fine o) = record { fault = refl; place = refl }
-tells_going s lim b told ok (refused f o) = absurd (fault_breaks f ok)
+pub reports_going : (s : Coding) (lim : Limits) (b : List ℕ) (reported : Report) → IsUnbroken s lim b → Reports s lim b reported → IsReported reported None (length b)
+reports_going s lim b reported ok (going fine o) = record { fault = refl; place = refl }
+reports_going s lim b reported ok (refused f o) = absurd (fault_breaks f ok)
 
-pub tells_refused : (s : Coding) (lim : Limits) (b p u : List ℕ) (rule : ℕ) (tag : Tag) (told : Told) → FirstFault s lim b p u rule tag → Tells s lim b told → IsTold told (Some (record { number = rule; place = length p; tag = tag })) (length (p ++ u))
-tells_refused s lim b p u rule tag told f (going ok o) = absurd (fault_breaks f ok)
-tells_refused s lim b p u rule tag told f (refused {p = p2} {u = u2} {rule = rule2} {tag = tag2} g o) =
+pub reports_refused : (s : Coding) (lim : Limits) (b p u : List ℕ) (rule : ℕ) (tag : Tag) (reported : Report) → FirstFault s lim b p u rule tag → Reports s lim b reported → IsReported reported (Some (record { number = rule; place = length p; tag = tag })) (length (p ++ u))
+reports_refused s lim b p u rule tag reported f (going ok o) = absurd (fault_breaks f ok)
+reports_refused s lim b p u rule tag reported f (refused {p = p2} {u = u2} {rule = rule2} {tag = tag2} g o) =
     let k = one_fault s lim b p2 p u2 u rule2 rule tag2 tag g f in
     record { fault = λ i. Some (record { number = k.2 i; place = length (k.0 i); tag = k.3 i }); place = λ i. length (k.0 i ++ k.1 i) }
 
@@ -109,18 +109,18 @@ module _ {V D : ℕ} (w : Walker V D) (b : List ℕ) (h : Walks w b) where
       let levels = front_levels y.front in
       let values : kept_values w ≡ kept_of (wants_of w.kept) y.front.elements = h.values ∙ y.front.kept in
       let same : holding_by w ≡ holding_of (walker_syntax w) (wants_of w.kept) (length b) y.front.elements y.front.path y.front.last (in_header w.header.items) =
-      pending_is stages.Heading e ∙ (λ i. record { levels = levels i; pending = header_begun w.header.items; values = values i }) in
+      pending_is stages.Heading e ∙ (λ i. record { levels = levels i; pending = header_started w.header.items; values = values i }) in
       subst (λ z. Holds (walker_syntax w) (limits_of w) b z) (sym same) (of_all (not_stopped stages.Heading e (λ z. z)) y.is_open)
   holds_by (stages.Value t n kept) e =
       let r = (stands_in (stages.Value t n kept) e).1 in
       let y = reading_at (walker_syntax w) (limits_of w) (keeps (limits_of w) (start (walker_syntax w)) [] b) (top w) (below w) t n b r in
-      let levels : top w ∷ below w ≡ with_begun (in_value r.h r.v) (levels_at (length b) y.front.path (walker_syntax w) y.front.last) = ap (λ z. z ∷ below w) r.top ∙ ap (with_begun (in_value r.h r.v)) (front_levels y.front) in
+      let levels : top w ∷ below w ≡ with_started (in_value r.h r.v) (levels_at (length b) y.front.path (walker_syntax w) y.front.last) = ap (λ z. z ∷ below w) r.top ∙ ap (with_started (in_value r.h r.v)) (front_levels y.front) in
       let values : kept_values w ≡ values_at (wants_of w.kept) y.front.elements y.front.path (in_value r.h r.v) =
       h.values ∙ r.kept ∙ ap (λ z. with_value (limits_of w) (below w) (number r.h.tag) r.v z) y.front.kept ∙ value_at (limits_of w) (below w) y.front.path r.h r.v y.front.elements (levels_is y.front) in
-      let left : n ≡ r.h.length - length r.v = omega (arith, r.size) in
+      let remaining : n ≡ r.h.length - length r.v = omega (arith, r.size) in
       let tag = r.tagged in
       let same : holding_by w ≡ holding_of (walker_syntax w) (wants_of w.kept) (length b) y.front.elements y.front.path y.front.last (in_value r.h r.v) =
-      pending_is (stages.Value t n kept) e ∙ (λ i. record { levels = levels i; pending = value_due (tag i) (left i); values = values i }) in
+      pending_is (stages.Value t n kept) e ∙ (λ i. record { levels = levels i; pending = value_due (tag i) (remaining i); values = values i }) in
       subst (λ z. Holds (walker_syntax w) (limits_of w) b z) (sym same) (of_all (not_stopped (stages.Value t n kept) e (λ z. z)) y.is_open)
   holds_by (stages.Stopped fault) e =
       let k : IsStopped (walker_syntax w) (limits_of w) (keeps (limits_of w) (start (walker_syntax w)) [] b) (top w) (below w) w.place fault.number fault.place fault.tag b = stands_in (stages.Stopped fault) e in
@@ -131,7 +131,7 @@ module _ {V D : ℕ} (w : Walker V D) (b : List ℕ) (h : Walks w b) where
       let values : kept_values w ≡ kept_of (wants_of w.kept) x.elements = h.values ∙ x.kept in
       let none : w.header.items ≡ [] = no_header_kept w.header.items (subst (λ z. length w.header.items ≤ head_room z) e w.few) in
       let same : holding_by w ≡ holding_of (walker_syntax w) (wants_of w.kept) (length k.before) x.elements x.path x.last (in_header []) =
-      pending_is (stages.Stopped fault) e ∙ (λ i. record { levels = levels i; pending = header_begun (none i); values = values i }) in
+      pending_is (stages.Stopped fault) e ∙ (λ i. record { levels = levels i; pending = header_started (none i); values = values i }) in
       subst (λ z. Holds (walker_syntax w) (limits_of w) b z) (sym same) (before_fault first due)
 
   pub walker_holds : Holds (walker_syntax w) (limits_of w) b (holding_by w)
@@ -139,45 +139,45 @@ module _ {V D : ℕ} (w : Walker V D) (b : List ℕ) (h : Walks w b) where
 
 -- what is held of a front
 
-abbrev begun_short : Tail → Type 0
-begun_short (in_header t) = Unit {0}
-begun_short (in_value h v) = length v < h.length
+abbrev started_short : Tail → Type 0
+started_short (in_header t) = Unit {0}
+started_short (in_value h v) = length v < h.length
 
-tail_short : {s : Coding} {last : ℕ} {tail : Tail} {t : List ℕ} → IsTail s last tail t → begun_short tail
+tail_short : {s : Coding} {last : ℕ} {tail : Tail} {t : List ℕ} → IsTail s last tail t → started_short tail
 tail_short (header_tail part) = tt
 tail_short (value_tail v el sh lt) = lt
 
-item_tail_short : {s : Coding} {tail : Tail} {t : List ℕ} → IsItemTail s tail t → begun_short tail
+item_tail_short : {s : Coding} {tail : Tail} {t : List ℕ} → IsItemTail s tail t → started_short tail
 item_tail_short (header_of_item part) = tt
 item_tail_short (value_of_fragment v it lt) = lt
 
-nested_short : {s : Coding} {b : List ℕ} {es : Elements} {path : List PathEntry} {last : ℕ} {tail : Tail} → Nested s b es path last tail → begun_short tail
+nested_short : {s : Coding} {b : List ℕ} {es : Elements} {path : List PathEntry} {last : ℕ} {tail : Tail} → Nested s b es path last tail → started_short tail
 nested_short (at_elements set tail) = tail_short tail
 nested_short (in_sequence_of q level tail) = item_tail_short tail
 nested_short (in_item_of q level it level2 deeper) = nested_short deeper
 
-in_tail : (stage : Stage) (header : List ℕ) (tail : Tail) → fault_by stage ≡ None → pending_by stage header ≡ pending_of tail → begun_short tail → IsIn stage header tail
+in_tail : (stage : Stage) (header : List ℕ) (tail : Tail) → fault_by stage ≡ None → pending_by stage header ≡ pending_of tail → started_short tail → IsIn stage header tail
 in_tail stages.Heading header (in_header t) none e short = let same : header ≡ t = cc in ap in_header (sym same)
 in_tail stages.Heading header (in_value h v) none e short = absurd cc
-in_tail (stages.Value tag left kept) header (in_header t) none e short = absurd cc
-in_tail (stages.Value tag left kept) header (in_value h v) none e short =
+in_tail (stages.Value tag remaining kept) header (in_header t) none e short = absurd cc
+in_tail (stages.Value tag remaining kept) header (in_value h v) none e short =
     let tags : tag ≡ h.tag = cc in
-    let lefts : left ≡ h.length - length v = cc in
+    let lefts : remaining ≡ h.length - length v = cc in
     (tags, omega (arith, lefts, short))
 in_tail (stages.Stopped fault) header tail none e short = absurd cc
 
 front_by : {V D : ℕ} (w : Walker V D) (n : ℕ) (es : Elements) (path : List PathEntry) (last : ℕ) (tail : Tail) → holding_by w ≡ holding_of (walker_syntax w) (wants_of w.kept) n es path last tail → HoldsFront w n es path last tail
 front_by w n es path last tail e = record { levels = sym (scopes_are w.root [] w.levels.items) ∙ ap (λ (z : Holding). z.levels) e; values = ap (λ (z : Holding). z.values) e }
 
-tells_unbroken : (s : Coding) (lim : Limits) (b : List ℕ) (told : Told) → told.fault ≡ None → Tells s lim b told → IsUnbroken s lim b
-tells_unbroken s lim b told e (going ok o) = ok
-tells_unbroken s lim b told e (refused f o) = absurd cc
+reports_unbroken : (s : Coding) (lim : Limits) (b : List ℕ) (reported : Report) → reported.fault ≡ None → Reports s lim b reported → IsUnbroken s lim b
+reports_unbroken s lim b reported e (going ok o) = ok
+reports_unbroken s lim b reported e (refused f o) = absurd cc
 
 -- of a walker that refused nothing, and of one that refused
 
 pub stands_going : {V D : ℕ} (w : Walker V D) (b : List ℕ) → StandsAt w b → (es : Elements) (path : List PathEntry) (last : ℕ) (tail : Tail) → fault_of w ≡ None → Open (walker_syntax w) b es path last tail → HoldsFront w (length b) es path last tail × IsIn w.stage w.header.items tail
 stands_going w b h es path last tail none o =
-    let e = one_holding (walker_syntax w) (limits_of w) b (holding_by w) (holding_of (walker_syntax w) (wants_of w.kept) (length b) es path last tail) h.holds (of_all (tells_unbroken (walker_syntax w) (limits_of w) b (told_by w) none h.tells) o) in
+    let e = one_holding (walker_syntax w) (limits_of w) b (holding_by w) (holding_of (walker_syntax w) (wants_of w.kept) (length b) es path last tail) h.holds (of_all (reports_unbroken (walker_syntax w) (limits_of w) b (reported_by w) none h.reports) o) in
     (front_by w (length b) es path last tail e, in_tail w.stage w.header.items tail none (ap (λ (z : Holding). z.pending) e) (nested_short o.nested))
 
 stands_refused : {V D : ℕ} (w : Walker V D) (b : List ℕ) → StandsAt w b → (p u : List ℕ) (rule : ℕ) (tag : Tag) (es : Elements) (path : List PathEntry) (last : ℕ) → FirstFault (walker_syntax w) (limits_of w) b p u rule tag → Open (walker_syntax w) p es path last (in_header [])
@@ -206,9 +206,9 @@ mode_heading stages.Heading place header before t b h p e =
 mode_reading : (stage : Stage) (place : ℕ) (header v : List ℕ) (h : Header) (t : Tag) (n : ℕ) → IsIn stage header (in_value h v) → t ≡ h.tag → length v + n ≡ h.length → mode_of stage place header ≡ Reading t n
 mode_reading stages.Heading place header v h t n k e size = absurd cc
 mode_reading (stages.Stopped fault) place header v h t n k e size = absurd k
-mode_reading (stages.Value tag left kept) place header v h t n k e size =
+mode_reading (stages.Value tag remaining kept) place header v h t n k e size =
     let tags : tag ≡ t = k.0 ∙ sym e in
-    let lefts : left ≡ n = omega (arith, k.1, size) in
+    let lefts : remaining ≡ n = omega (arith, k.1, size) in
     λ i. Reading (tags i) (lefts i)
 
 mode_stopped : (stage : Stage) (place : ℕ) (header : List ℕ) (fault : Fault) → fault_by stage ≡ Some fault → mode_of stage place header ≡ Stopped fault.number fault.place fault.tag
@@ -224,22 +224,22 @@ module _ {V D : ℕ} (w : Walker V D) (b : List ℕ) (h : StandsAt w b) where
   state_by : (f : Scope) (fs : List Scope) (p : ℕ) (m : Mode) → run (limits_of w) (start (walker_syntax w)) b ≡ at f fs p m → StandsIn (walker_syntax w) (limits_of w) (keeps (limits_of w) (start (walker_syntax w)) [] b) f fs p m b → IsState w (at f fs p m) (keeps (limits_of w) (start (walker_syntax w)) [] b)
   state_by f fs p (Heading begin t) e k =
       let ok = goes_unbroken (walker_syntax w) (limits_of w) b (λ z. subst (λ (st : State). HasStopped st.mode) e z) in
-      let told = tells_going (walker_syntax w) (limits_of w) b (told_by w) ok h.tells in
+      let reported = reports_going (walker_syntax w) (limits_of w) b (reported_by w) ok h.reports in
       let y = heading_at (walker_syntax w) (limits_of w) (keeps (limits_of w) (start (walker_syntax w)) [] b) f fs begin t b k.1 in
-      let g = stands_going w b h y.front.elements y.front.path y.front.last (in_header t) told.fault y.is_open in
+      let g = stands_going w b h y.front.elements y.front.path y.front.last (in_header t) reported.fault y.is_open in
       let levels = same_levels (top w) f (below w) fs (g.0.levels ∙ sym (front_levels y.front)) in
-      let mode = mode_heading w.stage w.place w.header.items k.1.before t b g.1 told.place k.1.text ∙ ap (λ z. Heading z t) (sym k.1.place) in
-      let place : w.place ≡ p = told.place ∙ sym k.0 in
+      let mode = mode_heading w.stage w.place w.header.items k.1.before t b g.1 reported.place k.1.text ∙ ap (λ z. Heading z t) (sym k.1.place) in
+      let place : w.place ≡ p = reported.place ∙ sym k.0 in
       record { state = λ i. at (levels.first i) (levels.rest i) (place i) (mode i); kept = g.0.values ∙ sym y.front.kept }
   state_by f fs p (Reading t n) e k =
       let r = k.1 in
       let ok = goes_unbroken (walker_syntax w) (limits_of w) b (λ z. subst (λ (st : State). HasStopped st.mode) e z) in
-      let told = tells_going (walker_syntax w) (limits_of w) b (told_by w) ok h.tells in
+      let reported = reports_going (walker_syntax w) (limits_of w) b (reported_by w) ok h.reports in
       let y = reading_at (walker_syntax w) (limits_of w) (keeps (limits_of w) (start (walker_syntax w)) [] b) f fs t n b k.1 in
-      let g = stands_going w b h y.front.elements y.front.path y.front.last (in_value r.h r.v) told.fault y.is_open in
-      let levels = same_levels (top w) f (below w) fs (g.0.levels ∙ ap (with_begun (in_value r.h r.v)) (sym (front_levels y.front)) ∙ ap (λ z. z ∷ fs) (sym r.top)) in
+      let g = stands_going w b h y.front.elements y.front.path y.front.last (in_value r.h r.v) reported.fault y.is_open in
+      let levels = same_levels (top w) f (below w) fs (g.0.levels ∙ ap (with_started (in_value r.h r.v)) (sym (front_levels y.front)) ∙ ap (λ z. z ∷ fs) (sym r.top)) in
       let mode = mode_reading w.stage w.place w.header.items r.v r.h t n g.1 r.tagged r.size in
-      let place : w.place ≡ p = told.place ∙ sym k.0 in
+      let place : w.place ≡ p = reported.place ∙ sym k.0 in
       record {
         state = λ i. at (levels.first i) (levels.rest i) (place i) (mode i);
         kept = g.0.values ∙ sym (r.kept ∙ ap (λ z. with_value (limits_of w) fs (number r.h.tag) r.v z) y.front.kept ∙ value_at (limits_of w) fs y.front.path r.h r.v y.front.elements (levels_is y.front));
@@ -247,13 +247,13 @@ module _ {V D : ℕ} (w : Walker V D) (b : List ℕ) (h : StandsAt w b) where
   state_by f fs p (Stopped rule place t) e k =
       let values = keeps (limits_of w) (start (walker_syntax w)) [] b in
       let first = stop_first (walker_syntax w) (limits_of w) (keeps (limits_of w) (start (walker_syntax w)) [] b) f fs p rule place t b h.bytes e k in
-      let told = tells_refused (walker_syntax w) (limits_of w) b k.before k.u rule t (told_by w) first h.tells in
+      let reported = reports_refused (walker_syntax w) (limits_of w) b k.before k.u rule t (reported_by w) first h.reports in
       let x = open_due (walker_syntax w) (limits_of w) (keeps (limits_of w) (start (walker_syntax w)) [] b) f fs k.before k.due in
       let due = due_open (walker_syntax w) (limits_of w) (keeps (limits_of w) (start (walker_syntax w)) [] b) f fs k.before k.due in
       let g = stands_refused w b h k.before k.u rule t x.elements x.path x.last first due in
       let levels = same_levels (top w) f (below w) fs (g.levels ∙ sym (front_levels x)) in
-      let mode = mode_stopped w.stage w.place w.header.items (record { number = rule; place = length k.before; tag = t }) told.fault ∙ ap (λ z. Stopped rule z t) (sym k.place-is) in
-      let place-is : w.place ≡ p = told.place ∙ sym k.came in
+      let mode = mode_stopped w.stage w.place w.header.items (record { number = rule; place = length k.before; tag = t }) reported.fault ∙ ap (λ z. Stopped rule z t) (sym k.place-is) in
+      let place-is : w.place ≡ p = reported.place ∙ sym k.received in
       record { state = λ i. at (levels.first i) (levels.rest i) (place-is i) (mode i); kept = g.values ∙ sym x.kept }
 
   pub walks : Walks w b

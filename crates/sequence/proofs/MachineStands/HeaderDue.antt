@@ -6,7 +6,7 @@ use Rattle.element.specs.declared.header.Header.{Header}
 use Rattle.element.specs.Header.{need, is_whole}
 use Rattle.sequence.specs.declared.level.Scope.{Scope}
 use Rattle.sequence.specs.declared.wanted.Want.{Want}
-use Rattle.sequence.specs.Open.{IsUnfinishedHeader, IsLeft}
+use Rattle.sequence.specs.Open.{IsUnfinishedHeader, IsRemaining}
 use Rattle.sequence.specs.Wanted.{Values}
 use Rattle.sequence.specs.Rules.{Limits, Broken, broken_due, ◌or_else◌, broken}
 use Rattle.sequence.specs.machine.Machine.{State, spot_of, nearer, nearest, stops_at, arrive, due, due_by}
@@ -53,7 +53,7 @@ due_stands s lim values f fs b (Some x) e d = record {
   rest = [];
   due = d;
   place-is = refl;
-  came = ap length (sym (append-nil b));
+  received = ap length (sym (append-nil b));
   text = sym (append-nil (b ++ []) ∙ append-nil b);
   breaks = none_none (broken_due (spot_of f fs (length b))) ∙ e;
   unbroken = λ w y z same. absurd (no_cons w y z same);
@@ -92,7 +92,7 @@ pub arrive_stands : {s : Coding} {values : Values} {f : Scope} {fs : List Scope}
 arrive_stands {s = s} {values = values} {f = f} {fs = fs} {b = b} lim p e r l = rw e (lands_stand s lim values (arrive (length b) f fs) b (arrives s lim values f fs b r (subst (AreLevels lim f fs) e l)))
 
 same_levels : {lim : Limits} {f : Scope} {fs : List Scope} {n : ℕ} (g : Scope) → f.stop ≡ g.stop → AreLevels lim f fs n → AreLevels lim g fs n
-same_levels {lim} {f} {fs} {n} g e l = record { nested = subst (λ o. IsLeft o None × AreNested (if is_some o then o else None) fs) e l.nested; hold = subst (λ o. LastsTo o n × AllLastTo fs n) e l.hold; deep = l.deep; short = l.short }
+same_levels {lim} {f} {fs} {n} g e l = record { nested = subst (λ o. IsRemaining o None × AreNested (if is_some o then o else None) fs) e l.nested; hold = subst (λ o. LastsTo o n × AllLastTo fs n) e l.hold; deep = l.deep; short = l.short }
 
 pub same_taken : {lim : Limits} {f : Scope} {fs : List Scope} {p : ℕ} {h : Header} (g : Scope) → f.stop ≡ g.stop → IsTaken lim f fs p h → IsTaken lim g fs p h
 same_taken {lim} {f} {fs} {p} {h} g e t = record { levels = same_levels g e t.levels; ends = λ d. subst (λ o. LastsTo (nearer o (nearest fs)) (p + h.length)) e (t.ends d); far = t.far }

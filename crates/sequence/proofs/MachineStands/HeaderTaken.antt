@@ -18,7 +18,7 @@ use Rattle.sequence.specs.Rules.{Limits, broken_tag, same_tag, is_not_allowed, i
 use Rattle.sequence.specs.machine.Machine.{set_scope, sequence_scope, Reading, at, spot_of, is_none, is_empty, stop_of, arrive, begin_value, begin_level, leave, take_header}
 use Rattle.sequence.specs.machine.Keeping.{with_value, keep_header}
 use Rattle.sequence.specs.machine.Standing.{IsLength, IsFit, Reaches, at_root, into_sequence, into_item, AreLevels, BeginsIn, an_element, a_fragment, Stands}
-use Rattle.sequence.specs.Holding.{begun_in}
+use Rattle.sequence.specs.Holding.{started_in}
 use Rattle.sequence.specs.Coding.{layout, has_fragments}
 use Rattle.sequence.proofs.MachineStands.HeaderParts.{mark_spelled}
 use Rattle.sequence.proofs.GrammarLeads.TreesRun.{taken_value, taken_sequence, taken_item, taken_fragment}
@@ -153,11 +153,11 @@ inside_kept lim t v kept (at_root d e k fits) here = absurd cc
 inside_kept lim t v kept (into_sequence r el sh len some items stop-is k-is b-is) here = refl
 inside_kept lim t v kept (into_item r it len some set stop-is last-is b-is) here = absurd cc
 
-begun_fragment : (g : Scope) (h : Header) → is_marker h.tag ≡ true → begun_in g h ≡ g
-begun_fragment g h m = ap (λ z. if z then g else record g { last = number h.tag }) m
+started_fragment : (g : Scope) (h : Header) → is_marker h.tag ≡ true → started_in g h ≡ g
+started_fragment g h m = ap (λ z. if z then g else record g { last = number h.tag }) m
 
-begun_element : (g : Scope) (h : Header) → is_marker h.tag ≡ false → g.in_sequence ≡ false → begun_in g h ≡ set_scope g.syntax g.stop (number h.tag)
-begun_element g h m e = ap (λ z. if z then g else record g { last = number h.tag }) m ∙ (λ i. record { in_sequence = e i; syntax = g.syntax; stop = g.stop; last = number h.tag })
+started_element : (g : Scope) (h : Header) → is_marker h.tag ≡ false → g.in_sequence ≡ false → started_in g h ≡ set_scope g.syntax g.stop (number h.tag)
+started_element g h m e = ap (λ z. if z then g else record g { last = number h.tag }) m ∙ (λ i. record { in_sequence = e i; syntax = g.syntax; stop = g.stop; last = number h.tag })
 
 fragment_stands : {s s1 : Coding} {values : Values} {stop : Option ℕ} {fs : List Scope} {b hb : List ℕ} {h : Header} (lim : Limits) (p : ℕ) → p ≡ length (b ++ hb) → Reaches s lim.wanted values (sequence_scope s1 stop) fs b → IsFragmentItem s1 h hb → IsEven h.length
     → IsTaken lim (sequence_scope s1 stop) fs p h
@@ -182,7 +182,7 @@ fragment_stands {s = s} {s1 = s1} {values = values} {stop = stop} {fs = fs} {b =
         v = [];
         reaches = r;
         levels = subst (λ z. AreLevels lim (sequence_scope s1 stop) fs (z + h.length)) p-is (levels_read lim (sequence_scope s1 stop) fs p h t it.defined);
-        top = sym (begun_fragment (sequence_scope s1 stop) h (ap (λ z. is_marker z) it.tagged));
+        top = sym (started_fragment (sequence_scope s1 stop) h (ap (λ z. is_marker z) it.tagged));
         begins = a_fragment refl it;
         even = even;
         size = omega arith;
@@ -215,25 +215,25 @@ sequence_of (into_sequence r el sh len some items stop-is k-is b-is) h = refl
 sequence_of (into_item r it len some set stop-is last-is b-is) h = absurd cc
 
 -- a value or a fragment is whole
-pub begun_ends : {s : Coding} {whole : Values} {fs : List Scope} {before : List ℕ} (lim : Limits) (g : Scope) (h : Header) (hb v : List ℕ) → Reaches s lim.wanted whole g fs before → BeginsIn lim.wanted g fs h hb → IsEven h.length → length v ≡ h.length
-    → Reaches s lim.wanted (with_value lim fs (number h.tag) v whole) (begun_in g h) fs (before ++ (hb ++ v))
-begun_ends {s = s} {whole = whole} {fs = fs} {before = before} lim g h hb v r (an_element here el sh fits) even size =
+pub started_ends : {s : Coding} {whole : Values} {fs : List Scope} {before : List ℕ} (lim : Limits) (g : Scope) (h : Header) (hb v : List ℕ) → Reaches s lim.wanted whole g fs before → BeginsIn lim.wanted g fs h hb → IsEven h.length → length v ≡ h.length
+    → Reaches s lim.wanted (with_value lim fs (number h.tag) v whole) (started_in g h) fs (before ++ (hb ++ v))
+started_ends {s = s} {whole = whole} {fs = fs} {before = before} lim g h hb v r (an_element here el sh fits) even size =
     let val : IsValue h.length v = record { even = even; size = size } in
     let text : DataSet g.syntax g.last (value h v no_elements) (hb ++ (v ++ [])) = value_then el sh val nothing in
     let r2 : Reaches s lim.wanted whole (set_scope g.syntax g.stop g.last) fs before = subst (λ z. Reaches s lim.wanted whole z fs before) (set_of g here) r in
-    subst (λ z. Reaches s lim.wanted (with_value lim fs (number h.tag) v whole) z fs (before ++ (hb ++ v))) (sym (begun_element g h el.no_marker here))
+    subst (λ z. Reaches s lim.wanted (with_value lim fs (number h.tag) v whole) z fs (before ++ (hb ++ v))) (sym (started_element g h el.no_marker here))
     (subst (λ z. Reaches s lim.wanted (with_value lim fs (number h.tag) v whole) (set_scope g.syntax g.stop (number h.tag)) fs (before ++ (hb ++ z))) (append-nil v) (more_value lim h v r2 text size fits))
-begun_ends {s = s} {whole = whole} {fs = fs} {before = before} lim g h hb v r (a_fragment here it) even size =
+started_ends {s = s} {whole = whole} {fs = fs} {before = before} lim g h hb v r (a_fragment here it) even size =
     let val : IsValue h.length v = record { even = even; size = size } in
     let text : ItemList g.syntax (fragment h v no_items) (hb ++ (v ++ [])) = fragment_then it val no_more in
     let is = sequence_of r here in
     let r2 : Reaches s lim.wanted whole (sequence_scope g.syntax g.stop) fs before = subst (λ z. Reaches s lim.wanted whole z fs before) is r in
     let more : Reaches s lim.wanted whole (sequence_scope g.syntax g.stop) fs (before ++ (hb ++ v)) = subst (λ z. Reaches s lim.wanted whole (sequence_scope g.syntax g.stop) fs (before ++ (hb ++ z))) (append-nil v) (more_items r2 text) in
-    subst (λ z. Reaches s lim.wanted z (begun_in g h) fs (before ++ (hb ++ v))) (sym (inside_kept lim (number h.tag) v whole r here))
+    subst (λ z. Reaches s lim.wanted z (started_in g h) fs (before ++ (hb ++ v))) (sym (inside_kept lim (number h.tag) v whole r here))
     (subst (λ z. Reaches s lim.wanted whole z fs (before ++ (hb ++ v))) (is-sequence is) more)
   where
-    is-sequence : g ≡ sequence_scope g.syntax g.stop → sequence_scope g.syntax g.stop ≡ begun_in g h
-    is-sequence is = sym is ∙ sym (begun_fragment g h (ap (λ z. is_marker z) it.tagged))
+    is-sequence : g ≡ sequence_scope g.syntax g.stop → sequence_scope g.syntax g.stop ≡ started_in g h
+    is-sequence is = sym is ∙ sym (started_fragment g h (ap (λ z. is_marker z) it.tagged))
 
 open_none : (o : Option ℕ) (rest : Bool) → (is_none o && rest) ≡ true → o ≡ None
 open_none None rest e = refl

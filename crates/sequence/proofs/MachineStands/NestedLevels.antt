@@ -12,14 +12,14 @@ use Rattle.element.proofs.Public.{need_is, need_spelled, spelled_long}
 use Rattle.sequence.specs.declared.level.Scope.{Scope}
 use Rattle.sequence.specs.declared.spot.Spot.{Spot}
 use Rattle.sequence.specs.Shape.{is_undefined, undefined_length}
-use Rattle.sequence.specs.Open.{IsLeft}
+use Rattle.sequence.specs.Open.{IsRemaining}
 use Rattle.sequence.specs.Rules.{Limits, broken_need, broken_header, passes, counted_length}
 use Rattle.sequence.specs.machine.Machine.{spot_of, nearer, nearest, less, stop_of}
 use Rattle.sequence.specs.machine.Standing.{AreNested, LastsTo, AllLastTo, AreLevels}
 use Rattle.sequence.proofs.MachineStands.SoundHeader.{is_sound, if_some, and_false}
 use Rattle.sequence.proofs.MachineStands.UnbrokenHeader.{BreaksNone}
 
-weaken_by : (o near : Option ℕ) (fs : List Scope) → (AreNested near fs → AreNested None fs) → IsLeft o near × AreNested (if is_some o then o else near) fs → IsLeft o None × AreNested (if is_some o then o else None) fs
+weaken_by : (o near : Option ℕ) (fs : List Scope) → (AreNested near fs → AreNested None fs) → IsRemaining o near × AreNested (if is_some o then o else near) fs → IsRemaining o None × AreNested (if is_some o then o else None) fs
 weaken_by None near fs go h = (tt, go h.1)
 weaken_by (Some e) near fs go h = (tt, h.1)
 
@@ -27,7 +27,7 @@ weaken : (near : Option ℕ) (fs : List Scope) → AreNested near fs → AreNest
 weaken near [] h = tt
 weaken near (f ∷ fs) h = weaken_by f.stop near fs (weaken near fs) h
 
-narrow_by : (o : Option ℕ) (n : ℕ) (fs : List Scope) → (LastsTo (nearest fs) n → AreNested None fs → AreNested (Some n) fs) → LastsTo (nearer o (nearest fs)) n → IsLeft o None × AreNested (if is_some o then o else None) fs → IsLeft o (Some n) × AreNested (if is_some o then o else Some n) fs
+narrow_by : (o : Option ℕ) (n : ℕ) (fs : List Scope) → (LastsTo (nearest fs) n → AreNested None fs → AreNested (Some n) fs) → LastsTo (nearer o (nearest fs)) n → IsRemaining o None × AreNested (if is_some o then o else None) fs → IsRemaining o (Some n) × AreNested (if is_some o then o else Some n) fs
 narrow_by None n fs go near h = (tt, go near h.1)
 narrow_by (Some e) n fs go near h = (near, h.1)
 
@@ -35,7 +35,7 @@ narrow : (n : ℕ) (fs : List Scope) → LastsTo (nearest fs) n → AreNested No
 narrow n [] near h = tt
 narrow n (f ∷ fs) near h = narrow_by f.stop n fs (narrow n fs) near h
 
-over_by : (o : Option ℕ) (e n : ℕ) (fs : List Scope) → ((m : ℕ) → n ≤ m → AreNested (Some m) fs → AllLastTo fs n) → n ≤ e → IsLeft o (Some e) × AreNested (if is_some o then o else Some e) fs → LastsTo o n × AllLastTo fs n
+over_by : (o : Option ℕ) (e n : ℕ) (fs : List Scope) → ((m : ℕ) → n ≤ m → AreNested (Some m) fs → AllLastTo fs n) → n ≤ e → IsRemaining o (Some e) × AreNested (if is_some o then o else Some e) fs → LastsTo o n × AllLastTo fs n
 over_by None e n fs go le h = (tt, go e le h.1)
 over_by (Some d) e n fs go le h = let far : n ≤ d = omega (arith, le, h.0) in (far, go d far h.1)
 
@@ -43,7 +43,7 @@ hold_over : (e n : ℕ) (fs : List Scope) → n ≤ e → AreNested (Some e) fs 
 hold_over e n [] le h = tt
 hold_over e n (f ∷ fs) le h = over_by f.stop e n fs (λ m far nest. hold_over m n fs far nest) le h
 
-all_by : (o : Option ℕ) (n : ℕ) (fs : List Scope) → (LastsTo (nearest fs) n → AreNested None fs → AllLastTo fs n) → LastsTo (nearer o (nearest fs)) n → IsLeft o None × AreNested (if is_some o then o else None) fs → LastsTo o n × AllLastTo fs n
+all_by : (o : Option ℕ) (n : ℕ) (fs : List Scope) → (LastsTo (nearest fs) n → AreNested None fs → AllLastTo fs n) → LastsTo (nearer o (nearest fs)) n → IsRemaining o None × AreNested (if is_some o then o else None) fs → LastsTo o n × AllLastTo fs n
 all_by None n fs go near h = (tt, go near h.1)
 all_by (Some e) n fs go near h = (near, hold_over e n fs near h.1)
 
@@ -107,7 +107,7 @@ taken lim f fs begin p h t l sp ok header-ok p-is =
       far = omega (arith, short, p-is);
     }
 
-pub level_by : (u : Bool) (n p : ℕ) (fs : List Scope) → is_undefined n ≡ u → (n ≢ undefined_length → LastsTo (nearest fs) (p + n)) → AreNested None fs → IsLeft (if u then None else Some (p + n)) None × AreNested (if is_some (if u then None else Some (p + n)) then (if u then None else Some (p + n)) else None) fs
+pub level_by : (u : Bool) (n p : ℕ) (fs : List Scope) → is_undefined n ≡ u → (n ≢ undefined_length → LastsTo (nearest fs) (p + n)) → AreNested None fs → IsRemaining (if u then None else Some (p + n)) None × AreNested (if is_some (if u then None else Some (p + n)) then (if u then None else Some (p + n)) else None) fs
 level_by true n p fs e ends h = (tt, h)
 level_by false n p fs e ends h = (tt, narrow (p + n) fs (ends (λ same. absurd (let k : true ≡ false = sym (eq-eqb n undefined_length same) ∙ e in cc))) h)
 
@@ -118,7 +118,7 @@ lasts_by false n p = omega arith
 -- a level that opens after it
 pub levels_open : (lim : Limits) (f g : Scope) (fs : List Scope) (p : ℕ) (h : Header) → IsTaken lim f fs p h → g.stop ≡ stop_of p h.length → suc (length fs) ≤ lim.depth → AreLevels lim g (f ∷ fs) p
 levels_open lim f g fs p h t stop-is deep = record {
-  nested = subst (λ o. IsLeft o None × AreNested (if is_some o then o else None) (f ∷ fs)) (sym stop-is) (level_by (is_undefined h.length) h.length p (f ∷ fs) refl t.ends t.levels.nested);
+  nested = subst (λ o. IsRemaining o None × AreNested (if is_some o then o else None) (f ∷ fs)) (sym stop-is) (level_by (is_undefined h.length) h.length p (f ∷ fs) refl t.ends t.levels.nested);
   hold = (subst (λ o. LastsTo o p) (sym stop-is) (lasts_by (is_undefined h.length) h.length p), t.levels.hold);
   deep = deep;
   short = t.levels.short;

@@ -9,7 +9,7 @@ use Rattle.element.proofs.Public.{tag_read, spelled_long}
 use Rattle.sequence.specs.declared.level.Scope.{Scope}
 use Rattle.sequence.specs.declared.spot.Spot.{Spot}
 use Rattle.sequence.specs.Open.{IsUnfinishedHeader}
-use Rattle.sequence.specs.Holding.{begun_in}
+use Rattle.sequence.specs.Holding.{started_in}
 use Rattle.sequence.specs.Wanted.{Values}
 use Rattle.sequence.specs.Rules.{Limits, Broken, broken_tag, broken}
 use Rattle.sequence.specs.machine.Machine.{Mode, Heading, Reading, Stopped, State, at, spot_of, arrive, take_header, headed_by, headed, read, next, next_by}
@@ -20,7 +20,7 @@ use Rattle.sequence.proofs.MachineStands.SoundHeader.{IsSound, is_sound}
 use Rattle.sequence.proofs.MachineStands.UnbrokenHeader.{unbroken_is, on_tail}
 use Rattle.sequence.proofs.MachineStands.NestedLevels.{taken}
 use Rattle.sequence.proofs.MachineStands.HeaderDue.{arrive_stands, no_cons}
-use Rattle.sequence.proofs.MachineStands.HeaderTaken.{begun_ends, header_stands}
+use Rattle.sequence.proofs.MachineStands.HeaderTaken.{started_ends, header_stands}
 
 front_of : (t w : List ℕ) (x y : ℕ) (z : List ℕ) → t ++ x ∷ [] ≡ w ++ y ∷ z → (v : List ℕ) × (t ≡ w ++ v)
 front_of t [] x y z e = (t, refl)
@@ -52,7 +52,7 @@ headed_stands s lim values f fs p begin t x b p-is h lt (Some y) e =
       rest = [];
       due = h.due;
       place-is = h.place;
-      came = p-is ∙ ap length regrouped;
+      received = p-is ∙ ap length regrouped;
       text = regrouped ∙ sym (append-nil (h.before ++ (t ++ x ∷ [])));
       breaks = e;
       unbroken = λ w y z same. let g = front_of t w x y z same in h.unbroken w g.0 g.1;
@@ -116,10 +116,10 @@ read_stands s lim values f fs p t n x b p-is r = by (nat_le n 1) refl
     by true w =
         let one : n ≤ 1 = leb-true n 1 w in
         let size : length (r.v ++ x ∷ []) ≡ r.h.length = omega (arith, length-append r.v (x ∷ []), r.size, r.more) in
-        let whole = begun_ends lim r.round r.h r.hb (r.v ++ x ∷ []) r.reaches r.begins r.even size in
+        let whole = started_ends lim r.round r.h r.hb (r.v ++ x ∷ []) r.reaches r.begins r.even size in
         let here : length b + n ≡ p + 1 = omega (arith, one, r.more, p-is, more-is) in
         rw kept-is
-        (arrive_stands lim (p + 1) p-is (subst (λ z. Reaches s lim.wanted (with_value lim fs (number r.h.tag) (r.v ++ x ∷ []) r.whole) z fs (b ++ x ∷ [])) (sym r.top) (subst (λ z. Reaches s lim.wanted (with_value lim fs (number r.h.tag) (r.v ++ x ∷ []) r.whole) (begun_in r.round r.h) fs z) (sym regrouped) whole))
+        (arrive_stands lim (p + 1) p-is (subst (λ z. Reaches s lim.wanted (with_value lim fs (number r.h.tag) (r.v ++ x ∷ []) r.whole) z fs (b ++ x ∷ [])) (sym r.top) (subst (λ z. Reaches s lim.wanted (with_value lim fs (number r.h.tag) (r.v ++ x ∷ []) r.whole) (started_in r.round r.h) fs z) (sym regrouped) whole))
         (subst (AreLevels lim f fs) here r.levels))
     by false w =
         let lt = leb-false n 1 w in (
@@ -154,7 +154,7 @@ mode_stands s lim values f fs p (Stopped n place t) b x h lt = record {
   rest = h.rest ++ x ∷ [];
   due = h.due;
   place-is = h.place-is;
-  came = h.came;
+  received = h.received;
   text = ap (λ z. z ++ x ∷ []) h.text ∙ append_assoc (h.before ++ h.u) h.rest (x ∷ []);
   breaks = h.breaks;
   unbroken = h.unbroken;

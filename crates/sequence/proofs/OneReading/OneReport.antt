@@ -8,13 +8,13 @@ use Rattle.sequence.specs.Open.{in_header, Open}
 use Rattle.sequence.specs.Wanted.{kept_of, held_of}
 use Rattle.sequence.specs.Rules.{Limits, Broken, broken}
 use Rattle.sequence.specs.FirstFault.{spot_behind, Breaks, FirstFault}
-use Rattle.sequence.specs.Walk.{Told, Tells, going, refused}
+use Rattle.sequence.specs.Walk.{Report, Reports, going, refused}
 use Rattle.sequence.specs.Holding.{Holding, Holds, of_all, before_fault, holding_of}
 use Rattle.sequence.proofs.OneReading.OneWay.{same_front}
 use Rattle.sequence.specs.machine.Machine.{run, start}
 use Rattle.sequence.specs.machine.Keeping.{keeps}
-use Rattle.sequence.specs.machine.Reported.{told_in}
-use Rattle.sequence.proofs.MachineReports.AnyText.{tells}
+use Rattle.sequence.specs.machine.Reported.{reported_in}
+use Rattle.sequence.proofs.MachineReports.AnyText.{reports}
 use Rattle.sequence.proofs.OneReading.OneTree.{one_path}
 
 -- the rule that a header breaks is one
@@ -36,13 +36,13 @@ one_fault s lim b p p2 u u2 rule rule2 tag tag2 f g =
     let rules = breaks_once s lim p u rule rule2 tag tag2 f.breaks there in
     (parts.0, parts.1, rules.0, rules.1)
 
-pub one_telling : (s : Coding) (lim : Limits) (b : List ℕ) (told told2 : Told) → Tells s lim b told → Tells s lim b told2 → told ≡ told2
-one_telling s lim b told told2 (going {es = es} {path = path} {last = last} {tail = tail} ok front) (going {es = es2} {path = path2} {last = last2} {tail = tail2} ok2 front2) =
+pub one_telling : (s : Coding) (lim : Limits) (b : List ℕ) (reported reported2 : Report) → Reports s lim b reported → Reports s lim b reported2 → reported ≡ reported2
+one_telling s lim b reported reported2 (going {es = es} {path = path} {last = last} {tail = tail} ok front) (going {es = es2} {path = path2} {last = last2} {tail = tail2} ok2 front2) =
     let k = one_path s b es es2 path path2 last last2 tail tail2 front front2 in
     λ i. record { fault = None; levels = length (k.1 i); place = length b; held = held_of lim.wanted (k.0 i) (k.1 i) (k.3 i); kept = kept_of lim.wanted (k.0 i) }
-one_telling s lim b told told2 (going ok front) (refused {p = p} {u = u} {rule = rule} {tag = tag} f front2) = absurd (ok p u f.rest rule tag f.text f.breaks)
-one_telling s lim b told told2 (refused {p = p} {u = u} {rule = rule} {tag = tag} f front) (going ok front2) = absurd (ok p u f.rest rule tag f.text f.breaks)
-one_telling s lim b told told2 (refused {p = p} {u = u} {rule = rule} {tag = tag} {es = es} {path = path} {last = last} f front) (refused {p = p2} {u = u2} {rule = rule2} {tag = tag2} {es = es2} {path = path2} {last = last2} g front2) =
+one_telling s lim b reported reported2 (going ok front) (refused {p = p} {u = u} {rule = rule} {tag = tag} f front2) = absurd (ok p u f.rest rule tag f.text f.breaks)
+one_telling s lim b reported reported2 (refused {p = p} {u = u} {rule = rule} {tag = tag} f front) (going ok front2) = absurd (ok p u f.rest rule tag f.text f.breaks)
+one_telling s lim b reported reported2 (refused {p = p} {u = u} {rule = rule} {tag = tag} {es = es} {path = path} {last = last} f front) (refused {p = p2} {u = u2} {rule = rule2} {tag = tag2} {es = es2} {path = path2} {last = last2} g front2) =
     let k = one_fault s lim b p p2 u u2 rule rule2 tag tag2 f g in
     let m = one_path s p es es2 path path2 last last2 (in_header []) (in_header []) front (subst (λ z. Open s z es2 path2 last2 (in_header [])) (sym k.0) front2) in
     λ i. record { fault = Some (record { number = k.2 i; place = length (k.0 i); tag = k.3 i }); levels = length (m.1 i); place = length (k.0 i ++ k.1 i); held = held_of lim.wanted (m.0 i) (m.1 i) (in_header []); kept = kept_of lim.wanted (m.0 i) }
@@ -58,5 +58,5 @@ one_holding s lim b held held2 (before_fault {p = p} {u = u} {rule = rule} {tag 
     let m = one_path s p es es2 path path2 last last2 (in_header []) (in_header []) front (subst (λ z. Open s z es2 path2 last2 (in_header [])) (sym k.0) front2) in
     λ i. holding_of s lim.wanted (length (k.0 i)) (m.0 i) (m.1 i) (m.2 i) (in_header [])
 
-pub some_telling : (s : Coding) (lim : Limits) (b : List ℕ) → IsBytes b → (told : Told) × Tells s lim b told
-some_telling s lim b bytes = (told_in lim (run lim (start s) b) (keeps lim (start s) [] b), tells s lim b bytes)
+pub some_telling : (s : Coding) (lim : Limits) (b : List ℕ) → IsBytes b → (reported : Report) × Reports s lim b reported
+some_telling s lim b bytes = (reported_in lim (run lim (start s) b) (keeps lim (start s) [] b), reports s lim b bytes)

@@ -14,7 +14,7 @@ use Rattle.sequence.specs.Shape.{undefined_length, shape}
 use Rattle.sequence.specs.declared.shape.Shape.{Shape}
 use Rattle.sequence.specs.declared.shape.Shape.TheVariants.{Value, Sequence}
 use Rattle.sequence.specs.Tree.{delimitation, Elements, no_elements, value, sequence, Items, no_items, item, fragment, IsElement}
-use Rattle.sequence.specs.Open.{PathEntry, Tail, in_header, in_value, left_of, sequence_entry, item_entry, IsUnfinishedHeader, IsOpenLevel, IsInnermost}
+use Rattle.sequence.specs.Open.{PathEntry, Tail, in_header, in_value, remaining_of, sequence_entry, item_entry, IsUnfinishedHeader, IsOpenLevel, IsInnermost}
 use Rattle.sequence.proofs.GrammarLeads.TreesRun.{sequence_end_mark, item_end_mark, IsMark}
 
 -- where a reading ends: in a tail, or at a delimitation, after which this text stands
@@ -117,11 +117,11 @@ front_innermost : (path : List PathEntry) (e : PathEntry) → IsInnermost (path 
 front_innermost [] e h = tt
 front_innermost (d ∷ path) e h = h
 
-whole_not : {path : List PathEntry} {A : Type 0} (e : PathEntry) → IsInnermost (path ++ e ∷ []) → path ≡ [] → e.left ≡ Some 0 → A
-whole_not {path} e h nil left = absurd (subst (λ z. IsInnermost (z ++ e ∷ [])) nil h left)
+whole_not : {path : List PathEntry} {A : Type 0} (e : PathEntry) → IsInnermost (path ++ e ∷ []) → path ≡ [] → e.remaining ≡ Some 0 → A
+whole_not {path} e h nil remaining = absurd (subst (λ z. IsInnermost (z ++ e ∷ [])) nil h remaining)
 
-none_left : (n came : ℕ) → n ≢ undefined_length → n ≤ came → left_of n came ≡ Some 0
-none_left n came defined le = rw (ne_eqb n undefined_length defined) (ap Some (let z : n - came ≡ 0 = omega arith in z))
+none_remaining : (n received : ℕ) → n ≢ undefined_length → n ≤ received → remaining_of n received ≡ Some 0
+none_remaining n received defined le = rw (ne_eqb n undefined_length defined) (ap Some (let z : n - received ≡ 0 = omega arith in z))
 
 -- what two readings have in common
 
@@ -171,14 +171,14 @@ mutual
   behind_once (open_sequence {h = h} {x = x} {path = path} level r) (counted_sequence {x = x2} {b = b2} defined size r2 on) same i j =
       let all = counted_all h.length x x2 b2 defined level size same in
       let k = items_once r r2 all (front_innermost path _ i) tt in
-      whole_not _ i k.path-is (none_left h.length (length x) defined (omega (arith, size, ap length all)))
+      whole_not _ i k.path-is (none_remaining h.length (length x) defined (omega (arith, size, ap length all)))
   behind_once (open_sequence {path = path} level r) (delimited_sequence undefined r2 on) same i j =
       let k = items_once r r2 same (front_innermost path _ i) tt in
       absurd (let m = k.end in cc)
   behind_once (counted_sequence {x = x} {b = b} defined size r on) (open_sequence {h = h} {x = x2} {path = path2} level r2) same i j =
       let all = counted_all h.length x2 x b defined level size (sym same) in
       let k = items_once r r2 (sym all) tt (front_innermost path2 _ j) in
-      whole_not _ j (sym k.path-is) (none_left h.length (length x2) defined (omega (arith, size, ap length all)))
+      whole_not _ j (sym k.path-is) (none_remaining h.length (length x2) defined (omega (arith, size, ap length all)))
   behind_once (counted_sequence {h = h} {x = x} {b = b} defined size r on) (counted_sequence {x = x2} {b = b2} defined2 size2 r2 on2) same i j =
       let parts = same_front x x2 b b2 same (size ∙ sym size2) in
       let k = items_once r r2 parts.0 tt tt in
@@ -222,14 +222,14 @@ mutual
   item_once (open_item {h = h} {x = x} {path = path} level r) (counted_item {x = x2} {b = b2} defined size r2 on) same i j =
       let all = counted_all h.length x x2 b2 defined level size same in
       let k = reads_once r r2 all (front_innermost path _ i) tt in
-      whole_not _ i k.path-is (none_left h.length (length x) defined (omega (arith, size, ap length all)))
+      whole_not _ i k.path-is (none_remaining h.length (length x) defined (omega (arith, size, ap length all)))
   item_once (open_item {path = path} level r) (delimited_item undefined r2 on) same i j =
       let k = reads_once r r2 same (front_innermost path _ i) tt in
       absurd (let m = k.end in cc)
   item_once (counted_item {x = x} {b = b} defined size r on) (open_item {h = h} {x = x2} {path = path2} level r2) same i j =
       let all = counted_all h.length x2 x b defined level size (sym same) in
       let k = reads_once r r2 (sym all) tt (front_innermost path2 _ j) in
-      whole_not _ j (sym k.path-is) (none_left h.length (length x2) defined (omega (arith, size, ap length all)))
+      whole_not _ j (sym k.path-is) (none_remaining h.length (length x2) defined (omega (arith, size, ap length all)))
   item_once (counted_item {h = h} {x = x} {b = b} defined size r on) (counted_item {x = x2} {b = b2} defined2 size2 r2 on2) same i j =
       let parts = same_front x x2 b b2 same (size ∙ sym size2) in
       let k = reads_once r r2 parts.0 tt tt in

@@ -1,4 +1,4 @@
--- The first fault of a text is that of each text that goes on from it (`fault_stays`), and so is its report
+-- The first fault of a text is that of each text that continues from it (`fault_stays`), and so is its report
 -- (`refusal_stays`). Stands on GrammarLeads and MachineReports/AnyText.
 use Rattle.std.proofs.Common.{◌≡◌, ℕ, ◌≤◌, ◌⊎◌, List, [], ◌∷◌, ◌++◌, length, Some, refl, sym, ap, subst, ◌∙◌, inl, inr, arith, append_assoc, length-append}
 use Rattle.sequence.specs.declared.coding.Coding.{Coding}
@@ -8,7 +8,7 @@ use Rattle.sequence.specs.declared.level.Scope.{Scope}
 use Rattle.sequence.specs.declared.fault.Fault.{Fault}
 use Rattle.sequence.specs.Rules.{Limits}
 use Rattle.sequence.specs.FirstFault.{FirstFault}
-use Rattle.sequence.specs.Walk.{Told, Tells, going, refused}
+use Rattle.sequence.specs.Walk.{Report, Reports, going, refused}
 use Rattle.sequence.specs.machine.Machine.{State, at, Mode, Heading, Reading, Stopped, run, start}
 use Rattle.sequence.specs.machine.Keeping.{keeps}
 use Rattle.sequence.specs.machine.Standing.{StandsIn}
@@ -40,7 +40,7 @@ fault_stops s lim b more p u rule tag f = by (breaks_stop s lim p u rule tag f.b
     by (inl h) = subst (λ (z : State). HasStopped z.mode) (sym (ap (run lim (start s)) (fault_text more f ∙ append_assoc p u (f.rest ++ more)) ∙ stays_stopped s lim p (u ++ (f.rest ++ more)) h)) h
     by (inr h) = let k = stops_stopped (length p) _ h in subst (λ (z : State). HasStopped z.mode) (sym (ap (run lim (start s)) (fault_text more f) ∙ stays_stopped s lim (p ++ u) (f.rest ++ more) k)) k
 
--- two first faults, of a text and of one that goes on from it
+-- two first faults, of a text and of one that continues from it
 same_first : (s : Coding) (lim : Limits) (b more p u before w : List ℕ) (rule rule2 : ℕ) (tag tag2 : Tag) → FirstFault s lim b p u rule tag → FirstFault s lim (b ++ more) before w rule2 tag2 → FirstFault s lim (b ++ more) p u rule tag
 same_first s lim b more p u before w rule rule2 tag tag2 f g =
     let far = g.first p u (f.rest ++ more) rule tag (fault_text more f) f.breaks in
@@ -61,10 +61,10 @@ fault_stays s lim b more p u rule tag bytes f =
   where
     by : (g : Scope) (gs : List Scope) (n : ℕ) (m : Mode) → run lim (start s) (b ++ more) ≡ at g gs n m → HasStopped m → StandsIn s lim (keeps lim (start s) [] (b ++ more)) g gs n m (b ++ more) → FirstFault s lim (b ++ more) p u rule tag
     by g gs n (Heading begin t) e h k = absurd h
-    by g gs n (Reading t left) e h k = absurd h
+    by g gs n (Reading t remaining) e h k = absurd h
     by g gs n (Stopped rule2 place tag2) e h k =
         same_first s lim b more p u k.before k.u rule rule2 tag tag2 f (stop_first s lim (keeps lim (start s) [] (b ++ more)) g gs n rule2 place tag2 (b ++ more) bytes e k)
 
-pub refusal_stays : (s : Coding) (lim : Limits) (b more : List ℕ) (told : Told) (fault : Fault) → IsBytes (b ++ more) → told.fault ≡ Some fault → Tells s lim b told → Tells s lim (b ++ more) told
-refusal_stays s lim b more told fault bytes e (going ok front) = absurd cc
-refusal_stays s lim b more told fault bytes e (refused {p = p} {u = u} {rule = rule} {tag = tag} f front) = refused (fault_stays s lim b more p u rule tag bytes f) front
+pub refusal_stays : (s : Coding) (lim : Limits) (b more : List ℕ) (reported : Report) (fault : Fault) → IsBytes (b ++ more) → reported.fault ≡ Some fault → Reports s lim b reported → Reports s lim (b ++ more) reported
+refusal_stays s lim b more reported fault bytes e (going ok front) = absurd cc
+refusal_stays s lim b more reported fault bytes e (refused {p = p} {u = u} {rule = rule} {tag = tag} f front) = refused (fault_stays s lim b more p u rule tag bytes f) front

@@ -1,5 +1,5 @@
 -- A step returns a fault that is the first one (`stopped_first`, `stopped_answers`), and of a header its kind
--- (`told_by_tag`). Stands on GrammarLeads/TreesRun and MachineReports.
+-- (`reported_by_tag`). Stands on GrammarLeads/TreesRun and MachineReports.
 use Rattle.std.proofs.Common.{◌≡◌, ℕ, ◌<◌, ◌≤◌, Bool, true, false, not, List, [], ◌++◌, length, refl, sym, ap, subst, ◌∙◌, if◌then◌else◌}
 use Rattle.sequence.specs.declared.coding.Coding.{Coding}
 use Rattle.element.specs.declared.tag.Tag.{Tag}
@@ -52,8 +52,8 @@ module _ {V D : ℕ} (w : Walker V D) (c : List ℕ) (h : Walks w c) where
   pub heading_unbroken : w.stage ≡ stages.Heading → IsUnbroken (walker_syntax w) (limits_of w) c
   heading_unbroken e = goes_unbroken (walker_syntax w) (limits_of w) c (λ k. subst (λ (z : Stage). HasStopped (mode_of z w.place w.header.items)) e (subst (λ (z : State). HasStopped z.mode) (sym h.state) k))
 
-  pub value_unbroken : (tag : Tag) (left : ℕ) (kept : Bool) → w.stage ≡ stages.Value tag left kept → IsUnbroken (walker_syntax w) (limits_of w) c
-  value_unbroken tag left kept e = goes_unbroken (walker_syntax w) (limits_of w) c (λ k. subst (λ (z : Stage). HasStopped (mode_of z w.place w.header.items)) e (subst (λ (z : State). HasStopped z.mode) (sym h.state) k))
+  pub value_unbroken : (tag : Tag) (remaining : ℕ) (kept : Bool) → w.stage ≡ stages.Value tag remaining kept → IsUnbroken (walker_syntax w) (limits_of w) c
+  value_unbroken tag remaining kept e = goes_unbroken (walker_syntax w) (limits_of w) c (λ k. subst (λ (z : Stage). HasStopped (mode_of z w.place w.header.items)) e (subst (λ (z : State). HasStopped z.mode) (sym h.state) k))
 
   pub heading_part : (taken : List ℕ) → 0 < length taken → length taken ≤ length w.header.items → w.stage ≡ stages.Heading → EndsPart (walker_syntax w) c taken
   heading_part taken some own e =
@@ -64,9 +64,9 @@ module _ {V D : ℕ} (w : Walker V D) (c : List ℕ) (h : Walks w c) where
       let state : run lim (start s) c ≡ at f fs w.place (mode_of stages.Heading w.place w.header.items) = sym h.state ∙ ap (λ z. at f fs w.place (mode_of z w.place w.header.items)) e in
       let k = subst (λ z. Stands s lim z (keeps lim (start s) [] c) c) state (stands s lim c h.bytes) in
       let x = heading_front s lim (keeps lim (start s) [] c) f fs _ w.header.items c k.1 in
-      record { elements = x.elements; path = x.path; last = x.last; begun = w.header.items; front = x.front; some = some; own = own }
+      record { elements = x.elements; path = x.path; last = x.last; started = w.header.items; front = x.front; some = some; own = own }
 
-pub told_by_tag : (s : Coding) (lim : Limits) (b piece taken : List ℕ) (hd : Header) (m i : Bool) → is_marker hd.tag ≡ m → same_tag hd.tag item_tag ≡ i → IsUnbroken s lim (b ++ taken) → EndsHeader s (b ++ taken) taken hd → Answers s lim b piece taken (if not m then Element hd else (if i then Opened hd else Closed hd))
-told_by_tag s lim b piece taken hd false i m-is i-is ok ends = element ok ends m-is
-told_by_tag s lim b piece taken hd true true m-is i-is ok ends = opened ok ends m-is i-is
-told_by_tag s lim b piece taken hd true false m-is i-is ok ends = closed ok ends m-is i-is
+pub reported_by_tag : (s : Coding) (lim : Limits) (b piece taken : List ℕ) (hd : Header) (m i : Bool) → is_marker hd.tag ≡ m → same_tag hd.tag item_tag ≡ i → IsUnbroken s lim (b ++ taken) → EndsHeader s (b ++ taken) taken hd → Answers s lim b piece taken (if not m then Element hd else (if i then Opened hd else Closed hd))
+reported_by_tag s lim b piece taken hd false i m-is i-is ok ends = element ok ends m-is
+reported_by_tag s lim b piece taken hd true true m-is i-is ok ends = opened ok ends m-is i-is
+reported_by_tag s lim b piece taken hd true false m-is i-is ok ends = closed ok ends m-is i-is

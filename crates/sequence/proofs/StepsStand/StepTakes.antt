@@ -1,5 +1,5 @@
--- A step that takes some bytes stands after them (`taken_stands`), returns what there is to return (`heading_answered`,
--- `value_answered`), and takes as much as can be taken at once (`heading_most`, `value_most`). Stands on StepReports,
+-- A step that consumes some bytes stands after them (`taken_stands`), returns what there is to return (`heading_answered`,
+-- `value_answered`), and consumes as much as can be taken at once (`heading_most`, `value_most`). Stands on StepReports,
 -- WalkerStands, CodeIsMachine, GrammarLeads/TreesRun, MachineReports, MachineStands/HeaderParts and the laws of `element`.
 use Rattle.std.proofs.Common.{◌≡◌, ℕ, zero, suc, ◌+◌, ◌-◌, ◌<◌, ◌≤◌, Bool, true, false, not, List, [], ◌∷◌, ◌++◌, length, min, take, drop, if◌then◌else◌, Option, Some, None, nat_le, nat_eq, eqb-true, false-eqb, ◌⊎◌, inl, inr, leb-true, leb-false, refl, sym, ap, subst, ◌∙◌, arith, append_assoc, append-nil, length-append}
 use Rattle.std.proofs.lemmas.List.{take-append-drop, take_all, length-take, length-take-le}
@@ -21,15 +21,15 @@ use Rattle.sequence.specs.Tree.{Elements}
 use Rattle.sequence.specs.Open.{PathEntry, in_header, in_value, IsUnfinishedHeader, Open}
 use Rattle.sequence.specs.Rules.{Limits, same_tag}
 use Rattle.sequence.specs.FirstFault.{spot_behind, IsUnbroken, FirstFault}
-use Rattle.sequence.specs.Answering.{EndsHeader, EndsRun, EndsWith, of_header, of_value, RefusesAt, in_header_of_fault, at_end, Answers, no_piece, goes_on, runs, refuses}
-use Rattle.sequence.specs.Walk.{Told, Tells, going, refused}
+use Rattle.sequence.specs.Answering.{EndsHeader, EndsRun, EndsWith, of_header, of_value, RefusesAt, in_header_of_fault, at_end, Answers, no_piece, continues, runs, refuses}
+use Rattle.sequence.specs.Walk.{Report, Reports, going, refused}
 use Rattle.sequence.specs.machine.Machine.{State, at, ArrivesAt, Reading, run, start}
 use Rattle.sequence.specs.machine.Keeping.{keeps}
 use Rattle.sequence.specs.Holding.{levels_at}
 use Rattle.sequence.specs.machine.Holding.{IsIn}
 use Rattle.sequence.specs.machine.Spare.{due_of}
-use Rattle.sequence.specs.machine.Made.{header_told, value_told}
-use Rattle.sequence.specs.machine.State.{mode_of, state_of, kept_values, top, below, IsSameWalk, limits_of, walker_syntax, fault_by, fault_of, told_by, StandsAt}
+use Rattle.sequence.specs.machine.Made.{header_reported, value_reported}
+use Rattle.sequence.specs.machine.State.{mode_of, state_of, kept_values, top, below, IsSameWalk, limits_of, walker_syntax, fault_by, fault_of, reported_by, StandsAt}
 use Rattle.sequence.specs.machine.Standing.{IsBytes, IsHeading, IsReading, Stands}
 use Rattle.sequence.specs.Pieces.{TakesMost}
 use Rattle.sequence.specs.machine.Steps.{IsMade, IsTaken}
@@ -39,9 +39,9 @@ use Rattle.sequence.proofs.CodeIsMachine.ValueBytes.{value_part_arrives}
 use Rattle.sequence.proofs.MachineStands.HeaderParts.{whole_spells, unfinished_front}
 use Rattle.sequence.proofs.MachineReports.FrontAtText.{open_due, due_open}
 use Rattle.sequence.proofs.MachineReports.AnyText.{stands, front_bytes, spot_is, reading_front}
-use Rattle.sequence.proofs.MachineReports.HeldIsState.{Walks, walks, stands_going, tells_going, tells_refused}
+use Rattle.sequence.proofs.MachineReports.HeldIsState.{Walks, walks, stands_going, reports_going, reports_refused}
 use Rattle.sequence.proofs.StepsStand.WalkerStands.{walker_stands, same_limits, keeps_append}
-use Rattle.sequence.proofs.StepsStand.StepReports.{stopped_first, heading_unbroken, value_unbroken, heading_part, told_by_tag}
+use Rattle.sequence.proofs.StepsStand.StepReports.{stopped_first, heading_unbroken, value_unbroken, heading_part, reported_by_tag}
 
 -- bytes
 
@@ -76,10 +76,10 @@ module _ {V D : ℕ} (w : Walker V D) (b : List ℕ) (h : Walks w b) where
       let state : run (limits_of w) (start (walker_syntax w)) b ≡ at (top w) (below w) w.place (mode_of stages.Heading w.place w.header.items) = sym h.state ∙ ap (λ z. at (top w) (below w) w.place (mode_of z w.place w.header.items)) e in
       (subst (λ z. Stands (walker_syntax w) (limits_of w) z (keeps (limits_of w) (start (walker_syntax w)) [] b) b) state (stands (walker_syntax w) (limits_of w) b h.bytes)).1
 
-  pub in_reading : (tag : Tag) (left : ℕ) (kept : Bool) → w.stage ≡ stages.Value tag left kept → IsReading (walker_syntax w) (limits_of w) (keeps (limits_of w) (start (walker_syntax w)) [] b) (top w) (below w) tag left b
-  in_reading tag left kept e =
-      let state : run (limits_of w) (start (walker_syntax w)) b ≡ at (top w) (below w) w.place (Reading tag left) = sym h.state ∙ ap (λ z. at (top w) (below w) w.place (mode_of z w.place w.header.items)) e in
-      let k : (w.place ≡ length b) × IsReading (walker_syntax w) (limits_of w) (keeps (limits_of w) (start (walker_syntax w)) [] b) (top w) (below w) tag left b = subst (λ z. Stands (walker_syntax w) (limits_of w) z (keeps (limits_of w) (start (walker_syntax w)) [] b) b) state (stands (walker_syntax w) (limits_of w) b h.bytes) in
+  pub in_reading : (tag : Tag) (remaining : ℕ) (kept : Bool) → w.stage ≡ stages.Value tag remaining kept → IsReading (walker_syntax w) (limits_of w) (keeps (limits_of w) (start (walker_syntax w)) [] b) (top w) (below w) tag remaining b
+  in_reading tag remaining kept e =
+      let state : run (limits_of w) (start (walker_syntax w)) b ≡ at (top w) (below w) w.place (Reading tag remaining) = sym h.state ∙ ap (λ z. at (top w) (below w) w.place (mode_of z w.place w.header.items)) e in
+      let k : (w.place ≡ length b) × IsReading (walker_syntax w) (limits_of w) (keeps (limits_of w) (start (walker_syntax w)) [] b) (top w) (below w) tag remaining b = subst (λ z. Stands (walker_syntax w) (limits_of w) z (keeps (limits_of w) (start (walker_syntax w)) [] b) b) state (stands (walker_syntax w) (limits_of w) b h.bytes) in
       k.1
 
   pub made_ends : (taken : List ℕ) (hd : Header) → w.stage ≡ stages.Heading → IsBytes taken → IsMade (top w).syntax w.header.items taken hd → EndsHeader (walker_syntax w) (b ++ taken) taken hd
@@ -107,17 +107,17 @@ module _ {V D : ℕ} (w : Walker V D) (b : List ℕ) (h : Walks w b) where
         own = omega (arith, length-append t taken);
       }
 
-  pub run_ends : (tag : Tag) (left : ℕ) (kept : Bool) (taken : List ℕ) → w.stage ≡ stages.Value tag left kept → 0 < length taken → length taken ≤ left → EndsRun (walker_syntax w) (b ++ taken) taken
-  run_ends tag left kept taken e some le =
-      let r = in_reading tag left kept e in
-      let x = reading_front (walker_syntax w) (limits_of w) (keeps (limits_of w) (start (walker_syntax w)) [] b) (top w) (below w) tag left b r in
+  pub run_ends : (tag : Tag) (remaining : ℕ) (kept : Bool) (taken : List ℕ) → w.stage ≡ stages.Value tag remaining kept → 0 < length taken → length taken ≤ remaining → EndsRun (walker_syntax w) (b ++ taken) taken
+  run_ends tag remaining kept taken e some le =
+      let r = in_reading tag remaining kept e in
+      let x = reading_front (walker_syntax w) (limits_of w) (keeps (limits_of w) (start (walker_syntax w)) [] b) (top w) (below w) tag remaining b r in
       record { before = b; text = refl; elements = x.elements; path = x.path; last = x.last; header = r.h; value = r.v; front = x.front; some = some; within = omega (arith, r.size, le) }
 
 -- what a step answers
 
-none_place : (s : Coding) (lim : Limits) (b : List ℕ) (told : Told) → Tells s lim b told → told.fault ≡ None → told.place ≡ length b
-none_place s lim b told (going ok o) e = refl
-none_place s lim b told (refused f o) e = absurd cc
+none_place : (s : Coding) (lim : Limits) (b : List ℕ) (reported : Report) → Reports s lim b reported → reported.fault ≡ None → reported.place ≡ length b
+none_place s lim b reported (going ok o) e = refl
+none_place s lim b reported (refused f o) e = absurd cc
 
 no_more : (c a rest : List ℕ) → c ≡ a ++ rest → length c ≡ length a → c ≡ a
 no_more c a [] e n = e ∙ append-nil a
@@ -125,8 +125,8 @@ no_more c a (x ∷ rest) e n = absurd (omega (arith, ap length e, length-append 
 
 exact : {V D : ℕ} (w : Walker V D) (c p u : List ℕ) (rule : ℕ) (tag : Tag) → StandsAt w c → w.place ≡ length c → FirstFault (walker_syntax w) (limits_of w) c p u rule tag → c ≡ p ++ u
 exact w c p u rule tag h place f =
-    let told = tells_refused (walker_syntax w) (limits_of w) c p u rule tag (told_by w) f h.tells in
-    no_more c (p ++ u) f.rest f.text (sym place ∙ told.place)
+    let reported = reports_refused (walker_syntax w) (limits_of w) c p u rule tag (reported_by w) f h.reports in
+    no_more c (p ++ u) f.rest f.text (sym place ∙ reported.place)
 
 moved_header : (s : Coding) (c p taken : List ℕ) (h : Header) → c ≡ p → EndsHeader s c taken h → EndsHeader s p taken h
 moved_header s c p taken h e k = subst (λ z. EndsHeader s z taken h) e k
@@ -136,10 +136,10 @@ piece_answers : {V D : ℕ} (new : Walker V D) (b t piece : List ℕ) (n : ℕ) 
 piece_answers new b t [] n k e n-is items-is before ok = no_piece before refl (take_all n [] (omega (arith, n-is)))
 piece_answers new b t (x ∷ piece) n k e n-is items-is before ok =
     let all : take n (x ∷ piece) ≡ x ∷ piece = take_all n (x ∷ piece) (omega (arith, n-is)) in
-    goes_on ok (heading_part new (b ++ take n (x ∷ piece)) k (take n (x ∷ piece)) (omega (arith, ap length all)) (omega (arith, ap length all, ap length items-is, length-append t (x ∷ piece))) e) all
+    continues ok (heading_part new (b ++ take n (x ∷ piece)) k (take n (x ∷ piece)) (omega (arith, ap length all)) (omega (arith, ap length all, ap length items-is, length-append t (x ∷ piece))) e) all
 
 module _ {V D : ℕ} (old new : Walker V D) (b piece taken : List ℕ) (h : Walks old b) (k : Walks new (b ++ taken)) (bytes : IsBytes taken)
-    (s-is : walker_syntax new ≡ walker_syntax old) (l-is : limits_of new ≡ limits_of old) (stands-new : StandsAt new (b ++ taken)) (came : new.place ≡ length (b ++ taken)) where
+    (s-is : walker_syntax new ≡ walker_syntax old) (l-is : limits_of new ≡ limits_of old) (stands-new : StandsAt new (b ++ taken)) (received : new.place ≡ length (b ++ taken)) where
   -- in the old walker's words
   as_old : (step : Step) → Answers (walker_syntax new) (limits_of new) b piece taken step → Answers (walker_syntax old) (limits_of old) b piece taken step
   as_old step a = subst (λ z. Answers z (limits_of old) b piece taken step) s-is (subst (λ z. Answers (walker_syntax new) z b piece taken step) l-is a)
@@ -150,7 +150,7 @@ module _ {V D : ℕ} (old new : Walker V D) (b piece taken : List ℕ) (h : Walk
   refusal_answers : (fault : Fault) → new.stage ≡ stages.Stopped fault → IsUnbroken (walker_syntax old) (limits_of old) b → ((p u : List ℕ) → fault.place ≡ length p → b ++ taken ≡ p ++ u → RefusesAt (walker_syntax new) p u taken) → Answers (walker_syntax new) (limits_of new) b piece taken (Refused fault)
   refusal_answers fault e ok where-is =
       let f = stopped_first new (b ++ taken) k fault e in
-      let text = exact new (b ++ taken) f.before f.bytes fault.number fault.tag stands-new came f.first in
+      let text = exact new (b ++ taken) f.before f.bytes fault.number fault.tag stands-new received f.first in
       subst (λ n. Answers (walker_syntax new) (limits_of new) b piece taken (Refused (record { number = fault.number; place = n; tag = fault.tag }))) (sym f.place)
       (refuses (was_unbroken ok) f.first text (where-is f.before f.bytes f.place text))
 
@@ -166,54 +166,54 @@ module _ {V D : ℕ} (old new : Walker V D) (b piece taken : List ℕ) (h : Walk
 
   made_answers : (hd : Header) → IsUnbroken (walker_syntax new) (limits_of new) (b ++ taken) → old.stage ≡ stages.Heading → IsMade (top old).syntax old.header.items taken hd
       → Answers (walker_syntax new) (limits_of new) b piece taken (if not (is_marker hd.tag) then Element hd else (if same_tag hd.tag item_tag then Opened hd else Closed hd))
-  made_answers hd ok o m = told_by_tag (walker_syntax new) (limits_of new) b piece taken hd (is_marker hd.tag) (same_tag hd.tag item_tag) refl refl ok (made_ends_new hd o m)
+  made_answers hd ok o m = reported_by_tag (walker_syntax new) (limits_of new) b piece taken hd (is_marker hd.tag) (same_tag hd.tag item_tag) refl refl ok (made_ends_new hd o m)
 
-  run_ends_new : (tag : Tag) (left : ℕ) (kept : Bool) → old.stage ≡ stages.Value tag left kept → 0 < length taken → length taken ≤ left → EndsRun (walker_syntax new) (b ++ taken) taken
-  run_ends_new tag left kept o some le = subst (λ z. EndsRun z (b ++ taken) taken) (sym s-is) (run_ends old b h tag left kept taken o some le)
+  run_ends_new : (tag : Tag) (remaining : ℕ) (kept : Bool) → old.stage ≡ stages.Value tag remaining kept → 0 < length taken → length taken ≤ remaining → EndsRun (walker_syntax new) (b ++ taken) taken
+  run_ends_new tag remaining kept o some le = subst (λ z. EndsRun z (b ++ taken) taken) (sym s-is) (run_ends old b h tag remaining kept taken o some le)
 
-  run_answers : (stage : Stage) (tag : Tag) (left : ℕ) (kept : Bool) (step : Step) → new.stage ≡ stage → ArrivesAt (mode_of stage new.place new.header.items) (length (b ++ taken)) → old.stage ≡ stages.Value tag left kept → 0 < length taken → length taken ≤ left → value_told stage taken step
+  run_answers : (stage : Stage) (tag : Tag) (remaining : ℕ) (kept : Bool) (step : Step) → new.stage ≡ stage → ArrivesAt (mode_of stage new.place new.header.items) (length (b ++ taken)) → old.stage ≡ stages.Value tag remaining kept → 0 < length taken → length taken ≤ remaining → value_reported stage taken step
       → Answers (walker_syntax new) (limits_of new) b piece taken step
-  run_answers (stages.Stopped fault) tag left kept step e arrives o some le t =
+  run_answers (stages.Stopped fault) tag remaining kept step e arrives o some le t =
       subst (Answers (walker_syntax new) (limits_of new) b piece taken) (sym t)
-      (refusal_answers fault e (value_unbroken old b h tag left kept o) (λ p u at-p text. refused_at_end fault p u arrives at-p text (λ q same. of_value (subst (λ z. EndsRun (walker_syntax new) z taken) same (run_ends_new tag left kept o some le)))))
-  run_answers stages.Heading tag left kept step e arrives o some le t = runs (heading_unbroken new (b ++ taken) k e) (run_ends_new tag left kept o some le) t
-  run_answers (stages.Value u n q) tag left kept step e arrives o some le t = runs (value_unbroken new (b ++ taken) k u n q e) (run_ends_new tag left kept o some le) t
+      (refusal_answers fault e (value_unbroken old b h tag remaining kept o) (λ p u at-p text. refused_at_end fault p u arrives at-p text (λ q same. of_value (subst (λ z. EndsRun (walker_syntax new) z taken) same (run_ends_new tag remaining kept o some le)))))
+  run_answers stages.Heading tag remaining kept step e arrives o some le t = runs (heading_unbroken new (b ++ taken) k e) (run_ends_new tag remaining kept o some le) t
+  run_answers (stages.Value u n q) tag remaining kept step e arrives o some le t = runs (value_unbroken new (b ++ taken) k u n q e) (run_ends_new tag remaining kept o some le) t
 
-  pub value_answered : (tag : Tag) (left : ℕ) (kept : Bool) (step : Step) → old.stage ≡ stages.Value tag left kept → state_of new ≡ run (limits_of old) (state_of old) taken → new.place ≡ old.place + length taken → 0 < length taken → length taken ≤ left → value_told new.stage taken step
+  pub value_answered : (tag : Tag) (remaining : ℕ) (kept : Bool) (step : Step) → old.stage ≡ stages.Value tag remaining kept → state_of new ≡ run (limits_of old) (state_of old) taken → new.place ≡ old.place + length taken → 0 < length taken → length taken ≤ remaining → value_reported new.stage taken step
       → Answers (walker_syntax old) (limits_of old) b piece taken step
-  value_answered tag left kept step o state place some le t =
-      let ends : old.place + length taken ≡ length (b ++ taken) = sym place ∙ came in
-      let arrives : ArrivesAt (mode_of new.stage new.place new.header.items) (old.place + length taken) = subst (λ (z : State). ArrivesAt z.mode (old.place + length taken)) (sym state) (value_part_arrives (top old) (below old) (limits_of old) old.place old.stage old.header.items tag left kept taken o some le) in
-      as_old step (run_answers new.stage tag left kept step refl (subst (ArrivesAt (mode_of new.stage new.place new.header.items)) ends arrives) o some le t)
+  value_answered tag remaining kept step o state place some le t =
+      let ends : old.place + length taken ≡ length (b ++ taken) = sym place ∙ received in
+      let arrives : ArrivesAt (mode_of new.stage new.place new.header.items) (old.place + length taken) = subst (λ (z : State). ArrivesAt z.mode (old.place + length taken)) (sym state) (value_part_arrives (top old) (below old) (limits_of old) old.place old.stage old.header.items tag remaining kept taken o some le) in
+      as_old step (run_answers new.stage tag remaining kept step refl (subst (ArrivesAt (mode_of new.stage new.place new.header.items)) ends arrives) o some le t)
 
 module _ {V D : ℕ} (old new : Walker V D) (b piece : List ℕ) (n : ℕ) (h : Walks old b) (k : Walks new (b ++ take n piece)) (bytes : IsBytes (take n piece))
     (s-is : walker_syntax new ≡ walker_syntax old) (l-is : limits_of new ≡ limits_of old) (stands-old : StandsAt old b) (stands-new : StandsAt new (b ++ take n piece)) (place : new.place ≡ old.place + n) (le : n ≤ length piece) (o : old.stage ≡ stages.Heading) where
   before : old.place ≡ length b
-  before = none_place (walker_syntax old) (limits_of old) b (told_by old) stands-old.tells (ap fault_by o)
+  before = none_place (walker_syntax old) (limits_of old) b (reported_by old) stands-old.reports (ap fault_by o)
 
-  came_to : new.place ≡ length (b ++ take n piece)
-  came_to = omega (arith, place, before, length-append b (take n piece), length-take-le n piece le)
+  received_to : new.place ≡ length (b ++ take n piece)
+  received_to = omega (arith, place, before, length-append b (take n piece), length-take-le n piece le)
 
-  heading_by : (stage : Stage) (made : Option Header) → new.stage ≡ stage → IsTaken (top old).syntax old.header.items piece old.place n stage new.header.items made → Answers (walker_syntax new) (limits_of new) b piece (take n piece) (header_told stage made)
+  heading_by : (stage : Stage) (made : Option Header) → new.stage ≡ stage → IsTaken (top old).syntax old.header.items piece old.place n stage new.header.items made → Answers (walker_syntax new) (limits_of new) b piece (take n piece) (header_reported stage made)
   heading_by (stages.Stopped fault) (Some hd) e t =
-      refusal_answers old new b piece (take n piece) h k bytes s-is l-is stands-new came_to fault e (heading_unbroken old b h o)
-      (λ p u at-p text. refused_at_end old new b piece (take n piece) h k bytes s-is l-is stands-new came_to fault p u (t.1 ∙ sym place ∙ came_to) at-p text
-      (λ q same. of_header (subst (λ z. EndsHeader (walker_syntax new) z (take n piece) hd) same (made_ends_new old new b piece (take n piece) h k bytes s-is l-is stands-new came_to hd o t.0))))
+      refusal_answers old new b piece (take n piece) h k bytes s-is l-is stands-new received_to fault e (heading_unbroken old b h o)
+      (λ p u at-p text. refused_at_end old new b piece (take n piece) h k bytes s-is l-is stands-new received_to fault p u (t.1 ∙ sym place ∙ received_to) at-p text
+      (λ q same. of_header (subst (λ z. EndsHeader (walker_syntax new) z (take n piece) hd) same (made_ends_new old new b piece (take n piece) h k bytes s-is l-is stands-new received_to hd o t.0))))
   heading_by (stages.Stopped fault) None e t =
-      refusal_answers old new b piece (take n piece) h k bytes s-is l-is stands-new came_to fault e (heading_unbroken old b h o)
+      refusal_answers old new b piece (take n piece) h k bytes s-is l-is stands-new received_to fault e (heading_unbroken old b h o)
       (λ p u at-p text.
       let size = length-take-le n piece le in
       in_header_of_fault (omega (arith, size, t.1)) (omega (arith, t.0, before, at-p, ap length text, length-append p u, length-append b (take n piece))))
-  heading_by stages.Heading (Some hd) e t = made_answers old new b piece (take n piece) h k bytes s-is l-is stands-new came_to hd (heading_unbroken new (b ++ take n piece) k e) o t.0
-  heading_by (stages.Value tag left kept) (Some hd) e t = made_answers old new b piece (take n piece) h k bytes s-is l-is stands-new came_to hd (value_unbroken new (b ++ take n piece) k tag left kept e) o t
+  heading_by stages.Heading (Some hd) e t = made_answers old new b piece (take n piece) h k bytes s-is l-is stands-new received_to hd (heading_unbroken new (b ++ take n piece) k e) o t.0
+  heading_by (stages.Value tag remaining kept) (Some hd) e t = made_answers old new b piece (take n piece) h k bytes s-is l-is stands-new received_to hd (value_unbroken new (b ++ take n piece) k tag remaining kept e) o t
   heading_by stages.Heading None e t =
-      piece_answers new b old.header.items piece n k e t.0 t.1 (was_unbroken old new b piece (take n piece) h k bytes s-is l-is stands-new came_to (heading_unbroken old b h o)) (heading_unbroken new (b ++ take n piece) k e)
-  heading_by (stages.Value tag left kept) None e t = absurd t
+      piece_answers new b old.header.items piece n k e t.0 t.1 (was_unbroken old new b piece (take n piece) h k bytes s-is l-is stands-new received_to (heading_unbroken old b h o)) (heading_unbroken new (b ++ take n piece) k e)
+  heading_by (stages.Value tag remaining kept) None e t = absurd t
 
-  pub heading_answered : (made : Option Header) → IsTaken (top old).syntax old.header.items piece old.place n new.stage new.header.items made → Answers (walker_syntax old) (limits_of old) b piece (take n piece) (header_told new.stage made)
-  heading_answered made t = as_old old new b piece (take n piece) h k bytes s-is l-is stands-new came_to (header_told new.stage made) (heading_by new.stage made refl t)
+  pub heading_answered : (made : Option Header) → IsTaken (top old).syntax old.header.items piece old.place n new.stage new.header.items made → Answers (walker_syntax old) (limits_of old) b piece (take n piece) (header_reported new.stage made)
+  heading_answered made t = as_old old new b piece (take n piece) h k bytes s-is l-is stands-new received_to (header_reported new.stage made) (heading_by new.stage made refl t)
 
--- how much a step takes
+-- how much a step consumes
 
 syntax_at : (n m : ℕ) (path : List PathEntry) (s : Coding) (last : ℕ) (f : Scope) (fs : List Scope) → f ∷ fs ≡ levels_at n path s last → f.syntax ≡ (spot_behind s path last m).syntax
 syntax_at n m [] s last f fs e = let k : f ≡ record { in_sequence = false; syntax = s; stop = None; last = last } = cc in ap (λ (z : Scope). z.syntax) k
@@ -279,18 +279,18 @@ module _ (s : Coding) (t piece bytes more : List ℕ) (h : Header) (text : piece
 
 module _ {V D : ℕ} (old new : Walker V D) (b piece : List ℕ) (n : ℕ) (stands-old : StandsAt old b) (none : fault_of old ≡ None) (s-is : walker_syntax new ≡ walker_syntax old) (l-is : limits_of new ≡ limits_of old)
     (stands-new : StandsAt new (b ++ take n piece)) (place : new.place ≡ old.place + n) (le : n ≤ length piece) where
-  came : new.place ≡ length (b ++ take n piece)
-  came =
-      let before : old.place ≡ length b = none_place (walker_syntax old) (limits_of old) b (told_by old) stands-old.tells none in
+  received : new.place ≡ length (b ++ take n piece)
+  received =
+      let before : old.place ≡ length b = none_place (walker_syntax old) (limits_of old) b (reported_by old) stands-old.reports none in
       omega (arith, place, before, length-append b (take n piece), length-take-le n piece le)
 
   on_refusal : (p u : List ℕ) (rule : ℕ) (tag : Tag) → FirstFault (walker_syntax old) (limits_of old) (b ++ take n piece) p u rule tag → b ++ take n piece ≡ p ++ u
-  on_refusal p u rule tag f = exact new (b ++ take n piece) p u rule tag stands-new came (subst (λ z. FirstFault z (limits_of new) (b ++ take n piece) p u rule tag) (sym s-is) (subst (λ z. FirstFault (walker_syntax old) z (b ++ take n piece) p u rule tag) (sym l-is) f))
+  on_refusal p u rule tag f = exact new (b ++ take n piece) p u rule tag stands-new received (subst (λ z. FirstFault z (limits_of new) (b ++ take n piece) p u rule tag) (sym s-is) (subst (λ z. FirstFault (walker_syntax old) z (b ++ take n piece) p u rule tag) (sym l-is) f))
 
   not_refused : (stage : Stage) → new.stage ≡ stage → IsUnbroken (walker_syntax old) (limits_of old) (b ++ take n piece) → fault_by stage ≡ None
   not_refused stage e ok =
       let there = subst (λ z. IsUnbroken z (limits_of new) (b ++ take n piece)) (sym s-is) (subst (λ z. IsUnbroken (walker_syntax old) z (b ++ take n piece)) (sym l-is) ok) in
-      ap fault_by (sym e) ∙ (tells_going (walker_syntax new) (limits_of new) (b ++ take n piece) (told_by new) there stands-new.tells).fault
+      ap fault_by (sym e) ∙ (reports_going (walker_syntax new) (limits_of new) (b ++ take n piece) (reported_by new) there stands-new.reports).fault
 
   -- of a header
 
@@ -298,93 +298,93 @@ module _ {V D : ℕ} (old new : Walker V D) (b piece : List ℕ) (n : ℕ) (stan
       → piece ≡ bytes ++ more → SpellsHeader (layout (top old).syntax) h (old.header.items ++ bytes) → n ≡ length bytes
   size_by (stages.Stopped fault) made bytes more h fine t text sp = absurd cc
   size_by stages.Heading (Some h2) bytes more h fine t text sp = made_size (top old).syntax old.header.items piece bytes more h text sp n h2 le t.0
-  size_by (stages.Value tag left kept) (Some h2) bytes more h fine t text sp = made_size (top old).syntax old.header.items piece bytes more h text sp n h2 le t
-  size_by (stages.Value tag left kept) None bytes more h fine t text sp = absurd t
+  size_by (stages.Value tag remaining kept) (Some h2) bytes more h fine t text sp = made_size (top old).syntax old.header.items piece bytes more h text sp n h2 le t
+  size_by (stages.Value tag remaining kept) None bytes more h fine t text sp = absurd t
   size_by stages.Heading None bytes more h fine t text sp =
       let short = unfinished_short (top old).syntax old.header.items piece bytes more h text sp piece [] t.2 (sym (append-nil piece)) in
       absurd (omega (arith, short, ap length text, length-append bytes more))
 
-  part_by : (stage : Stage) (made : Option Header) (begun : List ℕ) → IsIn stage new.header.items (in_header begun) → 0 < length begun → IsTaken (top old).syntax old.header.items piece old.place n stage new.header.items made → n ≡ length piece
-  part_by (stages.Stopped fault) made begun i some t = absurd i
-  part_by (stages.Value tag left kept) made begun i some t = absurd i
-  part_by stages.Heading None begun i some t = t.0
-  part_by stages.Heading (Some h2) begun i some t = let same : begun ≡ new.header.items = cc in absurd (omega (arith, some, ap length (same ∙ t.1)))
+  part_by : (stage : Stage) (made : Option Header) (started : List ℕ) → IsIn stage new.header.items (in_header started) → 0 < length started → IsTaken (top old).syntax old.header.items piece old.place n stage new.header.items made → n ≡ length piece
+  part_by (stages.Stopped fault) made started i some t = absurd i
+  part_by (stages.Value tag remaining kept) made started i some t = absurd i
+  part_by stages.Heading None started i some t = t.0
+  part_by stages.Heading (Some h2) started i some t = let same : started ≡ new.header.items = cc in absurd (omega (arith, some, ap length (same ∙ t.1)))
 
   -- the walker is in this header after what was taken
-  in_part : (es : Elements) (path : List PathEntry) (last : ℕ) (begun : List ℕ) → Open (walker_syntax old) (b ++ take n piece) es path last (in_header begun) → IsUnbroken (walker_syntax old) (limits_of old) (b ++ take n piece) → IsIn new.stage new.header.items (in_header begun)
-  in_part es path last begun o ok = (stands_going new (b ++ take n piece) stands-new es path last (in_header begun) (not_refused new.stage refl ok) (subst (λ z. Open z (b ++ take n piece) es path last (in_header begun)) (sym s-is) o)).1
+  in_part : (es : Elements) (path : List PathEntry) (last : ℕ) (started : List ℕ) → Open (walker_syntax old) (b ++ take n piece) es path last (in_header started) → IsUnbroken (walker_syntax old) (limits_of old) (b ++ take n piece) → IsIn new.stage new.header.items (in_header started)
+  in_part es path last started o ok = (stands_going new (b ++ take n piece) stands-new es path last (in_header started) (not_refused new.stage refl ok) (subst (λ z. Open z (b ++ take n piece) es path last (in_header started)) (sym s-is) o)).1
 
   pub heading_most : (made : Option Header) → old.stage ≡ stages.Heading → IsTaken (top old).syntax old.header.items piece old.place n new.stage new.header.items made → TakesMost (walker_syntax old) (limits_of old) b piece n
   heading_most made o t = record {
-    header = λ es path last begun bytes more h whole-front text sp ok.
-        let g = stands_going old b stands-old es path last (in_header begun) none whole-front in
-        let here : IsIn stages.Heading old.header.items (in_header begun) = subst (λ z. IsIn z old.header.items (in_header begun)) o g.1 in
-        let same : begun ≡ old.header.items = cc in
+    header = λ es path last started bytes more h whole-front text sp ok.
+        let g = stands_going old b stands-old es path last (in_header started) none whole-front in
+        let here : IsIn stages.Heading old.header.items (in_header started) = subst (λ z. IsIn z old.header.items (in_header started)) o g.1 in
+        let same : started ≡ old.header.items = cc in
         let syntax-is = syntax_at (length b) (length b) path (walker_syntax old) last (top old) (below old) g.0.levels in
         size_by new.stage made bytes more h (not_refused new.stage refl ok) t text (subst (λ z. SpellsHeader (layout z) h (old.header.items ++ bytes)) (sym syntax-is) (subst (λ z. SpellsHeader (layout (spot_behind (walker_syntax old) path last (length b)).syntax) h (z ++ bytes)) same sp));
     value = λ es path last h v whole-front.
         let g = stands_going old b stands-old es path last (in_value h v) none whole-front in
         let here : IsIn stages.Heading old.header.items (in_value h v) = subst (λ z. IsIn z old.header.items (in_value h v)) o g.1 in
         absurd cc;
-    part = λ es path last begun whole-front some ok. part_by new.stage made begun (in_part es path last begun whole-front ok) some t;
+    part = λ es path last started whole-front some ok. part_by new.stage made started (in_part es path last started whole-front ok) some t;
     refusal = on_refusal;
   }
 
   -- of a value
 
-  value_part : (stage : Stage) (begun : List ℕ) → IsIn stage new.header.items (in_header begun) → 0 < length begun → ArrivesAt (mode_of stage new.place new.header.items) new.place → ⊥
-  value_part (stages.Stopped fault) begun i some a = i
-  value_part (stages.Value tag left kept) begun i some a = i
-  value_part stages.Heading begun i some a = let same : begun ≡ new.header.items = cc in absurd (omega (arith, some, ap length (same ∙ a)))
+  value_part : (stage : Stage) (started : List ℕ) → IsIn stage new.header.items (in_header started) → 0 < length started → ArrivesAt (mode_of stage new.place new.header.items) new.place → ⊥
+  value_part (stages.Stopped fault) started i some a = i
+  value_part (stages.Value tag remaining kept) started i some a = i
+  value_part stages.Heading started i some a = let same : started ≡ new.header.items = cc in absurd (omega (arith, some, ap length (same ∙ a)))
 
-  pub value_most : (tag : Tag) (left : ℕ) (kept : Bool) → old.stage ≡ stages.Value tag left kept → n ≡ min (length piece) left → ArrivesAt (mode_of new.stage new.place new.header.items) new.place → TakesMost (walker_syntax old) (limits_of old) b piece n
-  value_most tag left kept o size arrives = record {
-    header = λ es path last begun bytes more h whole-front text sp ok.
-        let g = stands_going old b stands-old es path last (in_header begun) none whole-front in
-        let here : IsIn (stages.Value tag left kept) old.header.items (in_header begun) = subst (λ z. IsIn z old.header.items (in_header begun)) o g.1 in
+  pub value_most : (tag : Tag) (remaining : ℕ) (kept : Bool) → old.stage ≡ stages.Value tag remaining kept → n ≡ min (length piece) remaining → ArrivesAt (mode_of new.stage new.place new.header.items) new.place → TakesMost (walker_syntax old) (limits_of old) b piece n
+  value_most tag remaining kept o size arrives = record {
+    header = λ es path last started bytes more h whole-front text sp ok.
+        let g = stands_going old b stands-old es path last (in_header started) none whole-front in
+        let here : IsIn (stages.Value tag remaining kept) old.header.items (in_header started) = subst (λ z. IsIn z old.header.items (in_header started)) o g.1 in
         absurd here;
     value = λ es path last h v whole-front.
         let g = stands_going old b stands-old es path last (in_value h v) none whole-front in
-        let here : IsIn (stages.Value tag left kept) old.header.items (in_value h v) = subst (λ z. IsIn z old.header.items (in_value h v)) o g.1 in
-        let rest : left ≡ h.length - length v = omega (arith, here.1) in
+        let here : IsIn (stages.Value tag remaining kept) old.header.items (in_value h v) = subst (λ z. IsIn z old.header.items (in_value h v)) o g.1 in
+        let rest : remaining ≡ h.length - length v = omega (arith, here.1) in
         size ∙ ap (min (length piece)) rest;
-    part = λ es path last begun whole-front some ok. absurd (value_part new.stage begun (in_part es path last begun whole-front ok) some arrives);
+    part = λ es path last started whole-front some ok. absurd (value_part new.stage started (in_part es path last started whole-front ok) some arrives);
     refusal = on_refusal;
   }
 
 -- a walker after bytes of a value
 
-pub value_came : {V D : ℕ} (old new : Walker V D) (b taken : List ℕ) → StandsAt old b → fault_of old ≡ None → new.place ≡ old.place + length taken → new.place ≡ length (b ++ taken)
-value_came old new b taken h none place =
-    let before : old.place ≡ length b = none_place (walker_syntax old) (limits_of old) b (told_by old) h.tells none in
+pub value_received : {V D : ℕ} (old new : Walker V D) (b taken : List ℕ) → StandsAt old b → fault_of old ≡ None → new.place ≡ old.place + length taken → new.place ≡ length (b ++ taken)
+value_received old new b taken h none place =
+    let before : old.place ≡ length b = none_place (walker_syntax old) (limits_of old) b (reported_by old) h.reports none in
     omega (arith, place, before, length-append b taken)
 
-pub value_arrives : {V D : ℕ} (old new : Walker V D) (taken : List ℕ) (tag : Tag) (left : ℕ) (kept : Bool) → old.stage ≡ stages.Value tag left kept → state_of new ≡ run (limits_of old) (state_of old) taken → new.place ≡ old.place + length taken → 0 < length taken → length taken ≤ left
+pub value_arrives : {V D : ℕ} (old new : Walker V D) (taken : List ℕ) (tag : Tag) (remaining : ℕ) (kept : Bool) → old.stage ≡ stages.Value tag remaining kept → state_of new ≡ run (limits_of old) (state_of old) taken → new.place ≡ old.place + length taken → 0 < length taken → length taken ≤ remaining
     → ArrivesAt (mode_of new.stage new.place new.header.items) new.place
-value_arrives old new taken tag left kept o state place some le =
-    let arrives : ArrivesAt (mode_of new.stage new.place new.header.items) (old.place + length taken) = subst (λ (z : State). ArrivesAt z.mode (old.place + length taken)) (sym state) (value_part_arrives (top old) (below old) (limits_of old) old.place old.stage old.header.items tag left kept taken o some le) in
+value_arrives old new taken tag remaining kept o state place some le =
+    let arrives : ArrivesAt (mode_of new.stage new.place new.header.items) (old.place + length taken) = subst (λ (z : State). ArrivesAt z.mode (old.place + length taken)) (sym state) (value_part_arrives (top old) (below old) (limits_of old) old.place old.stage old.header.items tag remaining kept taken o some le) in
     subst (ArrivesAt (mode_of new.stage new.place new.header.items)) (sym place) arrives
 
 -- the first bytes of a piece
 
-pub front_size : (left : ℕ) (piece run : List ℕ) → run ≡ take left piece → length run ≡ min (length piece) left
-front_size left piece run e = let size = length-take left piece in omega (arith, ap length e, size)
+pub front_size : (remaining : ℕ) (piece run : List ℕ) → run ≡ take remaining piece → length run ≡ min (length piece) remaining
+front_size remaining piece run e = let size = length-take remaining piece in omega (arith, ap length e, size)
 
-pub front_again : (left : ℕ) (piece run : List ℕ) → run ≡ take left piece → take (length run) piece ≡ run
-front_again left piece run e = by (cases_le (length piece) left)
+pub front_again : (remaining : ℕ) (piece run : List ℕ) → run ≡ take remaining piece → take (length run) piece ≡ run
+front_again remaining piece run e = by (cases_le (length piece) remaining)
   where
-    size : length run ≡ min (length piece) left
-    size = front_size left piece run e
+    size : length run ≡ min (length piece) remaining
+    size = front_size remaining piece run e
 
-    by : (length piece ≤ left) ⊎ (left < length piece) → take (length run) piece ≡ run
-    by (inl le) = take_all (length run) piece (omega (arith, size, le)) ∙ sym (e ∙ take_all left piece le)
-    by (inr lt) = ap (λ z. take z piece) (let k : length run ≡ left = omega (arith, size, lt) in k) ∙ sym e
+    by : (length piece ≤ remaining) ⊎ (remaining < length piece) → take (length run) piece ≡ run
+    by (inl le) = take_all (length run) piece (omega (arith, size, le)) ∙ sym (e ∙ take_all remaining piece le)
+    by (inr lt) = ap (λ z. take z piece) (let k : length run ≡ remaining = omega (arith, size, lt) in k) ∙ sym e
 
-pub empty_size : (piece : List ℕ) (left : ℕ) (q : Bool) → q ≡ nat_eq (length piece) 0 → q ≡ true → 0 ≡ min (length piece) left
-empty_size piece left q e t = let none = eqb-true (length piece) 0 (sym e ∙ t) in omega (arith, none)
+pub empty_size : (piece : List ℕ) (remaining : ℕ) (q : Bool) → q ≡ nat_eq (length piece) 0 → q ≡ true → 0 ≡ min (length piece) remaining
+empty_size piece remaining q e t = let none = eqb-true (length piece) 0 (sym e ∙ t) in omega (arith, none)
 
-pub some_size : (piece : List ℕ) (left : ℕ) (stage : Stage) (tag : Tag) (kept : Bool) (q : Bool) → q ≡ nat_eq (length piece) 0 → q ≡ false → stage ≡ stages.Value tag left kept → 0 < due_of stage → 0 < min (length piece) left
-some_size piece left stage tag kept q e f is due =
+pub some_size : (piece : List ℕ) (remaining : ℕ) (stage : Stage) (tag : Tag) (kept : Bool) (q : Bool) → q ≡ nat_eq (length piece) 0 → q ≡ false → stage ≡ stages.Value tag remaining kept → 0 < due_of stage → 0 < min (length piece) remaining
+some_size piece remaining stage tag kept q e f is due =
     let some = false-eqb (length piece) 0 (sym (sym e ∙ f)) in
-    let more : 0 < left = subst (λ z. 0 < due_of z) is due in
+    let more : 0 < remaining = subst (λ z. 0 < due_of z) is due in
     omega (arith, some, more)

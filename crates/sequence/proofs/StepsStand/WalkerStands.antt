@@ -10,53 +10,53 @@ use Rattle.sequence.specs.declared.stage.Stage.TheVariants as stages
 use Rattle.sequence.specs.declared.walker.Walker.{Walker}
 use Rattle.sequence.specs.Wanted.{Values, size_of_values}
 use Rattle.sequence.specs.Rules.{Limits}
-use Rattle.sequence.specs.Walk.{Told, Tells}
+use Rattle.sequence.specs.Walk.{Report, Reports}
 use Rattle.sequence.specs.machine.Machine.{set_scope, State, at, Heading, next, run, start}
 use Rattle.sequence.specs.machine.Scopes.{top_of, below_of}
 use Rattle.sequence.specs.machine.Keeping.{keep, keeps, wanted_at}
-use Rattle.sequence.specs.Fields.{but_last, told_values, is_kept}
+use Rattle.sequence.specs.Fields.{but_last, reported_values, is_kept}
 use Rattle.sequence.specs.Stored.{values_of}
 use Rattle.sequence.specs.machine.Spare.{head_room, is_wanted_in}
 use Rattle.sequence.specs.machine.State.{mode_of, state_of, IsSameWalk, limits_of, walker_syntax, fault_by, StandsAt}
 use Rattle.sequence.specs.machine.Standing.{IsBytes}
 use Rattle.sequence.proofs.CodeIsMachine.InnermostLevel.{below_length}
 use Rattle.sequence.proofs.CodeIsMachine.StateAfterCall.{wanted_is}
-use Rattle.sequence.specs.machine.Reported.{told_in}
-use Rattle.sequence.proofs.MachineReports.AnyText.{tells}
+use Rattle.sequence.specs.machine.Reported.{reported_in}
+use Rattle.sequence.proofs.MachineReports.AnyText.{reports}
 use Rattle.sequence.proofs.MachineReports.HeldIsState.{walker_holds}
 
-abbrev told_of : Stage → List Level → ℕ → List ℕ → Values → Told
-told_of stage levels place header values = record {
+abbrev reported_of : Stage → List Level → ℕ → List ℕ → Values → Report
+reported_of stage levels place header values = record {
   fault = fault_by stage;
   levels = length levels;
   place = place;
   held = length header + size_of_values values + 16 * length levels;
-  kept = told_values (is_kept stage) values;
+  kept = reported_values (is_kept stage) values;
 }
 
-told_is : (lim : Limits) (root : Scope) (levels : List Level) (stage : Stage) (place : ℕ) (header : List ℕ) (values : Values) → length header ≤ head_room stage → is_kept stage ≡ is_wanted_in lim.wanted levels stage
-    → told_of stage levels place header values ≡ told_in lim (at (top_of root levels) (below_of root [] levels) place (mode_of stage place header)) values
-told_is lim root levels stages.Heading place header values few flag =
+reported_is : (lim : Limits) (root : Scope) (levels : List Level) (stage : Stage) (place : ℕ) (header : List ℕ) (values : Values) → length header ≤ head_room stage → is_kept stage ≡ is_wanted_in lim.wanted levels stage
+    → reported_of stage levels place header values ≡ reported_in lim (at (top_of root levels) (below_of root [] levels) place (mode_of stage place header)) values
+reported_is lim root levels stages.Heading place header values few flag =
     let same : length levels ≡ length (below_of root [] levels) = omega (arith, below_length root [] levels) in
     λ i. record { fault = None; levels = same i; place = place; held = length header + size_of_values values + 16 * same i; kept = values }
-told_is lim root levels (stages.Value tag left kept) place header values few flag =
+reported_is lim root levels (stages.Value tag remaining kept) place header values few flag =
     let same : length levels ≡ length (below_of root [] levels) = omega (arith, below_length root [] levels) in
     let none : length header ≡ 0 = omega (arith, few) in
     let wanted : kept ≡ wanted_at lim (below_of root [] levels) (number tag) = flag ∙ wanted_is lim root levels (number tag) in
     λ i. record { fault = None; levels = same i; place = place; held = none i + size_of_values values + 16 * same i; kept = if wanted i then but_last values else values }
-told_is lim root levels (stages.Stopped fault) place header values few flag =
+reported_is lim root levels (stages.Stopped fault) place header values few flag =
     let same : length levels ≡ length (below_of root [] levels) = omega (arith, below_length root [] levels) in
     let none : length header ≡ 0 = omega (arith, few) in
     λ i. record { fault = Some fault; levels = same i; place = place; held = none i + size_of_values values + 16 * same i; kept = values }
 
 pub walker_stands : {V D : ℕ} (w : Walker V D) (b : List ℕ) → IsBytes b → state_of w ≡ run (limits_of w) (start (walker_syntax w)) b → values_of w.kept ≡ keeps (limits_of w) (start (walker_syntax w)) [] b → StandsAt w b
 walker_stands w b bytes state values =
-    let told = subst (Tells (walker_syntax w) (limits_of w) b)
-    (sym (told_is (limits_of w) w.root w.levels.items w.stage w.place w.header.items (values_of w.kept) w.few w.flag
-    ∙ ap (λ z. told_in (limits_of w) z (values_of w.kept)) state
-    ∙ ap (λ z. told_in (limits_of w) (run (limits_of w) (start (walker_syntax w)) b) z) values))
-    (tells (walker_syntax w) (limits_of w) b bytes) in
-    record { bytes = bytes; tells = told; holds = walker_holds w b (record { bytes = bytes; state = state; values = values }) }
+    let reported = subst (Reports (walker_syntax w) (limits_of w) b)
+    (sym (reported_is (limits_of w) w.root w.levels.items w.stage w.place w.header.items (values_of w.kept) w.few w.flag
+    ∙ ap (λ z. reported_in (limits_of w) z (values_of w.kept)) state
+    ∙ ap (λ z. reported_in (limits_of w) (run (limits_of w) (start (walker_syntax w)) b) z) values))
+    (reports (walker_syntax w) (limits_of w) b bytes) in
+    record { bytes = bytes; reports = reported; holds = walker_holds w b (record { bytes = bytes; state = state; values = values }) }
 
 pub no_bytes : IsBytes []
 no_bytes i = lit< tt

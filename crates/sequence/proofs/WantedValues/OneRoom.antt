@@ -1,12 +1,12 @@
 -- Values that are stored one after the other in one room are those of the wanted tags: after one byte more (`pushed`), where
--- one begins (`begun_at`), looked up (`look_here`, `look_on`), and counted (`stored_bytes`). Stands on the definitions alone.
+-- one begins (`started_at`), looked up (`look_here`, `look_on`), and counted (`stored_bytes`). Stands on the definitions alone.
 use Rattle.std.proofs.Common.{◌≡◌, ℕ, zero, suc, ◌+◌, ◌-◌, ◌<◌, ◌≤◌, ◌≢◌, Bool, true, false, ◌&&◌, ◌||◌, List, [], ◌∷◌, ◌++◌, length, take, drop, get_or, slice_set, replicate, Some, None, nat_eq, nat_le, nat_lt, refl, sym, ap, subst, ◌∙◌, arith, eqb-true, false-eqb, eq-eqb, ne_eqb, leb-true, ltb-true, le-leb, length-append, if◌then◌else◌}
 use Rattle.std.proofs.lemmas.List.{take-append-le, drop-append-le, length-drop, length-take-le, take_all}
 use Rattle.sequence.specs.declared.wanted.Want.{Want}
 use Rattle.element.specs.Header.{number}
 use Rattle.sequence.specs.Wanted.{Values, value_of, size_of_values, rooms, room_of, are_rising}
-use Rattle.sequence.specs.machine.Keeping.{with_byte, counts, are_stored, all_absent, is_latest, left_at, place_from}
-use Rattle.sequence.specs.Fields.{absent, is_absent, stored, but_last, told_values}
+use Rattle.sequence.specs.machine.Keeping.{with_byte, counts, are_stored, all_absent, is_latest, remaining_at, place_from}
+use Rattle.sequence.specs.Fields.{absent, is_absent, stored, but_last, reported_values}
 
 both : (a b : Bool) → (a && b) ≡ true → (a ≡ true) × (b ≡ true)
 both true b e = (refl, e)
@@ -28,15 +28,15 @@ with_byte_more one (two ∷ values) x lt = refl
 
 -- a value that may still get bytes is there
 
-some_by : (a : Bool) (one : ℕ × List ℕ) (left : ℕ) (values more : Values) → (a ≡ true → 0 < length values) → 0 < length (if a then values else one ∷ more)
-some_by true one left values more some = some refl
-some_by false one left values more some = omega arith
+some_by : (a : Bool) (one : ℕ × List ℕ) (remaining : ℕ) (values more : Values) → (a ≡ true → 0 < length values) → 0 < length (if a then values else one ∷ more)
+some_by true one remaining values more some = some refl
+some_by false one remaining values more some = omega arith
 
-left_some : (i : ℕ) (ws : List Want) (ns bytes : List ℕ) → 0 < left_at i ws ns → 0 < length (stored ws ns bytes)
-left_some i [] ns bytes lt = absurd (omega arith)
-left_some i (w ∷ ws) [] bytes lt = absurd (omega arith)
-left_some zero (w ∷ ws) (n ∷ ns) bytes lt = some_by (is_absent n) _ 0 _ _ (λ e. absurd (let k : (if is_absent n then 0 else w.room - n) ≡ 0 = rw e refl in omega (arith, lt, k)))
-left_some (suc i) (w ∷ ws) (n ∷ ns) bytes lt = some_by (is_absent n) _ 0 _ _ (λ e. left_some i ws ns bytes lt)
+remaining_some : (i : ℕ) (ws : List Want) (ns bytes : List ℕ) → 0 < remaining_at i ws ns → 0 < length (stored ws ns bytes)
+remaining_some i [] ns bytes lt = absurd (omega arith)
+remaining_some i (w ∷ ws) [] bytes lt = absurd (omega arith)
+remaining_some zero (w ∷ ws) (n ∷ ns) bytes lt = some_by (is_absent n) _ 0 _ _ (λ e. absurd (let k : (if is_absent n then 0 else w.room - n) ≡ 0 = rw e refl in omega (arith, lt, k)))
+remaining_some (suc i) (w ∷ ws) (n ∷ ns) bytes lt = some_by (is_absent n) _ 0 _ _ (λ e. remaining_some i ws ns bytes lt)
 
 -- one more byte
 
@@ -62,19 +62,19 @@ pushed_on w ws n ns ns2 bytes x false e c more some =
     ∙ ap (λ z. (number w.tag, take n bytes) ∷ z) (more (drop n bytes) (omega (arith, c, length-drop n bytes)))
     ∙ sym (with_byte_more (number w.tag, take n bytes) (stored ws ns (drop n bytes)) x (some (drop n bytes)))
 
-pub pushed : (i : ℕ) (ws : List Want) (ns bytes : List ℕ) (x : ℕ) → 0 < left_at i ws ns → is_latest i ws ns ≡ true → counts ws ns ≡ length bytes → rooms ws < absent
+pub pushed : (i : ℕ) (ws : List Want) (ns bytes : List ℕ) (x : ℕ) → 0 < remaining_at i ws ns → is_latest i ws ns ≡ true → counts ws ns ≡ length bytes → rooms ws < absent
     → stored ws (slice_set ns i (get_or ns i 0 + 1)) (bytes ++ x ∷ []) ≡ with_byte (stored ws ns bytes) x
 pushed i [] ns bytes x lt l c r = absurd (omega arith)
 pushed i (w ∷ ws) [] bytes x lt l c r = absurd (omega arith)
 pushed zero (w ∷ ws) (n ∷ ns) bytes x lt l c r = pushed_here w ws n ns bytes x (is_absent n) refl lt l c r
-pushed (suc i) (w ∷ ws) (n ∷ ns) bytes x lt l c r = pushed_on w ws n ns (slice_set ns i (get_or ns i 0 + 1)) bytes x (is_absent n) refl c (λ more size. pushed i ws ns more x lt l size (omega arith)) (λ more. left_some i ws ns more lt)
+pushed (suc i) (w ∷ ws) (n ∷ ns) bytes x lt l c r = pushed_on w ws n ns (slice_set ns i (get_or ns i 0 + 1)) bytes x (is_absent n) refl c (λ more size. pushed i ws ns more x lt l size (omega arith)) (λ more. remaining_some i ws ns more lt)
 
 -- what one more byte leaves
 pub record Pushed (i : ℕ) (ws : List Want) (ns : List ℕ) (last : ℕ) : Type 0 where
   pub size : counts ws (slice_set ns i (get_or ns i 0 + 1)) ≡ counts ws ns + 1
   pub fit : are_stored ws (slice_set ns i (get_or ns i 0 + 1)) last ≡ true
   pub latest : is_latest i ws (slice_set ns i (get_or ns i 0 + 1)) ≡ true
-  pub left : left_at i ws (slice_set ns i (get_or ns i 0 + 1)) ≡ left_at i ws ns - 1
+  pub remaining : remaining_at i ws (slice_set ns i (get_or ns i 0 + 1)) ≡ remaining_at i ws ns - 1
   pub within : i < length ws
   pub small : get_or ns i 0 + 1 < absent
 
@@ -98,20 +98,20 @@ counts_more : (a : Bool) (n k m : ℕ) → k ≡ m + 1 → (if a then k else (n 
 counts_more true n k m e = e
 counts_more false n k m e = omega (arith, e)
 
-pub push_facts : (i : ℕ) (ws : List Want) (ns : List ℕ) (last : ℕ) → 0 < left_at i ws ns → is_latest i ws ns ≡ true → are_stored ws ns last ≡ true → rooms ws < absent → Pushed i ws ns last
+pub push_facts : (i : ℕ) (ws : List Want) (ns : List ℕ) (last : ℕ) → 0 < remaining_at i ws ns → is_latest i ws ns ≡ true → are_stored ws ns last ≡ true → rooms ws < absent → Pushed i ws ns last
 push_facts i [] ns last lt l s r = absurd (omega arith)
 push_facts i (w ∷ ws) [] last lt l s r = absurd (omega arith)
 push_facts zero (w ∷ ws) (n ∷ ns) last lt l s r =
     let f = pushed_first w ws n ns last (is_absent n) refl lt l s r in
-    record { size = f.0; fit = f.1; latest = l; left = f.2; within = omega arith; small = f.3 }
+    record { size = f.0; fit = f.1; latest = l; remaining = f.2; within = omega arith; small = f.3 }
 push_facts (suc i) (w ∷ ws) (n ∷ ns) last lt l s r =
     let p = both (is_absent n || (nat_le n w.room && nat_le (number w.tag) last)) (are_stored ws ns last) s in
     let f = push_facts i ws ns last lt l p.1 (omega arith) in
-    record { size = counts_more (is_absent n) n _ _ f.size; fit = or_mono (is_absent n) (nat_le n w.room && nat_le (number w.tag) last) (are_stored ws ns last) s _ f.fit; latest = f.latest; left = f.left; within = omega (arith, f.within); small = f.small }
+    record { size = counts_more (is_absent n) n _ _ f.size; fit = or_mono (is_absent n) (nat_le n w.room && nat_le (number w.tag) last) (are_stored ws ns last) s _ f.fit; latest = f.latest; remaining = f.remaining; within = omega (arith, f.within); small = f.small }
 
-fit_by : (a : Bool) (n room size rest left : ℕ) (tagged : Bool) → (a || (nat_le n room && tagged)) ≡ true → size + left ≤ rest → (if a then size else (n + size)) + left ≤ room + rest
-fit_by true n room size rest left tagged e le = omega (arith, le)
-fit_by false n room size rest left tagged e le = let q = leb-true n room (both (nat_le n room) tagged e).0 in omega (arith, q, le)
+fit_by : (a : Bool) (n room size rest remaining : ℕ) (tagged : Bool) → (a || (nat_le n room && tagged)) ≡ true → size + remaining ≤ rest → (if a then size else (n + size)) + remaining ≤ room + rest
+fit_by true n room size rest remaining tagged e le = omega (arith, le)
+fit_by false n room size rest remaining tagged e le = let q = leb-true n room (both (nat_le n room) tagged e).0 in omega (arith, q, le)
 
 here_by : (a : Bool) (n room size rest : ℕ) (tagged : Bool) → (a || (nat_le n room && tagged)) ≡ true → size ≤ rest → (if a then size else (n + size)) + (if a then 0 else room - n) ≤ room + rest
 here_by true n room size rest tagged e le = omega (arith, le)
@@ -125,16 +125,16 @@ fit_all (w ∷ ws) (n ∷ ns) last s =
     let f = fit_by (is_absent n) n w.room (counts ws ns) (rooms ws) 0 (nat_le (number w.tag) last) p.0 (let k = fit_all ws ns last p.1 in omega (arith, k)) in
     omega (arith, f)
 
--- the bytes that came and those that a value may still get have room
-pub fit_left : (i : ℕ) (ws : List Want) (ns : List ℕ) (last : ℕ) → are_stored ws ns last ≡ true → counts ws ns + left_at i ws ns ≤ rooms ws
-fit_left i [] ns last s = omega arith
-fit_left i (w ∷ ws) [] last s = omega arith
-fit_left zero (w ∷ ws) (n ∷ ns) last s =
+-- the bytes that were received and those that a value may still get have room
+pub fit_remaining : (i : ℕ) (ws : List Want) (ns : List ℕ) (last : ℕ) → are_stored ws ns last ≡ true → counts ws ns + remaining_at i ws ns ≤ rooms ws
+fit_remaining i [] ns last s = omega arith
+fit_remaining i (w ∷ ws) [] last s = omega arith
+fit_remaining zero (w ∷ ws) (n ∷ ns) last s =
     let p = both (is_absent n || (nat_le n w.room && nat_le (number w.tag) last)) (are_stored ws ns last) s in
     here_by (is_absent n) n w.room (counts ws ns) (rooms ws) (nat_le (number w.tag) last) p.0 (fit_all ws ns last p.1)
-fit_left (suc i) (w ∷ ws) (n ∷ ns) last s =
+fit_remaining (suc i) (w ∷ ws) (n ∷ ns) last s =
     let p = both (is_absent n || (nat_le n w.room && nat_le (number w.tag) last)) (are_stored ws ns last) s in
-    fit_by (is_absent n) n w.room (counts ws ns) (rooms ws) (left_at i ws ns) (nat_le (number w.tag) last) p.0 (fit_left i ws ns last p.1)
+    fit_by (is_absent n) n w.room (counts ws ns) (rooms ws) (remaining_at i ws ns) (nat_le (number w.tag) last) p.0 (fit_remaining i ws ns last p.1)
 
 -- a value that begins
 
@@ -168,7 +168,7 @@ absent_by : (a : Bool) (n room tag last : ℕ) (rest : Bool) → ((a || (nat_le 
 absent_by true n room tag last rest e lt = refl
 absent_by false n room tag last rest e lt = absurd (let p = both (nat_le n room && nat_le tag last) rest e in let q = leb-true tag last (both (nat_le n room) (nat_le tag last) p.0).1 in omega (arith, q, lt))
 
--- tags above the last one that came did not come
+-- tags above the last one that was received were not received
 above_absent : (above : ℕ) (ws : List Want) (ns : List ℕ) (last : ℕ) → are_rising above ws ≡ true → last ≤ above → are_stored ws ns last ≡ true → all_absent ws ns ≡ true
 above_absent above [] ns last r le s = refl
 above_absent above (w ∷ ws) [] last r le s = refl
@@ -178,12 +178,12 @@ above_absent above (w ∷ ws) (n ∷ ns) last r le s =
     let p = both (is_absent n || (nat_le n w.room && nat_le (number w.tag) last)) (are_stored ws ns last) s in
     rw (absent_by (is_absent n) n w.room (number w.tag) last (are_stored ws ns last) s (omega (arith, lt, le)), above_absent (number w.tag) ws ns last q.1 (omega (arith, lt, le)) p.1) refl
 
-pub record Begun (i : ℕ) (ws : List Want) (ns bytes : List ℕ) (t : ℕ) : Type 0 where
+pub record Started (i : ℕ) (ws : List Want) (ns bytes : List ℕ) (t : ℕ) : Type 0 where
   pub values : stored ws (slice_set ns i 0) bytes ≡ stored ws ns bytes ++ (t, []) ∷ []
   pub size : counts ws (slice_set ns i 0) ≡ counts ws ns
   pub fit : are_stored ws (slice_set ns i 0) t ≡ true
   pub latest : is_latest i ws (slice_set ns i 0) ≡ true
-  pub left : room_of ws t ≡ Some (left_at i ws (slice_set ns i 0))
+  pub remaining : room_of ws t ≡ Some (remaining_at i ws (slice_set ns i 0))
   pub within : i < length ws
 
 mono_by : (a : Bool) (n room tag last t : ℕ) → (a || (nat_le n room && nat_le tag last)) ≡ true → last ≤ t → (a || (nat_le n room && nat_le tag t)) ≡ true
@@ -208,10 +208,10 @@ same_by false n k m e = ap (λ z. n + z) e
 whole_room : (n : ℕ) → n ≡ n - 0
 whole_room n = omega arith
 
-pub begun : (i above : ℕ) (ws : List Want) (ns bytes : List ℕ) (t last : ℕ) → IsPlace i ws t → are_rising above ws ≡ true → are_stored ws ns last ≡ true → last < t → length ws ≤ length ns → Begun i ws ns bytes t
-begun i above [] ns bytes t last place r s lt long = absurd place
-begun i above (w ∷ ws) [] bytes t last place r s lt long = absurd (omega arith)
-begun zero above (w ∷ ws) (n ∷ ns) bytes t last place r s lt long =
+pub started : (i above : ℕ) (ws : List Want) (ns bytes : List ℕ) (t last : ℕ) → IsPlace i ws t → are_rising above ws ≡ true → are_stored ws ns last ≡ true → last < t → length ws ≤ length ns → Started i ws ns bytes t
+started i above [] ns bytes t last place r s lt long = absurd place
+started i above (w ∷ ws) [] bytes t last place r s lt long = absurd (omega arith)
+started zero above (w ∷ ws) (n ∷ ns) bytes t last place r s lt long =
     let p = both (is_absent n || (nat_le n w.room && nat_le (number w.tag) last)) (are_stored ws ns last) s in
     let q = both (nat_lt above (number w.tag)) (are_rising (number w.tag) ws) r in
     let gone : is_absent n ≡ true = absent_by (is_absent n) n w.room (number w.tag) last (are_stored ws ns last) s (omega (arith, place, lt)) in
@@ -225,14 +225,14 @@ begun zero above (w ∷ ws) (n ∷ ns) bytes t last place r s lt long =
       size = rw gone (omega arith);
       fit = rw (le-leb 0 w.room (omega arith), le, kept) refl;
       latest = rest;
-      left = rw same (ap Some (whole_room w.room));
+      remaining = rw same (ap Some (whole_room w.room));
       within = omega arith;
     }
-begun (suc i) above (w ∷ ws) (n ∷ ns) bytes t last place r s lt long =
+started (suc i) above (w ∷ ws) (n ∷ ns) bytes t last place r s lt long =
     let p = both (is_absent n || (nat_le n w.room && nat_le (number w.tag) last)) (are_stored ws ns last) s in
     let q = both (nat_lt above (number w.tag)) (are_rising (number w.tag) ws) r in
-    let f = begun i (number w.tag) ws ns bytes t last place.1 q.1 p.1 lt (omega arith) in
-    let g = begun i (number w.tag) ws ns (drop n bytes) t last place.1 q.1 p.1 lt (omega arith) in
+    let f = started i (number w.tag) ws ns bytes t last place.1 q.1 p.1 lt (omega arith) in
+    let g = started i (number w.tag) ws ns (drop n bytes) t last place.1 q.1 p.1 lt (omega arith) in
     let other : nat_eq (number w.tag) t ≡ false = ne_eqb (number w.tag) t place.0 in
     let mono : (is_absent n || (nat_le n w.room && nat_le (number w.tag) t)) ≡ true = mono_by (is_absent n) n w.room (number w.tag) last t p.0 (omega (arith, lt)) in
     record {
@@ -240,11 +240,11 @@ begun (suc i) above (w ∷ ws) (n ∷ ns) bytes t last place r s lt long =
       size = same_by (is_absent n) n _ _ f.size;
       fit = rw (mono, f.fit) refl;
       latest = f.latest;
-      left = rw other f.left;
+      remaining = rw other f.remaining;
       within = omega (arith, f.within);
     }
 
--- no value came
+-- no value was received
 pub record New (ws : List Want) (ns : List ℕ) : Type 0 where
   pub all : all_absent ws ns ≡ true
   pub size : counts ws ns ≡ 0
@@ -269,11 +269,11 @@ new_latest (w ∷ ws) (suc n) = new_absent ws n
 pub all_new : (ws : List Want) (n : ℕ) → New ws (replicate n absent)
 all_new ws n = record { all = new_absent ws n; size = absent_counts ws (replicate n absent) (new_absent ws n); fit = new_fit ws n; latest = new_latest ws n }
 
-pub begun_at : (i : ℕ) (ws : List Want) (ns bytes : List ℕ) (t last : ℕ) → place_from 0 ws t ≡ Some i → are_rising 0 ws ≡ true → are_stored ws ns last ≡ true → last < t → length ws ≤ length ns → Begun i ws ns bytes t
-begun_at i ws ns bytes t last e r s lt long =
+pub started_at : (i : ℕ) (ws : List Want) (ns bytes : List ℕ) (t last : ℕ) → place_from 0 ws t ≡ Some i → are_rising 0 ws ≡ true → are_stored ws ns last ≡ true → last < t → length ws ≤ length ns → Started i ws ns bytes t
+started_at i ws ns bytes t last e r s lt long =
     let f = found 0 ws t i e in
     let same : f.at ≡ i = omega (arith, f.i-is) in
-    subst (λ z. Begun z ws ns bytes t) same (begun f.at 0 ws ns bytes t last f.place r s lt long)
+    subst (λ z. Started z ws ns bytes t) same (started f.at 0 ws ns bytes t last f.place r s lt long)
 
 -- the values that are reported
 
@@ -297,7 +297,7 @@ whole_by : (a : Bool) (one : ℕ × List ℕ) (v1 v2 w1 w2 : Values) → but_las
 whole_by true one v1 v2 w1 w2 e f lt = e
 whole_by false one v1 v2 w1 w2 e f lt = but_last_more one v2 lt ∙ ap (λ z. one ∷ z) f
 
-pub whole_stored : (i : ℕ) (ws : List Want) (ns bytes : List ℕ) → 0 < left_at i ws ns → is_latest i ws ns ≡ true → but_last (stored ws ns bytes) ≡ stored ws (slice_set ns i absent) bytes
+pub whole_stored : (i : ℕ) (ws : List Want) (ns bytes : List ℕ) → 0 < remaining_at i ws ns → is_latest i ws ns ≡ true → but_last (stored ws ns bytes) ≡ stored ws (slice_set ns i absent) bytes
 whole_stored i [] ns bytes lt l = absurd (omega arith)
 whole_stored i (w ∷ ws) [] bytes lt l = absurd (omega arith)
 whole_stored zero (w ∷ ws) (n ∷ ns) bytes lt l = by (is_absent n) refl lt
@@ -306,7 +306,7 @@ whole_stored zero (w ∷ ws) (n ∷ ns) bytes lt l = by (is_absent n) refl lt
     by true e lt = absurd (omega arith)
     by false e lt = rw (absent_stored ws ns (drop n bytes) l, absent_stored ws ns bytes l) refl
 whole_stored (suc i) (w ∷ ws) (n ∷ ns) bytes lt l =
-    whole_by (is_absent n) (number w.tag, take n bytes) _ _ _ _ (whole_stored i ws ns bytes lt l) (whole_stored i ws ns (drop n bytes) lt l) (left_some i ws ns (drop n bytes) lt)
+    whole_by (is_absent n) (number w.tag, take n bytes) _ _ _ _ (whole_stored i ws ns bytes lt l) (whole_stored i ws ns (drop n bytes) lt l) (remaining_some i ws ns (drop n bytes) lt)
 
 less_by : (a : Bool) (n k m : ℕ) → k ≤ m → (if a then k else (n + k)) ≤ (if a then m else (n + m))
 less_by true n k m le = le
@@ -323,13 +323,13 @@ counts_less (suc i) (w ∷ ws) [] = omega arith
 counts_less zero (w ∷ ws) (n ∷ ns) = here_less (is_absent n) n (counts ws ns)
 counts_less (suc i) (w ∷ ws) (n ∷ ns) = less_by (is_absent n) n _ _ (counts_less i ws ns)
 
-pub told_stored : (begun : Bool) (i : ℕ) (ws : List Want) (ns bytes : List ℕ) → (begun ≡ true → 0 < left_at i ws ns) → is_latest i ws ns ≡ true → stored ws (if begun then slice_set ns i absent else ns) bytes ≡ told_values begun (stored ws ns bytes)
-told_stored true i ws ns bytes lt l = sym (whole_stored i ws ns bytes (lt refl) l)
-told_stored false i ws ns bytes lt l = refl
+pub reported_stored : (started : Bool) (i : ℕ) (ws : List Want) (ns bytes : List ℕ) → (started ≡ true → 0 < remaining_at i ws ns) → is_latest i ws ns ≡ true → stored ws (if started then slice_set ns i absent else ns) bytes ≡ reported_values started (stored ws ns bytes)
+reported_stored true i ws ns bytes lt l = sym (whole_stored i ws ns bytes (lt refl) l)
+reported_stored false i ws ns bytes lt l = refl
 
-pub told_counts : (begun : Bool) (i : ℕ) (ws : List Want) (ns : List ℕ) → counts ws (if begun then slice_set ns i absent else ns) ≤ counts ws ns
-told_counts true i ws ns = counts_less i ws ns
-told_counts false i ws ns = omega arith
+pub reported_counts : (started : Bool) (i : ℕ) (ws : List Want) (ns : List ℕ) → counts ws (if started then slice_set ns i absent else ns) ≤ counts ws ns
+reported_counts true i ws ns = counts_less i ws ns
+reported_counts false i ws ns = omega arith
 
 -- going along the wanted tags
 

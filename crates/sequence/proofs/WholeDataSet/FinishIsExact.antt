@@ -89,7 +89,7 @@ reading_ends s lim f fs p t n b bytes state r =
 root_whole : {s : Coding} {values : Values} {f : Scope} {b : List ℕ} (lim : Limits) → Reaches s lim.wanted values f [] b → length b ≤ lim.bytes → IsBytes b → (HasStopped (run lim (start s) b).mode → ⊥) → IsWholeDataSet s lim b
 root_whole {s = s} {b = b} lim (at_root {es = es} set e k fits) short bytes going-on = record { elements = es; text = set; within = record { bytes = short; depth = λ p rest some path last tail same o. never_deeper s lim b bytes going-on p rest some path last tail same o; rooms = fits } }
 
--- where no header, value or level is begun
+-- where no header, value or level has started
 heading_whole : (s : Coding) (lim : Limits) (values : Values) (f : Scope) (begin : ℕ) (b : List ℕ) → IsBytes b → (HasStopped (run lim (start s) b).mode → ⊥) → IsHeading s lim values f [] begin [] b → IsWholeDataSet s lim b
 heading_whole s lim values f begin b bytes going-on h =
     let same : b ≡ h.before = h.text ∙ append-nil h.before in
@@ -110,15 +110,15 @@ module _ {V D : ℕ} (w : Walker V D) (b : List ℕ) (h : Walks w b) where
       let first = stop_first s lim (keeps lim (start s) [] b) f fs w.place fault.number fault.place fault.tag b h.bytes state k in
       subst (λ n. Fails s lim b (record { number = fault.number; place = n; tag = fault.tag })) (sym k.place-is) (breaks_rule first)
 
-  pub reading_fails : (tag : Tag) (left : ℕ) (kept : Bool) → w.stage ≡ stages.Value tag left kept → Fails (walker_syntax w) (limits_of w) b (record { number = 20; place = w.place; tag = tag })
-  reading_fails tag left kept e =
+  pub reading_fails : (tag : Tag) (remaining : ℕ) (kept : Bool) → w.stage ≡ stages.Value tag remaining kept → Fails (walker_syntax w) (limits_of w) b (record { number = 20; place = w.place; tag = tag })
+  reading_fails tag remaining kept e =
       let lim = limits_of w in
       let s = walker_syntax w in
       let f = top_of w.root w.levels.items in
       let fs = below_of w.root [] w.levels.items in
-      let state : run lim (start s) b ≡ at f fs w.place (Reading tag left) = sym h.state ∙ ap (λ z. at f fs w.place (mode_of z w.place w.header.items)) e in
-      let k : (w.place ≡ length b) × IsReading s lim (keeps lim (start s) [] b) f fs tag left b = subst (λ z. Stands s lim z (keeps lim (start s) [] b) b) state (stands s lim b h.bytes) in
-      subst (λ n. Fails s lim b (record { number = 20; place = n; tag = tag })) (sym k.0) (ends_early (reading_ends s lim f fs w.place tag left b h.bytes state k.1))
+      let state : run lim (start s) b ≡ at f fs w.place (Reading tag remaining) = sym h.state ∙ ap (λ z. at f fs w.place (mode_of z w.place w.header.items)) e in
+      let k : (w.place ≡ length b) × IsReading s lim (keeps lim (start s) [] b) f fs tag remaining b = subst (λ z. Stands s lim z (keeps lim (start s) [] b) b) state (stands s lim b h.bytes) in
+      subst (λ n. Fails s lim b (record { number = 20; place = n; tag = tag })) (sym k.0) (ends_early (reading_ends s lim f fs w.place tag remaining b h.bytes state k.1))
 
   pub heading_fails : w.stage ≡ stages.Heading → ((w.levels.items ≡ []) × (w.header.items ≡ []) → ⊥) → Fails (walker_syntax w) (limits_of w) b (record { number = 20; place = w.place; tag = tag_of_tail (in_header w.header.items) })
   heading_fails e open_still =

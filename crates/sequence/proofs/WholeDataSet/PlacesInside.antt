@@ -6,7 +6,7 @@ use Rattle.element.specs.declared.tag.Tag.{Tag}
 use Rattle.sequence.specs.declared.level.Scope.{Scope}
 use Rattle.sequence.specs.Shape.{is_undefined, undefined_length}
 use Rattle.sequence.specs.Tree.{delimitation, Elements, Ended, counted, delimited}
-use Rattle.sequence.specs.Open.{PathEntry, Tail, in_header, IsLeft, Open}
+use Rattle.sequence.specs.Open.{PathEntry, Tail, in_header, IsRemaining, Open}
 use Rattle.sequence.specs.Wanted.{Values}
 use Rattle.sequence.specs.Rules.{Limits, counted_length}
 use Rattle.sequence.specs.machine.Machine.{set_scope, nearest, stops_at, stop_of}
@@ -96,7 +96,7 @@ inside {fs = fs} {before = before} {p = p} {q = q} {n = n} hb ib cb b g f2 here 
       values = here.values;
       after = closed.end ++ (b ++ here.after);
       reaches = reaches;
-      nested = subst (λ o. IsLeft o None × AreNested (if is_some o then o else None) (f2 ∷ fs)) (sym stop-is) (level_by (is_undefined n) n (p + length hb) (f2 ∷ fs) refl ends nested);
+      nested = subst (λ o. IsRemaining o None × AreNested (if is_some o then o else None) (f2 ∷ fs)) (sym stop-is) (level_by (is_undefined n) n (p + length hb) (f2 ∷ fs) refl ends nested);
       hold = (subst (λ o. LastsTo o (p + length hb + length ib)) (sym stop-is) (closed.room (p + length hb)), less_all (f2 ∷ fs) (p + length hb + length ib) q hold (omega (arith, size, part)));
       text = here.text ∙ ap (λ z. before ++ ((hb ++ (z ++ b)) ++ here.after)) closed.text ∙ simp append_assoc;
       place = omega (arith, here.place, length-append before hb);

@@ -50,17 +50,17 @@ pub record IsCount (a n c : ℕ) : Type 0 where
   pub some : n ≤ c
   pub short : n ≤ 12
 
--- the outcome of the check of the first `count` bytes, if they are there and more than `begun`
+-- the outcome of the check of the first `count` bytes, if they are there and more than `started`
 abbrev pub IsExamined : Limits → Spot → List ℕ → ℕ → ℕ → End → Type 0
-IsExamined lim spot bytes begun count (ends.Refused n rule tag) = IsCount begun n (length bytes) × (n ≡ count) × IsRefused lim spot (take n bytes) rule tag
-IsExamined lim spot bytes begun count (ends.Whole n h sh) = IsCount begun n (length bytes) × (n ≡ count) × IsRead lim spot (take n bytes) h sh
-IsExamined lim spot bytes begun count ends.Part = begun < count → count ≤ length bytes → IsQuiet lim spot (take count bytes)
+IsExamined lim spot bytes started count (ends.Refused n rule tag) = IsCount started n (length bytes) × (n ≡ count) × IsRefused lim spot (take n bytes) rule tag
+IsExamined lim spot bytes started count (ends.Whole n h sh) = IsCount started n (length bytes) × (n ≡ count) × IsRead lim spot (take n bytes) h sh
+IsExamined lim spot bytes started count ends.Part = started < count → count ≤ length bytes → IsQuiet lim spot (take count bytes)
 
--- the shortest prefix of the bytes, longer than `begun`, that breaks a rule or is a whole header
+-- the shortest prefix of the bytes, longer than `started`, that breaks a rule or is a whole header
 abbrev pub IsEnd : Limits → Spot → List ℕ → ℕ → End → Type 0
-IsEnd lim spot bytes begun (ends.Refused n rule tag) = IsCount begun n (length bytes) × IsRefused lim spot (take n bytes) rule tag × ((m : ℕ) → begun < m → m < n → IsQuiet lim spot (take m bytes))
-IsEnd lim spot bytes begun (ends.Whole n h sh) = IsCount begun n (length bytes) × IsRead lim spot (take n bytes) h sh × ((m : ℕ) → begun < m → m < n → IsQuiet lim spot (take m bytes))
-IsEnd lim spot bytes begun ends.Part = (m : ℕ) → begun < m → m ≤ length bytes → IsQuiet lim spot (take m bytes)
+IsEnd lim spot bytes started (ends.Refused n rule tag) = IsCount started n (length bytes) × IsRefused lim spot (take n bytes) rule tag × ((m : ℕ) → started < m → m < n → IsQuiet lim spot (take m bytes))
+IsEnd lim spot bytes started (ends.Whole n h sh) = IsCount started n (length bytes) × IsRead lim spot (take n bytes) h sh × ((m : ℕ) → started < m → m < n → IsQuiet lim spot (take m bytes))
+IsEnd lim spot bytes started ends.Part = (m : ℕ) → started < m → m ≤ length bytes → IsQuiet lim spot (take m bytes)
 
 -- the bytes of a header that are held afterwards: all of an unfinished one, else none
 abbrev pub kept_by : End → List ℕ → List ℕ
@@ -84,6 +84,6 @@ broken_whole lim spot size h =
     or_else broken_header lim spot size h
 
 -- the bytes t, which end at position p, are an unfinished header that breaks no rule, or there are none
-abbrev pub is_begun : Limits → Scope → List Scope → ℕ → List ℕ → Bool
-is_begun lim f fs p [] = true
-is_begun lim f fs p (x ∷ t) = is_none (broken lim (spot_of f fs (p - length (x ∷ t))) (x ∷ t)) && not (is_whole (layout f.syntax) (x ∷ t))
+abbrev pub is_started : Limits → Scope → List Scope → ℕ → List ℕ → Bool
+is_started lim f fs p [] = true
+is_started lim f fs p (x ∷ t) = is_none (broken lim (spot_of f fs (p - length (x ∷ t))) (x ∷ t)) && not (is_whole (layout f.syntax) (x ∷ t))

@@ -17,8 +17,7 @@ limits_by ws bounds = record { wanted = ws; depth = bounds.depth; bytes = bounds
 abbrev pub numbered : Option (Rule × Tag) → Broken
 numbered broken = option_map (λ x. (rule_number x.0, x.1)) broken
 
--- the rules that can be broken once four bytes (tag), six bytes (VR) or all bytes of a header are there: the one that
--- is broken
+-- ---- the broken rule once four bytes (tag), six bytes (VR) or all bytes of a header are there
 
 abbrev pub broken_at_tag : Spot → List ℕ → Broken
 broken_at_tag spot t = when (nat_le 4 (length t)) (broken_tag spot (tag_at t))

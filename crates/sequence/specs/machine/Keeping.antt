@@ -89,11 +89,11 @@ is_latest zero (w ∷ ws) (n ∷ lengths) = all_absent ws lengths
 is_latest (suc i) (w ∷ ws) (n ∷ lengths) = is_latest i ws lengths
 
 -- how many more bytes the value with index i may have, by its limit
-abbrev pub left_at : ℕ → List Want → List ℕ → ℕ
-left_at i [] lengths = 0
-left_at i (w ∷ ws) [] = 0
-left_at zero (w ∷ ws) (n ∷ lengths) = if is_absent n then 0 else w.room - n
-left_at (suc i) (w ∷ ws) (n ∷ lengths) = left_at i ws lengths
+abbrev pub remaining_at : ℕ → List Want → List ℕ → ℕ
+remaining_at i [] lengths = 0
+remaining_at i (w ∷ ws) [] = 0
+remaining_at zero (w ∷ ws) (n ∷ lengths) = if is_absent n then 0 else w.room - n
+remaining_at (suc i) (w ∷ ws) (n ∷ lengths) = remaining_at i ws lengths
 
 -- the index of the first wanted tag with this number, where the first index is k
 abbrev pub place_from : ℕ → List Want → ℕ → Option ℕ

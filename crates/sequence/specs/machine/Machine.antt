@@ -1,5 +1,5 @@
--- The reading of a data set as a state machine that takes one byte after another. The levels are in the order from
--- the innermost outwards, each with the position of its end.
+-- The reading of a data set as a state machine that reads one byte after another. The levels are in the order from the
+-- innermost outwards, each with the position of its end.
 use Rattle.std.specs.Prelude.{◌≡◌, ℕ, ◌+◌, ◌-◌, Bool, true, false, not, ◌&&◌, List, [], ◌∷◌, ◌++◌, length, Option, Some, None, nat_eq, nat_le, if◌then◌else◌}
 use Rattle.sequence.specs.Coding.{layout, has_fragments}
 use Rattle.sequence.specs.declared.coding.Coding.{Coding}
@@ -22,7 +22,7 @@ sequence_scope s stop = record { in_sequence = true; syntax = s; stop = stop; la
 pub data Mode : Type 0 where
   -- in a header that begins at this position, of which these bytes were read
   Heading : ℕ → List ℕ → Mode
-  -- in the value of this tag, of which so many bytes are left
+  -- in the value of this tag, of which so many bytes remain
   Reading : Tag → ℕ → Mode
   -- after a fault: its number, its position and its tag
   Stopped : ℕ → ℕ → Tag → Mode
@@ -101,12 +101,12 @@ unfoldable pub leave : ℕ → Scope → List Scope → State
 leave p f [] = arrive p f []
 leave p f (g ∷ gs) = arrive p g gs
 
-abbrev pub begun : Scope → Tag → Scope
-begun f t = record f { last = number t }
+abbrev pub started : Scope → Tag → Scope
+started f t = record f { last = number t }
 
 abbrev pub take_element : ℕ → Scope → List Scope → Header → Shape → State
-take_element p f fs h Value = begin_value p (begun f h.tag) fs h.tag h.length
-take_element p f fs h (Sequence inner) = begin_level p (sequence_scope inner (stop_of p h.length)) (begun f h.tag) fs h.length
+take_element p f fs h Value = begin_value p (started f h.tag) fs h.tag h.length
+take_element p f fs h (Sequence inner) = begin_level p (sequence_scope inner (stop_of p h.length)) (started f h.tag) fs h.length
 take_element p f fs h NotAllowed = arrive p f fs
 
 abbrev pub take_item : ℕ → Scope → List Scope → Header → State

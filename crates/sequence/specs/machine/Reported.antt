@@ -2,7 +2,7 @@
 use Rattle.std.specs.Prelude.{ℕ, ◌+◌, ◌*◌, Option, None, Some, length}
 use Rattle.sequence.specs.declared.fault.Fault.{Fault}
 use Rattle.sequence.specs.Rules.{Limits}
-use Rattle.sequence.specs.Walk.{Told}
+use Rattle.sequence.specs.Walk.{Report}
 use Rattle.sequence.specs.Wanted.{Values, size_of_values, level_size}
 use Rattle.sequence.specs.machine.Machine.{State, Mode, Heading, Reading, Stopped}
 use Rattle.sequence.specs.machine.Keeping.{whole_by}
@@ -17,8 +17,8 @@ header_in (Heading begin t) = length t
 header_in (Reading t n) = 0
 header_in (Stopped rule place t) = 0
 
-abbrev pub told_in : Limits → State → Values → Told
-told_in lim st values = record {
+abbrev pub reported_in : Limits → State → Values → Report
+reported_in lim st values = record {
   fault = fault_in st.mode;
   levels = length st.below;
   place = st.place;

@@ -11,12 +11,12 @@ use Rattle.sequence.specs.declared.wanted.Want.{Want}
 use Rattle.sequence.specs.declared.shape.Shape.TheVariants.{Value, Sequence}
 use Rattle.sequence.specs.Shape.{undefined_length, shape}
 use Rattle.sequence.specs.Tree.{Elements, Items, IsEven, IsElement, IsItem, IsFragmentItem, DataSet, ItemList}
-use Rattle.sequence.specs.Open.{last_of, IsUnfinishedHeader, IsLeft}
+use Rattle.sequence.specs.Open.{last_of, IsUnfinishedHeader, IsRemaining}
 use Rattle.sequence.specs.Wanted.{Values, room_of, kept_of}
 use Rattle.sequence.specs.Within.{FitRooms}
 use Rattle.sequence.specs.Rules.{Limits, broken}
 use Rattle.sequence.specs.machine.Machine.{set_scope, sequence_scope, stop_of, stops_at, spot_of, Mode, Heading, Reading, Stopped, State}
-use Rattle.sequence.specs.Holding.{begun_in}
+use Rattle.sequence.specs.Holding.{started_in}
 use Rattle.sequence.specs.machine.Keeping.{with_value}
 
 -- a length that is defined is even
@@ -39,7 +39,7 @@ pub data Reaches (s : Coding) (ws : List Want) : Values → Scope → List Scope
 -- no level of defined length ends before one inside it
 abbrev pub AreNested : Option ℕ → List Scope → Type 0
 AreNested near [] = Unit {0}
-AreNested near (f ∷ fs) = IsLeft f.stop near × AreNested (if is_some f.stop then f.stop else near) fs
+AreNested near (f ∷ fs) = IsRemaining f.stop near × AreNested (if is_some f.stop then f.stop else near) fs
 
 -- the level does not end before position n
 abbrev pub LastsTo : Option ℕ → ℕ → Type 0
@@ -87,7 +87,7 @@ pub data BeginsIn (ws : List Want) (f : Scope) (fs : List Scope) (h : Header) (h
   an_element : f.in_sequence ≡ false → IsElement f.syntax f.last h hb → shape f.syntax h ≡ Value → IsFit ws fs (number h.tag) h.length → BeginsIn ws f fs h hb
   a_fragment : f.in_sequence ≡ true → IsFragmentItem f.syntax h hb → BeginsIn ws f fs h hb
 
--- the value or the fragment after the header h is unfinished: n of its bytes are still to come
+-- the value or the fragment after the header h is unfinished: n of its bytes remain
 pub record IsReading (s : Coding) (lim : Limits) (values : Values) (f : Scope) (fs : List Scope) (t : Tag) (n : ℕ) (b : List ℕ) : Type 0 where
   pub before : List ℕ
   pub whole : Values
@@ -98,7 +98,7 @@ pub record IsReading (s : Coding) (lim : Limits) (values : Values) (f : Scope) (
   pub v : List ℕ
   pub reaches : Reaches s lim.wanted whole round fs before
   pub levels : AreLevels lim f fs (length (b) + n)
-  pub top : f ≡ begun_in round h
+  pub top : f ≡ started_in round h
   pub begins : BeginsIn lim.wanted round fs h hb
   pub even : IsEven h.length
   pub size : length v + n ≡ h.length
@@ -114,7 +114,7 @@ pub record IsStopped (s : Coding) (lim : Limits) (values : Values) (f : Scope) (
   pub rest : List ℕ
   pub due : IsDue s lim values f fs before
   pub place-is : place ≡ length before
-  pub came : p ≡ length (before ++ u)
+  pub received : p ≡ length (before ++ u)
   pub text : b ≡ (before ++ u) ++ rest
   pub breaks : broken lim (spot_of f fs place) u ≡ Some (rule, t)
   pub unbroken : (w : List ℕ) (x : ℕ) (z : List ℕ) → u ≡ w ++ x ∷ z → broken lim (spot_of f fs place) w ≡ None

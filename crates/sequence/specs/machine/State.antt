@@ -15,14 +15,14 @@ use Rattle.sequence.specs.Rules.{is_sequence, is_value, passes}
 use Rattle.sequence.specs.machine.Machine.{State, at, Mode, Heading, Reading, Stopped}
 use Rattle.sequence.specs.machine.Scopes.{top_of, below_of}
 use Rattle.sequence.specs.Stored.{wants_of, values_of}
-pub use Rattle.sequence.specs.Taken.{limits_of, walker_syntax, fault_of, told_by}
+pub use Rattle.sequence.specs.Taken.{limits_of, walker_syntax, fault_of, reported_by}
 pub use Rattle.sequence.specs.Fields.{fault_by}
 pub use Rattle.sequence.specs.machine.Holding.{HoldsFront}
 pub use Rattle.sequence.specs.Taken.{StandsAt}
 
 abbrev pub mode_of : Stage → ℕ → List ℕ → Mode
 mode_of stages.Heading place header = Heading (place - length header) header
-mode_of (stages.Value tag left kept) place header = Reading tag left
+mode_of (stages.Value tag remaining kept) place header = Reading tag remaining
 mode_of (stages.Stopped fault) place header = Stopped fault.number fault.place fault.tag
 
 abbrev pub top : {V D : ℕ} → Walker V D → Scope

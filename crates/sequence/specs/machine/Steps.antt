@@ -1,4 +1,4 @@
--- Which bytes of a header a step takes, and the kept values after bytes of a value.
+-- Which bytes of a header a step consumes, and the kept values after bytes of a value.
 use Rattle.std.specs.Prelude.{◌≡◌, ℕ, ◌+◌, ◌<◌, true, List, [], ◌∷◌, ◌++◌, length, take, Option, Some, None}
 use Rattle.sequence.specs.Coding.{layout}
 use Rattle.sequence.specs.declared.coding.Coding.{Coding}
@@ -24,12 +24,12 @@ pub record IsMade (s : Coding) (t taken : List ℕ) (h : Header) : Type 0 where
   pub whole : is_whole (layout s) (t ++ taken) ≡ true
   pub read : header_at (layout s) (t ++ taken) ≡ h
 
--- after t, the beginning of a header in encoding s that ends at this position, n bytes of the piece are taken: those
+-- after t, the beginning of a header in encoding s that ends at this position, n bytes of the piece are consumed: those
 -- up to a fault or the end of the header, else the whole piece
 abbrev pub IsTaken : Coding → List ℕ → List ℕ → ℕ → ℕ → Stage → List ℕ → Option Header → Type 0
 IsTaken s t piece place n (stages.Stopped fault) header (Some h) = IsMade s t (take n piece) h × (fault.place ≡ place + n)
 IsTaken s t piece place n (stages.Stopped fault) header None = (fault.place + length t ≡ place) × (0 < n)
 IsTaken s t piece place n stages.Heading header (Some h) = IsMade s t (take n piece) h × (header ≡ [])
-IsTaken s t piece place n (stages.Value tag left kept) header (Some h) = IsMade s t (take n piece) h
+IsTaken s t piece place n (stages.Value tag remaining kept) header (Some h) = IsMade s t (take n piece) h
 IsTaken s t piece place n stages.Heading header None = (n ≡ length piece) × (header ≡ t ++ piece) × IsUnfinishedHeader s (t ++ piece)
-IsTaken s t piece place n (stages.Value tag left kept) header None = ⊥
+IsTaken s t piece place n (stages.Value tag remaining kept) header None = ⊥

@@ -1,5 +1,5 @@
-//! Lists the fields of [`Keep`] with their types, so that a reader sees that received bytes are in
-//! `bytes` alone. A field that is added to `Keep` does not compile until it is listed here.
+//! Lists the fields of [`Keep`] with their types, to show that only `bytes` contains received
+//! bytes. A field added to `Keep` does not compile until it is listed here.
 
 use super::Keep;
 use crate::wanted::Wanted;

@@ -1,6 +1,6 @@
-//! Lists the fields of a [`Walker`] and of all its parts with their types, so that a reader sees that
-//! received bytes are in `header`, in `kept` and in `levels` alone. A field that is added to any of
-//! them does not compile until it is listed here.
+//! Lists the fields of a [`Walker`] and of all its parts with their types, to show that only
+//! `header`, `kept` and `levels` contain received bytes. A field added to any of them does not
+//! compile until it is listed here.
 
 use super::Walker;
 use crate::coding::Coding;
@@ -30,7 +30,7 @@ fn fields<const V: usize, const D: usize>(walker: &Walker<V, D>) {
     stage_fields(stage);
 }
 
-/// Lists the fields of an element of `levels`: 16 bytes, of which the last two are padding.
+/// Lists the fields of a `Level`: 16 bytes, of which the last two are padding.
 fn level_fields(level: &Level) {
     let Level {
         end,
@@ -65,8 +65,12 @@ fn scope_fields(scope: &Scope) {
 fn stage_fields(stage: &Stage) {
     match stage {
         Stage::Heading => {}
-        Stage::Value { tag, left, kept } => {
-            let _: &u32 = left;
+        Stage::Value {
+            tag,
+            remaining,
+            kept,
+        } => {
+            let _: &u32 = remaining;
             let _: &bool = kept;
             tag_fields(tag);
         }

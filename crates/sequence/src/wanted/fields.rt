@@ -1,5 +1,5 @@
-//! Lists the fields of [`Wanted`] and [`Want`] with their types, so that a reader sees that none
-//! contains received bytes. A field that is added to them does not compile until it is listed here.
+//! Lists the fields of [`Wanted`] and [`Want`] with their types, to show that none contains
+//! received bytes. A field added to them does not compile until it is listed here.
 
 use super::{Want, Wanted};
 use arrayvec::ArrayVec;

@@ -1,8 +1,8 @@
 //! How a server accepts connections.
 use super::{LAST_WAITER, Server};
+use crate::configuration::MOST_AT_ONCE;
 use crate::policy::Policy;
 use crate::socket::AcceptedStream;
-use crate::terms::MOST_AT_ONCE;
 use admitting::{Admission, Waiter, peer_number};
 use journal::{Journal, NotAccepted, PeerFull, TurnedAway};
 use log::Log;
@@ -13,8 +13,8 @@ use std::io::ErrorKind;
 use std::rt::Files;
 use std::time::{Clock, Duration, Instant};
 
-/// How long the server waits after a connection that could not be accepted, in milliseconds, so
-/// that a lasting failure does not keep it busy.
+/// How long accepting pauses after it failed, in milliseconds, so that a lasting error does not
+/// keep the server busy.
 pub(super) const PAUSE_MILLISECONDS: u64 = 100;
 
 impl<
@@ -23,25 +23,25 @@ impl<
     S: Files<File = File> + Alloc<A = Global> + Clone + Drop,
     P: Policy,
 > Server<'a, R, S, P, Journal<'a, R, S>> {
-    /// Gives a connection that was accepted its slot, or lets it wait.
+    /// Assigns a slot to an accepted connection, or queues it if its peer may have no more.
     fn admit(&mut self, accepted: AcceptedStream, now: Instant) {
         let logger = self.logger().about(accepted.peer);
         let peer = peer_number(accepted.peer.ip());
         match self.occupancy.admit(peer) {
-            Admission::Slot(index) => self.occupy_or_tell(accepted, index, now),
+            Admission::Slot(index) => self.occupy_or_report(accepted, index, now),
             Admission::Full | Admission::PeerFull => {
-                if self.peer_told.is_due(now) {
-                    logger.tell(&PeerFull(self.terms.service.per_peer as u64));
+                if self.peer_reported.is_due(now) {
+                    logger.report(&PeerFull(self.configuration.service.per_peer as u64));
                 }
-                if !self.enqueue(accepted, peer) && self.closed_told.is_due(now) {
-                    logger.tell(&TurnedAway);
+                if !self.enqueue(accepted, peer) && self.closed_reported.is_due(now) {
+                    logger.report(&TurnedAway);
                 }
             }
         }
     }
 
-    /// Lets a connection wait, and has the poll tell once its peer closes it. Returns `false`, and closes it, if too
-    /// many wait.
+    /// Queues a connection until a slot is free, and has the poll report when its peer closes it.
+    /// Returns `false`, and closes it, if the queue is full.
     fn enqueue(&mut self, accepted: AcceptedStream, peer: u128) -> bool {
         let mut waiting = accepted;
         let number = self.next_waiter;
@@ -55,14 +55,14 @@ impl<
         })
     }
 
-    /// Opens an association over a connection that waited, whose peer got this slot.
+    /// Opens an association over a queued connection, in its slot.
     fn occupy_next(&mut self, waiter: Waiter<AcceptedStream>, index: usize, now: Instant) {
         let mut accepted = waiter.waiting;
         let _ = self.poll.registry().deregister(&mut accepted.stream);
-        self.occupy_or_tell(accepted, index, now);
+        self.occupy_or_report(accepted, index, now);
     }
 
-    /// Gives free slots to those that wait for one, and then to those that are to be accepted.
+    /// Assigns free slots to queued connections, then to new ones.
     pub(super) fn admit_all(&mut self, now: Instant) {
         for _ in 0..MOST_AT_ONCE {
             match self.queue.admit(&mut self.occupancy) {
@@ -89,21 +89,21 @@ impl<
         }
     }
 
-    /// Accepts a connection, if one is there.
+    /// Accepts a connection, if a listener has one. Pauses accepting if that fails.
     fn accept(&mut self, now: Instant) {
         match self.listeners.accept() {
             Ok((stream, peer)) => {
                 self.note_accepted(peer, now);
                 self.admit(AcceptedStream { stream, peer }, now);
-                self.is_open = !self.terms.service.once;
+                self.is_open = !self.configuration.service.once;
             }
             Err(failure) if failure.kind() == ErrorKind::WouldBlock => {
                 self.may_accept = false;
                 self.arrivals.clear();
             }
             Err(failure) => {
-                if self.accept_told.is_due(now) {
-                    self.logger().tell(&NotAccepted(&failure));
+                if self.accept_reported.is_due(now) {
+                    self.logger().report(&NotAccepted(&failure));
                 }
                 self.paused = now.checked_add(Duration::from_millis(PAUSE_MILLISECONDS));
             }

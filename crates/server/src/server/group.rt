@@ -1,25 +1,25 @@
-//! When files that wait to be settled are settled together.
+//! When the files of several connections are settled together.
 ghost use Rattle.std.specs.Prelude.{◌≡◌, ◌≢◌, ◌≤◌, ◌-◌, Some, true, false};
 ghost use Rattle.std.specs.Duration.{as_nanos};
 ghost use Rattle.std.specs.Time.{instant_nanos};
 
 use std::time::{Duration, Instant};
 
-/// The longest that a file waits for others to be settled with it, in milliseconds.
+/// How long a file may wait for others to be settled with it, in milliseconds.
 const GATHERING_MILLISECONDS: u64 = 20;
 
-/// How many connections have a file that waits, and whether others may have one soon.
+/// How many connections have a file that waits to be settled, and whether others may have one soon.
 #[derive(Clone, Copy)]
 pub(super) struct Waiting {
     files: u64,
-    /// Whether others have none.
+    /// Whether some connection has no file that waits.
     has_others: bool,
-    /// Whether one of these may have something to read.
+    /// Whether some connection without such a file is ready.
     is_ready: bool,
 }
 
 impl Waiting {
-    /// Returns the count of no connection.
+    /// Returns the count of no connections.
     pub(super) fn new() -> Waiting {
         Waiting {
             files: 0,
@@ -28,9 +28,10 @@ impl Waiting {
         }
     }
 
-    /// Counts a connection: whether it has a file that waits, or else may have something to read.
-    pub(super) fn count(&mut self, waits: bool, is_ready: bool) {
-        if waits {
+    /// Counts a connection: `has_pending` if it has a file that waits to be settled, `is_ready` if its
+    /// socket is ready.
+    pub(super) fn count(&mut self, has_pending: bool, is_ready: bool) {
+        if has_pending {
             self.files = self.files.saturating_add(1);
         } else {
             self.has_others = true;
@@ -38,25 +39,26 @@ impl Waiting {
         }
     }
 
-    /// Returns whether more than one file waits.
+    /// Returns whether more than one file waits to be settled.
     pub(super) fn has_several(self) -> bool {
         self.files > 1
     }
 }
 
-/// Files that wait to be settled together.
+/// Decides when the files that wait are settled together.
 #[derive(Drop)]
 pub(super) struct Group {
-    /// When it was first seen that one waits.
+    /// When a file was first seen to wait.
     since: Option<Instant>,
-    /// Whether the last poll found anything.
+    /// Whether the last poll reported an event.
     is_busy: bool,
-    /// How long the last settling took: to wait longer than that for a file costs more than to settle it alone.
+    /// How long the last settling took. It costs more to wait longer for another file than to
+    /// settle this one alone.
     took: Duration,
 }
 
 impl Group {
-    /// Creates a group of no file.
+    /// Creates a group without files.
     pub(super) fn new() -> Group {
         Group {
             since: None,
@@ -72,14 +74,14 @@ impl Group {
         self.took = took;
     }
 
-    /// Records whether a poll found anything.
+    /// Records whether a poll reported an event.
     pub(super) fn polled(&mut self, is_busy: bool) {
         self.is_busy = is_busy;
     }
 
-    /// Returns whether the files that wait are to be settled now: each connection has one, or a poll since
-    /// then found nothing, so that no other is about to come, or the first has waited for as long as the last
-    /// settling took, or for `GATHERING_MILLISECONDS`.
+    /// Returns whether the files that wait are to be settled now: each connection has one, or a
+    /// poll since the first was seen reported nothing, so that no other is imminent, or the first
+    /// has waited for as long as the last settling took, or for `GATHERING_MILLISECONDS`.
     pub(super) fn is_due(&mut self, waiting: Waiting, now: Instant) -> bool
         ensures none { waiting.files ≡ 0 → result ≡ false }
         ensures all { waiting.files ≢ 0 → waiting.has_others ≡ false → result ≡ true }

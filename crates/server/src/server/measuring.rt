@@ -1,7 +1,7 @@
-//! The file that counts what the server does.
+//! The metrics file of a server.
 use super::Server;
+use crate::configuration::ServerConfiguration;
 use crate::policy::Policy;
-use crate::terms::ServerTerms;
 use journal::{Journal, Logger, MetricsNotWritten, MetricsWritten};
 use log::Log;
 use metrics::WriteReport;
@@ -10,24 +10,24 @@ use std::fs::File;
 use std::rt::Files;
 use std::time::{Clock, Instant};
 
-/// Writes the log's line of a file that was to be written, if there is one.
-fn tell<R: Log + Clock>(logger: Logger<'_, R>, report: WriteReport) {
+/// Logs the result of writing the metrics file, if there is anything to log.
+fn report<R: Log + Clock>(logger: Logger<'_, R>, report: WriteReport) {
     match report {
         WriteReport::Nothing => {}
-        WriteReport::Fails(failure) => logger.tell(&MetricsNotWritten(&failure)),
-        WriteReport::Works => logger.tell(&MetricsWritten),
+        WriteReport::Fails(failure) => logger.report(&MetricsNotWritten(&failure)),
+        WriteReport::Works => logger.report(&MetricsWritten),
     }
 }
 
-/// Writes the file of a server that has ended, and has no connection any more.
+/// Writes the metrics file of a server that has stopped and has no open connection.
 pub(super) fn measure_end<R: Log + Clock, S: Files + Alloc>(
     rt: &R,
     files: &S,
-    terms: &ServerTerms<'_>,
+    configuration: &ServerConfiguration<'_>,
 ) {
-    if let Some(metrics) = terms.metrics {
+    if let Some(metrics) = configuration.metrics {
         metrics.set_open(0);
-        tell(terms.logger(rt), metrics.write(files));
+        report(configuration.logger(rt), metrics.write(files));
     }
 }
 
@@ -37,11 +37,11 @@ impl<
     S: Files<File = File> + Alloc<A = Global> + Clone + Drop,
     P: Policy,
 > Server<'a, R, S, P, Journal<'a, R, S>> {
-    /// Writes the file, if there is one and it is due.
+    /// Writes the metrics file, if there is one and it is due.
     pub(super) fn measure(&self, files: &S, now: Instant) {
-        if let Some(metrics) = self.terms.metrics {
+        if let Some(metrics) = self.configuration.metrics {
             metrics.set_open(self.open_connections() as u64);
-            tell(self.logger(), metrics.write_due(files, now));
+            report(self.logger(), metrics.write_due(files, now));
         }
     }
 }

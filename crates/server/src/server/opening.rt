@@ -1,10 +1,10 @@
-//! A server from its start to its end.
+//! The start and the end of a server.
 ghost use Rattle.std.specs.Prelude.{◌≡◌, ◌+◌, length, vec_len, IfOk, OnOk};
 ghost use Rattle.std.specs.List.{All};
 ghost use Rattle.folder_filing.specs.Settling.{is_unsettled};
 ghost use Rattle.server.specs.FolderStore.{folder_store};
 ghost use Rattle.server.specs.Histories.{AllEnded, slots_in};
-ghost use Rattle.server.specs.Terms.{terms_of};
+ghost use Rattle.server.specs.Configuration.{configuration_of};
 
 mod history;
 
@@ -12,12 +12,12 @@ use super::group::Group;
 use super::measuring::measure_end;
 use super::{FIRST_WAITER, LISTENERS, Server};
 use crate::arrivals::Arrivals;
+use crate::configuration::ServerConfiguration;
 use crate::listeners::Listeners;
 use crate::policy::Policy;
 use crate::slot::Slot;
 use crate::socket::AcceptedStream;
 use crate::stopping::clear;
-use crate::terms::ServerTerms;
 use admitting::{Notice, Queue, Slots};
 use folder_filing::{FolderFiling, FolderWriter};
 pub(crate) use history::ClosedSlots;
@@ -34,22 +34,29 @@ use std::rt::Files;
 use std::time::{Clock, Instant};
 use std::{io, net};
 
-/// Which slots are occupied, which is none, and room for those that wait for one.
+/// The free slots of a new server, and an empty queue of connections.
 #[derive(Drop)]
 struct Vacancies {
     occupancy: Slots<Global>,
     queue: Queue<AcceptedStream, Global>,
 }
 
-/// Returns the vacancies of a server that is held to these terms.
-fn vacancies_of(alloc: Global, terms: &ServerTerms<'_>) -> Result<Vacancies, AllocError> {
+/// Returns the free slots and the empty queue for these settings. Fails if memory runs out.
+fn vacancies_of(
+    alloc: Global,
+    configuration: &ServerConfiguration<'_>,
+) -> Result<Vacancies, AllocError> {
     Ok(Vacancies {
-        occupancy: Slots::new(alloc, terms.service.associations, terms.service.per_peer)?,
-        queue: Queue::new(alloc, terms.service.associations)?,
+        occupancy: Slots::new(
+            alloc,
+            configuration.service.associations,
+            configuration.service.per_peer,
+        )?,
+        queue: Queue::new(alloc, configuration.service.associations)?,
     })
 }
 
-/// Closes these slots. Returns what there was of all their connections, beside what there was before.
+/// Closes these slots. Returns `closed` with their histories added.
 pub(super) fn close_all<
     'a,
     R: Log + Clock,
@@ -74,7 +81,7 @@ pub(super) fn close_all<
     closed
 }
 
-/// Takes the memory of the first slot, if there is one.
+/// Allocates the memory of the first slot, if there is one. Fails if memory runs out.
 fn make_first<
     'a,
     R: Log + Clock,
@@ -90,8 +97,8 @@ fn make_first<
     }
 }
 
-/// Returns so many slots, of which the first has its memory and this filing, for connections that are held
-/// to this configuration.
+/// Creates `count` slots for connections with this configuration. The first slot has its memory and
+/// this filing. Fails if memory runs out.
 fn slots_of<
     'a,
     R: Log + Clock,
@@ -123,7 +130,7 @@ fn slots_of<
     Ok(slots)
 }
 
-/// Returns a server that accepts the connections of these listeners.
+/// Creates a server that accepts the connections of these listeners.
 fn server_of<
     'a,
     R: Log + Clock + Net + Alloc<A = Global>,
@@ -132,26 +139,32 @@ fn server_of<
 >(
     rt: &'a R,
     listeners: Vec<net::TcpListener>,
-    terms: ServerTerms<'a>,
+    configuration: ServerConfiguration<'a>,
     filings: (FolderWriter<S>, FolderFiling<S>),
 ) -> io::Result<Server<'a, R, S, P, Journal<'a, R, S>>>
-    requires terms { terms_of terms ≡ P.terms }
-    requires at_once { terms.service.associations ≡ P.at_once }
+    requires configuration { configuration_of configuration ≡ P.configuration }
+    requires at_once { configuration.service.associations ≡ P.at_once }
 {
     let now = Instant::now(rt)?;
     let poll = Poll::new(rt)?;
     let listeners = Listeners::watched(&poll, Token(LISTENERS), listeners)?;
     let alloc = rt.alloc();
-    let vacancies = vacancies_of(alloc, &terms)?;
+    let vacancies = vacancies_of(alloc, &configuration)?;
     let arrivals = Arrivals::new(alloc)?;
     let (folder, first) = filings;
     let Vacancies { occupancy, queue } = vacancies;
-    let slots = slots_of(alloc, terms.service.associations, first, terms.config, now)?;
+    let slots = slots_of(
+        alloc,
+        configuration.service.associations,
+        first,
+        configuration.config,
+        now,
+    )?;
     Ok(Server {
         rt,
         poll,
         listeners,
-        terms,
+        configuration,
         folder,
         occupancy,
         slots,
@@ -166,27 +179,30 @@ fn server_of<
         paused: None,
         looked: None,
         stop: None,
-        slots_told: Notice::new(),
-        peer_told: Notice::new(),
-        closed_told: Notice::new(),
-        accept_told: Notice::new(),
+        slots_reported: Notice::new(),
+        peer_reported: Notice::new(),
+        closed_reported: Notice::new(),
+        accept_reported: Notice::new(),
     })
 }
 
-/// Removes the file that ends the server, if it is there, logs where the listeners listen, and returns room for the
-/// events of as many connections as there are slots, and of the listeners.
+/// Removes the stop file, if it is there, and logs the addresses of the listeners. Returns room for
+/// the events of all slots and listeners.
 fn begin<R: Log + Clock + Alloc<A = Global>, S: Files>(
     rt: &R,
     listeners: &[net::TcpListener],
-    terms: &ServerTerms<'_>,
+    configuration: &ServerConfiguration<'_>,
     files: &S,
 ) -> io::Result<Events> {
-    clear(files, terms.service.stop_file)?;
+    clear(files, configuration.service.stop_file)?;
     for listener in listeners {
         let address = listener.local_addr()?;
-        terms.logger(rt).tell(&Listening(address));
+        configuration.logger(rt).report(&Listening(address));
     }
-    let watched = terms.service.associations.saturating_add(listeners.len());
+    let watched = configuration
+        .service
+        .associations
+        .saturating_add(listeners.len());
     Ok(Events::with_capacity(rt.alloc(), watched)?)
 }
 
@@ -198,58 +214,59 @@ fn served<
 >(
     rt: &R,
     listeners: Vec<net::TcpListener>,
-    terms: ServerTerms<'_>,
+    configuration: ServerConfiguration<'_>,
     files: &S,
     folder: (FolderWriter<S>, FolderFiling<S>),
 ) -> (ServerHistory<FolderFiling<S>>, io::Result<()>)
-    requires terms { terms_of terms ≡ P.terms }
-    requires at_once { terms.service.associations ≡ P.at_once }
+    requires configuration { configuration_of configuration ≡ P.configuration }
+    requires at_once { configuration.service.associations ≡ P.at_once }
     ensures all { OnOk result.1 (length (slots_in result.0) ≡ P.at_once) }
-    ensures ended { ∥ All (AllEnded folder_store is_unsettled P.terms) (slots_in result.0) ∥₁ }
+    ensures ended { ∥ All (AllEnded folder_store is_unsettled P.configuration) (slots_in result.0) ∥₁ }
 {
-    let mut events = match begin(rt, listeners.as_slice(), &terms, files) {
+    let mut events = match begin(rt, listeners.as_slice(), &configuration, files) {
         Ok(events) => events,
         Err(failure) => return (ServerHistory::new(), Err(failure)),
     };
-    let mut server = match server_of::<R, S, P>(rt, listeners, terms, folder) {
+    let mut server = match server_of::<R, S, P>(rt, listeners, configuration, folder) {
         Ok(server) => server,
         Err(failure) => return (ServerHistory::new(), Err(failure)),
     };
     let served = server.serve(files, &mut events);
     let closed = server.close(ClosedSlots::new());
-    measure_end(rt, files, &terms);
+    measure_end(rt, files, &configuration);
     (closed.into_history(), served)
 }
 
-/// Serves the associations of the connections that these listeners accept, as many at once as there are
-/// slots, until the file appears that ends the server, or only one where that was asked for. Logs what
-/// happens. The first slot files by the filing that is handed in, each other one by one of the folder.
-/// Returns what there was of the connections, for contracts.
+/// Serves the associations of the connections that these listeners accept, as many at once as there
+/// are slots, until the stop file appears, or only one if `once` is set. Logs what happens. The
+/// first slot uses the filing that is passed, each other slot a new one of the folder. Returns the
+/// history of the connections, for contracts.
 ///
-/// Fails if the clock or the poll does, or if memory runs out at the start.
+/// Fails if the clock or the poll does, or, at the start, if a system call fails or memory runs
+/// out.
 ///
 /// `all`: unless it fails, the history has as many slots as there can be connections at once.
 ///
-/// `ended`: whether it fails or not, each connection that was opened in a slot has ended, and left what the
-/// definitions give for the settings.
+/// `ended`: whether it fails or not, each connection that was opened in a slot has ended, and the
+/// result of each is what the definitions give for the settings.
 pub fn serve_many<
     R: Log + Clock + Net + Alloc<A = Global>,
     S: Files<File = File> + Alloc<A = Global> + Clone + Drop,
 >(
     rt: &R,
     listeners: Vec<net::TcpListener>,
-    terms: ServerTerms<'_>,
+    configuration: ServerConfiguration<'_>,
     files: &S,
     folder: (FolderWriter<S>, FolderFiling<S>),
 ) -> (ServerHistory<FolderFiling<S>>, io::Result<()>)
-    ensures all { OnOk result.1 (length (slots_in result.0) ≡ terms.entry.service.associations) }
-    ensures ended { ∥ All (AllEnded folder_store is_unsettled (terms_of terms.entry)) (slots_in result.0) ∥₁ }
+    ensures all { OnOk result.1 (length (slots_in result.0) ≡ configuration.entry.service.associations) }
+    ensures ended { ∥ All (AllEnded folder_store is_unsettled (configuration_of configuration.entry)) (slots_in result.0) ∥₁ }
 {
-    let (history, served) = served::<R, S, Brand>(rt, listeners, terms, files, folder);
-    let logger = terms.logger(rt);
-    logger.tell_left_out(None);
+    let (history, served) = served::<R, S, Brand>(rt, listeners, configuration, files, folder);
+    let logger = configuration.logger(rt);
+    logger.report_omitted(None);
     if served.is_ok() {
-        logger.tell(&Stopped);
+        logger.report(&Stopped);
     }
     (history, served)
 }

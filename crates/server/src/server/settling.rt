@@ -1,4 +1,4 @@
-//! Files that wait are settled, several at once.
+//! Settles the files of several connections together.
 use super::Server;
 use super::group::Waiting;
 use crate::policy::Policy;
@@ -17,18 +17,18 @@ impl<
     S: Files<File = File> + Alloc<A = Global> + Clone + Drop,
     P: Policy,
 > Server<'a, R, S, P, Journal<'a, R, S>> {
-    /// Returns how many connections have a file that waits, and whether others may have one soon.
+    /// Counts the connections that have a file to settle, and those that may have one soon.
     fn waiting(&self) -> Waiting {
         let mut waiting = Waiting::new();
         for slot in &self.slots {
             if let Some(connection) = &slot.connection {
-                waiting.count(connection.waits(), connection.is_ready());
+                waiting.count(connection.has_pending(), connection.is_ready());
             }
         }
         waiting
     }
 
-    /// Settles the files that wait, once no other is about to come.
+    /// Settles the files that wait, if it is time to.
     ///
     /// Fails if the clock does.
     pub(super) fn settle_due(&mut self, now: Instant) -> io::Result<()> {
@@ -42,8 +42,8 @@ impl<
         Ok(())
     }
 
-    /// Writes the files that wait to the disk, each with its name, then the names of all, and sends the
-    /// replies to their stores. A connection whose file is lost is closed.
+    /// Syncs the files that wait to the disk, each with its name, then the names of all, and sends
+    /// the replies to their stores. A connection whose file is lost is closed.
     pub(super) fn settle_all(&mut self, now: Instant) {
         if self.waiting().has_several() {
             for slot in &self.slots {
@@ -67,18 +67,19 @@ impl<
         }
     }
 
-    /// Writes the names that files were given to the disk, and logs why that did not work for some. Returns
-    /// which it worked for.
+    /// Syncs the names that files were given to the disk, and logs an error if that failed for
+    /// some. Returns for which it succeeded.
     fn sync_names(&self) -> NamesSynced<Global> {
         let synced = self.folder.sync_names();
         if let Some(failure) = synced.failure() {
             self.logger()
-                .tell_limited(Limited::Names, &NamesNotSynced(failure));
+                .report_limited(Limited::Names, &NamesNotSynced(failure));
         }
         synced
     }
 
-    /// Settles the file of a slot's connection, if one waits. Returns whether the connection is to be closed.
+    /// Settles the file of a slot's connection, if one waits. Returns whether the connection is to
+    /// be closed.
     fn settle(&mut self, index: usize, synced: &NamesSynced<Global>, now: Instant) -> bool {
         if let Some(slot) = self.slots.get_mut(index) {
             if let Some(connection) = &mut slot.connection {

@@ -1,4 +1,4 @@
-//! What the log tells of connections that wait for a slot.
+//! The log lines about connections that wait for a slot.
 use super::{LISTENERS, Server};
 use crate::arrivals::note_waiting;
 use crate::policy::Policy;
@@ -17,24 +17,25 @@ impl<
     S: Files<File = File> + Alloc<A = Global> + Clone + Drop,
     P: Policy,
 > Server<'a, R, S, P, Journal<'a, R, S>> {
-    /// Logs that every slot is taken, if a connection is known to wait for one; else has the poll tell
-    /// whether one does. Where one association is served after the other, peers wait as a matter of
+    /// Logs that every slot is occupied, if a connection is known to be queued; else, has the poll
+    /// report whether one is. If associations are served one at a time, peers wait as a matter of
     /// course, and nothing is logged.
     pub(super) fn note_full(&mut self, now: Instant) {
         if self.arrivals.is_known() {
-            if !self.terms.service.is_serial() && self.slots_told.is_due(now) {
+            if !self.configuration.service.is_serial() && self.slots_reported.is_due(now) {
                 self.logger()
-                    .tell(&SlotsFull(self.terms.service.associations as u64));
+                    .report(&SlotsFull(self.configuration.service.associations as u64));
             }
         } else if self.arrivals.ask() {
             self.listeners.watch_anew(&self.poll, Token(LISTENERS));
         }
     }
 
-    /// A connection of this peer was accepted: logs that it waited long, where there is one slot alone.
+    /// Records that a connection of this peer was accepted. Logs that it waited long, if it did and
+    /// there is only one slot.
     pub(super) fn note_accepted(&mut self, peer: SocketAddr, now: Instant) {
         let waited = self.arrivals.accept(now);
-        if self.terms.service.associations == 1 {
+        if self.configuration.service.associations == 1 {
             note_waiting(self.logger().about(peer), waited);
         }
     }

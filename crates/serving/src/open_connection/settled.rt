@@ -1,68 +1,68 @@
-//! How a file of a connection that waits is settled.
+//! How a connection settles a file.
 ghost use Rattle.std.specs.Prelude.{◌≡◌, true, false};
 ghost use Rattle.serving.specs.Own.{own_of};
 ghost use Rattle.serving.specs.Timed.{asked_at};
 
 use super::Connection;
-use connection::Observer;
 use part10::Settling;
+use service::Observer;
 use std::io::Write;
 use std::time::Instant;
 
 impl<'c, S, F: Settling, B: Observer> Connection<'c, S, F, B> {
-    ghost use Rattle.serving.specs.Connections.{begun_of, filing_of, inputs_at, moments_at, opening_of, settings_at, socket_of, state_at, untaken_at, waiting_at};
+    ghost use Rattle.serving.specs.Connections.{initial_of, filing_of, inputs_at, moments_at, opening_of, settings_at, socket_of, state_at, untaken_at, waiting_at};
 
-    /// Returns whether the last file of its filing waits to be settled, or was lost before that. Then
-    /// nothing is read and nothing is sent.
-    pub fn waits(&self) -> bool
-        ensures { result ≡ F.waits (filing_of self.now) }
+    /// Returns whether the last file of the filing waits to be settled, or was lost before that.
+    /// Then nothing is read or sent.
+    pub fn has_pending(&self) -> bool
+        ensures { result ≡ F.has_pending (filing_of self.now) }
     {
-        self.filing.waits()
+        self.filing.has_pending()
     }
 
-    /// Advises the system to start to write the file that waits. Waits for nothing.
+    /// Advises the system to start writing the file that waits to be settled. Does not block.
     pub fn start_writing(&self) {
         self.filing.start_writing();
     }
 
-    /// Writes the bytes of the file that waits to the disk, and gives it its name.
+    /// Syncs the bytes of the waiting file to the disk, and gives the file its name.
     pub fn write_out(&mut self)
         ensures settings { settings_at self.new ≡ settings_at self.old }
         ensures opening { opening_of self.new ≡ opening_of self.old }
-        ensures waits { F.waits (filing_of self.new) ≡ F.waits (filing_of self.old) }
+        ensures has_pending { F.has_pending (filing_of self.new) ≡ F.has_pending (filing_of self.old) }
         ensures quiet { socket_of self.new ≡ socket_of self.old }
         ensures same_state { state_at self.new ≡ state_at self.old }
         ensures same_waiting { waiting_at self.new ≡ waiting_at self.old }
         ensures same_untaken { untaken_at self.new ≡ untaken_at self.old }
         ensures same_inputs { inputs_at self.new ≡ inputs_at self.old }
         ensures same_moments { moments_at self.new ≡ moments_at self.old }
-        ensures same_start { begun_of self.new ≡ begun_of self.old }
+        ensures same_start { initial_of self.new ≡ initial_of self.old }
     {
         self.filing.write_out();
     }
 }
 
 impl<'c, S: Write, F: Settling, B: Observer> Connection<'c, S, F, B> {
-    ghost use Rattle.serving.specs.Connections.{begun_of, filing_of, inputs_at, moments_at, opening_of, settings_at, socket_of, stopped_at};
+    ghost use Rattle.serving.specs.Connections.{initial_of, filing_of, inputs_at, moments_at, opening_of, settings_at, socket_of, stopped_at};
 
-    /// Settles the file that waits, if one does, by this sync of names, and sends the reply to its store. The
-    /// observer is shown whether it is kept. If it is lost, nothing is sent. Returns whether the connection is
-    /// to be closed.
+    /// Settles the file that waits, if any, with this sync of names, and sends the reply to its
+    /// store. The observer is notified of whether the file is durable. If it is lost, nothing is
+    /// sent. Returns whether the connection is to be closed.
     ///
-    /// `lost`: it is where a file waits afterwards. `closes`, `quiet`: where this sync does not have the file it is,
-    /// and nothing is sent.
+    /// `lost`: it is if a file still waits afterwards. `closes`, `quiet`: if the sync does not
+    /// cover the file, the connection is to be closed and nothing is sent.
     pub fn settle(&mut self, synced: &F::Synced, now: Instant) -> bool
         ensures settings { settings_at self.new ≡ settings_at self.old }
         ensures opening { opening_of self.new ≡ opening_of self.old }
-        ensures lost { F.waits (filing_of self.new) ≡ true → result ≡ true }
-        ensures quiet { F.waits (filing_of self.old) ≡ true → F.covers (filing_of self.old) synced.now ≡ false → socket_of self.new ≡ socket_of self.old }
-        ensures same_start { begun_of self.new ≡ begun_of self.old }
-        ensures closes { F.waits (filing_of self.old) ≡ true → F.covers (filing_of self.old) synced.now ≡ false → result ≡ true }
+        ensures lost { F.has_pending (filing_of self.new) ≡ true → result ≡ true }
+        ensures quiet { F.has_pending (filing_of self.old) ≡ true → F.covers (filing_of self.old) synced.now ≡ false → socket_of self.new ≡ socket_of self.old }
+        ensures same_start { initial_of self.new ≡ initial_of self.old }
+        ensures closes { F.has_pending (filing_of self.old) ≡ true → F.covers (filing_of self.old) synced.now ≡ false → result ≡ true }
         ensures peers { own_of (inputs_at self.new) ≡ own_of (inputs_at self.old) }
         ensures unasked { asked_at (moments_at self.new) ≡ asked_at (moments_at self.old) }
         ensures unstopped { stopped_at self.new ≡ stopped_at self.old }
     {
-        if !self.filing.waits() {
+        if !self.filing.has_pending() {
             return false;
         }
         self.is_ready = true;
@@ -71,6 +71,6 @@ impl<'c, S: Write, F: Settling, B: Observer> Connection<'c, S, F, B> {
         if settled.is_ok() {
             self.flush(now);
         }
-        self.waits()
+        self.has_pending()
     }
 }

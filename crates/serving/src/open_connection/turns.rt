@@ -1,4 +1,4 @@
-//! What a connection does when it has its turn.
+//! What a connection does in its turn.
 ghost use Rattle.std.specs.Prelude.{◌≡◌, ◌≢◌, ◌≤◌, ◌<◌, ◌+◌, ◌++◌, ◌||◌, ◌∷◌, ◌↔◌, [], length, IsSome, true, false};
 ghost use Rattle.element.specs.Numbers.{IsBytes};
 ghost use Rattle.engine.specs.Devices.{devices};
@@ -11,8 +11,8 @@ ghost use Rattle.engine.specs.declared.source.Input.TheVariants as kind;
 ghost use Rattle.serving.specs.Capacities.{outbox_size};
 ghost use Rattle.serving.specs.Own.{own_of};
 ghost use Rattle.serving.specs.Timed.{asked_at, with_asked};
-ghost use Rattle.serving.specs.Told.{TimelineGoesOn, KeepsDecision, pieces_of};
-ghost use Rattle.serving.specs.Waits.{HasExpired, IsSilent, has_lasted};
+ghost use Rattle.serving.specs.Reported.{TimelineContinues, KeepsDecision, pieces_of};
+ghost use Rattle.serving.specs.TimeLimits.{HasExpired, IsSilent, has_lasted};
 ghost use Rattle.std.specs.Time.{instant_nanos};
 
 use super::Connection;
@@ -20,50 +20,51 @@ use crate::buffered_socket::Portion;
 use crate::inbox::Arrival;
 use crate::memory::ServedAssociation;
 use crate::moment::Moment;
-use connection::Observer;
 use engine::Input;
 use part10::{Filing, Settling};
 use pdu::Wire;
+use service::Observer;
 use std::io::{Read, Write};
 use std::snapshot::Snapshot;
 use std::time::Instant;
 
-/// How many portions an association takes in a turn at most: the parts of some 20 fragments, each in a PDU of its own.
+/// The maximum number of portions that an association consumes in a turn: about 20 fragments, each
+/// in a PDU of its own.
 const MOST_PORTIONS: usize = 64;
 
-/// A piece is of bytes.
+/// Does nothing. Its contract states that the elements of a slice of `u8` are bytes.
 fn is_of_bytes(piece: &[u8])
     ensures { IsBytes piece.now }
 {
-    // The prover looks up what the type of a piece guarantees where the piece is named.
+    // The prover uses the guarantee of a variable's type only where the variable is named.
     let _piece = piece;
 }
 
-/// How much of what waited was written.
+/// How far the outbox was written.
 #[derive(Clone, Copy, Debug, PartialEq, Eq)]
 pub(super) enum Flush {
-    /// All of it.
+    /// The outbox is empty.
     All,
-    /// Not all of it: the socket takes nothing more now.
+    /// The outbox is not empty: the socket accepts no more bytes now.
     Blocked,
-    /// Nothing more is: the association has ended, in this call if the socket failed.
+    /// The association has ended, before or in this call, so nothing more is written.
     Over,
 }
 
-/// What a connection that has had its turn waits for.
+/// What a connection waits for after its turn.
 #[derive(Clone, Copy, Debug, PartialEq, Eq)]
 pub enum Turn {
-    /// For its next turn: its socket may have more.
+    /// Its next turn: the socket or the inbox may have more.
     Next,
-    /// For its socket, which has nothing to be read or takes nothing.
+    /// The socket, which has nothing to read or does not accept bytes.
     Socket,
-    /// For the last file of its filing to be settled.
+    /// The last file of the filing, which waits to be settled.
     Filing,
-    /// For nothing: its association has ended.
+    /// Nothing: the association has ended.
     Over,
 }
 
-/// Has an association take an input, as `Association::take` does.
+/// Passes an input to an association, as `Association::take` does.
 fn take<W: Wire, F: Filing>(
     association: &mut Box<ServedAssociation<'_>>,
     input: Input,
@@ -80,11 +81,11 @@ fn take<W: Wire, F: Filing>(
     association.take(input, piece, wire, filing);
 }
 
-/// Has an association take a portion, where so many bytes complete a part of a PDU. Returns whether one is
-/// complete.
+/// Passes a portion of input to an association. `limit` is the number of bytes that complete a
+/// section of a PDU. Returns whether the portion completes it.
 ///
-/// `whole`: if one is, the timeline goes on with the portion. `idle`: if none is, what was decided last is
-/// what was before. So what the association decides is told with the portion that completes a part.
+/// `whole`: if so, the portion extends the timeline. `idle`: if not, the last decision stays. So a
+/// decision is reported with the portion that completes a section.
 fn take_portion<W: Wire, F: Filing>(
     association: &mut Box<ServedAssociation<'_>>,
     piece: &[u8],
@@ -99,7 +100,7 @@ fn take_portion<W: Wire, F: Filing>(
     ensures settings { settings_in association.new.value ≡ settings_in association.old.value }
     ensures moved { MovesOn association.old.value association.new.value (Bytes piece.now)
         (devices (W.line wire.old) (F.store filing.old)) (devices (W.line wire.new) (F.store filing.new)) }
-    ensures whole { result ≡ true → TimelineGoesOn association.old.value piece.now (F.store filing.old) }
+    ensures whole { result ≡ true → TimelineContinues association.old.value piece.now (F.store filing.old) }
     ensures idle { result ≡ false → KeepsDecision association.old.value association.new.value (F.store filing.old) }
 {
     take(association, Input::Piece, piece, wire, filing);
@@ -108,10 +109,11 @@ fn take_portion<W: Wire, F: Filing>(
 
 impl<'c, S, F: Settling, B: Observer> Connection<'c, S, F, B> {
     ghost use Rattle.engine.specs.Held.{is_ended};
-    ghost use Rattle.serving.specs.Connections.{IsClosedAt, aborted_at, begun_of, inputs_at, moments_at, settings_at, opening_of, socket_of, state_at, stopped_at, times_at, waiting_at};
+    ghost use Rattle.serving.specs.Connections.{IsClosedAt, aborted_at, initial_of, inputs_at, moments_at, settings_at, opening_of, socket_of, state_at, stopped_at, times_at, waiting_at};
 
-    /// Has the association take an input that has no bytes: the transport's close where the socket has closed,
-    /// the expiry where the ARTIM timer has expired, an abort where the peer was silent or it is asked for.
+    /// Passes an input without bytes to the association: the close of the transport connection
+    /// after the socket was closed, the expiry of the ARTIM timer, or an abort, by request or
+    /// because the peer was silent.
     pub(super) fn give(&mut self, input: Input, is_asked: bool, now: Instant)
         requires open { is_ended (state_at self.old) ≡ false }
         requires no_piece { input ≢ kind.Piece }
@@ -122,7 +124,7 @@ impl<'c, S, F: Settling, B: Observer> Connection<'c, S, F, B> {
         requires nothing_waits { input ≡ kind.LocalAbort → is_asked ≡ false → waiting_at self.old ≡ [] }
         requires first { is_asked ≡ true → asked_at (moments_at self.old) ≡ [] }
         requires noted { is_asked ≡ true → IsSome (aborted_at self.old) }
-        requires reason { is_asked ≡ true → (stopped_at self.old || has_lasted (begun_of self.old).longest (begun_of self.old).opened (instant_nanos now)) ≡ true }
+        requires reason { is_asked ≡ true → (stopped_at self.old || has_lasted (initial_of self.old).longest (initial_of self.old).opened (instant_nanos now)) ≡ true }
         ensures settings { settings_at self.new ≡ settings_at self.old }
         ensures opening { opening_of self.new ≡ opening_of self.old }
         ensures quiet { socket_of self.new ≡ socket_of self.old }
@@ -133,7 +135,7 @@ impl<'c, S, F: Settling, B: Observer> Connection<'c, S, F, B> {
         ensures same_pieces { pieces_of (inputs_at self.new) ≡ pieces_of (inputs_at self.old) }
         ensures asked { asked_at (moments_at self.new) ≡ asked_at (moments_at self.old) ++ with_asked is_asked (instant_nanos now) [] }
         ensures unasked { is_asked ≡ false → asked_at (moments_at self.new) ≡ asked_at (moments_at self.old) }
-        ensures same_start { begun_of self.new ≡ begun_of self.old }
+        ensures same_start { initial_of self.new ≡ initial_of self.old }
         ensures same_flags { (aborted_at self.new ≡ aborted_at self.old) × (stopped_at self.new ≡ stopped_at self.old) }
     {
         self.given.push(&input, &[]);
@@ -145,10 +147,10 @@ impl<'c, S, F: Settling, B: Observer> Connection<'c, S, F, B> {
             &mut self.filing,
         );
         self.deadlines.follow(now, self.association.state());
-        let left = Snapshot::of(&self.deadlines);
+        let remaining = Snapshot::of(&self.deadlines);
         self.moments.push(&Moment {
             is_asked,
-            left,
+            remaining,
             now,
         });
     }
@@ -156,12 +158,13 @@ impl<'c, S, F: Settling, B: Observer> Connection<'c, S, F, B> {
 
 impl<'c, S: Write, F: Settling, B: Observer> Connection<'c, S, F, B> {
     ghost use Rattle.engine.specs.Held.{is_ended};
-    ghost use Rattle.serving.specs.Connections.{aborted_at, begun_of, filing_of, inputs_at, moments_at, settings_at, opening_of, refusals_at, state_at, stopped_at, waiting_at};
+    ghost use Rattle.serving.specs.Connections.{aborted_at, initial_of, filing_of, inputs_at, moments_at, settings_at, opening_of, refusals_at, state_at, stopped_at, waiting_at};
 
-    /// Writes what waits, as much as the socket takes, unless the association has ended. Where the socket
-    /// fails, that is the transport's close. No file may wait to be settled.
+    /// Writes the outbox, as far as the socket accepts it, unless the association has ended. If the
+    /// socket fails, the association is passed the close of the transport connection. No file may
+    /// wait to be settled.
     pub(super) fn flush(&mut self, now: Instant) -> Flush
-        requires settled { F.waits (filing_of self.old) ≡ false }
+        requires settled { F.has_pending (filing_of self.old) ≡ false }
         ensures settings { settings_at self.new ≡ settings_at self.old }
         ensures opening { opening_of self.new ≡ opening_of self.old }
         ensures open { result ≢ Flush.Over → is_ended (state_at self.new) ≡ false }
@@ -171,7 +174,7 @@ impl<'c, S: Write, F: Settling, B: Observer> Connection<'c, S, F, B> {
         ensures peers { own_of (inputs_at self.new) ≡ own_of (inputs_at self.old) }
         ensures same_pieces { pieces_of (inputs_at self.new) ≡ pieces_of (inputs_at self.old) }
         ensures unasked { asked_at (moments_at self.new) ≡ asked_at (moments_at self.old) }
-        ensures same_start { begun_of self.new ≡ begun_of self.old }
+        ensures same_start { initial_of self.new ≡ initial_of self.old }
         ensures same_flags { (aborted_at self.new ≡ aborted_at self.old) × (stopped_at self.new ≡ stopped_at self.old) }
     {
         if self.is_over() {
@@ -197,9 +200,10 @@ impl<'c, S: Write, F: Settling, B: Observer> Connection<'c, S, F, B> {
 
 impl<'c, S: Read + Write, F: Settling, B: Observer> Connection<'c, S, F, B> {
     ghost use Rattle.engine.specs.Held.{is_ended};
-    ghost use Rattle.serving.specs.Connections.{aborted_at, begun_of, filing_of, inputs_at, moments_at, settings_at, opening_of, state_at, stopped_at, untaken_at, waiting_at};
+    ghost use Rattle.serving.specs.Connections.{aborted_at, initial_of, filing_of, inputs_at, moments_at, settings_at, opening_of, state_at, stopped_at, untaken_at, waiting_at};
 
-    /// Has the association take a portion of what was read, or else of what has come, at most so many bytes.
+    /// Reads from the socket if necessary, and passes a portion of the inbox to the association, at
+    /// most `most` bytes.
     fn receive(&mut self, now: Instant, most: usize) -> Arrival
         requires open { is_ended (state_at self.old) ≡ false }
         requires flushed { waiting_at self.old ≡ [] }
@@ -209,7 +213,7 @@ impl<'c, S: Read + Write, F: Settling, B: Observer> Connection<'c, S, F, B> {
         ensures nothing { result ≡ Arrival.Nothing → untaken_at self.new ≡ [] }
         ensures peers { own_of (inputs_at self.new) ≡ own_of (inputs_at self.old) }
         ensures unasked { asked_at (moments_at self.new) ≡ asked_at (moments_at self.old) }
-        ensures same_start { begun_of self.new ≡ begun_of self.old }
+        ensures same_start { initial_of self.new ≡ initial_of self.old }
         ensures same_flags { (aborted_at self.new ≡ aborted_at self.old) × (stopped_at self.new ≡ stopped_at self.old) }
     {
         let limit = self.association.input_limit();
@@ -231,17 +235,17 @@ impl<'c, S: Read + Write, F: Settling, B: Observer> Connection<'c, S, F, B> {
                 let portion = Portion {
                     len,
                     is_complete,
-                    is_held: self.filing.waits(),
+                    is_held: self.filing.has_pending(),
                 };
                 let taken = self.socket.taken(portion, &self.association);
                 self.observer.took(&taken);
                 self.socket.inbox.drop_front(len);
                 self.deadlines.hear(now);
                 self.deadlines.follow(now, self.association.state());
-                let left = Snapshot::of(&self.deadlines);
+                let remaining = Snapshot::of(&self.deadlines);
                 self.moments.push(&Moment {
                     is_asked: false,
-                    left,
+                    remaining,
                     now,
                 });
             }
@@ -253,20 +257,20 @@ impl<'c, S: Read + Write, F: Settling, B: Observer> Connection<'c, S, F, B> {
         arrival
     }
 
-    /// Writes what waits, has the association take what was read and what has come, at most so many bytes in
-    /// at most [`MOST_PORTIONS`], and writes what it sends for them, until more was read than one answer is
-    /// for, or a file waits to be settled. Returns whether it then waits for its socket.
+    /// Writes the outbox and passes the input to the association, portion by portion, at most
+    /// `most` bytes and [`MOST_PORTIONS`]. Stops after a reply if the inbox has more, and when a
+    /// file waits to be settled. Returns whether the connection waits for its socket.
     fn advance(&mut self, now: Instant, most: usize) -> bool
-        requires settled { F.waits (filing_of self.old) ≡ false }
+        requires settled { F.has_pending (filing_of self.old) ≡ false }
         ensures settings { settings_at self.new ≡ settings_at self.old }
         ensures opening { opening_of self.new ≡ opening_of self.old }
         ensures rests { result ≡ true → waiting_at self.new ≡ [] → untaken_at self.new ≡ [] }
         ensures peers { own_of (inputs_at self.new) ≡ own_of (inputs_at self.old) }
         ensures unasked { asked_at (moments_at self.new) ≡ asked_at (moments_at self.old) }
-        ensures same_start { begun_of self.new ≡ begun_of self.old }
+        ensures same_start { initial_of self.new ≡ initial_of self.old }
         ensures same_flags { (aborted_at self.new ≡ aborted_at self.old) × (stopped_at self.new ≡ stopped_at self.old) }
     {
-        let mut left = most;
+        let mut remaining = most;
         let mut has_answered = false;
         for _ in 0..MOST_PORTIONS {
             match self.flush(now) {
@@ -276,17 +280,17 @@ impl<'c, S: Read + Write, F: Settling, B: Observer> Connection<'c, S, F, B> {
             }
             let has_more = !self.socket.inbox.pending().is_empty();
             if has_answered && has_more
-                || left == 0
-                || left < self.association.input_limit().min(most)
+                || remaining == 0
+                || remaining < self.association.input_limit().min(most)
             {
                 return false;
             }
-            match self.receive(now, left) {
-                Arrival::Bytes(len) => left = left.saturating_sub(len),
+            match self.receive(now, remaining) {
+                Arrival::Bytes(len) => remaining = remaining.saturating_sub(len),
                 Arrival::Nothing => return true,
                 Arrival::End(_) => return false,
             }
-            if self.waits() {
+            if self.has_pending() {
                 return false;
             }
             has_answered = has_answered || !self.socket.outbox.pending().is_empty();
@@ -294,40 +298,40 @@ impl<'c, S: Read + Write, F: Settling, B: Observer> Connection<'c, S, F, B> {
         false
     }
 
-    /// Takes a turn at this time: writes what waits, has the association take what was read and what has
-    /// come, and writes what it sends for them. A turn ends after so many bytes or [`MOST_PORTIONS`], and where
-    /// more was read than one answer is for, so that no peer keeps the others waiting. A portion of which fewer bytes may be taken
-    /// yet waits for the next turn, so that no fragment is cut where a turn ends.
+    /// Takes a turn: writes the outbox, reads, passes the input to the association, and writes its
+    /// replies. A turn ends after `most` bytes or [`MOST_PORTIONS`], and after a reply if the inbox
+    /// has more, so that no peer delays the others. A portion for which too few of the `most` bytes
+    /// remain is left for the next turn, so that no fragment is split.
     ///
-    /// `over`: it is over exactly where its association has ended.
+    /// `over`: the result is `Over` exactly if the association has ended.
     ///
-    /// `rests`: it waits for its socket only where the peer is to take something, or the association has
-    /// taken all that was read.
+    /// `rests`: the result is `Socket` only if the outbox has bytes, or the inbox is empty.
     ///
-    /// `waits`: it waits for its filing exactly where a file is to be settled, unless its association has
-    /// ended. `quiet`: where one was before, nothing is done.
+    /// `has_pending`: the result is `Filing` exactly if a file waits to be settled and the association
+    /// has not ended. `quiet`: if a file waited before, nothing is done.
     ///
-    /// `peers`: the association is given pieces and the transport's close, and nothing of the server's own.
+    /// `peers`: the association is passed portions of input and the close of the transport
+    /// connection, and no input of the server's own.
     pub fn turn(&mut self, now: Instant, most: usize) -> Turn
         ensures settings { settings_at self.new ≡ settings_at self.old }
         ensures opening { opening_of self.new ≡ opening_of self.old }
         ensures over { (result ≡ Turn.Over) ↔ (is_ended (state_at self.new) ≡ true) }
         ensures rests { result ≡ Turn.Socket → waiting_at self.new ≡ [] → untaken_at self.new ≡ [] }
-        ensures waits { (result ≡ Turn.Filing) ↔ ((is_ended (state_at self.new) ≡ false) × (F.waits (filing_of self.new) ≡ true)) }
-        ensures quiet { F.waits (filing_of self.old) ≡ true → self.new ≡ self.old }
+        ensures has_pending { (result ≡ Turn.Filing) ↔ ((is_ended (state_at self.new) ≡ false) × (F.has_pending (filing_of self.new) ≡ true)) }
+        ensures quiet { F.has_pending (filing_of self.old) ≡ true → self.new ≡ self.old }
         ensures peers { own_of (inputs_at self.new) ≡ own_of (inputs_at self.old) }
         ensures unasked { asked_at (moments_at self.new) ≡ asked_at (moments_at self.old) }
-        ensures same_start { begun_of self.new ≡ begun_of self.old }
+        ensures same_start { initial_of self.new ≡ initial_of self.old }
         ensures same_flags { (aborted_at self.new ≡ aborted_at self.old) × (stopped_at self.new ≡ stopped_at self.old) }
     {
         if self.is_over() {
             return Turn::Over;
         }
-        let rests = !self.filing.waits() && self.advance(now, most);
+        let rests = !self.filing.has_pending() && self.advance(now, most);
         if self.is_over() {
             return Turn::Over;
         }
-        if self.filing.waits() {
+        if self.filing.has_pending() {
             return Turn::Filing;
         }
         if rests { Turn::Socket } else { Turn::Next }

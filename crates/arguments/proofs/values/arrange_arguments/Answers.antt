@@ -17,6 +17,7 @@ returns-clause-some c =
     record {
       dirs = c.in_ok-dirs.ensures;
       to = sym (c.in-Some.ensures ∙ first_value-rows found (codes "to"));
+      pattern = sym (c.get_str-pattern.ensures ∙ first_value-rows found (codes "pattern"));
       copy = record {
         none = λ e. c.get_flag-copy.ensures.none (one_text-rows found (codes "copy") ∙ e);
         on = λ e. c.get_flag-copy.ensures.value (one_text-rows found (codes "copy") ∙ e);

@@ -1,6 +1,6 @@
-use Rattle.std.proofs.Common.{◌∙◌, codes}
+use Rattle.std.proofs.Common.{◌∙◌, codes, sym}
 use Rattle.clap.specs.Matches.{found_of}
-use Rattle.clap.proofs.WalkLemmas.{one_text-rows}
+use Rattle.clap.proofs.WalkLemmas.{first_value-rows, one_text-rows}
 use Rattle.arguments.proofs.values.list_arguments.Goals as goal
 
 pub returns : goal.returns
@@ -19,6 +19,7 @@ returns c =
         off = λ e. c.get_flag-instances.ensures.other (one_text-rows found (codes "instances") ∙ e);
       };
       conditions = c.in_ok-conditions.ensures;
+      columns = sym (c.get_str.ensures ∙ first_value-rows found (codes "columns"));
       ignore_others = record {
         none = λ e. c.get_flag-ignore_others.ensures.none (one_text-rows found (codes "ignore-others") ∙ e);
         on = λ e. c.get_flag-ignore_others.ensures.value (one_text-rows found (codes "ignore-others") ∙ e);

@@ -39,4 +39,9 @@ returns c =
         on = λ e. c.get_flag-all_syntaxes.ensures.value (one_text-rows found (codes "all-syntaxes") ∙ e);
         off = λ e. c.get_flag-all_syntaxes.ensures.other (one_text-rows found (codes "all-syntaxes") ∙ e);
       };
+      any = record {
+        none = λ e. c.get_flag-any.ensures.none (one_text-rows found (codes "any") ∙ e);
+        on = λ e. c.get_flag-any.ensures.value (one_text-rows found (codes "any") ∙ e);
+        off = λ e. c.get_flag-any.ensures.other (one_text-rows found (codes "any") ∙ e);
+      };
     }

@@ -1,7 +1,7 @@
 use Rattle.std.proofs.Common.{refl, ◌-◌, length, arith}
 use Rattle.std.proofs.lemmas.Result.{IfOk-weaker, IfErr-weaker}
 use Rattle.dicomdir.specs.NodesInUse.{tree_nodes}
-use Rattle.dicomdir.proofs.FaultsComeInOrder.{file_fails, file_nodes}
+use Rattle.dicomdir.proofs.FaultsAreInOrder.{file_fails, file_nodes}
 use Rattle.dicomdir.proofs.WalksEndOrFail.{data_set_check}
 use Rattle.dicomdir.proofs.checking.check.Goals as goal
 use Rattle.std.proofs.lemmas.Grind.{common_steps}

@@ -3,7 +3,7 @@ use Rattle.std.proofs.lemmas.Result.{err_from_is_err_and}
 use Rattle.dicomdir.specs.Directory.{found, records_at}
 use Rattle.dicomdir.specs.DirFault.{records_fault}
 use Rattle.dicomdir.specs.machine.Trail.{AreEntries, no_entries}
-use Rattle.dicomdir.proofs.FaultsComeInOrder.{whole_elements, fails_first, fails_last, fails_without_records, has_records, fails_in_records, fails_in_links, checks_as, are_read, fails_at}
+use Rattle.dicomdir.proofs.FaultsAreInOrder.{whole_elements, fails_first, fails_last, fails_without_records, has_records, fails_in_records, fails_in_links, checks_as, are_read, fails_at}
 use Rattle.dicomdir.proofs.checking.check_elements.Goals as goal
 
 pub returns-in_err-first_place-clause-fails : goal.returns-in_err-first_place-clause-fails

@@ -20,7 +20,7 @@ decreases-after_items l = 2 * length l.text.now
 abbrev pub invariant-after_elements-loop-head : goal.invariant-after_elements-loop-head
 invariant-after_elements-loop-head l = record {
   fits : length l.rest ≤ length l.text;
-  left : (es : Elements) (rest : List ℕ) → ElementsThen l.syntax 0 es (delimitation item_end_tag ++ rest) l.text → SomeElements l.syntax (delimitation item_end_tag ++ rest) l.rest;
+  remaining : (es : Elements) (rest : List ℕ) → ElementsThen l.syntax 0 es (delimitation item_end_tag ++ rest) l.text → SomeElements l.syntax (delimitation item_end_tag ++ rest) l.rest;
 }
 
 abbrev pub decreases-after_elements-loop-head : goal.decreases-after_elements-loop-head
@@ -29,7 +29,7 @@ decreases-after_elements-loop-head l = length l.rest
 abbrev pub invariant-after_items-loop-head : goal.invariant-after_items-loop-head
 invariant-after_items-loop-head l = record {
   fits : length l.rest ≤ length l.text;
-  left : (items : Items) (rest : List ℕ) → ItemsThen l.syntax items (delimitation sequence_end_tag ++ rest) l.text → SomeItems l.syntax (delimitation sequence_end_tag ++ rest) l.rest;
+  remaining : (items : Items) (rest : List ℕ) → ItemsThen l.syntax items (delimitation sequence_end_tag ++ rest) l.text → SomeItems l.syntax (delimitation sequence_end_tag ++ rest) l.rest;
 }
 
 abbrev pub decreases-after_items-loop-head : goal.decreases-after_items-loop-head

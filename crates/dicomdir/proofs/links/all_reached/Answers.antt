@@ -1,7 +1,7 @@
 use Rattle.std.proofs.Common.{◌≡◌, ◌+◌, ◌||◌, suc, not, Some, get_or, drop, true, false, inl, inr, Bool, sym, ap, ◌∙◌, arith, if◌then◌else◌}
 use Rattle.std.proofs.lemmas.Bool.{cond-true}
 use Rattle.dicomdir.specs.DirFault.{fault, unreached_fault}
-use Rattle.dicomdir.proofs.Trails.{left_at, passes}
+use Rattle.dicomdir.proofs.Trails.{remaining_at, passes}
 use Rattle.dicomdir.proofs.links.all_reached.Goals as goal
 use Rattle.dicomdir.proofs.links.all_reached.Goals.{else-entry-via-then-entry+else-not-reached-at, else-entry-via-else-entry}
 
@@ -9,7 +9,7 @@ pub returns-then-not-reached-at-clause-fault : goal.returns-then-not-reached-at-
 returns-then-not-reached-at-clause-fault c records places flagged =
     let e = c.index-entries-at.result in
     sym (c.loop-at.invariant records places flagged)
-    ∙ (left_at c.args.entries.now c.args.reached.now records places e c.loop-at.at flagged c.index-entries-at.is c.loop-at-test.true
+    ∙ (remaining_at c.args.entries.now c.args.reached.now records places e c.loop-at.at flagged c.index-entries-at.is c.loop-at-test.true
     ∙ ((λ i. if not (c.if-entry.true i) || c.if-not-reached-at.true i then unreached_fault places (drop (suc c.loop-at.at) records) else fault 63 e.place)
     ∙ ap (λ f. Some (record { number = f.number; place = f.place })) (sym c.at.ensures)))
 
@@ -23,6 +23,6 @@ loop-at-preserved c records places flagged =
     ] in
     let next : c.loop-at.at + 1 ≡ suc c.loop-at.at = omega arith in
     ap (λ z. unreached_fault places (drop z records)) next
-    ∙ (sym (left_at c.args.entries.now c.args.reached.now records places e c.loop-at.at flagged c.index-entries-at.is c.loop-at-test.true
+    ∙ (sym (remaining_at c.args.entries.now c.args.reached.now records places e c.loop-at.at flagged c.index-entries-at.is c.loop-at-test.true
     ∙ cond-true (not e.in_use || flag) (unreached_fault places (drop (suc c.loop-at.at) records)) (fault 63 e.place) passed)
     ∙ c.loop-at.invariant records places flagged)

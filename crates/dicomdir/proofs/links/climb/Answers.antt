@@ -12,4 +12,4 @@ returns-then-mark-ne0 g c = record {
 pub loop-mark-preserved : goal.loop-mark-preserved
 loop-mark-preserved g c links marks =
     climbed links (reverse c.args.trail.now.items) c.loop-mark.trail.items c.leave_chain.new.trail.items c.in-Some.mark.now
-    (c.in-Some.ensures.value ∙ ap (λ z. slice_get z (length z - 1)) c.deref.ensures.value) c.if-mark-ne0.false c.leave_chain.ensures.left c.leave_chain.ensures.fewer (c.loop-mark.invariant links marks)
+    (c.in-Some.ensures.value ∙ ap (λ z. slice_get z (length z - 1)) c.deref.ensures.value) c.if-mark-ne0.false c.leave_chain.ensures.remaining c.leave_chain.ensures.fewer (c.loop-mark.invariant links marks)

@@ -38,7 +38,7 @@ loop-pending-preserved g c =
           finds c.index-entries-at.is c.in_ok-at.ensures.within (c.in_ok-reach.ensures.node refl)
           (ap reverse (c.in_ok-reach.ensures.mark refl) ∙ push_reverse c.loop-pending.trail.items (mark_of c.index-entries-at.result c.in-Some.step))
           c.last_of_root-last.ensures
-          c.step_after-pending.ensures.goes_on;
+          c.step_after-pending.ensures.continues;
     }
 
 pub returns-then-from-last-clause-fails : goal.returns-then-from-last-clause-fails

@@ -4,7 +4,7 @@ use Rattle.dicomdir.specs.Directory.{Record}
 use Rattle.dicomdir.specs.DirFault.{links_of}
 use Rattle.dicomdir.specs.NodesInUse.{node_of}
 use Rattle.dicomdir.specs.machine.Trail.{AreRead}
-use Rattle.dicomdir.proofs.Trails.{left_in}
+use Rattle.dicomdir.proofs.Trails.{remaining_in}
 use Rattle.dicomdir.proofs.Following.{Following}
 use Rattle.dicomdir.proofs.links.follow.Given as goal
 
@@ -16,4 +16,4 @@ invariant-loop-pending g l = record {
 }
 
 abbrev pub decreases-loop-pending : goal.decreases-loop-pending
-decreases-loop-pending g l = left_in l.reached.items
+decreases-loop-pending g l = remaining_in l.reached.items

@@ -11,7 +11,7 @@ returns-then-mark-from c =
     looks_found c.args.offset c.loop-at.in_chain c.loop-at.is_above c.args.trail.now c.loop-at.at m c.loop-at-test.true c.loop-at.invariant.within
     (get_or_default c.args.trail.now (c.loop-at.at - 1) _ m inside)
     (looks_here c.loop-at.in_chain c.loop-at.is_above m.place c.args.offset c.if-is_above.either (c.if-mark-from.true ∙ c.from.ensures))
-    c.loop-at.invariant.left
+    c.loop-at.invariant.remaining
 
 pub returns : goal.returns
-returns c = looks_none c.args.offset c.loop-at.in_chain c.loop-at.is_above c.args.trail.now c.loop-at.at c.loop-at-test.false c.loop-at.invariant.left
+returns c = looks_none c.args.offset c.loop-at.in_chain c.loop-at.is_above c.args.trail.now c.loop-at.at c.loop-at-test.false c.loop-at.invariant.remaining

@@ -4,7 +4,7 @@ use Rattle.dicomdir.proofs.links.step_after.Goals as goal
 
 pub returns : goal.returns
 returns g c = record {
-  goes_on = λ links level marks named counted below shown.
+  continues = λ links level marks named counted below shown.
       lower_none links (reverse c.args.trail.now.items) (reverse c.climb.new.trail.items) c.climb.result c.args.entry.now.lower c.if-entry-ne0.false named
       (c.climb.ensures.climbs links marks);
 }

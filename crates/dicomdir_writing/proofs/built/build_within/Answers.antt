@@ -27,7 +27,7 @@ invariant_of-result g c =
     record {
       laid = lays_tree c.args.rows.now _ _ _ _ _ _ _ kept c.new-plan.ensures.entries c.new-plan.ensures.size c.in-Ok-lay.ensures.laid;
       size = size_with c.args.uid c.len.result c.lay.new.plan.size _ (c.len.ensures.value ∙ ap length c.file_header.ensures.bytes) c.in-Some.ensures.some.0;
-      doubles_are = c.in-Ok.ensures.doubles;
+      duplicates_are = c.in-Ok.ensures.duplicates;
     }
 
 pub returns-clause-fits : goal.returns-clause-fits

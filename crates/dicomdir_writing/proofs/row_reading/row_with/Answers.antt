@@ -1,6 +1,6 @@
 use Rattle.std.proofs.Common.{◌≡◌, ◌∙◌, ◌^◌, ap}
 use Rattle.std.proofs.lemmas.Result.{err_from_is_err_and}
-use Rattle.sequence.specs.Taken.{limits_of, told_by}
+use Rattle.sequence.specs.Taken.{limits_of, reported_by}
 use Rattle.dicomdir_writing.specs.RowOf.{row_limits, values_for}
 use Rattle.std.specs.Prelude.{filter}
 use Rattle.dicomdir_writing.specs.RecordTable.{is_read, key_table, keys_read}
@@ -26,10 +26,10 @@ returns-in_err-walk g c =
 pub returns : goal.returns
 returns g c =
     let limits : limits_of c.in_transfer-walker.result ≡ row_limits (keys_read c.args.keys) = c.in_transfer-walker.ensures.limits ∙ ap (λ w. record { wanted = w; depth = 64; bytes = 2 ^ 48 }) c.wanted.ensures in
-    let values = values_for (filter (is_read c.args.keys) key_table) (told_by c.walk.new.walker).kept in
+    let values = values_for (filter (is_read c.args.keys) key_table) (reported_by c.walk.new.walker).kept in
     let row : Row = record { file_id = c.args.file_id.now; class = c.in-Ok.meta.class; instance = c.in-Ok.meta.instance; syntax = c.in-Ok.meta.syntax; values = values } in
     let is : c.new.result ≡ checked_row row =
-    c.new.ensures ∙ ap (λ values. checked_row (record { file_id = c.args.file_id.now; class = c.in-Ok.meta.class; instance = c.in-Ok.meta.instance; syntax = c.in-Ok.meta.syntax; values = values })) (c.in_ok-keys.ensures.values ∙ ap (λ rules. values_for (filter (is_read c.args.keys) rules) (told_by c.walk.new.walker).kept) c.key_table.ensures) in
+    c.new.ensures ∙ ap (λ values. checked_row (record { file_id = c.args.file_id.now; class = c.in-Ok.meta.class; instance = c.in-Ok.meta.instance; syntax = c.in-Ok.meta.syntax; values = values })) (c.in_ok-keys.ensures.values ∙ ap (λ rules. values_for (filter (is_read c.args.keys) rules) (reported_by c.walk.new.walker).kept) c.key_table.ensures) in
     record {
       row = whole_file c.walk.new.walker c.args.additional.now (keys_read c.args.keys) c.in-Ok.meta (g.R.Read.remaining c.args.reader.now) _ c.args.file_id.now c.new.result
           (record { header = c.in-Ok.ensures.header; taken = c.in-Ok.ensures.taken })

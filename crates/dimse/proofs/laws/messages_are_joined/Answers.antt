@@ -1,5 +1,5 @@
 use Rattle.dimse.proofs.FragmentsMakeTheMessage.{message_is, messages_then}
-use Rattle.dimse.proofs.FragmentsComeInOrder.{begins_with}
+use Rattle.dimse.proofs.FragmentsAreInOrder.{begins_with}
 use Rattle.dimse.proofs.laws.messages_are_joined.Goals as goal
 
 pub returns-clause-message : goal.returns-clause-message

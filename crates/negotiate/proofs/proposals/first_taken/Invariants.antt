@@ -1,5 +1,5 @@
 use Rattle.std.proofs.Common.{◌≡◌}
-use Rattle.pdu.specs.Left.{syntaxes_left}
+use Rattle.pdu.specs.Remaining.{syntaxes_remaining}
 use Rattle.negotiate.specs.Contexts.{first_known, taken_transfers}
 use Rattle.negotiate.specs.Settings.{settings_of}
 use Rattle.negotiate.proofs.proposals.first_taken.Given as goal
@@ -8,4 +8,4 @@ abbrev pub invariant-loop-uid : goal.invariant-loop-uid
 invariant-loop-uid l =
     (goal.iterator-loop-uid).can_next l.uid-iterator ×
     (goal.iterator-loop-uid).is_finite l.uid-iterator ×
-    (first_known (taken_transfers (settings_of l.config).additional.transfers l.proposal.transfer_syntaxes) ≡ first_known (taken_transfers (settings_of l.config).additional.transfers (syntaxes_left l.uid-iterator)))
+    (first_known (taken_transfers (settings_of l.config).additional.transfers l.proposal.transfer_syntaxes) ≡ first_known (taken_transfers (settings_of l.config).additional.transfers (syntaxes_remaining l.uid-iterator)))

@@ -11,7 +11,7 @@ returns-in_err-header g c =
     record {
       read = rw (err_from_is_err_and c.from_residual.result c.from_residual.ensures.1).1 tt;
       none = let p = err_from_is_err_and c.from_residual.result c.from_residual.ensures.1 in
-          rw (p.1, p.2) (breaks_at _ _ _ (NoElement c.args.last c.args.left) c.in_err-header.ensures.none (λ rest none. no_header c.args.last c.args.left rest none));
+          rw (p.1, p.2) (breaks_at _ _ _ (NoElement c.args.last c.args.remaining) c.in_err-header.ensures.none (λ rest none. no_header c.args.last c.args.remaining rest none));
     }
 
 pub returns-then-not-is_next : goal.returns-then-not-is_next
@@ -19,16 +19,16 @@ returns-then-not-is_next g c =
     record {
       read = tt;
       none = let read = c.in_ok-header.ensures.read in
-          bad_after _ _ _ (NoElement c.args.last c.args.left) read.taken (λ rest. not_next c.args.last c.args.left c.in_ok-header.header read.bytes rest read.spells c.if-not-is_next.ensures);
+          bad_after _ _ _ (NoElement c.args.last c.args.remaining) read.taken (λ rest. not_next c.args.last c.args.remaining c.in_ok-header.header read.bytes rest read.spells c.if-not-is_next.ensures);
     }
 
-pub returns-then-length-left : goal.returns-then-length-left
-returns-then-length-left g c =
+pub returns-then-length-remaining : goal.returns-then-length-remaining
+returns-then-length-remaining g c =
     record {
       read = tt;
       none = let read = c.in_ok-header.ensures.read in
-          bad_after _ _ _ (NoElement c.args.last c.args.left) read.taken
-          (λ rest. long_value c.args.last c.args.left c.in_ok-header.size c.in_ok-header.header read.bytes rest read.spells read.counted (omega (arith, c.if-length-left.true, read.within)));
+          bad_after _ _ _ (NoElement c.args.last c.args.remaining) read.taken
+          (λ rest. long_value c.args.last c.args.remaining c.in_ok-header.size c.in_ok-header.header read.bytes rest read.spells read.counted (omega (arith, c.if-length-remaining.true, read.within)));
     }
 
 pub returns-in_err-uid : goal.returns-in_err-uid
@@ -37,8 +37,8 @@ returns-in_err-uid g c =
       read = rw (err_from_is_err_and c.from_residual-in_err-uid.result c.from_residual-in_err-uid.ensures.1).1 tt;
       none = let read = c.in_ok-header.ensures.read in
           let p = err_from_is_err_and c.from_residual-in_err-uid.result c.from_residual-in_err-uid.ensures.1 in
-          rw (p.1, p.2) (breaks_after _ _ _ _ _ (NoElement c.args.last c.args.left) read.taken c.in_err-uid.ensures.short
-          (λ rest few. short_value c.args.last c.args.left c.in_ok-header.header read.bytes rest read.spells few));
+          rw (p.1, p.2) (breaks_after _ _ _ _ _ (NoElement c.args.last c.args.remaining) read.taken c.in_err-uid.ensures.short
+          (λ rest few. short_value c.args.last c.args.remaining c.in_ok-header.header read.bytes rest read.spells few));
     }
 
 pub returns : goal.returns
@@ -56,7 +56,7 @@ returns g c =
         number = refl;
         uid = value.2.1;
         counted = omega (arith, read.counted, value.2.0);
-        within = omega (arith, read.within, c.if-length-left.false);
+        within = omega (arith, read.within, c.if-length-remaining.false);
       };
       none = tt;
     }

@@ -7,8 +7,8 @@ use Rattle.part10.proofs.PartFailsTheWhole.{breaks_after}
 use Rattle.part10.proofs.GroupIsItsElements.{Grouped, grouped_then, no_group}
 use Rattle.part10.proofs.reading.read_group.Goals as goal
 
-pub loop-left-init : goal.loop-left-init
-loop-left-init g c =
+pub loop-remaining-init : goal.loop-remaining-init
+loop-remaining-init g c =
     let none = c.none-found.ensures in
     record {
       text = [];
@@ -25,24 +25,24 @@ returns-in_err-element g c =
     record {
       read = rw (err_from_is_err_and c.from_residual.result c.from_residual.ensures.1).1 tt;
       none = let p = err_from_is_err_and c.from_residual.result c.from_residual.ensures.1 in
-          rw (p.1, p.2) (breaks_after _ _ _ _ _ (NoGroup c.args.size) c.loop-left.invariant.taken c.in_err-element.ensures.none
-          (λ rest none. no_group c.args.size c.loop-left.left c.loop-left.last c.loop-left.found _ _ c.loop-left.invariant rest c.loop-left-test.true none));
+          rw (p.1, p.2) (breaks_after _ _ _ _ _ (NoGroup c.args.size) c.loop-remaining.invariant.taken c.in_err-element.ensures.none
+          (λ rest none. no_group c.args.size c.loop-remaining.remaining c.loop-remaining.last c.loop-remaining.found _ _ c.loop-remaining.invariant rest c.loop-remaining-test.true none));
     }
 
-pub loop-left-preserved : goal.loop-left-preserved
-loop-left-preserved g c =
-    let more = grouped_then c.args.size c.loop-left.left c.loop-left.last c.loop-left.found c.in_ok-element.element _ _ _ c.loop-left.invariant c.in_ok-element.ensures.read in
-    subst (λ z. Grouped c.args.size (c.loop-left.left - c.in_ok-element.element.size) c.in_ok-element.element.number z (g.R.Read.remaining c.args.input.now) (g.R.Read.remaining c.read_element.new.input)) (sym c.note.ensures) more
+pub loop-remaining-preserved : goal.loop-remaining-preserved
+loop-remaining-preserved g c =
+    let more = grouped_then c.args.size c.loop-remaining.remaining c.loop-remaining.last c.loop-remaining.found c.in_ok-element.element _ _ _ c.loop-remaining.invariant c.in_ok-element.ensures.read in
+    subst (λ z. Grouped c.args.size (c.loop-remaining.remaining - c.in_ok-element.element.size) c.in_ok-element.element.number z (g.R.Read.remaining c.args.input.now) (g.R.Read.remaining c.read_element.new.input)) (sym c.note.ensures) more
 
 pub returns : goal.returns
 returns g c =
-    let all = c.loop-left.invariant in
+    let all = c.loop-remaining.invariant in
     record {
       read = record {
         group = all.text;
         elements = all.elements;
         taken = all.taken;
-        counted = omega (arith, all.counted, c.loop-left-test.false);
+        counted = omega (arith, all.counted, c.loop-remaining-test.false);
         spelled = all.spelled;
         is = all.is;
       };

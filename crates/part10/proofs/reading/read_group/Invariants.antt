@@ -1,8 +1,8 @@
 use Rattle.part10.proofs.GroupIsItsElements.{Grouped}
 use Rattle.part10.proofs.reading.read_group.Given as goal
 
-abbrev pub invariant-loop-left : goal.invariant-loop-left
-invariant-loop-left g l = Grouped l.size l.left l.last l.found (g.R.Read.remaining l.fn.input) (g.R.Read.remaining l.input)
+abbrev pub invariant-loop-remaining : goal.invariant-loop-remaining
+invariant-loop-remaining g l = Grouped l.size l.remaining l.last l.found (g.R.Read.remaining l.fn.input) (g.R.Read.remaining l.input)
 
-abbrev pub decreases-loop-left : goal.decreases-loop-left
-decreases-loop-left g l = l.left
+abbrev pub decreases-loop-remaining : goal.decreases-loop-remaining
+decreases-loop-remaining g l = l.remaining

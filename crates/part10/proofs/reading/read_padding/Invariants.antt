@@ -1,8 +1,8 @@
 use Rattle.part10.proofs.UidIsInFront.{Padded}
 use Rattle.part10.proofs.reading.read_padding.Given as goal
 
-abbrev pub invariant-loop-left : goal.invariant-loop-left
-invariant-loop-left g l = Padded l.size l.left l.is_padding (g.R.Read.remaining l.fn.input) (g.R.Read.remaining l.input)
+abbrev pub invariant-loop-remaining : goal.invariant-loop-remaining
+invariant-loop-remaining g l = Padded l.size l.remaining l.is_padding (g.R.Read.remaining l.fn.input) (g.R.Read.remaining l.input)
 
-abbrev pub decreases-loop-left : goal.decreases-loop-left
-decreases-loop-left g l = l.left
+abbrev pub decreases-loop-remaining : goal.decreases-loop-remaining
+decreases-loop-remaining g l = l.remaining

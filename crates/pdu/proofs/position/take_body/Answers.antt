@@ -3,16 +3,16 @@ use Rattle.std.proofs.lemmas.List.{length-take}
 use Rattle.pdu.proofs.CallFollowsTheMarks.{body_ended, empty_at, body_still, body_part}
 use Rattle.pdu.proofs.position.take_body.Goals as goal
 
-pub returns-then-left-eq0-clause-finds : goal.returns-then-left-eq0-clause-finds
-returns-then-left-eq0-clause-finds c r due a = body_ended _ _ _ r due c.if-left-eq0.true a (empty_at _ c.new.ensures)
+pub returns-then-remaining-eq0-clause-finds : goal.returns-then-remaining-eq0-clause-finds
+returns-then-remaining-eq0-clause-finds c r due a = body_ended _ _ _ r due c.if-remaining-eq0.true a (empty_at _ c.new.ensures)
 
 pub returns-then-is_empty-clause-finds : goal.returns-then-is_empty-clause-finds
-returns-then-is_empty-clause-finds c r due a = body_still _ _ r due (omega (arith, c.if-left-eq0.false)) a
+returns-then-is_empty-clause-finds c r due a = body_still _ _ r due (omega (arith, c.if-remaining-eq0.false)) a
 
 pub returns-clause-finds : goal.returns-clause-finds
 returns-clause-finds c r due a =
     let part = take c.min-count.result c.args.piece.now in
-    let some : 0 < c.args.left = omega (arith, c.if-left-eq0.false) in
+    let some : 0 < c.args.remaining = omega (arith, c.if-remaining-eq0.false) in
     let bytes = false-eqb (length c.args.piece.now) 0 (sym (sym c.is_empty.ensures ∙ c.if-is_empty.false)) in
     let size : length part ≡ c.min-count.result = omega (arith, length-take c.min-count.result c.args.piece.now, c.min-count.ensures) in
-    body_part _ _ _ _ r part due some a (omega (arith, size, c.min-count.ensures)) (ap (λ (n : ℕ). c.args.left - n) (sym size)) (record { part_is = refl; some = omega (arith, size, c.min-count.ensures, bytes, some); lent = refl })
+    body_part _ _ _ _ r part due some a (omega (arith, size, c.min-count.ensures)) (ap (λ (n : ℕ). c.args.remaining - n) (sym size)) (record { part_is = refl; some = omega (arith, size, c.min-count.ensures, bytes, some); lent = refl })

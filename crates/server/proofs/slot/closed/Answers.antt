@@ -1,10 +1,10 @@
 -- One connection more has ended.
-use Rattle.server.proofs.SlotsLoseNone.{left_by, one_ended, seen_there}
+use Rattle.server.proofs.SlotsLoseNone.{remaining_by, one_ended, seen_there}
 use Rattle.server.proofs.slot.closed.Goals as goal
 
 pub returns-in-Some : goal.returns-in-Some
 returns-in-Some g c =
-    let e = c.close-left.ensures in
+    let e = c.close-remaining.ensures in
     let held = seen_there _ _ _ _ c.in-Some.is c.requires.held in
     rw c.in-Some.is (one_ended _ _ _ _ _ _ _ c.end-in-Some.ensures.opened c.end-in-Some.ensures.ended e.opened
-    (left_by _ _ _ _ _ _ _ _ held e.opened e.begun e.stopped e.begins e.left e.sent e.rested e.in_time e.once e.reasons))
+    (remaining_by _ _ _ _ _ _ _ _ held e.opened e.initial e.stopped e.begins e.remaining e.sent e.rested e.in_time e.once e.reasons))

@@ -1,7 +1,8 @@
-//! What the connections left that a server opened, for contracts alone; it has no size at run time.
+//! For contracts: the results of the connections that a server opened. They have no size at run
+//! time.
 //!
-//! Only `opening`, the module above, makes the history of a server, and gives it up. That of a slot goes
-//! into that of its server, once the slot was closed.
+//! Only the parent module `opening` creates and consumes the history of a server. The history of a
+//! slot is added to it when the slot is closed.
 ghost use Rattle.std.specs.Prelude.{◌≡◌, [], ◌∷◌, ◌++◌};
 ghost use Rattle.std.specs.List.{All};
 ghost use Rattle.server.specs.Histories.{AllEnded, ended_in, opened_in, slots_in};
@@ -13,15 +14,15 @@ use part10::Settling;
 use serving::ConnectionEnd;
 use std::marker::PhantomData;
 
-/// What there was of the connections of one slot, each over a filing of type `F`: contracts see the filings
-/// over which they were opened, and what those left that have ended. It is not `Drop`.
+/// For contracts: the connections of one slot, with filings of type `F`: the filings over which
+/// they were opened, and the results of those that have ended. It is not `Drop`.
 pub struct SlotHistory<F> {
     opened: History<F>,
     ended: History<ConnectionEnd<Socket, F>>,
 }
 
 impl<F> SlotHistory<F> {
-    /// Creates that of a slot that has had no connection.
+    /// Creates the history of a slot that has had no connection.
     pub(crate) fn new() -> SlotHistory<F>
         ensures opened { opened_in result ≡ [] }
         ensures ended { ended_in result ≡ [] }
@@ -32,7 +33,7 @@ impl<F> SlotHistory<F> {
         }
     }
 
-    /// A connection is opened over this filing.
+    /// Records that a connection is opened over this filing.
     pub(crate) fn open(&mut self, filing: &F)
         ensures opened { opened_in self.new ≡ opened_in self.old ++ filing.now ∷ [] }
         ensures ended { ended_in self.new ≡ ended_in self.old }
@@ -40,7 +41,7 @@ impl<F> SlotHistory<F> {
         self.opened.push(filing);
     }
 
-    /// A connection has ended, and left this.
+    /// Records the result of a connection that has ended.
     pub(crate) fn end(&mut self, end: &ConnectionEnd<Socket, F>)
         ensures opened { opened_in self.new ≡ opened_in self.old }
         ensures ended { ended_in self.new ≡ ended_in self.old ++ end.now ∷ [] }
@@ -49,15 +50,14 @@ impl<F> SlotHistory<F> {
     }
 }
 
-/// What there was of the connections of a server that has ended: contracts see the history of each of its
-/// slots.
+/// For contracts: the connections of a server that has stopped, as the history of each slot.
 #[derive(Drop)]
 pub struct ServerHistory<F> {
     slots: History<SlotHistory<F>>,
 }
 
 impl<F> ServerHistory<F> {
-    /// Creates that of a server without slots.
+    /// Creates the history of a server without slots.
     pub fn new() -> ServerHistory<F>
         ensures { slots_in result ≡ [] }
     {
@@ -67,15 +67,15 @@ impl<F> ServerHistory<F> {
     }
 }
 
-/// What there was of the connections of slots that were closed. It is not `Drop`.
+/// The histories of slots that were closed. It is not `Drop`.
 pub(crate) struct ClosedSlots<F: Settling, P: Policy> {
     history: ServerHistory<F>,
     policy: PhantomData<P>,
-    ghost each: { ∥ All (AllEnded F.store F.waits P.terms) (slots_in history) ∥₁ },
+    ghost each: { ∥ All (AllEnded F.store F.has_pending P.configuration) (slots_in history) ∥₁ },
 }
 
 impl<F: Settling, P: Policy> ClosedSlots<F, P> {
-    /// Creates that of no slots.
+    /// Creates the history of no slots.
     pub(super) fn new() -> ClosedSlots<F, P>
         ensures { slots_in result.history ≡ [] }
     {
@@ -85,9 +85,9 @@ impl<F: Settling, P: Policy> ClosedSlots<F, P> {
         }
     }
 
-    /// Adds that of a slot that was closed.
+    /// Adds the history of a slot that was closed.
     pub(crate) fn push(&mut self, slot: SlotHistory<F>)
-        requires { AllEnded F.store F.waits P.terms slot }
+        requires { AllEnded F.store F.has_pending P.configuration slot }
         ensures { slots_in self.new.history ≡ slots_in self.old.history ++ slot ∷ [] }
     {
         self.history.slots.push(&slot);
@@ -97,10 +97,10 @@ impl<F: Settling, P: Policy> ClosedSlots<F, P> {
         } = slot;
     }
 
-    /// Returns the history of a server that has no other slots.
+    /// Returns the history of a server whose slots are all closed.
     pub(super) fn into_history(self) -> ServerHistory<F>
         ensures same { result ≡ self.history }
-        ensures ended { ∥ All (AllEnded F.store F.waits P.terms) (slots_in result) ∥₁ }
+        ensures ended { ∥ All (AllEnded F.store F.has_pending P.configuration) (slots_in result) ∥₁ }
     {
         let ClosedSlots {
             history,

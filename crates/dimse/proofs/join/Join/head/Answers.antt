@@ -4,8 +4,8 @@ use Rattle.dimse.proofs.JoinShowsTheMessage.{first_head, later_head, no_fault}
 use Rattle.dimse.proofs.join.Join.head.Goals as goal
 use Rattle.dimse.proofs.join.Join.head.Goals.{in-Between, in_default-stage}
 
-pub returns-clause-begun : goal.returns-clause-begun
-returns-clause-begun g c first bytes o six e =
+pub returns-clause-started : goal.returns-clause-started
+returns-clause-started g c first bytes o six e =
     let was = c.self.inside in
     let shown = ap (λ (j : Joining). j.message) (sym c.self.view_is) in
     let fine = sym c.refusal.ensures ∙ no_fault c.refusal.result c.in_default.not-Some in

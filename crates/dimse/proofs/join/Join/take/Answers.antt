@@ -6,11 +6,11 @@ use Rattle.dimse.proofs.join.Join.take.Goals as goal
 use Rattle.dimse.proofs.join.Join.take.Goals.{in-Command, in_default}
 
 pub returns-clause-shows : goal.returns-clause-shows
-returns-clause-shows g c first begun h =
+returns-clause-shows g c first started h =
     let was = c.self.inside in
-    let now = subst (λ (j : Joining). ShowsMessage g.row.C j first begun) (sym c.self.view_is) h in
-    let fits : length c.args.part.now ≤ was.left = subst (λ (j : Joining). length c.args.part.now ≤ j.left) (sym c.self.view_is) c.requires in
-    let part = part_shown g.row.C first begun c.args.part.now was.stage was.context was.left was.last was.command.items now fits in
+    let now = subst (λ (j : Joining). ShowsMessage g.row.C j first started) (sym c.self.view_is) h in
+    let fits : length c.args.part.now ≤ was.remaining = subst (λ (j : Joining). length c.args.part.now ≤ j.remaining) (sym c.self.view_is) c.requires in
+    let part = part_shown g.row.C first started c.args.part.now was.stage was.context was.remaining was.last was.command.items now fits in
     elim c.match-self.branch [
       | in-Command w ↦
           let room : array_vec_len was.command + length c.args.part.now ≤ g.row.C = omega (arith, c.self.invariant w.in-Command.is) in

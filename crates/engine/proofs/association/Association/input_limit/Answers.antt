@@ -1,4 +1,4 @@
--- The part that has begun, or one byte.
+-- The part that has started, or one byte.
 use Rattle.std.proofs.Common.{◌≡◌, true, false, refl, sym, ◌∙◌, inl, inr}
 use Rattle.engine.proofs.OutputIsBounded.OutputOfAPortion.{sends_few}
 use Rattle.engine.proofs.PartsEnd.FewerDecideNothing.{fewer_decide_nothing}

@@ -8,7 +8,7 @@ use Rattle.dimse.specs.Reading.{command_in}
 use Rattle.dimse.specs.Messages.{InSet}
 use Rattle.engine.specs.Fair.{InStore}
 use Rattle.engine.specs.StoredData.{stored_of, drafting_in}
-use Rattle.engine.proofs.MarksAreDone.DataOfStores.{unread_store, unaccepted_store, other_store, begins_drafts, idle_proceeds, begun_proceeds}
+use Rattle.engine.proofs.MarksAreDone.DataOfStores.{unread_store, unaccepted_store, other_store, begins_drafts, idle_proceeds, started_proceeds}
 use Rattle.engine.proofs.StoresAreKept.DraftAndWalk.{same_drafts}
 use Rattle.engine.proofs.phase.Message.begin.Goals as goal
 
@@ -71,12 +71,12 @@ returns-then-is_of_context g c = record {
         set = [];
         asked = c.in-Ok.command;
         context = c.in-Some.accepted;
-        begun = refl;
+        started = refl;
         spelled = e;
         accepted = accepted;
         of_context = c.is_of_context.ensures.yes c.if-is_of_context.true;
       } in
-      begun_proceeds g.row.D c.args.origin.config.now.max_data request (InSet c.args.origin.context command []) store _ (stored_of c.begin_store-self.result) _ _ refl
+      started_proceeds g.row.D c.args.origin.config.now.max_data request (InSet c.args.origin.context command []) store _ (stored_of c.begin_store-self.result) _ _ refl
       (ap (λ (xs : List ℕ). head (record { class = c.in-Ok.command.class; instance = or_nothing c.in-Ok.command.instance; syntax = c.in-Some.accepted.syntax; calling = record { 0 = xs } })) peer.caller)
       (c.begin_store-self.ensures.begins (sym c.with_data.ensures ∙ c.if-not-with_data.false));
 }

@@ -12,21 +12,21 @@ use Rattle.engine.proofs.FieldsShow.KeptInPhases.{refused_pdvs, kept_by, unestab
 use Rattle.engine.proofs.provider.Provider.on_data.Goals as goal
 
 pub returns-then-self-clause-takes : goal.returns-then-self-clause-takes
-returns-then-self-clause-takes g c = λ line p begun six h.
+returns-then-self-clause-takes g c = λ line p started six h.
     let k = kept_of c.args.self.now in
-    let dropped = sym (takes_shown k _ p [] begun h) ∙ refused_pdvs k c.if-self.true in
-    appends_none (rooms_of g.row.A g.row.C g.row.V g.row.D) (settings_in c.args.self.now) p k (begun ++ c.args.part.now) _ (pends_dropped k _ p [] begun (begun ++ c.args.part.now) dropped h)
+    let dropped = sym (takes_shown k _ p [] started h) ∙ refused_pdvs k c.if-self.true in
+    appends_none (rooms_of g.row.A g.row.C g.row.V g.row.D) (settings_in c.args.self.now) p k (started ++ c.args.part.now) _ (pends_dropped k _ p [] started (started ++ c.args.part.now) dropped h)
 
 pub returns-in-Established-clause-drafts : goal.returns-in-Established-clause-drafts
-returns-in-Established-clause-drafts g c = rw c.in-Established.is (goes_drafts c.args.part.now (stored_of c.in-Established.message.storing) (stored_of c.take-in-Established.new.self) _ _ c.take-in-Established.ensures.goes_on)
+returns-in-Established-clause-drafts g c = rw c.in-Established.is (goes_drafts c.args.part.now (stored_of c.in-Established.message.storing) (stored_of c.take-in-Established.new.self) _ _ c.take-in-Established.ensures.continues)
 
 pub returns-in-Established-clause-takes : goal.returns-in-Established-clause-takes
-returns-in-Established-clause-takes g c = rw c.in-Established.is (λ line p begun six h.
+returns-in-Established-clause-takes g c = rw c.in-Established.is (λ line p started six h.
     let k = kept_by c.args.self.now c.in-Established.peer c.in-Established.message in
-    let taken = sym (takes_shown k _ p [] begun h) ∙ ap not c.if-self.false in
-    let was : ShowsMessage g.row.C k.join p.message begun = subst (λ (xs : List ℕ). ShowsMessage g.row.C k.join p.message xs) (counted_taken p begun taken) h.join_is in
-    does_append (rooms_of g.row.A g.row.C g.row.V g.row.D) (settings_in c.args.self.now) p begun c.args.part.now k c.take.new.self (stored_of c.take-in-Established.new.self) _ _ _ h taken six
-    (c.take.ensures.shows p.message begun was) c.take-in-Established.ensures.goes_on)
+    let taken = sym (takes_shown k _ p [] started h) ∙ ap not c.if-self.false in
+    let was : ShowsMessage g.row.C k.join p.message started = subst (λ (xs : List ℕ). ShowsMessage g.row.C k.join p.message xs) (counted_taken p started taken) h.join_is in
+    does_append (rooms_of g.row.A g.row.C g.row.V g.row.D) (settings_in c.args.self.now) p started c.args.part.now k c.take.new.self (stored_of c.take-in-Established.new.self) _ _ _ h taken six
+    (c.take.ensures.shows p.message started was) c.take-in-Established.ensures.continues)
 
 pub returns-in_default : goal.returns-in_default
 returns-in_default g c =
@@ -36,7 +36,7 @@ returns-in_default g c =
       settings = refl;
       drafts = same_drafts _ _ c.requires.draft;
       fits = λ m h there taken. let few = h there taken in omega (arith, few);
-      takes = λ line p begun six h.
-          let dropped = sym (takes_shown k _ p [] begun h) ∙ ap (λ (t : Bool). t && not k.refused) none in
-          appends_none (rooms_of g.row.A g.row.C g.row.V g.row.D) (settings_in c.args.self.now) p k (begun ++ c.args.part.now) _ (pends_dropped k _ p [] begun (begun ++ c.args.part.now) dropped h);
+      takes = λ line p started six h.
+          let dropped = sym (takes_shown k _ p [] started h) ∙ ap (λ (t : Bool). t && not k.refused) none in
+          appends_none (rooms_of g.row.A g.row.C g.row.V g.row.D) (settings_in c.args.self.now) p k (started ++ c.args.part.now) _ (pends_dropped k _ p [] started (started ++ c.args.part.now) dropped h);
     }

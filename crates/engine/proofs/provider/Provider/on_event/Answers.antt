@@ -9,7 +9,7 @@ use Rattle.engine.specs.Run.{rooms_of}
 use Rattle.engine.proofs.FieldsShow.AfterAnEvent.{body_fits_then, fragment_fits_then}
 use Rattle.engine.proofs.MarksAreDone.WholePdu.{does_request}
 use Rattle.engine.proofs.FieldsShow.ReactionIsPerformed.{does_judged}
-use Rattle.engine.proofs.FieldsShow.TriedIsDone.{at_bad, at_leftover, left_after}
+use Rattle.engine.proofs.FieldsShow.TriedIsDone.{at_bad, at_leftover, remaining_after}
 use Rattle.engine.proofs.provider.Provider.on_event.Goals as goal
 
 pub returns-in-PduHead-clause-room : goal.returns-in-PduHead-clause-room
@@ -22,13 +22,13 @@ pub returns-in-PdvHead-clause-room : goal.returns-in-PdvHead-clause-room
 returns-in-PdvHead-clause-room g c = rw c.in-PdvHead.is (fragment_fits_then _ _ c.perform-in-PdvHead.ensures.same _ c.on_pdv_head-due.ensures.fits)
 
 pub returns-in-PdvHead-clause-takes : goal.returns-in-PdvHead-clause-takes
-returns-in-PdvHead-clause-takes g c = rw c.in-PdvHead.is (λ p begun six head h. does_judged _ _ p _ _ _ _ _ _ _ _ tt (c.on_pdv_head-due.ensures.due _ p begun six head h) c.perform-in-PdvHead.ensures.tries)
+returns-in-PdvHead-clause-takes g c = rw c.in-PdvHead.is (λ p started six head h. does_judged _ _ p _ _ _ _ _ _ _ _ tt (c.on_pdv_head-due.ensures.due _ p started six head h) c.perform-in-PdvHead.ensures.tries)
 
 pub returns-in-Body-clause-takes : goal.returns-in-Body-clause-takes
 returns-in-Body-clause-takes g c = rw c.in-Body.is (refl, λ p body h. c.on_body.ensures.pends _ p body h)
 
 pub returns-in-Fragment-clause-takes : goal.returns-in-Fragment-clause-takes
-returns-in-Fragment-clause-takes g c = rw c.in-Fragment.is (λ p begun six h. c.on_data.ensures.takes _ p begun six h)
+returns-in-Fragment-clause-takes g c = rw c.in-Fragment.is (λ p started six h. c.on_data.ensures.takes _ p started six h)
 
 pub returns-in-BadPdv-clause-takes : goal.returns-in-BadPdv-clause-takes
 returns-in-BadPdv-clause-takes g c = rw c.in-BadPdv.is (λ p h.
@@ -38,8 +38,8 @@ returns-in-BadPdv-clause-takes g c = rw c.in-BadPdv.is (λ p h.
 pub returns-in-Leftover-clause-takes : goal.returns-in-Leftover-clause-takes
 returns-in-Leftover-clause-takes g c = rw c.in-Leftover.is (λ p h.
     let x = c.on_invalid-due-in-Leftover.ensures.due _ p h in
-    let told = ap (λ (v : ValueEnd). if takes_pdvs p then invalid (deciding (decision.BytesLeft v) p) else nothing p) (sym c.value_end.ensures) in
-    does_judged _ _ p _ _ _ _ _ _ _ _ tt (record { shown = x.shown; pends = x.pends; gives = at_leftover (rooms_of g.row.A g.row.C g.row.V g.row.D) (settings_in c.args.self.now) p ∙ left_after p c.args.self.now.decided h.decided_is ∙ told ∙ x.gives }) c.perform-in-Leftover.ensures.tries)
+    let reported = ap (λ (v : ValueEnd). if takes_pdvs p then invalid (deciding (decision.BytesRemaining v) p) else nothing p) (sym c.value_end.ensures) in
+    does_judged _ _ p _ _ _ _ _ _ _ _ tt (record { shown = x.shown; pends = x.pends; gives = at_leftover (rooms_of g.row.A g.row.C g.row.V g.row.D) (settings_in c.args.self.now) p ∙ remaining_after p c.args.self.now.decided h.decided_is ∙ reported ∙ x.gives }) c.perform-in-Leftover.ensures.tries)
 
 pub returns-then-takes_body-clause-takes : goal.returns-then-takes_body-clause-takes
 returns-then-takes_body-clause-takes g c = rw c.in-PduEnd.is (λ p body h. does_request _ _ p _ body _ _ _ _ (sym c.takes_body.ensures ∙ c.if-takes_body.true) h c.on_request.ensures.tries)

@@ -25,8 +25,8 @@ use Rattle.engine.proofs.FieldsShow.ReactionIsPerformed.{leaves_due, leaves_refu
 use Rattle.engine.proofs.provider.Provider.on_head.Goals as goal
 
 -- a PDU begins, and no part of a body has come
-begun_pends : (old new : Kept) (store : Store) (p : Progress) (d : Decision) → is_ended old.state ≡ false → new ≡ with_body [] old → Pends old store p [] [] → Pends (record new { refused = false; decided = d }) store (headed p d) [] []
-begun_pends old new store p d live e h =
+started_pends : (old new : Kept) (store : Store) (p : Progress) (d : Decision) → is_ended old.state ≡ false → new ≡ with_body [] old → Pends old store p [] [] → Pends (record new { refused = false; decided = d }) store (headed p d) [] []
+started_pends old new store p d live e h =
     subst (λ (x : Decision). Pends (record new { refused = false; decided = d }) store (record p { refused = false; decided = x }) [] []) (sym (decided_there p.state p.decided d (ap is_ended (sym h.state_is) ∙ live)))
     (pends_decided d _ store _ [] [] (subst (λ (k : Kept). Pends (record k { refused = false }) store (record p { refused = false }) [] []) (sym e) (pends_begins old store p h)))
 
@@ -38,19 +38,19 @@ pub returns-in-Nothing-clause-due : goal.returns-in-Nothing-clause-due
 returns-in-Nothing-clause-due g c = λ store p h.
     leaves_due (headed p decision.Nothing) _ _ _ store _ _ (head_nothing (rooms_of g.row.A g.row.C g.row.V g.row.D) (settings_in c.args.self.now) p c.args.kind c.args.length
     (ap (λ (st : State). head_event (g.row.A - 12) (settings_in c.args.self.now).max_pdu st c.args.kind c.args.length) (sym h.state_is ∙ sym c.state-state.ensures) ∙ sym c.head_event-event.ensures.brings ∙ ap brings c.in-Nothing.is))
-    (begun_pends _ _ store p _ (unended c.args.self.now.phase c.in_default.not-Ended) c.clear_body.ensures.kept h)
+    (started_pends _ _ store p _ (unended c.args.self.now.phase c.in_default.not-Ended) c.clear_body.ensures.kept h)
 
 pub returns-in-AtOnce-clause-due : goal.returns-in-AtOnce-clause-due
 returns-in-AtOnce-clause-due g c = λ store p h.
     leaves_refused (headed p (decision.PduRefused (record { kind = c.args.kind; length = c.args.length }))) _ (answering.Abort c.in-AtOnce.reason) c.in-AtOnce.event (record (kept_of c.clear_body.new.self) { refused = false; decided = decision.PduRefused (record { kind = c.args.kind; length = c.args.length }) }) store _ _ (head_at_once (rooms_of g.row.A g.row.C g.row.V g.row.D) (settings_in c.args.self.now) p c.args.kind c.args.length c.in-AtOnce.event c.in-AtOnce.reason
     (ap (λ (st : State). head_event (g.row.A - 12) (settings_in c.args.self.now).max_pdu st c.args.kind c.args.length) (sym h.state_is ∙ sym c.state-state.ensures) ∙ sym c.head_event-event.ensures.brings ∙ ap brings c.in-AtOnce.is))
-    (begun_pends _ _ store p _ (unended c.args.self.now.phase c.in_default.not-Ended) c.clear_body.ensures.kept h)
+    (started_pends _ _ store p _ (unended c.args.self.now.phase c.in_default.not-Ended) c.clear_body.ensures.kept h)
 
 pub returns-in-TooLong-clause-due : goal.returns-in-TooLong-clause-due
 returns-in-TooLong-clause-due g c = λ store p h.
     leaves_refused (headed p (decision.RequestTooLong c.args.length)) _ answering.TooLong event.UnacceptableRq (record (kept_of c.clear_body.new.self) { refused = false; decided = decision.RequestTooLong c.args.length }) store _ _ (head_rejected (rooms_of g.row.A g.row.C g.row.V g.row.D) (settings_in c.args.self.now) p c.args.kind c.args.length
     (ap (λ (st : State). head_event (g.row.A - 12) (settings_in c.args.self.now).max_pdu st c.args.kind c.args.length) (sym h.state_is ∙ sym c.state-state.ensures) ∙ sym c.head_event-event.ensures.brings ∙ ap brings c.in-TooLong.is))
-    (begun_pends _ _ store p _ (unended c.args.self.now.phase c.in_default.not-Ended) c.clear_body.ensures.kept h)
+    (started_pends _ _ store p _ (unended c.args.self.now.phase c.in_default.not-Ended) c.clear_body.ensures.kept h)
 
 pub returns-in-AtOnce-clause-stays : goal.returns-in-AtOnce-clause-stays
 returns-in-AtOnce-clause-stays g c =

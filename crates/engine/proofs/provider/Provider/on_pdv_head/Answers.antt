@@ -1,4 +1,4 @@
--- By the context, and by whether the PDV goes on with the message.
+-- By the context, and by whether the PDV continues with the message.
 use Rattle.std.proofs.Common.{◌≡◌, ◌∙◌, ◌&&◌, Bool, not, ap, sym, subst, refl, [], get_or, None, Some}
 use Rattle.acceptor.specs.declared.event.Event.TheVariants as event
 use Rattle.pdu.specs.declared.head.PdvHead.{PdvHead}
@@ -25,11 +25,11 @@ use Rattle.engine.proofs.FieldsShow.KeptInPhases.{refused_pdvs, kept_by, unestab
 use Rattle.engine.proofs.provider.Provider.on_pdv_head.Goals as goal
 
 pub returns-then-self-clause-due : goal.returns-then-self-clause-due
-returns-then-self-clause-due g c = λ store p begun six head h.
+returns-then-self-clause-due g c = λ store p started six head h.
     let rooms = rooms_of g.row.A g.row.C g.row.V g.row.D in
     let k = kept_of c.args.self.now in
     let dropped = sym (takes_shown k _ p [] [] h) ∙ refused_pdvs k c.if-self.true in
-    leaves_due p _ _ k store _ _ (head_dropped rooms (settings_in c.args.self.now) p _ _ _ dropped) (pends_dropped k _ p [] [] begun dropped h)
+    leaves_due p _ _ k store _ _ (head_dropped rooms (settings_in c.args.self.now) p _ _ _ dropped) (pends_dropped k _ p [] [] started dropped h)
 
 pub returns-in_default : goal.returns-in_default
 returns-in_default g c =
@@ -40,58 +40,58 @@ returns-in_default g c =
       storing = refl;
       stays = tt;
       fits = λ six kept. not_taking k (ap (λ (t : Bool). t && not k.refused) none) six kept;
-      due = λ store p begun six head h.
+      due = λ store p started six head h.
           let rooms = rooms_of g.row.A g.row.C g.row.V g.row.D in
           let dropped = sym (takes_shown k _ p [] [] h) ∙ ap (λ (t : Bool). t && not k.refused) none in
-          leaves_due p _ _ k store _ _ (head_dropped rooms (settings_in c.args.self.now) p _ _ _ dropped) (pends_dropped k _ p [] [] begun dropped h);
+          leaves_due p _ _ k store _ _ (head_dropped rooms (settings_in c.args.self.now) p _ _ _ dropped) (pends_dropped k _ p [] [] started dropped h);
     }
 
 pub returns-in_default-context-clause-due : goal.returns-in_default-context-clause-due
-returns-in_default-context-clause-due g c = rw c.in-Established.is (λ store p begun six head h.
+returns-in_default-context-clause-due g c = rw c.in-Established.is (λ store p started six head h.
     let rooms = rooms_of g.row.A g.row.C g.row.V g.row.D in
     let k = kept_by c.args.self.now c.in-Established.peer c.in-Established.message in
     let taken = sym (takes_shown k _ p [] [] h) ∙ ap not c.if-self.false in
-    let id : c.args.head.context ≡ get_or begun 4 0 = ap (λ (x : PdvHead). x.context) head in
-    let none : context_of (request_record p.request) (get_or begun 4 0) ≡ None =
-    sym (context_shown k _ p [] [] (get_or begun 4 0) h taken) ∙ ap (context_in k.additional k.table) (sym id) ∙ sym c.context.ensures ∙ c.in_default-context.is in
+    let id : c.args.head.context ≡ get_or started 4 0 = ap (λ (x : PdvHead). x.context) head in
+    let none : context_of (request_record p.request) (get_or started 4 0) ≡ None =
+    sym (context_shown k _ p [] [] (get_or started 4 0) h taken) ∙ ap (context_in k.additional k.table) (sym id) ∙ sym c.context.ensures ∙ c.in_default-context.is in
     let d = decision.ContextRefused c.args.head in
     leaves_refused (deciding d p) _ (answering.Abort 6) event.Invalid (record k { decided = d }) store _ _
-    (head_taken rooms (settings_in c.args.self.now) p _ _ _ taken ∙ head_unaccepted g.row.C p _ (get_or begun 4 0) _ none ∙ ap (λ (x : PdvHead). invalid (deciding (decision.ContextRefused x) p)) (sym head)) (pends_decided d k store p [] [] h))
+    (head_taken rooms (settings_in c.args.self.now) p _ _ _ taken ∙ head_unaccepted g.row.C p _ (get_or started 4 0) _ none ∙ ap (λ (x : PdvHead). invalid (deciding (decision.ContextRefused x) p)) (sym head)) (pends_decided d k store p [] [] h))
 
 pub returns-in-Err-clause-due : goal.returns-in-Err-clause-due
-returns-in-Err-clause-due g c = rw c.in-Established.is (λ store p begun six head h.
+returns-in-Err-clause-due g c = rw c.in-Established.is (λ store p started six head h.
     let rooms = rooms_of g.row.A g.row.C g.row.V g.row.D in
     let k = kept_by c.args.self.now c.in-Established.peer c.in-Established.message in
     let taken = sym (takes_shown k _ p [] [] h) ∙ ap not c.if-self.false in
-    let id : c.args.head.context ≡ get_or begun 4 0 = ap (λ (x : PdvHead). x.context) head in
-    let some : context_of (request_record p.request) (get_or begun 4 0) ≡ Some c.in-Some.field-0 =
-    sym (context_shown k _ p [] [] (get_or begun 4 0) h taken) ∙ ap (context_in k.additional k.table) (sym id) ∙ sym c.context.ensures ∙ c.in-Some.is in
+    let id : c.args.head.context ≡ get_or started 4 0 = ap (λ (x : PdvHead). x.context) head in
+    let some : context_of (request_record p.request) (get_or started 4 0) ≡ Some c.in-Some.field-0 =
+    sym (context_shown k _ p [] [] (get_or started 4 0) h taken) ∙ ap (context_in k.additional k.table) (sym id) ∙ sym c.context.ensures ∙ c.in-Some.is in
     let message = join_between k _ p [] h in
-    let wrong : head_refusal g.row.C p.message (pdv_head_of begun) ≡ Some c.in-Err.fault =
+    let wrong : head_refusal g.row.C p.message (pdv_head_of started) ≡ Some c.in-Err.fault =
     ap (head_refusal g.row.C p.message) (sym head) ∙ judged_some (head_refusal g.row.C p.message c.args.head) c.in-Err.fault (sym (c.head.ensures.judged p.message message) ∙ c.in-Err.is) in
     let pends : Pends (with_join c.head.new.self k) store p [] [] = subst (λ (j : Joining). Pends (with_join j k) store p [] []) (sym c.in-Err.ensures.refused) h in
     let d = decision.FragmentRefused c.args.head c.in-Err.fault in
     leaves_refused (deciding d p) _ answering.Nothing event.UserAborts (record (with_join c.head.new.self k) { decided = d }) store _ _
-    (head_taken rooms (settings_in c.args.self.now) p _ _ _ taken ∙ head_accepted g.row.C p _ (get_or begun 4 0) _ c.in-Some.field-0 (Some c.in-Err.fault) some wrong
+    (head_taken rooms (settings_in c.args.self.now) p _ _ _ taken ∙ head_accepted g.row.C p _ (get_or started 4 0) _ c.in-Some.field-0 (Some c.in-Err.fault) some wrong
     ∙ ap (λ (x : PdvHead). user_aborts (deciding (decision.FragmentRefused x c.in-Err.fault) p)) (sym head)) (pends_decided d (with_join c.head.new.self k) store p [] [] pends))
 
 pub returns-in-Ok-clause-due : goal.returns-in-Ok-clause-due
-returns-in-Ok-clause-due g c = rw c.in-Established.is (λ store p begun six head h.
+returns-in-Ok-clause-due g c = rw c.in-Established.is (λ store p started six head h.
     let rooms = rooms_of g.row.A g.row.C g.row.V g.row.D in
     let k = kept_by c.args.self.now c.in-Established.peer c.in-Established.message in
     let taken = sym (takes_shown k _ p [] [] h) ∙ ap not c.if-self.false in
-    let id : c.args.head.context ≡ get_or begun 4 0 = ap (λ (x : PdvHead). x.context) head in
-    let some : context_of (request_record p.request) (get_or begun 4 0) ≡ Some c.in-Some.field-0 =
-    sym (context_shown k _ p [] [] (get_or begun 4 0) h taken) ∙ ap (context_in k.additional k.table) (sym id) ∙ sym c.context.ensures ∙ c.in-Some.is in
+    let id : c.args.head.context ≡ get_or started 4 0 = ap (λ (x : PdvHead). x.context) head in
+    let some : context_of (request_record p.request) (get_or started 4 0) ≡ Some c.in-Some.field-0 =
+    sym (context_shown k _ p [] [] (get_or started 4 0) h taken) ∙ ap (context_in k.additional k.table) (sym id) ∙ sym c.context.ensures ∙ c.in-Some.is in
     let message = join_between k _ p [] h in
-    let fine : head_refusal g.row.C p.message (pdv_head_of begun) ≡ None =
+    let fine : head_refusal g.row.C p.message (pdv_head_of started) ≡ None =
     ap (head_refusal g.row.C p.message) (sym head) ∙ judged_none (head_refusal g.row.C p.message c.args.head) c.in-Ok.field-0 (sym (c.head.ensures.judged p.message message) ∙ c.in-Ok.is) in
-    let shows : ShowsMessage g.row.C c.head.new.self p.message begun = c.in-Ok.ensures.begun p.message begun message six head in
+    let shows : ShowsMessage g.row.C c.head.new.self p.message started = c.in-Ok.ensures.started p.message started message six head in
     let j = c.head.new.self in
     let d = decision.Fragment c.args.head in
     leaves_due (deciding d p) _ _ (record (with_join j k) { decided = d }) store _ _
-    (head_taken rooms (settings_in c.args.self.now) p _ _ _ taken ∙ head_accepted g.row.C p _ (get_or begun 4 0) _ c.in-Some.field-0 None some fine ∙ ap (λ (x : PdvHead). nothing (deciding (decision.Fragment x) p)) (sym head))
-    (pends_decided d (with_join j k) store p [] begun (pends_headed k _ p j begun six taken h shows)))
+    (head_taken rooms (settings_in c.args.self.now) p _ _ _ taken ∙ head_accepted g.row.C p _ (get_or started 4 0) _ c.in-Some.field-0 None some fine ∙ ap (λ (x : PdvHead). nothing (deciding (decision.Fragment x) p)) (sym head))
+    (pends_decided d (with_join j k) store p [] started (pends_headed k _ p j started six taken h shows)))
 
 pub returns-in_default-context-clause-stays : goal.returns-in_default-context-clause-stays
 returns-in_default-context-clause-stays g c = stays_invalid _

@@ -2,7 +2,7 @@ use Rattle.std.proofs.Common.{length, map, refl, arith, subst, sym}
 use Rattle.std.proofs.Math.Logic.{∥∥₁_map}
 use Rattle.folder_filing.specs.Naming.{IsOrderly, standing}
 use Rattle.folder_filing.specs.Settling.{AreReported, IsNamedLast}
-use Rattle.folder_filing.proofs.NamesStayOrderly.{goes_on, keeps_same}
+use Rattle.folder_filing.proofs.NamesStayOrderly.{continues, keeps_same}
 use Rattle.folder_filing.proofs.WaitingFileIsNewest.{same_last}
 use Rattle.folder_filing.proofs.folder_filing.FolderFiling.begin_draft.Goals as goal
 
@@ -12,7 +12,7 @@ invariant_of-self g c =
     let was = subst (λ z. ∥ IsOrderly z.names ∥₁) (sym c.self-inside-2.view_is) c.self-2.invariant.0 in
     let last = subst (λ z. ∥ IsNamedLast z.pending (standing z.names.calls) ∥₁) (sym c.self-inside-2.view_is) c.self-2.invariant.1 in
     let counted = subst (λ z. AreReported (length (map (λ t. t.bytes) z.kept)) z.pending z.names) (sym c.self-inside-2.view_is) c.self-2.invariant.2 in
-    (∥∥₁_map was (goes_on _ _ refl (omega arith) (keeps_same _) asked.standing (asked.loses _ _)), same_last _ _ _ asked.standing last, counted)
+    (∥∥₁_map was (continues _ _ refl (omega arith) (keeps_same _) asked.standing (asked.loses _ _)), same_last _ _ _ asked.standing last, counted)
 
 pub invariant_of-self-2 : goal.invariant_of-self-2
 invariant_of-self-2 g c =
@@ -20,4 +20,4 @@ invariant_of-self-2 g c =
     let was = subst (λ z. ∥ IsOrderly z.names ∥₁) (sym c.self-inside-2.view_is) c.self-2.invariant.0 in
     let last = subst (λ z. ∥ IsNamedLast z.pending (standing z.names.calls) ∥₁) (sym c.self-inside-2.view_is) c.self-2.invariant.1 in
     let counted = subst (λ z. AreReported (length (map (λ t. t.bytes) z.kept)) z.pending z.names) (sym c.self-inside-2.view_is) c.self-2.invariant.2 in
-    (∥∥₁_map was (goes_on _ _ refl (omega arith) (keeps_same _) (rw created refl) (λ h. rw created (refl, h))), same_last _ _ _ (rw created refl) last, counted)
+    (∥∥₁_map was (continues _ _ refl (omega arith) (keeps_same _) (rw created refl) (λ h. rw created (refl, h))), same_last _ _ _ (rw created refl) last, counted)

@@ -3,7 +3,7 @@ use Rattle.std.proofs.Math.Logic.{∥∥₁_map}
 use Rattle.folder_filing.specs.Naming.{IsNameSynced, IsNewest, IsOrderly, standing}
 use Rattle.folder_filing.specs.declared.pending.Pending.TheVariants.{Settled}
 use Rattle.folder_filing.specs.Settling.{AreReported}
-use Rattle.folder_filing.proofs.NamesStayOrderly.{goes_on, keeps_same}
+use Rattle.folder_filing.proofs.NamesStayOrderly.{continues, keeps_same}
 use Rattle.folder_filing.proofs.ReportsAreDurable.{waits_as}
 use Rattle.folder_filing.proofs.WaitingFileIsNewest.{in_its_folder, is_newest, one_reported}
 use Rattle.folder_filing.proofs.folder_filing.FolderFiling.report.Goals as goal
@@ -20,7 +20,7 @@ invariant_of-self g c =
     let named = ap (λ z. z.pending) c.self-inside.view_is ∙ ap (λ z. z.pending) c.self.view_is ∙ c.requires.named in
     let counted = subst (λ z. AreReported (length (map (λ t. t.bytes) z.kept)) z.pending z.names) (sym c.self-inside.view_is) c.self.invariant.2 in
     let has = c.has_synced-has.ensures.has c.if-has.true in
-    let orderly = c.report.ensures.orderly (∥∥₁_map was (goes_on _ _ refl (omega arith) (keeps_same _) (rw has refl) (λ h. rw has h))) in
+    let orderly = c.report.ensures.orderly (∥∥₁_map was (continues _ _ refl (omega arith) (keeps_same _) (rw has refl) (λ h. rw has h))) in
     (orderly, ∣ tt ∣₁, one_reported _ _ c.args.place _ _ named counted (ap (λ z. z.own.reported) c.report.ensures.reported))
 
 pub returns-then-has-clause-on_disk : goal.returns-then-has-clause-on_disk
@@ -29,5 +29,5 @@ returns-then-has-clause-on_disk g c =
     let named = ap (λ z. z.pending) c.self-inside.view_is ∙ ap (λ z. z.pending) c.self.view_is ∙ c.requires.named in
     let counted = subst (λ z. AreReported (length (map (λ t. t.bytes) z.kept)) z.pending z.names) (sym c.self-inside.view_is) c.self.invariant.2 in
     let has = c.has_synced-has.ensures.has c.if-has.true in
-    let orderly = c.report.ensures.orderly (∥∥₁_map was (goes_on _ _ refl (omega arith) (keeps_same _) (rw has refl) (λ h. rw has h))) in
+    let orderly = c.report.ensures.orderly (∥∥₁_map was (continues _ _ refl (omega arith) (keeps_same _) (rw has refl) (λ h. rw has h))) in
     λ _. waits_as _ Settled _ orderly (one_reported _ _ c.args.place _ _ named counted (ap (λ z. z.own.reported) c.report.ensures.reported))

@@ -2,7 +2,7 @@ use Rattle.std.proofs.Common.{length, map, refl, arith, subst, sym}
 use Rattle.std.proofs.Math.Logic.{∥∥₁_map}
 use Rattle.folder_filing.specs.Naming.{IsOrderly, standing}
 use Rattle.folder_filing.specs.Settling.{AreReported, IsNamedLast}
-use Rattle.folder_filing.proofs.NamesStayOrderly.{goes_on, keeps_same, passed_on}
+use Rattle.folder_filing.proofs.NamesStayOrderly.{continues, keeps_same, passed_on}
 use Rattle.folder_filing.proofs.WaitingFileIsNewest.{same_last}
 use Rattle.folder_filing.proofs.folder_filing.FolderFilingFiling.append.Goals as goal
 use Rattle.folder_filing.proofs.folder_filing.FolderFilingFiling.append.Goals.{in-Some, in-None}
@@ -15,6 +15,6 @@ invariant_of-self g c =
     elim c.match-self.branch [
       | in-Some w ↦
           let asked = passed_on _ _ _ w.write_all-written.ensures.taken w.write_all-written.ensures.refused in
-          rw w.self-inside-is (∥∥₁_map was (goes_on _ _ refl (omega arith) (keeps_same _) asked.0 (asked.1 _ _)), same_last _ _ _ asked.0 last, counted)
+          rw w.self-inside-is (∥∥₁_map was (continues _ _ refl (omega arith) (keeps_same _) asked.0 (asked.1 _ _)), same_last _ _ _ asked.0 last, counted)
       | in-None w ↦ rw w.self-inside-is (was, last, counted)
     ]

@@ -1,7 +1,7 @@
 use Rattle.std.proofs.Common.{◌∙◌, refl, arith, subst, sym}
 use Rattle.std.proofs.Math.Logic.{∥∥₁_elim, ∥∥₁_map, ∥∥₁_prop}
 use Rattle.folder_filing.specs.Naming.{IsNewest, IsOrderly, standing}
-use Rattle.folder_filing.proofs.NamesStayOrderly.{goes_on, keeps_same}
+use Rattle.folder_filing.proofs.NamesStayOrderly.{continues, keeps_same}
 use Rattle.folder_filing.proofs.WaitingFileIsNewest.{takes_back_or_fails}
 use Rattle.folder_filing.proofs.locked_folder.LockedFolder.remove_at.Goals as goal
 
@@ -9,14 +9,14 @@ pub returns-in_err-check_path-clause-orderly : goal.returns-in_err-check_path-cl
 returns-in_err-check_path-clause-orderly g c = λ h.
     let was = subst (λ z. ∥ IsOrderly z ∥₁) (sym c.names.view_is) h in
     let asked = c.in_err-check_path.ensures.refused in
-    ∥∥₁_map was (goes_on _ _ refl (omega arith) (keeps_same _) asked.standing (asked.loses _ _))
+    ∥∥₁_map was (continues _ _ refl (omega arith) (keeps_same _) asked.standing (asked.loses _ _))
 
 pub returns-in_err-path-clause-orderly : goal.returns-in_err-path-clause-orderly
 returns-in_err-path-clause-orderly g c = λ h.
     let was = subst (λ z. ∥ IsOrderly z ∥₁) (sym c.names.view_is) h in
     let taken = c.in_ok-check_path.ensures.taken in
     let refused = c.in_err-path.ensures.refused in
-    ∥∥₁_map was (goes_on _ _ refl (omega arith) (keeps_same _) (rw (refused, taken) refl) (λ l. rw (refused, taken) l))
+    ∥∥₁_map was (continues _ _ refl (omega arith) (keeps_same _) (rw (refused, taken) refl) (λ l. rw (refused, taken) l))
 
 pub returns-clause-orderly : goal.returns-clause-orderly
 returns-clause-orderly g c = λ h.

@@ -1,5 +1,5 @@
 -- What could not be opened is not read, and what was read and failed is not counted.
-use Rattle.keyed_files.proofs.VisitsGoOn.{fails_handled, fails_nothing}
+use Rattle.keyed_files.proofs.VisitsContinue.{fails_handled, fails_nothing}
 use Rattle.keyed_files.proofs.visiting.Visitor.take.Goals as goal
 
 pub returns-in_err-read-clause-fails : goal.returns-in_err-read-clause-fails

@@ -1,6 +1,6 @@
 -- What is no file, or a draft, changes nothing.
 use Rattle.std.proofs.Common.{refl}
-use Rattle.keyed_files.proofs.VisitsGoOn.{fails_nothing, fails_same, visited_file, visited_same}
+use Rattle.keyed_files.proofs.VisitsContinue.{fails_nothing, fails_same, visited_file, visited_same}
 use Rattle.keyed_files.proofs.visiting.Visitor.visit.Goals as goal
 
 pub returns-in_err-from_str-in-Ok-clause-fails : goal.returns-in_err-from_str-in-Ok-clause-fails
@@ -19,7 +19,7 @@ pub returns-in-Ok-3-clause-visited : goal.returns-in-Ok-3-clause-visited
 returns-in-Ok-3-clause-visited g c = visited_file g.T.Taking.took _ _ _ _ c.args.path.now c.take.result c.take.ensures.done
 
 pub returns-in-Ok-4-clause-visited : goal.returns-in-Ok-4-clause-visited
-returns-in-Ok-4-clause-visited g c = visited_same g.T.Taking.took c.tell.ensures.same
+returns-in-Ok-4-clause-visited g c = visited_same g.T.Taking.took c.report.ensures.same
 
 pub returns-in-Err-clause-fails : goal.returns-in-Err-clause-fails
 returns-in-Err-clause-fails g c = fails_same g.T.Taking.took refl

@@ -1,7 +1,7 @@
 -- The names so far and those that are read next are one visit.
 use Rattle.std.proofs.Common.{refl}
 use Rattle.keyed_files.specs.Visiting.{none, unopened}
-use Rattle.keyed_files.proofs.VisitsGoOn.{stops_after, stops_at, stops_still, visited_counted, visited_same, visited_then}
+use Rattle.keyed_files.proofs.VisitsContinue.{stops_after, stops_at, stops_still, visited_counted, visited_same, visited_then}
 use Rattle.keyed_files.proofs.visiting.Visitor.visit_folder.Goals as goal
 
 pub returns-in_err-listing-clause-stops : goal.returns-in_err-listing-clause-stops
@@ -15,10 +15,10 @@ returns-in_err-visit_names-in-Ok-clause-stops g c =
     stops_after g.T.Taking.took c.from_residual-in_err-visit_names-in-Ok.result c.loop.invariant c.in_err-visit_names-in-Ok.ensures.stops refl
 
 pub returns-in-Err-clause-visited : goal.returns-in-Err-clause-visited
-returns-in-Err-clause-visited g c = visited_counted g.T.Taking.took _ c.tell_unread.result c.loop.invariant unopened c.tell_unread.ensures.counted
+returns-in-Err-clause-visited g c = visited_counted g.T.Taking.took _ c.report_unread.result c.loop.invariant unopened c.report_unread.ensures.counted
 
 pub returns-in-Err-clause-stops : goal.returns-in-Err-clause-stops
-returns-in-Err-clause-stops g c = stops_still g.T.Taking.took _ c.tell_unread.result c.loop.invariant unopened c.tell_unread.ensures.same
+returns-in-Err-clause-stops g c = stops_still g.T.Taking.took _ c.report_unread.result c.loop.invariant unopened c.report_unread.ensures.same
 
 pub loop-preserved : goal.loop-preserved
 loop-preserved g c = visited_then g.T.Taking.took c.loop.invariant c.in_ok-visit_names-in-Ok.ensures.visited

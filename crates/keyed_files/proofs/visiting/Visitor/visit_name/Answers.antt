@@ -1,20 +1,20 @@
 -- What fails at a name is counted.
 use Rattle.std.proofs.Common.{refl}
 use Rattle.keyed_files.specs.Visiting.{none, unopened}
-use Rattle.keyed_files.proofs.VisitsGoOn.{fails_nothing, fails_still, visited_counted}
+use Rattle.keyed_files.proofs.VisitsContinue.{fails_nothing, fails_still, visited_counted}
 use Rattle.keyed_files.proofs.visiting.Visitor.visit_name.Goals as goal
 
 pub returns-in_err-path-in-Bytes-clause-fails : goal.returns-in_err-path-in-Bytes-clause-fails
 returns-in_err-path-in-Bytes-clause-fails g c = fails_nothing g.T.Taking.took _ _ _ c.from_residual.result refl
 
 pub returns-in-Bytes-clause-visited : goal.returns-in-Bytes-clause-visited
-returns-in-Bytes-clause-visited g c = visited_counted g.T.Taking.took _ c.tell_unread.result none unopened c.tell_unread.ensures.counted
+returns-in-Bytes-clause-visited g c = visited_counted g.T.Taking.took _ c.report_unread.result none unopened c.report_unread.ensures.counted
 
 pub returns-in-Bytes-clause-fails : goal.returns-in-Bytes-clause-fails
-returns-in-Bytes-clause-fails g c = fails_still g.T.Taking.took _ _ _ _ _ c.tell_unread.result unopened c.tell_unread.ensures.same
+returns-in-Bytes-clause-fails g c = fails_still g.T.Taking.took _ _ _ _ _ c.report_unread.result unopened c.report_unread.ensures.same
 
 pub returns-in_err-path-clause-fails : goal.returns-in_err-path-clause-fails
 returns-in_err-path-clause-fails g c = fails_nothing g.T.Taking.took _ _ _ c.from_residual-in_err-path.result refl
 
 pub returns-clause-visited : goal.returns-clause-visited
-returns-clause-visited g c = visited_counted g.T.Taking.took _ c.tell_unread-in-Err.result none c.in-Err.ensures.fails c.tell_unread-in-Err.ensures.counted
+returns-clause-visited g c = visited_counted g.T.Taking.took _ c.report_unread-in-Err.result none c.in-Err.ensures.fails c.report_unread-in-Err.ensures.counted

@@ -1,6 +1,6 @@
 -- The names so far and the next one are one visit.
 use Rattle.std.proofs.Common.{refl}
-use Rattle.keyed_files.proofs.VisitsGoOn.{stops_at, visited_same, visited_then}
+use Rattle.keyed_files.proofs.VisitsContinue.{stops_at, visited_same, visited_then}
 use Rattle.keyed_files.proofs.visiting.Visitor.visit_names.Goals as goal
 use Rattle.keyed_files.proofs.visiting.Visitor.visit_names.Goals.{in-Some+in_ok-visit_name, in_default}
 

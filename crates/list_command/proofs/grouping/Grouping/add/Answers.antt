@@ -1,7 +1,8 @@
 -- The study at the place of the file's has one file more.
 use Rattle.std.proofs.Common.{◌∷◌, ℕ, List, sym, subst}
 use Rattle.std.specs.Prelude.{IsPermutation}
-use Rattle.list_command.specs.Tree.{files_in, paths_in}
+use Rattle.list_command.specs.Tree.{files_in, listed_in, Listed}
+use Rattle.list_command.specs.Values.{columns_of}
 use Rattle.list_command.proofs.FilesAreKept.{one_more}
 use Rattle.list_command.proofs.grouping.Grouping.add.Goals as goal
 
@@ -11,6 +12,6 @@ returns g c = record {
       (one_more (λ entry. files_in entry.0.items entry.1.series.entries) c.study_of.new.self.studies.entries c.in_ok-place.place c.args.study.now c.index_mut.result.now c.add.new.self (c.args.study.now, c.args.series.now) c.in_ok-place.ensures.at c.index_mut.ensures.value
       (λ key named. subst (λ (study : List ℕ). IsPermutation {X = List ℕ × List ℕ} ((study, c.args.series.now) ∷ files_in key.items c.index_mut.result.now.series.entries) (files_in key.items c.add.new.self.series.entries)) named (c.in_ok-add.ensures.counted key.items)));
   listed = λ are_listed. rw (sym c.in_ok-place.ensures.listed)
-      (one_more (λ entry. paths_in entry.0.items entry.1.series.entries) c.study_of.new.self.studies.entries c.in_ok-place.place c.args.study.now c.index_mut.result.now c.add.new.self (c.args.study.now, (c.args.series.now, c.args.file.path.now)) c.in_ok-place.ensures.at c.index_mut.ensures.value
-      (λ key named. subst (λ (study : List ℕ). IsPermutation {X = List ℕ × (List ℕ × List ℕ)} ((study, (c.args.series.now, c.args.file.path.now)) ∷ paths_in key.items c.index_mut.result.now.series.entries) (paths_in key.items c.add.new.self.series.entries)) named (c.in_ok-add.ensures.listed key.items c.args.file.path.now (c.in_ok-instance.ensures.path are_listed))));
+      (one_more (λ entry. listed_in entry.0.items entry.1.series.entries) c.study_of.new.self.studies.entries c.in_ok-place.place c.args.study.now c.index_mut.result.now c.add.new.self (c.args.study.now, (c.args.series.now, (c.args.file.path.now, columns_of c.args.file.keys.now c.args.self.now.columns.now))) c.in_ok-place.ensures.at c.index_mut.ensures.value
+      (λ key named. subst (λ (study : List ℕ). IsPermutation {X = List ℕ × (List ℕ × Listed)} ((study, (c.args.series.now, (c.args.file.path.now, columns_of c.args.file.keys.now c.args.self.now.columns.now))) ∷ listed_in key.items c.index_mut.result.now.series.entries) (listed_in key.items c.add.new.self.series.entries)) named (c.in_ok-add.ensures.listed key.items (c.args.file.path.now, columns_of c.args.file.keys.now c.args.self.now.columns.now) (c.in_ok-instance.ensures.listed are_listed))));
 }

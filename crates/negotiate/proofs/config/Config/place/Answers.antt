@@ -3,7 +3,7 @@ use Rattle.std.specs.Cmp.Lexicographic.{pointwise}
 use Rattle.std.proofs.Common.{nat_eq}
 use Rattle.negotiate.specs.Contexts.{is_text}
 use Rattle.negotiate.specs.Settings.{settings_of}
-use Rattle.negotiate.proofs.FurtherClassIsFound.{is_here, not_here, none_here, none_left}
+use Rattle.negotiate.proofs.FurtherClassIsFound.{is_here, not_here, none_here, none_remaining}
 use Rattle.negotiate.proofs.config.Config.place.Goals as goal
 
 pub returns-then-eq : goal.returns-then-eq
@@ -22,4 +22,4 @@ loop-place-preserved c =
 
 pub returns : goal.returns
 returns c =
-    sym (c.loop-place.invariant ∙ none_left (is_text c.args.uid.now) c.args.self.now c.loop-place.place c.args.self.now.few_named c.loop-place-test.false)
+    sym (c.loop-place.invariant ∙ none_remaining (is_text c.args.uid.now) c.args.self.now c.loop-place.place c.args.self.now.few_named c.loop-place-test.false)

@@ -1,6 +1,6 @@
 use Rattle.std.proofs.Common.{◌+◌, ◌≤◌, ◌∙◌, ap, arith, get_or, length, slice_set}
 use Rattle.arrayvec.specs.ArrayVec.{array_vec_len}
-use Rattle.sequence.proofs.WantedValues.OneRoom.{fit_left}
+use Rattle.sequence.proofs.WantedValues.OneRoom.{fit_remaining}
 use Rattle.sequence.proofs.WantedValues.MoreBytes.{extended, extend_facts, on_ok}
 use Rattle.sequence.specs.Fields.{stored}
 use Rattle.sequence.proofs.keep.Keep.extend.Given as given
@@ -10,7 +10,7 @@ use Rattle.sequence.proofs.keep.Keep.extend.Goals.{After-try_extend_from_slice-f
 has_room : (g : given.Over) (c : After-try_extend_from_slice-fits g) → array_vec_len c.args.self.now.bytes + length c.args.bytes.now ≤ g.row.V
 has_room g c =
     let k = c.args.self.now in
-    let l = fit_left k.slot k.wanted.list.items k.lengths k.last k.stored in
+    let l = fit_remaining k.slot k.wanted.list.items k.lengths k.last k.stored in
     omega (arith, l, k.fit, k.counted, c.requires.room)
 
 pub overflow_cast-self : goal.overflow_cast-self
@@ -49,7 +49,7 @@ invariant_of-self g c =
     let e = c.try_extend_from_slice-fits.ensures in
     let f = extend_facts (length c.args.bytes.now) k.slot k.wanted.list.items k.lengths k.last c.requires.some c.requires.room k.latest k.stored (omega (arith, k.fit, k.greatest)) in
     let len = on_ok c.try_extend_from_slice-fits.result (e.variant.1 (has_room g c)) e.len in
-    let l = fit_left k.slot k.wanted.list.items k.lengths k.last k.stored in
+    let l = fit_remaining k.slot k.wanted.list.items k.lengths k.last k.stored in
     record { greatest = k.greatest; fit = k.fit; short = omega (arith, l, k.fit, k.counted, c.requires.room, len); stored = f.fit; counted = f.size ∙ omega (arith, k.counted, len); latest = f.latest }
 
 pub returns-clause-values : goal.returns-clause-values
@@ -60,8 +60,8 @@ returns-clause-values g c =
     ap (λ z. stored k.wanted.list.items (slice_set k.lengths k.slot (get_or k.lengths k.slot 0 + length c.args.bytes.now)) z) items
     ∙ extended c.args.bytes.now k.slot k.wanted.list.items k.lengths k.bytes.items k.last c.requires.room k.latest k.stored k.counted (omega (arith, k.fit, k.greatest))
 
-pub returns-clause-left : goal.returns-clause-left
-returns-clause-left g c =
+pub returns-clause-remaining : goal.returns-clause-remaining
+returns-clause-remaining g c =
     let k = c.args.self.now in
     let f = extend_facts (length c.args.bytes.now) k.slot k.wanted.list.items k.lengths k.last c.requires.some c.requires.room k.latest k.stored (omega (arith, k.fit, k.greatest)) in
-    f.left
+    f.remaining

@@ -14,18 +14,18 @@ returns-in-Stopped-clause-exactly g c b h whole = absurd (whole_has_no_fault _ _
 
 pub returns-in-Value-clause-fails : goal.returns-in-Value-clause-fails
 returns-in-Value-clause-fails g c b h =
-    subst (Fails (walker_syntax c.args.self.now) (limits_of c.args.self.now) b) (sym c.new.ensures) (reading_fails c.args.self.now b (walks c.args.self.now b h) c.in-Value.tag c.in-Value.left c.in-Value.kept c.in-Value.is)
+    subst (Fails (walker_syntax c.args.self.now) (limits_of c.args.self.now) b) (sym c.new.ensures) (reading_fails c.args.self.now b (walks c.args.self.now b h) c.in-Value.tag c.in-Value.remaining c.in-Value.kept c.in-Value.is)
 
 pub returns-in-Value-clause-exactly : goal.returns-in-Value-clause-exactly
-returns-in-Value-clause-exactly g c b h whole = absurd (whole_has_no_fault _ _ b _ whole (subst (Fails (walker_syntax c.args.self.now) (limits_of c.args.self.now) b) (sym c.new.ensures) (reading_fails c.args.self.now b (walks c.args.self.now b h) c.in-Value.tag c.in-Value.left c.in-Value.kept c.in-Value.is)))
+returns-in-Value-clause-exactly g c b h whole = absurd (whole_has_no_fault _ _ b _ whole (subst (Fails (walker_syntax c.args.self.now) (limits_of c.args.self.now) b) (sym c.new.ensures) (reading_fails c.args.self.now b (walks c.args.self.now b h) c.in-Value.tag c.in-Value.remaining c.in-Value.kept c.in-Value.is)))
 
 pub returns-then-is_between-clause-whole : goal.returns-then-is_between-clause-whole
 returns-then-is_between-clause-whole g c e b h = between_ok c.args.self.now b (walks c.args.self.now b h) c.in-Heading.is (sym c.is_between.ensures ∙ c.if-is_between.true)
 
 pub returns-else-is_between-clause-fails : goal.returns-else-is_between-clause-fails
 returns-else-is_between-clause-fails g c b h =
-    subst (Fails (walker_syntax c.args.self.now) (limits_of c.args.self.now) b) (sym c.new-else-is_between.ensures) (between_fails c.args.self.now b (walks c.args.self.now b h) c.begun_tag-tag.result c.as_slice.result.now c.in-Heading.is (sym c.is_between.ensures ∙ c.if-is_between.false) c.as_slice.ensures.value c.begun_tag-tag.ensures)
+    subst (Fails (walker_syntax c.args.self.now) (limits_of c.args.self.now) b) (sym c.new-else-is_between.ensures) (between_fails c.args.self.now b (walks c.args.self.now b h) c.started_tag-tag.result c.as_slice.result.now c.in-Heading.is (sym c.is_between.ensures ∙ c.if-is_between.false) c.as_slice.ensures.value c.started_tag-tag.ensures)
 
 pub returns-else-is_between-clause-exactly : goal.returns-else-is_between-clause-exactly
 returns-else-is_between-clause-exactly g c b h whole =
-    absurd (whole_has_no_fault _ _ b _ whole (subst (Fails (walker_syntax c.args.self.now) (limits_of c.args.self.now) b) (sym c.new-else-is_between.ensures) (between_fails c.args.self.now b (walks c.args.self.now b h) c.begun_tag-tag.result c.as_slice.result.now c.in-Heading.is (sym c.is_between.ensures ∙ c.if-is_between.false) c.as_slice.ensures.value c.begun_tag-tag.ensures)))
+    absurd (whole_has_no_fault _ _ b _ whole (subst (Fails (walker_syntax c.args.self.now) (limits_of c.args.self.now) b) (sym c.new-else-is_between.ensures) (between_fails c.args.self.now b (walks c.args.self.now b h) c.started_tag-tag.result c.as_slice.result.now c.in-Heading.is (sym c.is_between.ensures ∙ c.if-is_between.false) c.as_slice.ensures.value c.started_tag-tag.ensures)))

@@ -6,6 +6,6 @@ use Rattle.server.proofs.server.opening.close_all.Given as goal
 abbrev pub invariant-loop-done : goal.invariant-loop-done
 invariant-loop-done g l =
     record {
-      left : vec_len l.slots + l.done ≡ l.count;
+      remaining : vec_len l.slots + l.done ≡ l.count;
       closed : length (slots_in l.closed.history) ≡ length (slots_in l.fn.closed.history) + l.done;
     }

@@ -1,4 +1,4 @@
--- What the socket took is gone from the outbox, and nothing else: one byte at least for each call.
+-- What the socket consumed is gone from the outbox, and nothing else: one byte at least for each call.
 use Rattle.std.proofs.Common.{◌≡◌, ◌+◌, ◌≤◌, length}
 use Rattle.serving.specs.Wires.{pending_in, sent_over}
 use Rattle.serving.proofs.buffered_socket.BufferedSocket.flush.Given as goal

@@ -2,7 +2,7 @@
 use Rattle.std.proofs.Common.{refl}
 use Rattle.engine.specs.Inputs.{inputs_of}
 use Rattle.std.proofs.Math.Logic.{∥∥₁_elim, ∥∥₁_map, ∥∥₁_prop}
-use Rattle.serving.proofs.EachPieceIsTold.{all_told}
+use Rattle.serving.proofs.EachPieceIsReported.{all_reported}
 use Rattle.serving.proofs.GivenAreTimed.{ends_timed}
 use Rattle.serving.proofs.SentIsSettledFirst.{ends_settled}
 use Rattle.serving.proofs.TakenInputsAreARun.{ended_stands, ends}
@@ -13,9 +13,9 @@ returns g c =
     let was = c.args.self in
     let traces = c.end-traces.ensures in
     record {
-      left = ∥∥₁_elim was.closed ∥∥₁_prop (λ closes. ∥∥₁_map was.taken (λ h. rw (traces.read, traces.ends, traces.sent, traces.refusals, traces.inbox, traces.outbox) (ends _ _ _ _ _ _ _ _ _ _ _ _ _ was.whole closes (c.report-report.ensures.reports _) c.discard.ensures.leaves h).0));
+      remaining = ∥∥₁_elim was.closed ∥∥₁_prop (λ closes. ∥∥₁_map was.taken (λ h. rw (traces.read, traces.ends, traces.sent, traces.refusals, traces.inbox, traces.outbox) (ends _ _ _ _ _ _ _ _ _ _ _ _ _ was.whole closes (c.report-report.ensures.reports _) c.discard.ensures.leaves h).0));
       opened = refl;
-      told = rw (traces.read, traces.inbox) (all_told _ (inputs_of was.given.named) _ _ was.heard was.whole);
+      reported = rw (traces.read, traces.inbox) (all_reported _ (inputs_of was.given.named) _ _ was.heard was.whole);
       ended = ended_stands _ _ (c.report-report.ensures.reports (g.F.Filing.store was.filing)).standing;
       sent = ∥∥₁_elim was.closed ∥∥₁_prop (λ closes. ∥∥₁_elim was.sent ∥∥₁_prop (λ first. ∥∥₁_map was.taken (λ h. rw (traces.read, traces.ends, traces.sent, traces.refusals, traces.inbox, traces.outbox)
           (ends_settled _ _ _ _ _ _ _ _ _ _ _ _ _ _ was.whole closes (c.report-report.ensures.reports _) c.discard.ensures.leaves h first))));
@@ -23,7 +23,7 @@ returns g c =
       in_time = ∥∥₁_elim was.closed ∥∥₁_prop (λ closes. ∥∥₁_elim was.timed ∥∥₁_prop (λ timed. ∥∥₁_map was.taken (λ h. rw (traces.read, traces.ends, traces.sent, traces.refusals, traces.inbox, traces.outbox)
           (ends_timed _ _ _ _ _ _ _ _ _ _ _ _ _ _ _ _ was.whole closes (c.report-report.ensures.reports _) c.discard.ensures.leaves h timed))));
       moments = refl;
-      begun = refl;
+      initial = refl;
       begins = was.begins;
       once = was.once;
       stopped = refl;

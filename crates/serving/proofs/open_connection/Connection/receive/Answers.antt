@@ -4,14 +4,14 @@ use Rattle.std.proofs.Math.Logic.{∥∥₁_map}
 use Rattle.element.specs.Numbers.{IsBytes}
 use Rattle.serving.specs.declared.outbox.Outbox.{Outbox}
 use Rattle.serving.proofs.ClosesWithItsSocket.{one_more_closes, still_closes}
-use Rattle.serving.proofs.EachPieceIsTold.{told_with_piece}
+use Rattle.serving.proofs.EachPieceIsReported.{reported_with_piece}
 use Rattle.serving.proofs.InboxLosesNothing.{front_taken, nothing_more, within_portion}
 use Rattle.serving.proofs.InputsAddTheirPieces.{inputs_more}
 use Rattle.serving.proofs.InputsAreTimed.{asked_same, heard_then, own_same, timed_more}
 use Rattle.serving.proofs.SentIsSettledFirst.{sent_before}
 use Rattle.serving.proofs.TakenInputsAreARun.{keeps_piece, more_bytes, same_link}
 use Rattle.engine.specs.Inputs.{inputs_of}
-use Rattle.serving.specs.Waits.{Waits}
+use Rattle.serving.specs.TimeLimits.{TimeLimits}
 use Rattle.serving.specs.declared.moment.Moment.{Moment}
 use Rattle.engine.specs.declared.source.Input.TheVariants.{Piece}
 use Rattle.serving.proofs.open_connection.Connection.receive.Goals as goal
@@ -19,7 +19,7 @@ use Rattle.serving.proofs.open_connection.Connection.receive.Goals as goal
 pub invariant_of-self-in-Bytes : goal.invariant_of-self-in-Bytes
 invariant_of-self-in-Bytes g c =
     let was = c.args.self.now in
-    let moment : Moment = record { is_asked = false; left = c.of-left.result; now = c.args.now } in
+    let moment : Moment = record { is_asked = false; remaining = c.of-remaining.result; now = c.args.now } in
     let lent = c.in-Bytes.ensures in
     let are = more_bytes _ _ _ refl was.bytes c.is_of_bytes.ensures in
     let kept = same_link _ _ _ _ _ _ _ _ _ _ lent.same_written lent.same_outbox (record { never = was.never; fits = was.fits; whole = refl; taken = was.taken }) in
@@ -35,16 +35,16 @@ invariant_of-self-in-Bytes g c =
       bytes = subst IsBytes (sym k.whole) are;
       followed = rw (← c.deref-in-Bytes-2.ensures) (c.follow.ensures.state ∙ c.state.ensures);
       whole = rw k.whole (front_taken _ _ _ _ _ _ c.pending.ensures c.drop_front.ensures (lent.arrives.2 _ was.whole));
-      heard = told_with_piece _ _ _ _ _ _ _ (c.took.ensures.heard ∙ ap (λ (xs : List ℕ). g.B.Observer.heard was.observer ++ xs ∷ []) c.taken-taken.ensures.bytes) c.pending.ensures c.push.ensures was.heard;
+      heard = reported_with_piece _ _ _ _ _ _ _ (c.took.ensures.heard ∙ ap (λ (xs : List ℕ). g.B.Observer.heard was.observer ++ xs ∷ []) c.taken-taken.ensures.bytes) c.pending.ensures c.push.ensures was.heard;
       taken = k.taken;
       sent = ∥∥₁_map was.sent (λ h. rw lent.same_written (sent_before _ _ _ _ _ _ _ _ _ c.take_portion-is_complete.ensures.settings c.push.ensures h));
       rested = rw lent.same_written was.rested;
       timed = ∥∥₁_map was.timed (λ h. rw (c.push.ensures, inputs_more was.given.named Piece _, c.push-in-Bytes.ensures)
-          (timed_more was.begun.value (inputs_of was.given.named) was.moments was.deadlines c.follow.new.self _ moment c.of-left.ensures tt
+          (timed_more was.initial.value (inputs_of was.given.named) was.moments was.deadlines c.follow.new.self _ moment c.of-remaining.ensures tt
           (heard_then _ _ _ _ _ _ c.hear.ensures c.follow.ensures.stays c.follow.ensures.state c.follow.ensures.anew c.follow.ensures.lasting c.follow.ensures.same_peer) h));
       closed = one_more_closes _ _ _ _ _ _ _ _ c.push.ensures (λ e. absurd cc);
       begins = was.begins;
-      lasts = (c.follow.ensures.bound.0 ∙ ap (λ (w : Waits). w.longest) c.hear.ensures ∙ was.lasts.0, c.follow.ensures.bound.1 ∙ ap (λ (w : Waits). w.opened) c.hear.ensures ∙ was.lasts.1);
+      lasts = (c.follow.ensures.bound.0 ∙ ap (λ (w : TimeLimits). w.longest) c.hear.ensures ∙ was.lasts.0, c.follow.ensures.bound.1 ∙ ap (λ (w : TimeLimits). w.opened) c.hear.ensures ∙ was.lasts.1);
       once = rw (asked_same _ _ moment c.push-in-Bytes.ensures refl) was.once;
       unasked = λ none. asked_same _ _ moment c.push-in-Bytes.ensures refl ∙ was.unasked none;
       reasons = rw (asked_same _ _ moment c.push-in-Bytes.ensures refl) was.reasons;
@@ -75,7 +75,7 @@ returns-in-Bytes-clause-peers g c = own_same _ _ _ _ c.push.ensures refl
 
 pub returns-in-Bytes-clause-unasked : goal.returns-in-Bytes-clause-unasked
 returns-in-Bytes-clause-unasked g c =
-    let moment : Moment = record { is_asked = false; left = c.of-left.result; now = c.args.now } in
+    let moment : Moment = record { is_asked = false; remaining = c.of-remaining.result; now = c.args.now } in
     asked_same _ _ moment c.push-in-Bytes.ensures refl
 
 pub invariant_of-self-in-End-1 : goal.invariant_of-self-in-End-1

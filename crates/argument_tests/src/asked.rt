@@ -1,0 +1,282 @@
+//! Checks the settings of command lines given in text: a further line needs no proof.
+use arguments::{
+    CheckArguments, FolderLayout, Index, Job, ListArguments, LogForm, Replay, Serve, ShowArguments,
+    WordsError, index_settings, read_words, replay_settings, serve_settings,
+};
+use cases::Case;
+use log::Level;
+use negotiate::Config;
+use std::alloc::Global;
+use std::str;
+use std::test::Fail;
+use std::time::Duration;
+
+/// Runs a script; fails at the first line that does not hold, with the value found.
+///
+/// A line that begins with `dcmbox` is a command line, of arguments separated by one blank; `BLANK`
+/// stands for a blank. Each following line has the name of a setting and its value: a number, a
+/// text, titles or classes separated by blanks, `yes`, `no` or `none`. `refused` has the text with
+/// which the command line is refused, without its line end; `fails` is `yes` if the command line is
+/// refused with any text.
+pub(crate) fn asks(alloc: Global, script: &str) -> Result<(), Fail> {
+    let mut words = Vec::new(alloc);
+    let mut at = 0usize;
+    for line in script.lines() {
+        at = at.saturating_add(1);
+        if line.starts_with("dcmbox ") {
+            words = words_of(alloc, line)?;
+            continue;
+        }
+        let case = Case::of(line);
+        let seen = seen(alloc, words.as_slice(), case.name)?;
+        if seen.as_str() != case.field(0)? {
+            return Err(Fail::new(format_args!("line {at}: {line}: it is {seen}")));
+        }
+    }
+    Ok(())
+}
+
+fn words_of<'a>(alloc: Global, line: &'a str) -> Result<Vec<&'a str>, Fail> {
+    let mut words = Vec::new(alloc);
+    for word in line.split(' ') {
+        words.push(if word == "BLANK" { " " } else { word })?;
+    }
+    Ok(words)
+}
+
+/// Returns the value of this setting for a command line.
+fn seen(alloc: Global, words: &[&str], name: &str) -> Result<String, Fail> {
+    let job = match read_words(alloc, words) {
+        Ok(job) => job,
+        Err(error) => return refusal(alloc, &error, name),
+    };
+    match &job {
+        Job::Serve(arguments) => match serve_settings(alloc, arguments, "") {
+            Ok(serve) => of_serve(alloc, &serve, name),
+            Err(error) => refusal(alloc, &error, name),
+        },
+        Job::Replay(arguments) => match replay_settings(alloc, arguments) {
+            Ok(replay) => of_replay(alloc, &replay, name),
+            Err(error) => refusal(alloc, &error, name),
+        },
+        Job::Index(arguments) => match index_settings(alloc, arguments) {
+            Ok(index) => of_index(alloc, &index, name),
+            Err(error) => refusal(alloc, &error, name),
+        },
+        Job::Show(arguments) => of_show(alloc, arguments, name),
+        Job::Check(arguments) => of_check(alloc, arguments, name),
+        Job::List(arguments) => of_list(alloc, arguments, name),
+        _ => Err(Fail::from("another job")),
+    }
+}
+
+fn refusal(alloc: Global, error: &WordsError, name: &str) -> Result<String, Fail> {
+    match (error, name) {
+        (_, "fails") => owned(alloc, "yes"),
+        (WordsError::Refused(text), "refused") => {
+            let line = text.as_str().strip_suffix('\n').unwrap_or("not a line");
+            owned(alloc, line)
+        }
+        _ => Ok(format!(in alloc; "{error}")?),
+    }
+}
+
+fn owned(alloc: Global, text: &str) -> Result<String, Fail> {
+    Ok(String::from_str(alloc, text)?)
+}
+
+fn yes(is: bool) -> &'static str {
+    if is { "yes" } else { "no" }
+}
+
+fn unknown(name: &str) -> Fail {
+    Fail::new(format_args!("{name}: no such setting"))
+}
+
+/// Returns a number as text.
+fn number(alloc: Global, number: u64) -> Result<String, Fail> {
+    Ok(format!(in alloc; "{number}")?)
+}
+
+fn seconds(time: Option<Duration>) -> Option<u64> {
+    match time {
+        Some(time) => Some(time.as_secs()),
+        None => None,
+    }
+}
+
+/// Returns how many files a subfolder has, 0 without subfolders.
+fn per_of(layout: FolderLayout) -> u64 {
+    match layout {
+        FolderLayout::Flat => 0,
+        FolderLayout::Levels(per) => u64::from(per.files),
+    }
+}
+
+fn level_name(level: Level) -> &'static str {
+    match level {
+        Level::Warn => "Warn",
+        Level::Info => "Info",
+        Level::Debug => "Debug",
+        Level::Trace => "Trace",
+        _ => "another",
+    }
+}
+
+/// Returns the value of this numeric setting of `serve`, or `None` if there is no such setting.
+fn number_of_serve(serve: &Serve, name: &str) -> Option<u64> {
+    Some(match name {
+        "port" => u64::from(serve.port),
+        "timeout" => serve.service.timeouts.artim.as_secs(),
+        "idle" => serve.service.timeouts.idle.as_secs(),
+        "per" => per_of(serve.layout),
+        "at-once" => serve.service.associations as u64,
+        "per-peer" => serve.service.per_peer as u64,
+        "grace" => serve.service.grace.as_secs(),
+        "longest" => return seconds(serve.service.longest),
+        _ => return None,
+    })
+}
+
+fn of_serve(alloc: Global, serve: &Serve, name: &str) -> Result<String, Fail> {
+    if let Some(count) = number_of_serve(serve, name) {
+        return number(alloc, count);
+    }
+    match name {
+        "out" => owned(alloc, serve.out),
+        "bind" => owned(alloc, serve.bind),
+        "listen" => {
+            let mut texts = String::new(alloc);
+            for address in serve.listen.as_slice() {
+                add(&mut texts, address.as_bytes())?;
+            }
+            Ok(texts)
+        }
+        "longest" => owned(alloc, "none"),
+        "metrics" => owned(alloc, serve.metrics.unwrap_or("none")),
+        "numbers" => owned(alloc, serve.numbers.unwrap_or("none")),
+        "stop-file" => owned(alloc, serve.service.stop_file.unwrap_or("none")),
+        "sync" => owned(alloc, yes(serve.sync)),
+        "once" => owned(alloc, yes(serve.service.once)),
+        "serial" => owned(alloc, yes(serve.service.is_serial())),
+        "level" => owned(alloc, level_name(serve.level)),
+        "log" => match serve.form {
+            LogForm::Text => owned(alloc, "text"),
+            LogForm::Json => owned(alloc, "json"),
+        },
+        _ => of_config(alloc, &serve.config, name),
+    }
+}
+
+fn of_replay(alloc: Global, replay: &Replay, name: &str) -> Result<String, Fail> {
+    match name {
+        "file" => owned(alloc, replay.file),
+        "out" => owned(alloc, replay.out),
+        "cut" => number(alloc, replay.cut as u64),
+        "per" => number(alloc, per_of(replay.layout)),
+        _ => of_config(alloc, &replay.config, name),
+    }
+}
+
+/// Returns the value of a setting of associations.
+fn of_config(alloc: Global, config: &Config, name: &str) -> Result<String, Fail> {
+    let mut texts = String::new(alloc);
+    match name {
+        "ae" => {
+            add(&mut texts, &config.ae.0)?;
+            for title in config.also.as_slice() {
+                add(&mut texts, &title.0)?;
+            }
+        }
+        "any-called" => return owned(alloc, yes(config.any_called)),
+        "max-pdu" => return number(alloc, u64::from(config.max_pdu)),
+        "max-data" => return number(alloc, config.max_data),
+        "all-storage" => return owned(alloc, yes(config.all_storage)),
+        "refused" | "fails" => return owned(alloc, "no"),
+        "callers" => {
+            for title in config.callers() {
+                add(&mut texts, &title.0)?;
+            }
+        }
+        "classes" => {
+            for class in config.named.as_slice() {
+                add(&mut texts, class.as_slice())?;
+            }
+        }
+        _ => return Err(unknown(name)),
+    }
+    Ok(texts)
+}
+
+/// Appends a text without its trailing blanks, after a blank unless it is the first.
+fn add(texts: &mut String, bytes: &[u8]) -> Result<(), Fail> {
+    if !texts.is_empty() {
+        texts.push(' ')?;
+    }
+    texts.push_str(str::from_utf8(bytes).unwrap_or("?").trim_end())?;
+    Ok(())
+}
+
+fn of_index(alloc: Global, index: &Index, name: &str) -> Result<String, Fail> {
+    let text = match name {
+        "dir" => index.dir,
+        "uid" => match &index.uid {
+            Some(uid) => str::from_utf8(uid.as_bytes()).unwrap_or("?"),
+            None => "new",
+        },
+        "keep" => yes(index.keep),
+        "replace" => yes(index.replace),
+        "descriptions" => yes(index.descriptions),
+        "all-syntaxes" => yes(index.all_syntaxes),
+        "refused" | "fails" => "no",
+        _ => return Err(unknown(name)),
+    };
+    owned(alloc, text)
+}
+
+/// Returns texts joined by blanks.
+fn joined(alloc: Global, texts: &[&str]) -> Result<String, Fail> {
+    let mut joined = String::new(alloc);
+    for text in texts {
+        add(&mut joined, text.as_bytes())?;
+    }
+    Ok(joined)
+}
+
+fn of_show(alloc: Global, show: &ShowArguments, name: &str) -> Result<String, Fail> {
+    match name {
+        "files" => joined(alloc, show.files.as_slice()),
+        "tags" => joined(alloc, show.tags.as_slice()),
+        "values" => owned(alloc, yes(show.values)),
+        "all-syntaxes" => owned(alloc, yes(show.all_syntaxes)),
+        "any" => owned(alloc, yes(show.any)),
+        "refused" | "fails" => owned(alloc, "no"),
+        _ => Err(unknown(name)),
+    }
+}
+
+fn of_list(alloc: Global, list: &ListArguments, name: &str) -> Result<String, Fail> {
+    match name {
+        "folders" => joined(alloc, list.dirs.as_slice()),
+        "conditions" => joined(alloc, list.conditions.as_slice()),
+        "columns" => owned(alloc, list.columns.unwrap_or("none")),
+        "series" => owned(alloc, yes(list.series)),
+        "refused" | "fails" => owned(alloc, "no"),
+        _ => Err(unknown(name)),
+    }
+}
+
+fn of_check(alloc: Global, check: &CheckArguments, name: &str) -> Result<String, Fail> {
+    let is = match name {
+        "files" => return joined(alloc, check.files.as_slice()),
+        "values" => check.values,
+        "strict" => check.strict,
+        "json" => check.json,
+        "recursive" => check.recursive,
+        "all-syntaxes" => check.all_syntaxes,
+        "any" => check.any,
+        "refused" | "fails" => false,
+        _ => return Err(unknown(name)),
+    };
+    owned(alloc, yes(is))
+}

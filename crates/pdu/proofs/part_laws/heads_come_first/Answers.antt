@@ -1,5 +1,0 @@
-use Rattle.pdu.proofs.Public.{spot_opening, in_data}
-use Rattle.pdu.proofs.part_laws.heads_come_first.Goals as goal
-
-pub returns : goal.returns
-returns c = record { head = spot_opening; value = in_data }
