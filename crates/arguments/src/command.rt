@@ -13,7 +13,7 @@ use clap::Command;
 use std::alloc::{AllocError, Global};
 
 /// The version of the program.
-pub const VERSION: &str = "1.0.0";
+pub const VERSION: &str = "1.1.0";
 
 /// A command of the program.
 #[derive(Clone, Copy)]
