@@ -63,7 +63,8 @@ fn paths_that_are_the_same(rt: HostRuntime) -> Result<(), Fail> {
 /// Returns whether a pattern is refused with this text.
 fn is_refused(rt: &HostRuntime, pattern: &str, text: &str) -> Result<bool, Fail> {
     let wanted = format!(in rt.alloc(); "error: --pattern {text}\n")?;
-    Ok(match read_pattern(rt.alloc(), pattern) {
+    let read = read_pattern(rt.alloc(), pattern);
+    Ok(match &read {
         Err(WordsError::Refused(text)) => text.as_str() == wanted.as_str(),
         _ => false,
     })
