@@ -132,7 +132,7 @@ deb:
 # Puts the files of a release of what `make dcmbox` proved and built into the folder release, from a tree without changes.
 release:
 	@tools/is-proved
-	@test -z "$$(git status --porcelain)" || { echo "there are changes that are not committed" >&2; exit 1; }
+	@changes=$$(git status --porcelain) && test -z "$$changes" || { echo "there are changes that are not committed, or git fails" >&2; exit 1; }
 	packaging/make-release dcmbox release
 
 uninstall:

@@ -127,7 +127,7 @@ def root(program, work, units):
     for tool in ("sh", "mkdir"):
         shutil.copy(f"/bin/{tool}", path / "bin")
     shutil.copy(ROOT / "packaging/dcmbox.default", path / "etc/default/dcmbox")
-    call(work, ROOT / "packaging/make-units", "/usr", path / "lib/systemd/system")
+    call(work, ROOT / "packaging/make-units", "/usr", path.relative_to(work) / "lib/systemd/system")
     return units(path)
 
 
