@@ -1,42 +1,51 @@
 -- Where the part at one place has one file more, all parts have one file more (`one_more`): a series that counts one more
--- (`one_image`), or lists one more (`one_listed`). What is found by a UID has it (`found_or_none`), and so has what is added
--- (`added`). The count of some series and of the next one is the count of both (`images_more`). Stands on the definitions alone.
-use Rattle.std.proofs.Common.{◌≡◌, ◌+◌, ℕ, zero, suc, List, [], ◌∷◌, ◌++◌, length, map, get_or, take, position, Option, Some, None, refl, sym, ap, subst, ◌∙◌, append-nil, add-one, arith, min, ◌-◌, ◌^◌}
+-- (`one_image`), or lists one more (`one_listed`); a new part without files adds none (`nothing_more`). What is found by a
+-- UID has it (`found_or_none`, `within`), and so has what is added (`added`). The count of some series and of the next one
+-- is the count of both (`images_more`). Stands on the definitions alone.
+use Rattle.std.proofs.Common.{◌≡◌, ◌<◌, ◌+◌, ℕ, zero, suc, List, [], ◌∷◌, ◌++◌, length, map, take, position, Option, Some, None, refl, sym, ap, subst, ◌∙◌, append-nil, add-one, arith, min, ◌-◌, ◌^◌}
 use Rattle.std.specs.Prelude.{IfSome, IsPermutation, Vec, replicate, slice_get}
 use Rattle.std.specs.List.{flat_map, position_or_len}
 use Rattle.std.specs.Map.{keys_of, values_of, lookup}
-use Rattle.std.specs.Option.{option_map}
 use Rattle.std.specs.Cmp.Lexicographic.{bytes_decides}
-use Rattle.std.proofs.lemmas.List.Quantifiers.{position-Some}
 use Rattle.std.proofs.lemmas.List.Sorted.{IsPermutation-trans, IsPermutation-sym, IsPermutation-middle, IsPermutation-append_left, IsPermutation-append_right, IsPermutation-refl, IsPermutation-to_front}
-use Rattle.std.proofs.lemmas.Option.{slice_get-map, slice_get-get_or}
 use Rattle.std.proofs.lemmas.List.{length-append, length-replicate, map-append}
 use Rattle.indexmap.specs.IndexMap.{set_value_at, insert_entry}
-use Rattle.indexmap.proofs.MapLemmas.{absent_from_lookup, insert_entry-absent, or_len-absent}
+use Rattle.indexmap.proofs.MapLemmas.{absent_from_lookup, index-first, insert_entry-absent, or_len-absent, Found-position}
 use Rattle.list_command.specs.Tree.{files_in, is_uid, one_or_none, shown, HasUid, IsAdded, Listed, Lists}
 use Rattle.list_command.specs.declared.studies.Instance.{Instance}
 use Rattle.list_command.specs.declared.studies.Series.{Series}
 
 pub one_more : {A T X : Type 0} (f : Vec ℕ A × T → List X) (es : List (Vec ℕ A × T)) (i : ℕ) (uid : List ℕ) (v w : T) (x : X) → HasUid uid i es → slice_get (values_of es) i ≡ Some v → ((k : Vec ℕ A) → k.items ≡ uid → IsPermutation (x ∷ f (k, v)) (f (k, w))) → IsPermutation (x ∷ flat_map f es) (flat_map f (set_value_at es i w))
-one_more f [] i uid v w x has at more = absurd cc
+one_more f [] i uid v w x has at more = absurd has
 one_more {A} {T} f (e ∷ es) zero uid v w x has at more =
-    let named : e.0.items ≡ uid = cc in
+    let named : e.0.items ≡ uid = sym ((bytes_decides uid e.0.items).0 has) in
     let same : v ≡ e.1 = cc in
     IsPermutation-append_left (flat_map f es) (x ∷ f e) (f (e.0, w)) (subst (λ (given : T). IsPermutation (x ∷ f (e.0, given)) (f (e.0, w))) same (more e.0 named))
 one_more f (e ∷ es) (suc i) uid v w x has at more =
     IsPermutation-trans _ _ _ (IsPermutation-sym _ _ (IsPermutation-middle (f e) x (flat_map f es)))
-    (IsPermutation-append_right (f e) (x ∷ flat_map f es) (flat_map f (set_value_at es i w)) (one_more f es i uid v w x has at more))
+    (IsPermutation-append_right (f e) (x ∷ flat_map f es) (flat_map f (set_value_at es i w)) (one_more f es i uid v w x has.1 at more))
+
+pub within : {A T : Type 0} (uid : List ℕ) (i : ℕ) (es : List (Vec ℕ A × T)) → HasUid uid i es → i < length es
+within uid i [] has = absurd has
+within uid zero (e ∷ es) has = omega arith
+within uid (suc i) (e ∷ es) has = omega (arith, within uid i es has.1)
+
+pub nothing_more : {X Y : Type 0} (f : X → List Y) (xs : List X) (x : X) → f x ≡ [] → flat_map f (xs ++ x ∷ []) ≡ flat_map f xs
+nothing_more f [] x none = rw none refl
+nothing_more f (y ∷ ys) x none = ap (λ rest. f y ++ rest) (nothing_more f ys x none)
 
 found_uid : {A T : Type 0} (uid : List ℕ) (es : List (Vec ℕ A × T)) (i : ℕ) → position (is_uid uid) (keys_of es) ≡ Some i → HasUid uid i es
-found_uid uid [] i found = absurd cc
-found_uid {A} {T} uid (e ∷ es) i found =
-    let at = position-Some (is_uid uid) (keys_of (e ∷ es)) i e.0 found in
-    let named : uid ≡ (get_or (keys_of (e ∷ es)) i e.0).items = (bytes_decides uid (get_or (keys_of (e ∷ es)) i e.0).items).0 at.1 in
-    slice_get-map (λ (key : Vec ℕ A). key.items) (keys_of (e ∷ es)) i ∙ ap (option_map (λ (key : Vec ℕ A). key.items)) (slice_get-get_or (keys_of (e ∷ es)) i e.0 at.0) ∙ ap Some (sym named)
+found_uid {A} {T} uid [] i found = (Found-position {X = T} (is_uid {A = A} uid) [] i found).first
+found_uid uid (e ∷ es) zero found = (Found-position (is_uid uid) (e ∷ es) zero found).first
+found_uid uid (e ∷ es) (suc i) found =
+    let first = (Found-position (is_uid uid) (e ∷ es) (suc i) found).first in
+    (first.0, found_uid uid es i (index-first (is_uid uid) es i first.1))
 
-added_uid : {A T : Type 0} (es : List (Vec ℕ A × T)) (key : Vec ℕ A) (new : T) → HasUid key.items (length es) (es ++ (key, new) ∷ [])
-added_uid [] key new = refl
-added_uid (e ∷ es) key new = added_uid es key new
+added_uid : {A T : Type 0} (uid : List ℕ) (es : List (Vec ℕ A × T)) (key : Vec ℕ A) (new : T) → key.items ≡ uid → lookup (is_uid uid) es ≡ None → HasUid uid (length es) (es ++ (key, new) ∷ [])
+added_uid uid [] key new named none = (bytes_decides uid key.items).1 (sym named)
+added_uid uid (e ∷ es) key new named none =
+    let other = (absent_from_lookup (is_uid uid) (e ∷ es) none).0 in
+    (other, added_uid uid es key new named (rw other at none))
 
 pub found_or_none : {A T : Type 0} (uid : List ℕ) (es : List (Vec ℕ A × T)) (found : Option ℕ) → found ≡ position (is_uid uid) (keys_of es) → IfSome found (λ place. HasUid uid place es)
 found_or_none uid es None is = _
@@ -48,7 +57,7 @@ added {A} {T} uid key new old entries place named none at made =
     let absent = absent_from_lookup (is_uid key.items) old lacks in
     let end : entries ≡ old ++ (key, new) ∷ [] = made ∙ insert_entry-absent (λ (one other : Vec ℕ A). is_uid one.items other) key new old absent in
     let last : place ≡ length old = at ∙ or_len-absent (is_uid key.items) old absent in
-    (rw (end, last, sym named) (added_uid old key new), record { key = key; named = named; at_end = end })
+    (rw (end, last) (added_uid uid old key new named none), record { key = key; named = named; at_end = end })
 
 pub one_image : (study uid key : List ℕ) (n m : ℕ) → key ≡ uid → m ≡ n + 1 → IsPermutation {X = List ℕ × List ℕ} ((study, uid) ∷ replicate n (study, key)) (replicate m (study, key))
 one_image study uid key n m named more =

@@ -1,1 +1,2 @@
 pub mod FilesAreKept
+pub mod FirstFilesAreShown

@@ -92,8 +92,8 @@ pub(crate) struct Selection<'a, A: Allocator> {
 }
 
 impl<A: Allocator + Copy> Taking for Selection<'_, A> {
-    ghost took = { λ old path keys new. Selects (list_all (meets keys) old.conditions.now)
-        (IsFiled old.grouping.has_instances old.grouping.columns.now path keys old.grouping.studies.entries new.grouping.studies.entries) (new ≡ old) };
+    ghost took = { λ old path keys new. (new.conditions.now ≡ old.conditions.now)
+        × Selects (list_all (meets keys) old.conditions.now) (IsFiled path keys old.grouping new.grouping) (new ≡ old) };
 
     fn take(&mut self, file: FoundFile<'_>) -> Result<(), ProgramError> {
         if !holds_each(self.conditions, file.keys) {

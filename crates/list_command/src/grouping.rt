@@ -1,7 +1,8 @@
 //! Groups the files of a folder by study and series.
 ghost use Rattle.std.specs.Prelude.{◌≡◌, ◌∷◌, [], ℕ, List, None, true, OnOk, IfOk, IfSome, IfNone, IsPermutation};
 ghost use Rattle.indexmap.specs.IndexMap.{get_by};
-ghost use Rattle.list_command.specs.Tree.{files_in, files_of, listed_in, listed_of, texts_of, is_uid, HasUid, IsAdded, IsFiled, Listed, Lists};
+ghost use Rattle.keyed_files.specs.Keys.{file_text};
+ghost use Rattle.list_command.specs.Tree.{files_in, files_of, first_of_series, first_of_study, is_uid, listed_in, listed_of, or_new, repertoire_in, shown_series, shown_studies, shown_study, studies_with, with_file, with_series, HasUid, IsAdded, IsFiled, Listed, Lists, SameOptions};
 ghost use Rattle.list_command.specs.Values.{columns_of as values_for};
 
 use crate::columns::{Column, columns_of};
@@ -51,12 +52,16 @@ pub(crate) const LISTED: [Tag; 11] = [
 ];
 
 /// Returns a copy of the value with this tag, without padding. Fails if memory runs out.
-fn text_of<A: Allocator>(alloc: A, keys: &FileKeys, tag: Tag) -> Result<Vec<u8, A>, AllocError> {
+fn text_of<A: Allocator>(alloc: A, keys: &FileKeys, tag: Tag) -> Result<Vec<u8, A>, AllocError>
+    ensures { IfOk result (λ text. text.items ≡ file_text keys.now tag) }
+{
     Vec::from_slice(alloc, keys.text(tag))
 }
 
 /// Returns the character repertoire of the texts of a file.
-fn repertoire_of(keys: &FileKeys) -> Repertoire {
+fn repertoire_of(keys: &FileKeys) -> Repertoire
+    ensures { result ≡ repertoire_in keys.now }
+{
     Repertoire::of_value(keys.text(CHARACTER_SET))
 }
 
@@ -67,7 +72,7 @@ fn new_study<A: Allocator + Copy>(
     columns: &[Column<'_>],
 ) -> Result<Study<A>, AllocError>
     ensures empty { IfOk result (λ study. study.series.entries ≡ []) }
-    ensures columns { IfOk result (λ study. texts_of study.columns.items ≡ values_for keys.now columns.now) }
+    ensures shown { IfOk result (λ study. shown_study study ≡ first_of_study keys.now columns.now) }
 {
     Ok(Study {
         date: text_of(alloc, keys, STUDY_DATE)?,
@@ -87,7 +92,7 @@ fn new_series<A: Allocator + Copy>(
     columns: &[Column<'_>],
 ) -> Result<Series<A>, AllocError>
     ensures empty { IfOk result (λ series. (series.images ≡ 0) × (series.instances.items ≡ [])) }
-    ensures columns { IfOk result (λ series. texts_of series.columns.items ≡ values_for keys.now columns.now) }
+    ensures shown { IfOk result (λ series. shown_series series ≡ first_of_series keys.now columns.now) }
 {
     Ok(Series {
         number: text_of(alloc, keys, SERIES_NUMBER)?,
@@ -137,6 +142,7 @@ impl<A: Allocator + Copy> Study<A> {
         ensures at { IfOk result (λ place. HasUid uid.now place self.new.series.entries) }
         ensures same { OnOk result ((study : List ℕ) → files_in study self.new.series.entries ≡ files_in study self.old.series.entries) }
         ensures listed { OnOk result ((study : List ℕ) → listed_in study self.new.series.entries ≡ listed_in study self.old.series.entries) }
+        ensures shown { OnOk result (shown_study self.new ≡ with_series uid.now (first_of_series keys.now columns.now) (shown_study self.old)) }
     {
         if let Some(place) = place_of(&self.series, uid) {
             return Ok(place);
@@ -157,6 +163,7 @@ impl<A: Allocator + Copy> Study<A> {
         ensures counted { OnOk result ((study : List ℕ) → IsPermutation ((study, uid.now) ∷ files_in study self.old.series.entries) (files_in study self.new.series.entries)) }
         ensures listed { OnOk result ((study : List ℕ) (listed : Listed) → Lists listed instance
             → IsPermutation ((study, (uid.now, listed)) ∷ listed_in study self.old.series.entries) (listed_in study self.new.series.entries)) }
+        ensures shown { OnOk result (shown_study self.new ≡ with_file uid.now file.entry.keys.now columns.now (shown_study self.old)) }
     {
         let place = self.series_of(alloc, uid, file.keys, columns)?;
         self.series[place].add(instance)?;
@@ -191,6 +198,9 @@ impl<'a, A: Allocator + Copy> Grouping<'a, A> {
         ensures at { IfOk result (λ place. HasUid uid.now place self.new.studies.entries) }
         ensures same { OnOk result (files_of self.new.studies.entries ≡ files_of self.old.studies.entries) }
         ensures listed { OnOk result (listed_of self.new.studies.entries ≡ listed_of self.old.studies.entries) }
+        ensures shown { OnOk result (shown_studies self.new.studies.entries
+            ≡ or_new uid.now (first_of_study keys.now self.old.columns.now) (shown_studies self.old.studies.entries)) }
+        ensures options { SameOptions self.old self.new }
     {
         if let Some(place) = place_of(&self.studies, uid) {
             return Ok(place);
@@ -224,6 +234,9 @@ impl<'a, A: Allocator + Copy> Grouping<'a, A> {
         ensures listed { self.old.has_instances ≡ true
             → OnOk result (IsPermutation ((study.now, (series.now, (file.entry.path.now, values_for file.entry.keys.now self.old.columns.now))) ∷ listed_of self.old.studies.entries)
             (listed_of self.new.studies.entries)) }
+        ensures shown { OnOk result (shown_studies self.new.studies.entries
+            ≡ studies_with study.now series.now file.entry.keys.now self.old.columns.now (shown_studies self.old.studies.entries)) }
+        ensures options { SameOptions self.old self.new }
     {
         let instance = self.instance_of(file)?;
         let place = self.study_of(study, file.keys)?;
@@ -233,7 +246,7 @@ impl<'a, A: Allocator + Copy> Grouping<'a, A> {
 }
 
 impl<A: Allocator + Copy> Taking for Grouping<'_, A> {
-    ghost took = { λ old path keys new. IsFiled old.has_instances old.columns.now path keys old.studies.entries new.studies.entries };
+    ghost took = { λ old path keys new. IsFiled path keys old new };
 
     fn take(&mut self, file: FoundFile<'_>) -> Result<(), ProgramError> {
         self.add(file.keys.text(STUDY_UID), file.keys.text(SERIES_UID), file)?;

@@ -1,6 +1,6 @@
 //! Studies, their series and their files, with the values that are listed.
 ghost use Rattle.std.specs.Prelude.{◌≡◌, ℕ, ◌+◌, ◌-◌, ◌^◌, List, ◌++◌, length, min, OnOk};
-ghost use Rattle.list_command.specs.Tree.{files_in, one_or_none};
+ghost use Rattle.list_command.specs.Tree.{files_in, one_or_none, shown_series};
 
 use indexmap::IndexMap;
 use std::alloc::{AllocError, Allocator};
@@ -45,6 +45,7 @@ impl<A: Allocator> Series<A> {
     pub(crate) fn add(&mut self, instance: Option<Instance<A>>) -> Result<(), AllocError>
         ensures counted { OnOk result (self.new.images ≡ self.old.images + 1) }
         ensures listed { OnOk result (self.new.instances.items ≡ self.old.instances.items ++ one_or_none instance) }
+        ensures shown { OnOk result (shown_series self.new ≡ shown_series self.old) }
     {
         let images = self.images.checked_add(1).ok_or(AllocError)?;
         if let Some(instance) = instance {
