@@ -9,7 +9,7 @@ use Rattle.list_command.proofs.FirstFilesAreShown.{changed}
 use Rattle.list_command.proofs.grouping.Grouping.add.Goals as goal
 
 pub index_mut-requires : goal.index_mut-requires
-index_mut-requires g c = within c.args.study.now c.in_ok-place.place c.study_of.new.self.studies.entries c.in_ok-place.ensures.at
+index_mut-requires g c = within _ c.in_ok-place.place c.study_of.new.self.studies.entries c.in_ok-place.ensures.at
 
 pub returns : goal.returns
 returns g c = record {

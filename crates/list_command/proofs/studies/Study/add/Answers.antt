@@ -8,7 +8,7 @@ use Rattle.list_command.proofs.FirstFilesAreShown.{changed, more_shown}
 use Rattle.list_command.proofs.studies.Study.add.Goals as goal
 
 pub index_mut-requires : goal.index_mut-requires
-index_mut-requires g c = within c.args.uid.now c.in_ok-place.place c.series_of.new.self.series.entries c.in_ok-place.ensures.at
+index_mut-requires g c = within _ c.in_ok-place.place c.series_of.new.self.series.entries c.in_ok-place.ensures.at
 
 pub returns : goal.returns
 returns g c = record {
