@@ -41,7 +41,7 @@ def test_a_recording_from_standard_input(expect, work):
     cases(
         ("help", ".*replay.*", "--help"),
         ("help on a command", ".*--out.*", "replay --help"),
-        ("the version", r"dcmbox 1\.0\.0", "--version"),
+        ("the version", r"dcmbox 1\.1\.0", "--version"),
         ("help with an example", ".*Example: dcmbox show .*", "show --help"),
     ),
 )
