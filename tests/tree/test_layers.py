@@ -28,7 +28,7 @@ ASSOCIATION = (
 ).split()
 DEVICES = (
     "memory_wire memory_filing drafts folder_calls folder_filing folder_writer given_names group groups "
-    "listing locked_folder naming subfolders open_folder places names names_synced numbers aside "
+    "listing locked_folder naming subfolders open_folder locations names names_synced numbers aside "
     "notes quarantine quarantine_names"
 ).split()
 # An association refers to its settings, and with them to this list of its owner.
@@ -272,7 +272,7 @@ def test_a_fault_is_reported(small_tree, check, file, old, new, expected):
     assert check(small_tree) == [expected.rstrip("\n")]
 
 
-TAKING = "crates/engine/src/association/taking.rt"
+CONSUMING = "crates/engine/src/association/consuming.rt"
 WALKER = "crates/sequence/src/walker.rt"
 
 
@@ -281,7 +281,7 @@ WALKER = "crates/sequence/src/walker.rt"
     cases(
         (
             "a body that allocates once",
-            TAKING,
+            CONSUMING,
             "        let mut at = 0;",
             "        let _ = Box::new(devices.alloc(), 0);\n        let mut at = 0;",
             "        let _ = Box::new(devices.alloc(), 0);",

@@ -68,7 +68,7 @@ fn ends_with(config: &Config, text: &[u8]) -> bool {
 }
 
 #[test]
-fn sixty_four_classes_are_taken(rt: HostRuntime) -> Result<(), Fail> {
+fn sixty_four_classes_are_accepted(rt: HostRuntime) -> Result<(), Fail> {
     let alloc = rt.alloc();
     let serve = ["dcmbox", "serve", "--port", "104", "--out", "files"];
     let replay = ["dcmbox", "replay", "FILE", "--out", "files"];

@@ -267,7 +267,7 @@ dcmbox replay FILE --out DIR --cut all
 refused | error: --cut takes a number from 1 to 65536, not 'all'";
 
 #[test]
-fn numbers_are_taken_within_their_bounds(rt: HostRuntime) -> Result<(), Fail> {
+fn numbers_are_accepted_within_their_bounds(rt: HostRuntime) -> Result<(), Fail> {
     asks(rt.alloc(), BOUNDS)
 }
 

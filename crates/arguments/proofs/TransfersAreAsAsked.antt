@@ -11,10 +11,10 @@ map_twice f g (x ∷ xs) = ap (λ r. g (f x) ∷ r) (map_twice f g xs)
 
 pub asks_all : (all : Bool) (texts : List (Bor (List ℕ))) (named transfers : List Transfer) → all ≡ true
     → map (λ t. transfer_of t.now) texts ≡ map Some named → transfers ≡ encapsulated_transfers → AsksFor all (map (λ t. t.now) texts) transfers
-asks_all true texts named transfers is read taken = record { named = named; each = map_twice (λ t. t.now) transfer_of texts ∙ read; taken = taken }
-asks_all false texts named transfers is read taken = absurd cc
+asks_all true texts named transfers is read accepted = record { named = named; each = map_twice (λ t. t.now) transfer_of texts ∙ read; accepted = accepted }
+asks_all false texts named transfers is read accepted = absurd cc
 
 pub asks_named : (all : Bool) (texts : List (Bor (List ℕ))) (named transfers : List Transfer) → all ≡ false
     → map (λ t. transfer_of t.now) texts ≡ map Some named → transfers ≡ named → AsksFor all (map (λ t. t.now) texts) transfers
-asks_named false texts named transfers is read taken = record { named = named; each = map_twice (λ t. t.now) transfer_of texts ∙ read; taken = taken }
-asks_named true texts named transfers is read taken = absurd cc
+asks_named false texts named transfers is read accepted = record { named = named; each = map_twice (λ t. t.now) transfer_of texts ∙ read; accepted = accepted }
+asks_named true texts named transfers is read accepted = absurd cc

@@ -63,7 +63,7 @@ IsDirectoryUid uid text is_new = ⊥
 pub record AsksFor (all : Bool) (texts : List (List ℕ)) (transfers : List Transfer) : Type 0 where
   pub named : List Transfer
   pub each : map transfer_of texts ≡ map Some named
-  pub taken : transfers ≡ (if all then encapsulated_transfers else named)
+  pub accepted : transfers ≡ (if all then encapsulated_transfers else named)
 
 -- the settings of `serve` are those of its arguments
 pub record IsServed (serve : Serve) (a : ServeArguments) : Type 0 where

@@ -61,13 +61,13 @@ with_rules app [] = app
 with_rules app (rule ∷ rules) = with_rules (with_rule app rule) rules
 
 -- `serve` and `replay`: which storage classes and transfer syntaxes are accepted in addition to those of the dictionary
-abbrev pub taking_rules : List Rule
-taking_rules = flag_rule (codes "all-storage") ∷ repeated (codes "storage-class") ∷ flag_rule (codes "all-syntaxes") ∷ repeated (codes "transfer-syntax") ∷ []
+abbrev pub accepting_rules : List Rule
+accepting_rules = flag_rule (codes "all-storage") ∷ repeated (codes "storage-class") ∷ flag_rule (codes "all-syntaxes") ∷ repeated (codes "transfer-syntax") ∷ []
 
 abbrev pub replay_app : App
 replay_app = with_rules (with_rules (new_app (codes "replay"))
     (positional (codes "FILE") ∷ needed (codes "out") ∷ defaulted (codes "ae") (codes "DCMBOX") ∷ optional (codes "cut") (codes "4096") ∷ free (codes "per") ∷ []))
-    taking_rules
+    accepting_rules
 
 -- `serve`: addresses and titles, timeouts and limits, logging, how files are kept, and of which classes
 abbrev pub listening_app : App
@@ -93,7 +93,7 @@ filing_app = with_rules logging_app
 -- `serve`, with how many connections are served at once, how long, and how serving ends
 abbrev pub serve_app : App
 serve_app = with_rules (with_rules filing_app (optional (codes "at-once") (codes "1") ∷ free (codes "per-peer") ∷ free (codes "longest")
-    ∷ free (codes "stop-file") ∷ optional (codes "grace") (codes "10") ∷ free (codes "metrics") ∷ [])) taking_rules
+    ∷ free (codes "stop-file") ∷ optional (codes "grace") (codes "10") ∷ free (codes "metrics") ∷ [])) accepting_rules
 
 -- a command with one file as its argument
 abbrev pub file_app : Text → App

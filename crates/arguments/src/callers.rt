@@ -84,9 +84,9 @@ fn listed_titles(alloc: Global, file: TitleFile) -> Result<Vec<AeTitle>, WordsEr
     let found = lines_of(alloc, file.text)?;
     let lines = found.as_slice();
     let mut titles = Vec::new(alloc);
-    for place in 0..lines.len() {
-        if is_title_line(lines[place]) {
-            let title = line_title(alloc, file.path, place + 1, lines[place])?;
+    for index in 0..lines.len() {
+        if is_title_line(lines[index]) {
+            let title = line_title(alloc, file.path, index + 1, lines[index])?;
             if titles.len() >= MOST_CALLERS {
                 return Err(too_many_titles(alloc));
             }

@@ -12,7 +12,7 @@ use crate::callers::{called_of, callers_of};
 use crate::options::{FolderLayout, Index, LogForm, Per, Replay, Serve};
 use crate::quarantine::quarantine_of;
 use crate::service_options::service_of;
-use crate::transfers::taking_transfers;
+use crate::transfers::accepting_transfers;
 use crate::values::{
     IndexArguments, MOST_ADDRESSES, MOST_SYNTAXES, MOST_VALUES, ReplayArguments, ServeArguments,
 };
@@ -117,8 +117,8 @@ fn with_storage(
     ensures transfers { IfOk result (λ c. AsksFor all_syntaxes (map (λ t. t.now) syntaxes.now.items) (settings_of c).additional.transfers) }
 {
     let uids = classes_of(alloc, classes)?;
-    let taking = config.with_storage(all_storage, uids.as_slice());
-    taking_transfers(alloc, taking, all_syntaxes, syntaxes)
+    let accepting = config.with_storage(all_storage, uids.as_slice());
+    accepting_transfers(alloc, accepting, all_syntaxes, syntaxes)
 }
 
 /// Returns the settings of `replay` from its arguments.

@@ -61,7 +61,7 @@ fn transfers_of(
 
 /// Returns the settings with transfer syntaxes added: with `all`, every one in which Pixel Data may
 /// be encapsulated, else those that are named.
-pub(crate) fn taking_transfers(
+pub(crate) fn accepting_transfers(
     alloc: Global,
     config: Config,
     all: bool,

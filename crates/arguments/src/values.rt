@@ -167,8 +167,8 @@ fn texts_of<'a>(matches: &ArgMatches<'a>, ids: &[&str]) -> Option<Texts<'a>>
     ensures none { IfNone result (have_values (rows_of (found_of matches.now)) (map (λ id. id.now) ids.now) ≡ false) }
 {
     let mut found = Texts([""; 10]);
-    for place in 0..ids.len() {
-        found.0[place] = matches.get_str(ids[place])?;
+    for index in 0..ids.len() {
+        found.0[index] = matches.get_str(ids[index])?;
     }
     Some(found)
 }

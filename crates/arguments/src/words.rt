@@ -111,13 +111,13 @@ fn job_of<'a>(
 
 /// Reads the arguments of the command line; the first is the program's name.
 ///
-/// `taken`: if the arguments are accepted, they have none of the faults of clap's definition of a
+/// `accepted`: if the arguments are accepted, they have none of the faults of clap's definition of a
 /// simple command, such as a repeated option.
 ///
 /// `named`: the subcommand, the values and the flags are those of clap's definition of a simple
 /// command for these arguments.
 pub fn read_words<'a>(alloc: Global, words: &'a [&'a str]) -> Result<Job<'a>, WordsError>
-    ensures taken { IsOk result → fault_of the_command (map (λ w. w.now) words.entry.now) ≡ [] }
+    ensures accepted { IsOk result → fault_of the_command (map (λ w. w.now) words.entry.now) ≡ [] }
     ensures named { IfOk result (λ job. Names job (subcommand_of the_command (map (λ w. w.now) words.entry.now))) }
 {
     let command = command(alloc)?;

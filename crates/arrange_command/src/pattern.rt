@@ -147,7 +147,7 @@ fn parts_of<'a>(alloc: Global, pattern: &'a [u8]) -> Result<Vec<Part<'a>>, Words
 {
     let mut parts = Vec::new(alloc);
     let mut rest = pattern;
-    for taken in 0..pattern.len() {
+    for consumed in 0..pattern.len() {
         if rest.is_empty() {
             break;
         }

@@ -13,7 +13,7 @@ use crate::planned::PlannedPaths;
 use crate::tree_calls::TreeCalls;
 use failures::{Failure, ProgramError};
 use inspection::{JsonPath, OutputForm, PathText};
-use keyed_files::{FoundFile, TREE_DRAFT, Taking};
+use keyed_files::{Consumer, FoundFile, TREE_DRAFT};
 use std::alloc::Allocator;
 use std::fs;
 use std::io::{self, ErrorKind, Write};
@@ -265,11 +265,11 @@ where
     }
 }
 
-impl<R: Files + Alloc, O: Write> Taking for Placer<'_, R, O>
+impl<R: Files + Alloc, O: Write> Consumer for Placer<'_, R, O>
 where
     R::A: Copy,
 {
-    ghost took = { λ old path keys new. ⊤ };
+    ghost consumed = { λ old path keys new. ⊤ };
 
     fn take(&mut self, file: FoundFile<'_>) -> Result<(), ProgramError> {
         self.place(file)

@@ -55,7 +55,7 @@ const CUTS: [(usize, Cause<'static>); 6] = [
 const TRUNCATED: &[u8] = b"fault 20 Truncated";
 
 /// Returns the settings of a receiver that also accepts these transfer syntaxes.
-fn taking(transfers: &[Transfer]) -> Config {
+fn accepting(transfers: &[Transfer]) -> Config {
     if transfers.len() <= 24 {
         config().with_transfers(transfers)
     } else {
@@ -95,7 +95,7 @@ fn outcome(
 fn arrives(alloc: Global, row: &Row, transfer: Transfer) -> bool {
     let stream = row.stream.as_slice();
     for cut in 0..stream.len() {
-        let config = taking(&[Transfer::RleLossless, transfer]);
+        let config = accepting(&[Transfer::RleLossless, transfer]);
         let (report, wire, filing) = outcome(alloc, &config, stream, cut);
         if report.standing != Standing::Open
             || after_first(wire.sent()) != row.answer.as_slice()
@@ -161,7 +161,7 @@ fn result_in(accept: &[u8]) -> &[u8] {
 }
 
 #[test]
-fn it_is_refused_where_it_is_not_taken(rt: HostRuntime) -> Result<(), Fail> {
+fn it_is_refused_where_it_is_not_accepted(rt: HostRuntime) -> Result<(), Fail> {
     let set = joined(rt.alloc(), &[&CT_SET, FRAME])?;
     let row = row(rt.alloc(), set.as_slice(), status::SUCCESS)?;
     let stream = row.stream.as_slice();
@@ -170,12 +170,12 @@ fn it_is_refused_where_it_is_not_taken(rt: HostRuntime) -> Result<(), Fail> {
         &[] as &[Transfer],
         &[Transfer::JpegLossless, Transfer::Htj2k],
     ] {
-        let (_, wire, filing) = outcome(rt.alloc(), &taking(transfers), stream, asked);
+        let (_, wire, filing) = outcome(rt.alloc(), &accepting(transfers), stream, asked);
         assert!(rt; result_in(wire.sent()) == [4].as_slice());
         assert!(rt; filing.files().is_empty());
     }
-    let taken = taking(&[Transfer::JpegLosslessSv1]);
-    let (_, wire, _) = outcome(rt.alloc(), &taken, stream, asked);
+    let config = accepting(&[Transfer::JpegLosslessSv1]);
+    let (_, wire, _) = outcome(rt.alloc(), &config, stream, asked);
     assert!(rt; result_in(wire.sent()) == [0].as_slice());
     Ok(())
 }

@@ -233,7 +233,7 @@ fn reply_in_pairs(alloc: Global) -> Result<Vec<u8>, AllocError> {
 }
 
 #[test]
-fn a_peer_that_takes_eight_bytes(rt: HostRuntime) -> Result<(), AllocError> {
+fn a_peer_that_accepts_eight_bytes(rt: HostRuntime) -> Result<(), AllocError> {
     let reply = reply_in_pairs(rt.alloc())?;
     assert!(rt; reply.len() == 39 * 14);
     let parts = [front(REQUEST, 157), &[0, 0, 0, 8], back(REQUEST, 161), ECHO];

@@ -42,16 +42,16 @@ impl<'a> Case<'a> {
     }
 
     /// Returns the field at this index, counted from 0.
-    pub fn field(&self, place: usize) -> Result<&'a str, Fail> {
-        match self.fields.split('|').nth(place) {
+    pub fn field(&self, index: usize) -> Result<&'a str, Fail> {
+        match self.fields.split('|').nth(index) {
             Some(field) => Ok(field.trim()),
             None => Err(self.fails("has too few fields")),
         }
     }
 
     /// Fails with the name of the test case unless the field at this index is `found`.
-    pub fn expect(&self, place: usize, found: &str) -> Result<(), Fail> {
-        if self.field(place)? == found {
+    pub fn expect(&self, index: usize, found: &str) -> Result<(), Fail> {
+        if self.field(index)? == found {
             return Ok(());
         }
         Err(self.fails(found))

@@ -74,9 +74,9 @@ impl<'a> Parts<'a> {
     }
 
     /// Returns the bytes of the field at this index.
-    pub fn bytes(&self, case: &Case, place: usize) -> Result<Vec<u8>, Fail> {
+    pub fn bytes(&self, case: &Case, index: usize) -> Result<Vec<u8>, Fail> {
         let mut bytes = Vec::new(self.alloc);
-        for (at, text) in case.field(place)?.split('\'').enumerate() {
+        for (at, text) in case.field(index)?.split('\'').enumerate() {
             if at % 2 == 1 {
                 bytes.extend_from_slice(text.as_bytes())?;
                 continue;
@@ -92,8 +92,8 @@ impl<'a> Parts<'a> {
 
     /// Fails with the name of the test case unless `found` equals the bytes of the field at this
     /// index.
-    pub fn expect(&self, case: &Case, place: usize, found: &[u8]) -> Result<(), Fail> {
-        if self.bytes(case, place)?.as_slice() == found {
+    pub fn expect(&self, case: &Case, index: usize, found: &[u8]) -> Result<(), Fail> {
+        if self.bytes(case, index)?.as_slice() == found {
             return Ok(());
         }
         Err(Fail::new(format_args!("{}: {found:?}", case.name)))

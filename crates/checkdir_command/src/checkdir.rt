@@ -12,14 +12,14 @@ use std::io::{Read, Write};
 /// Writes the line of a record: its offset in the file, its type, indented by level, and the path
 /// of its file, if any.
 fn write_record<O: Write>(record: &TreeRecord<'_>, out: &mut O) -> io::Result<()> {
-    let (place, kind) = (record.place(), Printable(record.kind()));
+    let (offset, kind) = (record.offset(), Printable(record.kind()));
     let indent = Indent(usize::from(record.level().saturating_sub(1)));
     match record.file_id() {
         Some(file_id) => {
             let path = PathText(file_id);
-            writeln!(out, "{place:010} {indent}{kind} {path}")
+            writeln!(out, "{offset:010} {indent}{kind} {path}")
         }
-        None => writeln!(out, "{place:010} {indent}{kind}"),
+        None => writeln!(out, "{offset:010} {indent}{kind}"),
     }
 }
 
@@ -34,11 +34,11 @@ fn write_lines<A: Allocator + Copy, O: Write>(tree: &Tree<'_, A>, out: &mut O) -
 
 /// Writes a record as an object; its level counts from 0.
 fn write_object<O: Write>(record: &TreeRecord<'_>, out: &mut O) -> io::Result<()> {
-    let (place, kind) = (record.place(), JsonText::ascii(record.kind()));
+    let (offset, kind) = (record.offset(), JsonText::ascii(record.kind()));
     let level = record.level().saturating_sub(1);
     write!(
         out,
-        "{{\"place\":{place},\"level\":{level},\"type\":{kind},\"file\":"
+        "{{\"place\":{offset},\"level\":{level},\"type\":{kind},\"file\":"
     )?;
     match record.file_id() {
         Some(file_id) => {
@@ -94,8 +94,8 @@ const ROOT_TYPES: [&[u8]; 6] = [
 ];
 
 /// Returns the type of the record at an offset of a directory, or `None` if there is no record.
-fn type_at(bytes: &[u8], place: u64) -> Option<&[u8]> {
-    let first = usize::try_from(place).ok()?.checked_add(ITEM_HEADER)?;
+fn type_at(bytes: &[u8], offset: u64) -> Option<&[u8]> {
+    let first = usize::try_from(offset).ok()?.checked_add(ITEM_HEADER)?;
     Some(unpadded(value_from(bytes, first, RECORD_TYPE)?))
 }
 
@@ -105,13 +105,13 @@ fn report_root_type<E: Write>(bytes: &[u8], fault: DirFault, file: &str, err: &m
     if fault.number != DirFault::WRONG_LEVEL {
         return;
     }
-    if let Some(kind) = type_at(bytes, fault.place) {
+    if let Some(kind) = type_at(bytes, fault.offset) {
         if ROOT_TYPES.iter().any(|other| *other == kind) {
             let (file, kind) = (Printable(file.as_bytes()), Printable(kind));
-            let place = fault.place;
+            let offset = fault.offset;
             let _ = writeln!(
                 err,
-                "dcmbox: {file}: the record at {place} is of type {kind}, which PS3.3 section F.4 has beside PATIENT, and checkdir does not take"
+                "dcmbox: {file}: the record at {offset} is of type {kind}, which PS3.3 section F.4 has beside PATIENT, and checkdir does not take"
             );
         }
     }

@@ -13,8 +13,8 @@ const MARK: u8 = 0;
 struct MarkedArguments<'a>(&'a HostRuntime);
 
 impl Env for MarkedArguments<'_> {
-    fn arg(&self, place: usize, room: &mut [u8]) -> Result<usize, FillError> {
-        let count = self.0.arg(place, room)?;
+    fn arg(&self, index: usize, room: &mut [u8]) -> Result<usize, FillError> {
+        let count = self.0.arg(index, room)?;
         let bytes = &mut room[..count];
         if str::from_utf8(bytes).is_err() {
             for byte in bytes {
@@ -30,8 +30,8 @@ impl Env for MarkedArguments<'_> {
         self.0.var(name, room)
     }
 
-    fn var_at(&self, place: usize, room: &mut [u8]) -> Result<usize, FillError> {
-        self.0.var_at(place, room)
+    fn var_at(&self, index: usize, room: &mut [u8]) -> Result<usize, FillError> {
+        self.0.var_at(index, room)
     }
 }
 
@@ -63,10 +63,10 @@ fn is_file(job: &Job<'_>, word: &str) -> bool {
 /// Returns the index and the text of the first argument that is not UTF-8 and not a file of `show`
 /// or `check`.
 pub(crate) fn refused_word<'a>(owned: &'a [String], job: &Job<'_>) -> Option<(usize, &'a str)> {
-    for (place, word) in owned.iter().enumerate().skip(1) {
+    for (index, word) in owned.iter().enumerate().skip(1) {
         let word = word.as_str();
         if word.as_bytes().contains(&MARK) && !is_file(job, word) {
-            return Some((place, word));
+            return Some((index, word));
         }
     }
     None

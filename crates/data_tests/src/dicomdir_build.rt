@@ -333,10 +333,10 @@ fn several_images_are_written(rt: HostRuntime) -> Result<(), Fail> {
 }
 
 /// Returns whether the directory is rejected with this fault at this offset.
-fn is_refused(alloc: Global, file: &[u8], number: u8, place: u64) -> bool {
+fn is_refused(alloc: Global, file: &[u8], number: u8, offset: u64) -> bool {
     match check(alloc, file) {
         Ok(_) => false,
-        Err(fault) => fault.number == number && fault.place == place,
+        Err(fault) => fault.number == number && fault.offset == offset,
     }
 }
 

@@ -33,7 +33,7 @@ const UNDEFINED: [&[u8]; 20] = [
 fn refusal(rt: HostRuntime, file: &[u8]) -> (u8, u64) {
     match check(rt.alloc(), file) {
         Ok(_) => (0, 0),
-        Err(fault) => (fault.number, fault.place),
+        Err(fault) => (fault.number, fault.offset),
     }
 }
 

@@ -40,7 +40,7 @@ fn each_fault_is_printed(rt: HostRuntime) -> Result<(), Fail> {
     for (number, printed) in FAULTS {
         let fault = DirFault {
             number,
-            place: 626,
+            offset: 626,
             tag: Tag(0x0008, 0x0060),
         };
         let text = format!(in rt.alloc(); "{fault}")?;

@@ -49,7 +49,7 @@ fn value_if(is_due: bool) -> Ending {
 fn received_of_fault(fault: DirFault) -> Ending {
     let due = DirFault {
         number: 67,
-        place: 0,
+        offset: 0,
         tag: Tag(0, 0),
     };
     if fault == due {

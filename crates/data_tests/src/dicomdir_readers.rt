@@ -76,8 +76,8 @@ fn fails_at(rt: HostRuntime, file: &[u8], most: usize, fails_at: usize) -> bool 
 fn slow_and_failing_readers(rt: HostRuntime) -> Result<(), Fail> {
     let file = image(rt.alloc(), Syntax::Explicit)?;
     for most in [1usize, 7, 4096] {
-        for place in 0..file.len().saturating_add(2) {
-            assert!(rt; fails_at(rt, file.as_slice(), most, place));
+        for offset in 0..file.len().saturating_add(2) {
+            assert!(rt; fails_at(rt, file.as_slice(), most, offset));
         }
     }
     Ok(())
@@ -85,7 +85,7 @@ fn slow_and_failing_readers(rt: HostRuntime) -> Result<(), Fail> {
 
 /// A file without a row needs no memory: the first allocation would be refused.
 #[test]
-fn a_file_without_a_row_takes_no_memory(rt: HostRuntime) -> Result<(), Fail> {
+fn a_file_without_a_row_costs_no_memory(rt: HostRuntime) -> Result<(), Fail> {
     let mut file = image(rt.alloc(), Syntax::Explicit)?;
     file.truncate(file.len().saturating_sub(1));
     let refusing = Refusing::new(rt.alloc(), 0);

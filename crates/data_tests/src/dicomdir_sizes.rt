@@ -91,7 +91,7 @@ const SIZE: u32 = 1672;
 fn is_held_to(built: Result<Built<'_, Global>, DirFault>, most: u32) -> bool {
     let due = DirFault {
         number: 66,
-        place: 0,
+        offset: 0,
         tag: Tag(0, 0),
     };
     match built {

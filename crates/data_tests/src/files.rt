@@ -52,8 +52,8 @@ pub(crate) const ONE_IMAGE: [Record<'static>; 4] = [
 pub(crate) type Record<'a> = (u64, u8, &'a [u8]);
 
 fn is_record(record: &TreeRecord, wanted: &Record) -> bool {
-    let (place, level, kind) = *wanted;
-    record.place() == place && record.level() == level && record.kind() == kind
+    let (offset, level, kind) = *wanted;
+    record.offset() == offset && record.level() == level && record.kind() == kind
 }
 
 /// Returns whether the tree has these records.

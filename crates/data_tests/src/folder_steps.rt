@@ -42,8 +42,8 @@ struct Opened {
 }
 
 /// Returns the text between two bars, without a blank at each side.
-fn part(line: &str, place: usize) -> &str {
-    let part = line.split('|').nth(place).unwrap_or("");
+fn part(line: &str, offset: usize) -> &str {
+    let part = line.split('|').nth(offset).unwrap_or("");
     let part = part.strip_prefix(' ').unwrap_or(part);
     part.strip_suffix(' ').unwrap_or(part)
 }
@@ -74,12 +74,12 @@ fn clear(rt: &HostRuntime, path: &str) -> io::Result<()> {
 /// Returns the text of a file: each part after the second bar is a line.
 fn content(rt: &HostRuntime, line: &str) -> io::Result<Vec<u8>> {
     let mut text = Vec::new(rt.alloc());
-    for (place, _) in line.split('|').enumerate() {
-        if place > 2 {
+    for (offset, _) in line.split('|').enumerate() {
+        if offset > 2 {
             text.push(b'\n')?;
         }
-        if place > 1 {
-            text.extend_from_slice(part(line, place).as_bytes())?;
+        if offset > 1 {
+            text.extend_from_slice(part(line, offset).as_bytes())?;
         }
     }
     Ok(text)

@@ -160,7 +160,7 @@ fn fragments_are_checked(rt: HostRuntime) -> Result<(), Fail> {
 }
 
 #[test]
-fn a_syntax_that_is_not_taken_is_named(rt: HostRuntime) -> Result<(), Fail> {
+fn a_syntax_that_is_not_accepted_is_named(rt: HostRuntime) -> Result<(), Fail> {
     let file = file(rt.alloc(), FRAMES)?;
     let syntax = other_syntax_of(file.as_slice(), Syntaxes::Native).ok_or("no syntax")?;
     assert!(rt; syntax.as_bytes() == Transfer::JpegBaseline8Bit.uid());

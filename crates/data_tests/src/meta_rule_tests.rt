@@ -24,16 +24,16 @@ fn header(alloc: Global) -> Result<Vec<u8>, Fail> {
 const DATA: &[u8] = b"\x08\0\x05\0CS\x0a\0ISO_IR 192";
 
 /// Returns the file with `bytes` at an offset.
-fn changed(alloc: Global, file: &[u8], place: usize, bytes: &[u8]) -> Result<Vec<u8>, AllocError> {
-    let rest = back(back(file, place), bytes.len());
-    joined(alloc, &[front(file, place), bytes, rest])
+fn changed(alloc: Global, file: &[u8], offset: usize, bytes: &[u8]) -> Result<Vec<u8>, AllocError> {
+    let rest = back(back(file, offset), bytes.len());
+    joined(alloc, &[front(file, offset), bytes, rest])
 }
 
 /// Returns the rule that the header with `bytes` at an offset breaks, with a data set after it.
-fn broken(alloc: Global, place: usize, bytes: &[u8]) -> Result<Option<MetaRule>, Fail> {
+fn broken(alloc: Global, offset: usize, bytes: &[u8]) -> Result<Option<MetaRule>, Fail> {
     let mut file = header(alloc)?;
     file.extend_from_slice(DATA)?;
-    let file = changed(alloc, file.as_slice(), place, bytes)?;
+    let file = changed(alloc, file.as_slice(), offset, bytes)?;
     Ok(broken_rule_of(file.as_slice()))
 }
 
@@ -103,9 +103,9 @@ fn agrees(file: &[u8]) -> bool {
 
 /// Returns whether, for the header with each of these bytes at an offset and a data set after it, a
 /// rule is found exactly if the header is `BadMeta`.
-fn agrees_with(alloc: Global, header: &[u8], place: usize, bytes: &[u8]) -> Result<bool, Fail> {
+fn agrees_with(alloc: Global, header: &[u8], offset: usize, bytes: &[u8]) -> Result<bool, Fail> {
     for byte in bytes {
-        let mut file = changed(alloc, header, place, &[*byte])?;
+        let mut file = changed(alloc, header, offset, &[*byte])?;
         file.extend_from_slice(DATA)?;
         if !agrees(file.as_slice()) {
             return Ok(false);
@@ -123,9 +123,9 @@ fn rules_are_found_where_headers_are_bad(rt: HostRuntime) -> Result<(), Fail> {
     for end in 0..whole.len() {
         assert!(rt; agrees(front(whole, end)));
     }
-    for (place, byte) in whole.iter().enumerate().skip(128) {
+    for (offset, byte) in whole.iter().enumerate().skip(128) {
         let others = [1, 2, 8, 32, 127, 128].map(|change| *byte ^ change);
-        assert!(rt; agrees_with(alloc, whole, place, &others)?);
+        assert!(rt; agrees_with(alloc, whole, offset, &others)?);
     }
     Ok(())
 }

@@ -91,7 +91,7 @@ fn has_size(files: &[Vec<u8>], count: usize, index: usize, size: usize) -> bool 
 
 /// With memory to spare nothing fails: many files, long ones, and many appends to one.
 #[test]
-fn memory_takes_long_and_many_files(rt: HostRuntime) {
+fn memory_accepts_long_and_many_files(rt: HostRuntime) {
     let mut filing = MemoryFiling::new(rt.alloc());
     for _ in 0..300u16 {
         assert!(rt; is_filed(&mut filing, &[7; 5000]));

@@ -18,8 +18,12 @@ struct Case {
     good: &'static [u8],
 }
 
-fn fault(number: u8, place: u64, tag: Tag) -> Fault {
-    Fault { number, place, tag }
+fn fault(number: u8, offset: u64, tag: Tag) -> Fault {
+    Fault {
+        number,
+        offset,
+        tag,
+    }
 }
 
 const CASES: [Case; 12] = [
@@ -28,7 +32,7 @@ const CASES: [Case; 12] = [
         bad: b"\x08\x00\x60\x00cS\x02\x00CT",
         fault: Fault {
             number: 10,
-            place: 0,
+            offset: 0,
             tag: Tag(0x0008, 0x0060),
         },
         shown: "10 BadVr at 0 tag 0008,0060",
@@ -39,7 +43,7 @@ const CASES: [Case; 12] = [
         bad: b"\x08\x00\x60\x00CS\x03\x00CT ",
         fault: Fault {
             number: 11,
-            place: 0,
+            offset: 0,
             tag: Tag(0x0008, 0x0060),
         },
         shown: "11 OddLength at 0 tag 0008,0060",
@@ -50,7 +54,7 @@ const CASES: [Case; 12] = [
         bad: b"\x08\x00\x60\x00CS\x02\x00CT\x08\x00\x60\x00CS\x02\x00CT",
         fault: Fault {
             number: 12,
-            place: 10,
+            offset: 10,
             tag: Tag(0x0008, 0x0060),
         },
         shown: "12 Order at 10 tag 0008,0060",
@@ -61,7 +65,7 @@ const CASES: [Case; 12] = [
         bad: b"\x02\x00\x10\x00UI\x00\x00",
         fault: Fault {
             number: 13,
-            place: 0,
+            offset: 0,
             tag: Tag(0x0002, 0x0010),
         },
         shown: "13 BadGroup at 0 tag 0002,0010",
@@ -72,7 +76,7 @@ const CASES: [Case; 12] = [
         bad: b"\xe0\x7f\x10\x00OB\x00\x00\xff\xff\xff\xff",
         fault: Fault {
             number: 14,
-            place: 0,
+            offset: 0,
             tag: Tag(0x7fe0, 0x0010),
         },
         shown: "14 UndefinedLength at 0 tag 7fe0,0010",
@@ -83,7 +87,7 @@ const CASES: [Case; 12] = [
         bad: b"\xfe\xff\x00\xe0\x00\x00\x00\x00",
         fault: Fault {
             number: 15,
-            place: 0,
+            offset: 0,
             tag: Tag(0xfffe, 0xe000),
         },
         shown: "15 UnexpectedTag at 0 tag fffe,e000",
@@ -94,7 +98,7 @@ const CASES: [Case; 12] = [
         bad: b"\x08\x00\x40\x11SQ\x00\x00\xff\xff\xff\xff\xfe\xff\xdd\xe0\x02\x00\x00\x00",
         fault: Fault {
             number: 16,
-            place: 12,
+            offset: 12,
             tag: Tag(0xfffe, 0xe0dd),
         },
         shown: "16 DelimiterLength at 12 tag fffe,e0dd",
@@ -105,7 +109,7 @@ const CASES: [Case; 12] = [
         bad: b"\x08\x00\x40\x11SQ\x00\x00\x10\x00\x00\x00\xfe\xff\x00\xe0\x0a\x00\x00\x00",
         fault: Fault {
             number: 17,
-            place: 12,
+            offset: 12,
             tag: Tag(0xfffe, 0xe000),
         },
         shown: "17 Overrun at 12 tag fffe,e000",
@@ -116,7 +120,7 @@ const CASES: [Case; 12] = [
         bad: b"\x08\x00\x40\x11SQ\x00\x00\xff\xff\xff\xff\xfe\xff\x00\xe0\xff\xff\xff\xff\x08\x00\x40\x11SQ\x00\x00\xff\xff\xff\xff",
         fault: Fault {
             number: 18,
-            place: 20,
+            offset: 20,
             tag: Tag(0x0008, 0x1140),
         },
         shown: "18 TooDeep at 20 tag 0008,1140",
@@ -127,7 +131,7 @@ const CASES: [Case; 12] = [
         bad: b"\x08\x00\x60\x00CS\x0a\x00CT",
         fault: Fault {
             number: 19,
-            place: 0,
+            offset: 0,
             tag: Tag(0x0008, 0x0060),
         },
         shown: "19 TooLong at 0 tag 0008,0060",
@@ -138,7 +142,7 @@ const CASES: [Case; 12] = [
         bad: b"\x08\x00\x60\x00CS\x02\x00C",
         fault: Fault {
             number: 20,
-            place: 9,
+            offset: 9,
             tag: Tag(0x0008, 0x0060),
         },
         shown: "20 Truncated at 9 tag 0008,0060",
@@ -149,7 +153,7 @@ const CASES: [Case; 12] = [
         bad: b"\x08\x00\x18\x00UI\x06\x001.2.3\0",
         fault: Fault {
             number: 21,
-            place: 0,
+            offset: 0,
             tag: Tag(0x0008, 0x0018),
         },
         shown: "21 KeptTooLong at 0 tag 0008,0018",
@@ -213,7 +217,7 @@ const SHAPES: [(&[u8], Option<(u8, u64)>); 4] = [
 fn shapes_in_implicit(rt: HostRuntime) {
     for (text, found) in &SHAPES {
         let refused = match found {
-            Some((number, place)) => Some(fault(*number, *place, Tag(0x0008, 0x0060))),
+            Some((number, offset)) => Some(fault(*number, *offset, Tag(0x0008, 0x0060))),
             None => None,
         };
         assert!(rt; ends_at_every_cut(Syntax::Implicit, 1 << 40, text, refused));

@@ -14,8 +14,12 @@ const OPENS: &[u8] = b"\xe0\x7f\x10\x00OB\x00\x00\xff\xff\xff\xff";
 /// The delimitation of its fragments.
 const CLOSES: &[u8] = b"\xfe\xff\xdd\xe0\x00\x00\x00\x00";
 
-fn fault(number: u8, place: u64, tag: Tag) -> Fault {
-    Fault { number, place, tag }
+fn fault(number: u8, offset: u64, tag: Tag) -> Fault {
+    Fault {
+        number,
+        offset,
+        tag,
+    }
 }
 
 /// Appends a fragment of this length, with bytes that look like a delimitation.
@@ -115,22 +119,22 @@ fn is_pixel_data(step: &Step) -> bool {
 #[test]
 fn steps_along_a_frame(rt: HostRuntime) {
     let mut w = new_walker();
-    let (taken, step) = w.step(FRAME);
-    assert!(rt; taken == 12 && is_pixel_data(&step) && w.levels() == 1);
-    let (taken, step) = w.step(&FRAME[12..]);
-    assert!(rt; taken == 8 && opens(&step, 0) && w.levels() == 1 && w.held() == 16);
-    let (taken, step) = w.step(&FRAME[20..]);
-    assert!(rt; taken == 8 && opens(&step, 4) && w.levels() == 1);
-    let (taken, step) = w.step(&FRAME[28..29]);
-    assert!(rt; taken == 1 && lends(&step, b"a"));
-    let (taken, step) = w.step(&FRAME[29..]);
-    assert!(rt; taken == 3 && lends(&step, b"bcd") && w.levels() == 1);
-    let (taken, step) = w.step(&FRAME[32..]);
-    assert!(rt; taken == 8 && opens(&step, 2));
-    let (taken, step) = w.step(&FRAME[40..]);
-    assert!(rt; taken == 2 && lends(&step, b"ef") && w.levels() == 1);
-    let (taken, step) = w.step(&FRAME[42..]);
-    assert!(rt; taken == 8 && closes(&step) && w.levels() == 0 && w.finish().is_ok());
+    let (consumed, step) = w.step(FRAME);
+    assert!(rt; consumed == 12 && is_pixel_data(&step) && w.levels() == 1);
+    let (consumed, step) = w.step(&FRAME[12..]);
+    assert!(rt; consumed == 8 && opens(&step, 0) && w.levels() == 1 && w.held() == 16);
+    let (consumed, step) = w.step(&FRAME[20..]);
+    assert!(rt; consumed == 8 && opens(&step, 4) && w.levels() == 1);
+    let (consumed, step) = w.step(&FRAME[28..29]);
+    assert!(rt; consumed == 1 && lends(&step, b"a"));
+    let (consumed, step) = w.step(&FRAME[29..]);
+    assert!(rt; consumed == 3 && lends(&step, b"bcd") && w.levels() == 1);
+    let (consumed, step) = w.step(&FRAME[32..]);
+    assert!(rt; consumed == 8 && opens(&step, 2));
+    let (consumed, step) = w.step(&FRAME[40..]);
+    assert!(rt; consumed == 2 && lends(&step, b"ef") && w.levels() == 1);
+    let (consumed, step) = w.step(&FRAME[42..]);
+    assert!(rt; consumed == 8 && closes(&step) && w.levels() == 0 && w.finish().is_ok());
 }
 
 /// Texts after the header of Pixel Data, each with its fault.
@@ -155,10 +159,10 @@ const REFUSED: [(&[u8], (u8, u64, Tag)); 8] = [
 
 #[test]
 fn what_no_fragment_is(rt: HostRuntime) {
-    for (text, (number, place, tag)) in &REFUSED {
+    for (text, (number, offset, tag)) in &REFUSED {
         let mut whole = Vec::from_slice(rt.alloc(), OPENS).expect(&rt, "a text");
         whole.extend_from_slice(text).expect(&rt, "a text");
-        let refused = fault(*number, *place, *tag);
+        let refused = fault(*number, *offset, *tag);
         for cut in 0..whole.len() + 2 {
             let mut w = new_walker();
             take_cut(&mut w, whole.as_slice(), cut);
@@ -181,7 +185,7 @@ fn no_other_element_has_fragments(rt: HostRuntime) {
         let mut w = new_walker();
         take(&mut w, text);
         assert!(rt;
-            matches!(w.finish(), Err(found) if found.number == Fault::UNDEFINED_NOT_ALLOWED && found.place == 0)
+            matches!(w.finish(), Err(found) if found.number == Fault::UNDEFINED_NOT_ALLOWED && found.offset == 0)
         );
     }
     let mut w: Walker<140, 3> = Walker::new(Syntax::Explicit, Wanted::none(), 1 << 40);
@@ -223,5 +227,5 @@ fn past_the_limit(rt: HostRuntime) {
 fn native_pixels(rt: HostRuntime) {
     let mut w = new_walker();
     take(&mut w, b"\xe0\x7f\x10\x00OB\x00\x00\x02\x00\x00\x00ab");
-    assert!(rt; w.finish().is_ok() && w.place() == 14);
+    assert!(rt; w.finish().is_ok() && w.offset() == 14);
 }

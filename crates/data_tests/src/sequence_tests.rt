@@ -5,8 +5,12 @@ use element::{Header, Syntax, Tag, Vr};
 use fixtures::bytes::within;
 use sequence::{Fault, Step, Walker, Want, Wanted};
 
-fn fault(number: u8, place: u64, tag: Tag) -> Fault {
-    Fault { number, place, tag }
+fn fault(number: u8, offset: u64, tag: Tag) -> Fault {
+    Fault {
+        number,
+        offset,
+        tag,
+    }
 }
 
 const TWO_OPEN_LEVELS: [u8; 19] = [
@@ -88,13 +92,13 @@ fn is_same(step: &Step, other: &Step) -> bool {
 
 /// The start and end of a chunk in a text; how many bytes a step consumes, what it reports, and how
 /// many levels are then open.
-type Taking<'a> = (usize, usize, usize, Step<'a>, usize);
+type Call<'a> = (usize, usize, usize, Step<'a>, usize);
 
 /// Returns whether the steps consume and report this.
-fn steps<const D: usize>(walker: &mut Walker<140, D>, text: &[u8], rows: &[Taking]) -> bool {
+fn steps<const D: usize>(walker: &mut Walker<140, D>, text: &[u8], rows: &[Call]) -> bool {
     for (from, to, size, report, levels) in rows {
-        let (taken, step) = walker.step(within(text, *from, *to));
-        if taken != *size || !is_same(&step, report) || walker.levels() != *levels {
+        let (consumed, step) = walker.step(within(text, *from, *to));
+        if consumed != *size || !is_same(&step, report) || walker.levels() != *levels {
             return false;
         }
     }
@@ -114,7 +118,7 @@ fn header(tag: Tag, length: u32) -> Header {
 fn steps_along_four_levels(rt: HostRuntime) {
     let mut w = new_walker(Syntax::Implicit);
     let item = Tag(0xfffe, 0xe000);
-    let rows: [Taking; 8] = [
+    let rows: [Call; 8] = [
         (
             0,
             60,
@@ -152,10 +156,10 @@ fn is_refused_at(cut: usize, refused: Fault) -> bool {
 }
 
 /// Returns whether a walk at the limit of levels is accepted.
-fn is_taken_at(cut: usize) -> bool {
+fn is_accepted_at(cut: usize) -> bool {
     let mut w = new_shallow_walker(Syntax::Implicit);
     take_cut(&mut w, &DEEP_ENOUGH, cut);
-    w.levels() == 2 && w.place() == 24
+    w.levels() == 2 && w.offset() == 24
 }
 
 #[test]
@@ -164,7 +168,7 @@ fn deeper_than_the_limit(rt: HostRuntime) {
         assert!(rt; is_refused_at(cut, fault(18, 16, Tag(0x40, 0xa730))));
     }
     for cut in 0..DEEP_ENOUGH.len() + 2 {
-        assert!(rt; is_taken_at(cut));
+        assert!(rt; is_accepted_at(cut));
     }
 }
 
@@ -184,8 +188,8 @@ const ANNOUNCED: [u8; 12] = [
 /// with nothing buffered.
 fn announces(limit: u64, report: &Step, refused: Fault) -> bool {
     let mut w: Walker<140, 64> = Walker::new(Syntax::Explicit, Wanted::none(), limit.min(1 << 40));
-    let (taken, step) = w.step(&ANNOUNCED);
-    taken == 12 && is_same(&step, report) && is_at(&w, (0, 12, 0, Some(refused)))
+    let (consumed, step) = w.step(&ANNOUNCED);
+    consumed == 12 && is_same(&step, report) && is_at(&w, (0, 12, 0, Some(refused)))
 }
 
 #[test]
@@ -230,7 +234,7 @@ fn store_steps(cut: usize) -> (u32, u32, bool) {
 
 fn is_store(w: &Walker<140, 64>) -> bool {
     w.held() == 32
-        && w.place() == 48
+        && w.offset() == 48
         && w.finish().is_ok()
         && w.kept(Tag(0x0008, 0x0016)) == Some(&b"1.2.840.10008.5.1.4.1.1.2\0"[..])
         && w.kept(Tag(0x0008, 0x0018)) == Some(&b"1.2.3\0"[..])
@@ -272,7 +276,7 @@ fn steps_along_one_ct_store(rt: HostRuntime) {
     let mut w = new_walker(Syntax::Explicit);
     let class = uid_header(Tag(0x0008, 0x0016), 26);
     let instance = uid_header(Tag(0x0008, 0x0018), 6);
-    let rows: [Taking; 7] = [
+    let rows: [Call; 7] = [
         (0, 48, 8, Step::Element(class), 0),
         (8, 48, 26, Step::Run(b"1.2.840.10008.5.1.4.1.1.2\0"), 0),
         (34, 40, 6, Step::More, 0),

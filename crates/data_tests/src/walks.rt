@@ -11,8 +11,8 @@ pub(crate) fn take<const D: usize>(walker: &mut Walker<140, D>, piece: &[u8]) ->
         if rest.is_empty() {
             break;
         }
-        let (taken, _step) = walker.step(rest);
-        rest = &rest[taken..];
+        let (consumed, _step) = walker.step(rest);
+        rest = &rest[consumed..];
         steps = steps.saturating_add(1);
     }
     steps
@@ -45,7 +45,7 @@ pub(crate) type End = (usize, u64, usize, Option<Fault>);
 
 pub(crate) fn end<const D: usize>(walker: &Walker<140, D>) -> End {
     let fault = walker.finish().err();
-    (walker.levels(), walker.place(), walker.held(), fault)
+    (walker.levels(), walker.offset(), walker.held(), fault)
 }
 
 /// Returns whether the walk has this end.

@@ -1,5 +1,5 @@
--- Places that are distinct in two lists put together are so in each, and in one alone (`split_distinct`); tests of one place
--- among some (`not_place`, `same_one`, `same_out`). Stands on the definitions alone.
+-- Offsets that are distinct in two lists put together are so in each, and in one alone (`split_distinct`); tests of one offset
+-- among some (`not_offset`, `same_one`, `same_out`). Stands on the definitions alone.
 use Rattle.std.proofs.Common.{◌≡◌, ℕ, Bool, true, false, not, ◌||◌, List, [], ◌∷◌, ◌++◌, refl, sym, ◌∙◌, arith, eqb-true, nat_eq}
 use Rattle.std.proofs.lemmas.Bool.{and_parts, and_from, or_parts, not-true}
 use Rattle.std.proofs.lemmas.Bool.Decides.{nat_tests}
@@ -19,11 +19,11 @@ split_distinct (x ∷ xs) ys e =
     let first : not (is_one_of x xs) ≡ true = rw each.0 refl in
     (and_from (not (is_one_of x xs)) (is_distinct xs) first rest.0, rest.1, λ p h. one_of_cons p x xs ys each.1 (rest.2 p) h)
 
-pub same_place : (x : ℕ) → nat_eq x x ≡ true
-same_place x = grind (arith, nat_tests)
+pub same_offset : (x : ℕ) → nat_eq x x ≡ true
+same_offset x = grind (arith, nat_tests)
 
-pub not_place : (p x : ℕ) (xs : List ℕ) → is_one_of x xs ≡ false → is_one_of p xs ≡ true → nat_eq p x ≡ false
-not_place p x xs none h = grind (arith, nat_tests)
+pub not_offset : (p x : ℕ) (xs : List ℕ) → is_one_of x xs ≡ false → is_one_of p xs ≡ true → nat_eq p x ≡ false
+not_offset p x xs none h = grind (arith, nat_tests)
 
 pub clash : (b : Bool) → b ≡ true → b ≡ false → ⊥
 clash v1 e f = grind (arith, nat_tests)

@@ -30,10 +30,10 @@ ended_drop : {mark : Tag} {n : ℕ} {b c : List ℕ} (rest text : List ℕ) → 
 ended_drop rest text other (counted {b = b} n defined even size) whole = dropped n b rest text size whole
 ended_drop rest text other (delimited) whole = absurd (other refl)
 
-pub content_drop : (s : Coding) (h : Header) (place : ℕ) (f : Found) (c rest text : List ℕ) → h.length ≢ undefined_length → IsContent s h place f c → text ≡ c ++ rest
+pub content_drop : (s : Coding) (h : Header) (offset : ℕ) (f : Found) (c rest text : List ℕ) → h.length ≢ undefined_length → IsContent s h offset f c → text ≡ c ++ rest
     → drop h.length text ≡ rest
-content_drop s h place f c rest text other (of_value {v = v} sh val) whole = dropped h.length v rest text val.size whole
-content_drop s h place f c rest text other (of_items native sh items end) whole = ended_drop rest text other end whole
+content_drop s h offset f c rest text other (of_value {v = v} sh val) whole = dropped h.length v rest text val.size whole
+content_drop s h offset f c rest text other (of_items native sh items end) whole = ended_drop rest text other end whole
 
 pub item_drop : (s : Coding) (h : Header) (es : Elements) (c rest text : List ℕ) → h.length ≢ undefined_length → IsItemContent s h es c → text ≡ c ++ rest
     → drop h.length text ≡ rest
@@ -59,10 +59,10 @@ pub record SomeElements (s : Coding) (more text : List ℕ) : Type 0 where
   pub elements : Elements
   pub spelled : ElementsThen s last elements more text
 
-pub content_items : (s inner : Coding) (h : Header) (place : ℕ) (f : Found) (c rest text : List ℕ) → h.length ≡ undefined_length → shape s h ≡ Sequence inner → IsContent s h place f c
+pub content_items : (s inner : Coding) (h : Header) (offset : ℕ) (f : Found) (c rest text : List ℕ) → h.length ≡ undefined_length → shape s h ≡ Sequence inner → IsContent s h offset f c
     → text ≡ c ++ rest → SomeItems inner (delimitation sequence_end_tag ++ rest) text
-content_items s inner h place f c rest text unsized is (of_value sh val) whole = absurd (odd h.length val.even unsized)
-content_items s inner h place f c rest text unsized is (of_items {inner = other} {is = items} {b = b} native sh list end) whole = grind (arith, common_steps, delimited_text rest text end unsized whole)
+content_items s inner h offset f c rest text unsized is (of_value sh val) whole = absurd (odd h.length val.even unsized)
+content_items s inner h offset f c rest text unsized is (of_items {inner = other} {is = items} {b = b} native sh list end) whole = grind (arith, common_steps, delimited_text rest text end unsized whole)
 
 pub item_elements : (s : Coding) (h : Header) (es : Elements) (c rest text : List ℕ) → h.length ≡ undefined_length → IsItemContent s h es c → text ≡ c ++ rest
     → ElementsThen s 0 es (delimitation item_end_tag ++ rest) text
@@ -72,7 +72,7 @@ item_elements s h es c rest text unsized (of_elements {b = b} native elements en
 
 pub next_elements : (s : Coding) (head : Head) (rest after text : List ℕ) → SomeElements s (delimitation item_end_tag ++ rest) text → head_at s text ≡ Some head
     → is_marker head.header.tag ≡ false
-    → ((place : ℕ) (f : Found) (c more : List ℕ) → IsContent s head.header place f c → drop head.size text ≡ c ++ more → after ≡ more)
+    → ((offset : ℕ) (f : Found) (c more : List ℕ) → IsContent s head.header offset f c → drop head.size text ≡ c ++ more → after ≡ more)
     → SomeElements s (delimitation item_end_tag ++ rest) after
 next_elements s head rest after text some read plain passes =
     let f = element_here head (end_after rest) some.spelled read plain in
@@ -129,26 +129,26 @@ ended_content {mark = mark} h more text (delimited {b = b}) same whole =
 pub item_content : (s : Coding) (h : Header) (es : Elements) (c more text : List ℕ) → IsItemContent s h es c → text ≡ c ++ more → HasElements s es (content_at h text)
 item_content s h es c more text (of_elements {b = b} native elements end) whole = grind (arith, common_steps, ended_content h more text end refl whole)
 
-pub finds_items : (s inner : Coding) (h : Header) (place size : ℕ) (f : Found) (c more text there : List ℕ) → size ≡ header_size h → shape s h ≡ Sequence inner → IsContent s h place f c
-    → text ≡ c ++ more → there ≡ content_at h text → FindsItems place (place + size) inner there f
-finds_items s inner h place size f c more text there sized is (of_value sh val) whole at = absurd cc
-finds_items s inner h place size f c more text there sized is (of_items {inner = other} {is = items} {b = b} native sh list end) whole at = grind (arith, common_steps, ended_content h more text end refl whole)
+pub finds_items : (s inner : Coding) (h : Header) (offset size : ℕ) (f : Found) (c more text there : List ℕ) → size ≡ header_size h → shape s h ≡ Sequence inner → IsContent s h offset f c
+    → text ≡ c ++ more → there ≡ content_at h text → FindsItems offset (offset + size) inner there f
+finds_items s inner h offset size f c more text there sized is (of_value sh val) whole at = absurd cc
+finds_items s inner h offset size f c more text there sized is (of_items {inner = other} {is = items} {b = b} native sh list end) whole at = grind (arith, common_steps, ended_content h more text end refl whole)
 
 pub no_sequence : (s : Coding) (h : Header) (r : Shape) → (r ≡ Value) ⊎ (r ≡ NotAllowed) → r ≡ shape s h → (inner : Coding) → shape s h ≡ Sequence inner → ⊥
 no_sequence s h r v4 same inner is = grind (arith, nat_tests)
 
-value_taken : (h : Header) (v more text : List ℕ) → IsValue h.length v → text ≡ v ++ more → content_at h text ≡ v
-value_taken h v more text val whole =
+value_consumed : (h : Header) (v more text : List ℕ) → IsValue h.length v → text ≡ v ++ more → content_at h text ≡ v
+value_consumed h v more text val whole =
     let defined : is_undefined h.length ≡ false = ne_eqb h.length undefined_length (λ same. odd h.length val.even same) in
     let fits : nat_le h.length (length text) ≡ true = le-leb h.length (length text) (omega (arith, val.size, ap length whole, length-append v more)) in
-    let taken : take h.length text ≡ v = ap (λ n. take n text) (sym val.size) ∙ ap (take (length v)) whole ∙ take-append_seam v more in
-    rw (defined, fits) taken
+    let consumed : take h.length text ≡ v = ap (λ n. take n text) (sym val.size) ∙ ap (take (length v)) whole ∙ take-append_seam v more in
+    rw (defined, fits) consumed
 
 -- where no sequence is, the value
-pub finds_value : (s : Coding) (h : Header) (r : Shape) → (r ≡ Value) ⊎ (r ≡ NotAllowed) → r ≡ shape s h → (place : ℕ) (f : Found) (c more text there : List ℕ) → IsContent s h place f c → text ≡ c ++ more → there ≡ content_at h text
-    → f ≡ value_at place there
-finds_value s h r some same place f c more text there (of_value {v = v} sh val) whole is = ap (value_at place) (sym (is ∙ value_taken h v more text val whole))
-finds_value s h r some same place f c more text there (of_items {inner = inner} native sh items end) whole is = absurd (no_sequence s h r some same inner sh)
+pub finds_value : (s : Coding) (h : Header) (r : Shape) → (r ≡ Value) ⊎ (r ≡ NotAllowed) → r ≡ shape s h → (offset : ℕ) (f : Found) (c more text there : List ℕ) → IsContent s h offset f c → text ≡ c ++ more → there ≡ content_at h text
+    → f ≡ value_at offset there
+finds_value s h r some same offset f c more text there (of_value {v = v} sh val) whole is = ap (value_at offset) (sym (is ∙ value_consumed h v more text val whole))
+finds_value s h r some same offset f c more text there (of_items {inner = inner} native sh items end) whole is = absurd (no_sequence s h r some same inner sh)
 
 -- ---- tags
 
@@ -161,42 +161,42 @@ other_number t u fits low e = grind (arith, nat_tests)
 -- ---- one element after the other
 
 -- what is left to look through: elements among which the tag is found as among all
-pub record RemainingOf (s : Coding) (tag place : ℕ) (es : Elements) (text rest : List ℕ) : Type 0 where
+pub record RemainingOf (s : Coding) (tag offset : ℕ) (es : Elements) (text rest : List ℕ) : Type 0 where
   pub last : ℕ
   pub others : Elements
   pub more : List ℕ
   pub after : IsAfter item_end_tag more
   pub spelled : ElementsThen s last others more rest
-  pub same : found tag place es ≡ found tag (place + (length text - length rest)) others
+  pub same : found tag offset es ≡ found tag (offset + (length text - length rest)) others
 
-pub all_remaining : (s : Coding) (tag place : ℕ) (es : Elements) (text : List ℕ) → HasElements s es text → RemainingOf s tag place es text text
-all_remaining s tag place es text has = grind (arith, common_steps)
+pub all_remaining : (s : Coding) (tag offset : ℕ) (es : Elements) (text : List ℕ) → HasElements s es text → RemainingOf s tag offset es text text
+all_remaining s tag offset es text has = grind (arith, common_steps)
 
-pub remaining_after : (s : Coding) (tag place : ℕ) (es : Elements) (text rest after : List ℕ) (head : Head) → length rest ≤ length text → RemainingOf s tag place es text rest
+pub remaining_after : (s : Coding) (tag offset : ℕ) (es : Elements) (text rest after : List ℕ) (head : Head) → length rest ≤ length text → RemainingOf s tag offset es text rest
     → head_at s rest ≡ Some head → is_marker head.header.tag ≡ false → (IsTag head.header.tag → nat_eq (number head.header.tag) tag ≡ false)
     → ((p : ℕ) (f : Found) (c more : List ℕ) → IsContent s head.header p f c → drop head.size rest ≡ c ++ more → after ≡ more)
-    → RemainingOf s tag place es text after
-remaining_after s tag place es text rest after head fits remaining read plain other passes = grind (arith, common_steps, element_here head remaining.after remaining.spelled read plain)
+    → RemainingOf s tag offset es text after
+remaining_after s tag offset es text rest after head fits remaining read plain other passes = grind (arith, common_steps, element_here head remaining.after remaining.spelled read plain)
 
-none_remaining : (s : Coding) (tag place : ℕ) (es : Elements) (text rest : List ℕ) (remaining : RemainingOf s tag place es text rest) → remaining.others ≡ no_elements → found tag place es ≡ missing
-none_remaining s tag place es text rest remaining none = remaining.same ∙ ap (λ z. found tag (place + (length text - length rest)) z) none
+none_remaining : (s : Coding) (tag offset : ℕ) (es : Elements) (text rest : List ℕ) (remaining : RemainingOf s tag offset es text rest) → remaining.others ≡ no_elements → found tag offset es ≡ missing
+none_remaining s tag offset es text rest remaining none = remaining.same ∙ ap (λ z. found tag (offset + (length text - length rest)) z) none
 
-pub missing_at_mark : (s : Coding) (tag place : ℕ) (es : Elements) (text rest : List ℕ) (head : Head) → RemainingOf s tag place es text rest → head_at s rest ≡ Some head
-    → is_marker head.header.tag ≡ true → found tag place es ≡ missing
-missing_at_mark s tag place es text rest head remaining read marks = none_remaining s tag place es text rest remaining (no_elements_here remaining.spelled (λ other there plain. absurd cc)).0
+pub missing_at_mark : (s : Coding) (tag offset : ℕ) (es : Elements) (text rest : List ℕ) (head : Head) → RemainingOf s tag offset es text rest → head_at s rest ≡ Some head
+    → is_marker head.header.tag ≡ true → found tag offset es ≡ missing
+missing_at_mark s tag offset es text rest head remaining read marks = none_remaining s tag offset es text rest remaining (no_elements_here remaining.spelled (λ other there plain. absurd cc)).0
 
-pub missing_at_end : (s : Coding) (tag place : ℕ) (es : Elements) (text rest : List ℕ) → RemainingOf s tag place es text rest → head_at s rest ≡ None → found tag place es ≡ missing
-missing_at_end s tag place es text rest remaining read = none_remaining s tag place es text rest remaining (no_elements_here remaining.spelled (λ other there plain. absurd cc)).0
+pub missing_at_end : (s : Coding) (tag offset : ℕ) (es : Elements) (text rest : List ℕ) → RemainingOf s tag offset es text rest → head_at s rest ≡ None → found tag offset es ≡ missing
+missing_at_end s tag offset es text rest remaining read = none_remaining s tag offset es text rest remaining (no_elements_here remaining.spelled (λ other there plain. absurd cc)).0
 
 -- the element with the tag: what stands there, and what its header announces
-pub record Stands (s : Coding) (head : Head) (place : ℕ) (text : List ℕ) (f : Found) : Type 0 where
+pub record Stands (s : Coding) (head : Head) (offset : ℕ) (text : List ℕ) (f : Found) : Type 0 where
   pub content : List ℕ
   pub more : List ℕ
   pub size : head.size ≡ header_size head.header
-  pub is : IsContent s head.header place f content
+  pub is : IsContent s head.header offset f content
   pub whole : text ≡ content ++ more
 
-pub stands_here : (s : Coding) (tag place at : ℕ) (es : Elements) (text rest next : List ℕ) (head : Head) → RemainingOf s tag place es text rest → head_at s rest ≡ Some head
-    → is_marker head.header.tag ≡ false → nat_eq (number head.header.tag) tag ≡ true → at ≡ place + (length text - length rest) → next ≡ drop head.size rest
-    → Stands s head at next (found tag place es)
-stands_here s tag place at es text rest next head remaining read plain same at_is next_is = grind (arith, common_steps, element_here head remaining.after remaining.spelled read plain)
+pub stands_here : (s : Coding) (tag offset at : ℕ) (es : Elements) (text rest next : List ℕ) (head : Head) → RemainingOf s tag offset es text rest → head_at s rest ≡ Some head
+    → is_marker head.header.tag ≡ false → nat_eq (number head.header.tag) tag ≡ true → at ≡ offset + (length text - length rest) → next ≡ drop head.size rest
+    → Stands s head at next (found tag offset es)
+stands_here s tag offset at es text rest next head remaining read plain same at_is next_is = grind (arith, common_steps, element_here head remaining.after remaining.spelled read plain)

@@ -8,26 +8,26 @@ use Rattle.std.proofs.lemmas.List.Folds.{list_any-append, list_all-append}
 use Rattle.sequence.specs.Tree.{Elements, no_elements}
 use Rattle.dicomdir.specs.Forest.{Forest, no_nodes, node}
 use Rattle.dicomdir.specs.Directory.{Record, carried_node, lower_offset, next_offset, or_zero, Found, missing, value_at, items_at, found, number_in, header_size, records_at, records_in, first_offset, last_offset, records_of, has_record, has_file_id, Node}
-use Rattle.dicomdir.specs.Linked.{PlacedNode, first_place, is_distinct, record_at, fits, AreLinked, is_one_of, elements_at, nodes_of, places_of, are_records, LinkedElements, IsAllReached}
+use Rattle.dicomdir.specs.Linked.{PlacedNode, first_position, is_distinct, record_at, fits, AreLinked, is_one_of, elements_at, nodes_of, offsets_of, are_records, LinkedElements, IsAllReached}
 use Rattle.dicomdir.specs.Paths.{Links, Turn, named_by, level_of, paths_from, reached_by, paths_of, root_records, last_from}
-use Rattle.dicomdir.proofs.Distinct.{same_place, not_place, split_distinct, clash}
-use Rattle.dicomdir.proofs.NoFault.{places, length_places, no_more, stands_there}
-use Rattle.dicomdir.proofs.PathForests.{forest_from, lower_path, next_path, paths_more, is_good, good_parts, forest_places, forest_last, both_none, are_free, paths_none, path_free}
+use Rattle.dicomdir.proofs.Distinct.{same_offset, not_offset, split_distinct, clash}
+use Rattle.dicomdir.proofs.NoFault.{positions, length_offsets, no_more, stands_there}
+use Rattle.dicomdir.proofs.PathForests.{forest_from, lower_path, next_path, paths_more, is_good, good_parts, forest_offsets, forest_last, both_none, are_free, paths_none, path_free}
 use Rattle.std.proofs.lemmas.Bool.Decides.{nat_tests}
 use Rattle.std.proofs.lemmas.Grind.{common_steps}
 use Rattle.dicomdir.specs.DirFault.{◌or_else◌, offset_fault, records_fault, root_fault, record_fault, each_fault, unreached_fault, first_fault, last_fault, links_of, links_fault, records_then_links, directory_fault, Fault, path_fault}
 use Rattle.dicomdir.specs.Laws.{NoFaultIsLinked, LongerPathsChangeNothing}
 
--- distinct places of records
+-- distinct offsets of records
 pub record IsIn (records : List Record) (reached : List ℕ) : Type 0 where
   pub distinct : is_distinct reached ≡ true
-  pub inside : (p : ℕ) → is_one_of p reached ≡ true → is_one_of p (places records) ≡ true
+  pub inside : (p : ℕ) → is_one_of p reached ≡ true → is_one_of p (positions records) ≡ true
 
-pub one_more_in : (records : List Record) (reached : List ℕ) (offset : ℕ) (es : Elements) → IsIn records reached → record_at offset records ≡ Some es → is_one_of offset reached ≡ false → IsIn records (offset ∷ reached)
-one_more_in records reached offset es inside stands new = grind (arith, common_steps, places records, stands_there offset records es stands)
+pub one_more_in : (records : List Record) (reached : List ℕ) (link : ℕ) (es : Elements) → IsIn records reached → record_at link records ≡ Some es → is_one_of link reached ≡ false → IsIn records (link ∷ reached)
+one_more_in records reached link es inside stands new = grind (arith, common_steps, positions records, stands_there link records es stands)
 
 pub few_in : (records : List Record) (reached : List ℕ) → IsIn records reached → length reached ≤ length records
-few_in records reached inside = grind (arith, common_steps, no_more reached (places records) inside.distinct inside.inside, length_places records)
+few_in records reached inside = grind (arith, common_steps, no_more reached (positions records) inside.distinct inside.inside, length_offsets records)
 
 -- each record has its two offsets
 abbrev pub HaveOffsets : List Record → Type 0
@@ -42,11 +42,11 @@ stands_is v1 e = grind (arith, nat_tests)
 pub not_false : (b : Bool) → not b ≡ false → b ≡ true
 not_false v1 e = grind (arith, nat_tests)
 
--- paths that go on from one along distinct records, and name others
+-- paths that continue from one along distinct records, and name others
 pub record Continue (links : Links) (path : List Turn) (paths : List (List Turn)) : Type 0 where
-  pub along : IsIn links.records (map (λ t. t.place) path)
+  pub along : IsIn links.records (map (λ t. t.offset) path)
   pub distinct : is_distinct (reached_by links paths) ≡ true
-  pub apart : (p : ℕ) → is_one_of p (reached_by links paths) ≡ true → is_one_of p (map (λ t. t.place) path) ≡ false
+  pub apart : (p : ℕ) → is_one_of p (reached_by links paths) ≡ true → is_one_of p (map (λ t. t.offset) path) ≡ false
   pub good : list_all (is_good links) paths ≡ true
 
 -- of such paths, those by the lower offset of the record that the first one names, and those by the next one
@@ -67,12 +67,12 @@ go_down links path xs ys on =
     let both = and_parts (list_all (is_good links) xs) (list_all (is_good links) ys) (sym (list_all-append (is_good links) xs ys) ∙ goods.1) in
     let here = good_parts links path goods.0 in
     let stands = stands_is (record_at o links.records) here.0 in
-    let new : is_one_of o (map (λ t. t.place) path) ≡ false = on.apart o (or_left (nat_eq o o) (is_one_of o (reached_by links (xs ++ ys))) (same_place o)) in
-    let along = one_more_in links.records (map (λ t. t.place) path) o (elements_at links.records o) on.along stands new in
+    let new : is_one_of o (map (λ t. t.offset) path) ≡ false = on.apart o (or_left (nat_eq o o) (is_one_of o (reached_by links (xs ++ ys))) (same_offset o)) in
+    let along = one_more_in links.records (map (λ t. t.offset) path) o (elements_at links.records o) on.along stands new in
     let among : (p : ℕ) → (is_one_of p (reached_by links xs) || is_one_of p (reached_by links ys)) ≡ true → is_one_of p (reached_by links (xs ++ ys)) ≡ true
     = λ p h. ap (λ z. is_one_of p z) joined ∙ (list_any-append (nat_eq p) (reached_by links xs) (reached_by links ys) ∙ h) in
-    let away : (p : ℕ) → is_one_of p (reached_by links (xs ++ ys)) ≡ true → is_one_of p (o ∷ map (λ t. t.place) path) ≡ false
-    = λ p h. or_from (nat_eq p o) (is_one_of p (map (λ t. t.place) path)) (not_place p o (reached_by links (xs ++ ys)) none h)
+    let away : (p : ℕ) → is_one_of p (reached_by links (xs ++ ys)) ≡ true → is_one_of p (o ∷ map (λ t. t.offset) path) ≡ false
+    = λ p h. or_from (nat_eq p o) (is_one_of p (map (λ t. t.offset) path)) (not_offset p o (reached_by links (xs ++ ys)) none h)
     (on.apart p (or_right (nat_eq p o) (is_one_of p (reached_by links (xs ++ ys))) h)) in
     record {
       stands = stands;
@@ -94,14 +94,14 @@ go_down links path xs ys on =
 -- the forest from what a path names begins there, and is linked
 
 abbrev pub LinksTo : Links → List Turn → Forest PlacedNode → Type 0
-LinksTo links path f = (first_place f ≡ named_by links path) × AreLinked links.records (level_of path) f
+LinksTo links path f = (first_position f ≡ named_by links path) × AreLinked links.records (level_of path) f
 
 node_links : (links : Links) (path : List Turn) (below next : Forest PlacedNode) (xs ys : List (List Turn)) → HaveOffsets links.records → GoDown links path xs ys
     → LinksTo links (lower_path links path) below → LinksTo links (next_path links path) next
-    → LinksTo links path (node (record { place = named_by links path; carries = carried_node (elements_at links.records (named_by links path)) }) below next)
+    → LinksTo links path (node (record { offset = named_by links path; carries = carried_node (elements_at links.records (named_by links path)) }) below next)
 node_links links path below next xs ys has down low nxt =
     let es : Elements = elements_at links.records (named_by links path) in
-    let offsets = has (named_by links path) es down.stands in (
+    let both = has (named_by links path) es down.stands in (
       refl,
       (
         record {
@@ -109,8 +109,8 @@ node_links links path below next xs ys has down low nxt =
           stands = down.stands;
           carries = refl;
           fits_there = down.fit;
-          names_lower = some_is (lower_offset es) offsets.0 ∙ ap (λ z. Some z) (sym low.0);
-          names_next = some_is (next_offset es) offsets.1 ∙ ap (λ z. Some z) (sym nxt.0);
+          names_lower = some_is (lower_offset es) both.0 ∙ ap (λ z. Some z) (sym low.0);
+          names_next = some_is (next_offset es) both.1 ∙ ap (λ z. Some z) (sym nxt.0);
         },
         low.1,
         nxt.1,
@@ -141,8 +141,8 @@ links_to (suc most) links path has size on =
 
 offset_some : (start : ℕ) (f : Found) → offset_fault start f ≡ None → number_in 4 f ≡ Some (or_zero (number_in 4 f))
 offset_some start missing e = absurd cc
-offset_some start (value_at place v) e = grind (arith, nat_tests)
-offset_some start (items_at place h is) e = absurd cc
+offset_some start (value_at offset v) e = grind (arith, nat_tests)
+offset_some start (items_at offset h is) e = absurd cc
 
 pub record HasRecords (f : Found) : Type 0 where
   pub records : List Record
@@ -150,8 +150,8 @@ pub record HasRecords (f : Found) : Type 0 where
 
 records_some : (start : ℕ) (f : Found) → records_fault start f ≡ None → HasRecords f
 records_some start missing e = absurd cc
-records_some start (value_at place v) e = absurd cc
-records_some start (items_at place h is) e = record { records = records_at (place + header_size h) is; are = refl }
+records_some start (value_at offset v) e = absurd cc
+records_some start (items_at offset h is) e = record { records = records_at (offset + header_size h) is; are = refl }
 
 good_record : (r : Record) → record_fault r ≡ None → (has_record r.elements && has_file_id r.elements) ≡ true
 good_record r e = grind (arith, nat_tests)
@@ -172,7 +172,7 @@ have_offsets (r ∷ records) good p es e =
 last_is : (start : ℕ) (es : Elements) (links : Links) → last_fault start es links ≡ None → or_zero (last_offset start es) ≡ last_from 0 (root_records links (paths_of links))
 last_is start es links e = grind (arith, nat_tests)
 
-all_there : (nodes : List ℕ) (records : List Record) → unreached_fault nodes records ≡ None → list_all (λ r. not (carried_node r.elements).in_use || is_one_of r.place nodes) records ≡ true
+all_there : (nodes : List ℕ) (records : List Record) → unreached_fault nodes records ≡ None → list_all (λ r. not (carried_node r.elements).in_use || is_one_of r.offset nodes) records ≡ true
 all_there nodes [] e = refl
 all_there nodes (r ∷ records) e = grind (arith, nat_tests, all_there nodes records)
 
@@ -194,7 +194,7 @@ sound start es records are first_some last_some e =
     let ends = both_none (last_fault start es links) (unreached_fault (reached_by links (paths_of links)) records) paths.1 in
     let free = are_free links [] (paths_of links) paths.0 in
     let placed : Forest PlacedNode = forest_from most records links.first in
-    let names : places_of placed ≡ reached_by links (paths_of links) = forest_places most links [] in
+    let names : offsets_of placed ≡ reached_by links (paths_of links) = forest_offsets most links [] in
     let linked : LinksTo links [] placed = links_to most links [] (have_offsets records good) (omega arith)
     (record { along = record { distinct = refl; inside = λ p h. absurd cc }; distinct = free.distinct; apart = λ p h. refl; good = free.good }) in
     record {
@@ -210,7 +210,7 @@ sound start es records are first_some last_some e =
         names_first = first_some ∙ ap (λ z. Some z) (sym linked.0);
         names_last = last_some ∙ ap (λ z. Some z) (last_is start es links ends.0 ∙ sym (forest_last most links [] 0 refl));
       };
-      all_reached = all_there (places_of placed) records (ap (λ z. unreached_fault z records) names ∙ ends.1);
+      all_reached = all_there (offsets_of placed) records (ap (λ z. unreached_fault z records) names ∙ ends.1);
       placed_is = refl;
     }
 
@@ -237,7 +237,7 @@ no_fault_is_linked start es e =
 -- ---- longer paths change nothing, and what paths name computes
 
 abbrev records_on : List Turn → List ℕ
-records_on path = map (λ t. t.place) path
+records_on path = map (λ t. t.offset) path
 
 too_many : (links : Links) (path : List Turn) → IsIn links.records (records_on path) → length path + 0 ≡ suc (length links.records) → ⊥
 too_many links path along size = grind (arith, common_steps, few_in links.records (records_on path) along)

@@ -25,11 +25,11 @@ use Rattle.std.proofs.lemmas.Grind.{common_steps}
 
 -- ---- faults
 
-pub fails_at : (o : Option Fault) (n place : ℕ) (f : DirFault) → f ≡ record { number = n; place = place; tag = no_tag } → n ≢ 67 → o ≡ fault n place → FailsAs o f
-fails_at o n place f is other at = grind (arith, common_steps)
+pub fails_at : (o : Option Fault) (n offset : ℕ) (f : DirFault) → f ≡ record { number = n; offset = offset; tag = no_tag } → n ≢ 67 → o ≡ fault n offset → FailsAs o f
+fails_at o n offset f is other at = grind (arith, common_steps)
 
 fails_on : (o p : Option Fault) (f : DirFault) → FailsAs o f → ((x : Fault) → o ≡ Some x → p ≡ Some x) → FailsAs p f
-fails_on o p f is on = record { tag = is.tag; memory = is.memory; fault = λ e. on (record { number = f.number; place = f.place }) (is.fault e) }
+fails_on o p f is on = record { tag = is.tag; memory = is.memory; fault = λ e. on (record { number = f.number; offset = f.offset }) (is.fault e) }
 
 -- ---- the whole directory
 
@@ -78,13 +78,13 @@ checks_as start es records root entries old new nodes has read none followed sam
 -- ---- the file
 
 pub file_fails : {file back : List ℕ} (h : HasHeader file back) (start : ℕ) (whole : IsWholeDataSet Explicit check_limits back) (f : DirFault) → start ≡ length file - length back
-    → FailsAs (directory_fault start whole.elements) f → f.number ≢ 67 → CheckFault file f.number f.place f.tag
+    → FailsAs (directory_fault start whole.elements) f → f.number ≢ 67 → CheckFault file f.number f.offset f.tag
 file_fails {file = file} {back = back} h start whole f from fails other =
     let long = ap length h.explicit.whole ∙ length-append h.front back in
     let begins : start ≡ length h.front = omega (arith, long, from) in
-    let reported : directory_fault (length h.front) whole.elements ≡ Some (record { number = f.number; place = f.place }) =
+    let reported : directory_fault (length h.front) whole.elements ≡ Some (record { number = f.number; offset = f.offset }) =
     ap (λ n. directory_fault n whole.elements) (sym begins) ∙ fails.fault other in
-    subst (λ t. CheckFault file f.number f.place t) (sym fails.tag)
+    subst (λ t. CheckFault file f.number f.offset t) (sym fails.tag)
     (in_directory h.explicit (whole_breaks_no_rule Explicit check_limits back whole) whole.text reported)
 
 pub file_nodes : {file back : List ℕ} (h : HasHeader file back) (start : ℕ) (es : Elements) (nodes : List LevelNode) → start ≡ length file - length back
@@ -104,6 +104,6 @@ file_nodes {file = file} {back = back} h start es nodes from spelled checks =
     }
 
 pub are_read : (start first : ℕ) (es : Elements) (items : Items) (root : Root) (entries : List ReadRecord)
-    → IsRootOffset start (found 0x00041200 start es) root.first_place root.first → IsRootOffset start (found 0x00041202 start es) root.last_place root.last
+    → IsRootOffset start (found 0x00041200 start es) root.first_position root.first → IsRootOffset start (found 0x00041202 start es) root.last_position root.last
     → AreEntries entries (records_at first items) → AreRead root entries start es (records_at first items)
 are_read start first es items root entries one other are = grind (arith, common_steps, records_rise 0 first items (omega arith))

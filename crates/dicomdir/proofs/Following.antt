@@ -18,7 +18,7 @@ use Rattle.dicomdir.specs.declared.records.ReadRecord.{ReadRecord}
 use Rattle.dicomdir.specs.Directory.{found, Record, Node, carried_node, last_offset, or_zero}
 use Rattle.dicomdir.specs.Linked.{record_at, fits, fits_level, is_one_of, elements_at, lower_at, next_at}
 use Rattle.dicomdir.specs.Paths.{Links, Turn, named_by, level_of, paths_of, reached_by, root_records, last_from}
-use Rattle.dicomdir.specs.DirFault.{Fault, fault, ◌or_else◌, path_fault, first_fault, unreached_fault, links_of, links_fault, place_in}
+use Rattle.dicomdir.specs.DirFault.{Fault, fault, ◌or_else◌, path_fault, first_fault, unreached_fault, links_of, links_fault, offset_in}
 use Rattle.dicomdir.specs.NodesInUse.{LevelNode}
 use Rattle.dicomdir.specs.machine.Trail.{AreRead, FailsToFollow, carried_by, path_along, mark_of, own_node, node_on, paths_on, later, expected, AreMarks, IsStep, AreFlagged, LeadsTo, Continues}
 use Rattle.dicomdir.proofs.PathForests.{lower_path, next_path, paths_more, elements_is, path_free, or_some}
@@ -74,10 +74,10 @@ same_level level real n used is fit =
     let small = small_level real n.kind on in
     omega (arith, small, is)
 
-own_same : (shown : Bool) (level real place : ℕ) (n : Node) → level ≡ min real 5 → fits real n ≡ true → own_node shown real place n ≡ own_node shown level place n
-own_same shown level real place n is fit = grind (arith, common_steps, same_level)
+own_same : (shown : Bool) (level real offset : ℕ) (n : Node) → level ≡ min real 5 → fits real n ≡ true → own_node shown real offset n ≡ own_node shown level offset n
+own_same shown level real offset n is fit = grind (arith, common_steps, same_level)
 
--- the path that is open, and those that go on from it
+-- the path that is open, and those that continue from it
 
 open_path : (links : Links) (lower : Bool) (ms : List Mark) (reached : List ℕ) → IsIn links.records reached → length ms ≤ length reached
     → nat_eq (named_by links (path_along lower ms)) 0 ≡ false
@@ -89,7 +89,7 @@ open_path links lower ms reached inside few some =
 
 -- the entry of a target, as what its record says
 pub record Turned (links : Links) (entries : List ReadRecord) (flags : List Bool) (path : List Turn) (reached : List ℕ) (e : ReadRecord) (at : ℕ) : Type 0 where
-  pub place : e.place ≡ named_by links path
+  pub offset : e.offset ≡ named_by links path
   pub carries : carried_by e ≡ carried_node (elements_at links.records (named_by links path))
   pub lower : e.lower ≡ lower_at links.records (named_by links path)
   pub next : e.next ≡ next_at links.records (named_by links path)
@@ -99,15 +99,15 @@ pub record Turned (links : Links) (entries : List ReadRecord) (flags : List Bool
 
 turned : (links : Links) (entries : List ReadRecord) (flags : List Bool) (path : List Turn) (reached : List ℕ) (e : ReadRecord) (at : ℕ)
     → IsIn links.records reached → AreFlagged entries flags links.records reached → path_fault links reached path ≡ None
-    → ((d : ReadRecord) → (get_or entries at d).place ≡ named_by links path)
+    → ((d : ReadRecord) → (get_or entries at d).offset ≡ named_by links path)
     → e ≡ get_or entries at e → at < length entries → Turned links entries flags path reached e at
 turned links entries flags path reached e at inside flagged good finds is fits_in =
     let o : ℕ = named_by links path in
     let free = path_free links reached path good in
     let there : AtEntry e links.records at 0 = subst (λ z. AtEntry z links.records at 0) (sym is) (at_entry entries links.records 0 at e flagged.are flagged.rise fits_in) in
-    let place : e.place ≡ o = ap (λ z. z.place) is ∙ finds e in
-    let same_place : there.of_it.place ≡ o = sym there.is.says.place ∙ place in
-    let stands : record_at o links.records ≡ Some there.of_it.elements = ap (λ z. record_at z links.records) (sym same_place) ∙ there.stands in
+    let offset : e.offset ≡ o = ap (λ z. z.offset) is ∙ finds e in
+    let same_offset : there.of_it.offset ≡ o = sym there.is.says.offset ∙ offset in
+    let stands : record_at o links.records ≡ Some there.of_it.elements = ap (λ z. record_at z links.records) (sym same_offset) ∙ there.stands in
     grind (arith, common_steps, path_free links reached path good, at_entry entries links.records 0 at e flagged.are flagged.rise fits_in, elements_is (record_at o links.records) there.of_it.elements stands, one_more_in links.records reached o there.of_it.elements inside stands free.1, not_false (fits (level_of path) (carried_node (elements_at links.records o))) free.2)
 
 -- what was collected, with one more path
@@ -127,8 +127,8 @@ pub turn : (links : Links) (entries : List ReadRecord) (flags : List Bool) (ms m
     → Following links entries flags ms (Some step) before nodes last
     → LeadsTo entries flags ms step at
     → e ≡ get_or entries at e → at < length entries
-    → nodes2 ≡ nodes ++ own_node step.shown step.level e.place (carried_by e) → marked ≡ mark_of e step ∷ ms
-    → last2 ≡ (if nat_eq step.level 1 then e.place else last)
+    → nodes2 ≡ nodes ++ own_node step.shown step.level e.offset (carried_by e) → marked ≡ mark_of e step ∷ ms
+    → last2 ≡ (if nat_eq step.level 1 then e.offset else last)
     → Continues marked ms2 step pending2 e
     → Following links entries (set flags at true) ms2 pending2 before nodes2 last2
 turn links entries flags ms marked ms2 step pending2 before nodes nodes2 last last2 e at f target is fits_in added shape ends after =
@@ -136,21 +136,21 @@ turn links entries flags ms marked ms2 step pending2 before nodes nodes2 last la
     let o : ℕ = named_by links path in
     let here : Continues (mark_of e step ∷ ms) ms2 step pending2 e = subst (λ z. Continues z ms2 step pending2 e) shape after in
     let found = target links f.reached f.flagged f.step in
-    let got = turned links entries flags path f.reached e at f.is_in f.flagged found.good (λ d. found.place d ∙ f.step.1) is fits_in in
+    let got = turned links entries flags path f.reached e at f.is_in f.flagged found.good (λ d. found.offset d ∙ f.step.1) is fits_in in
     let some : nat_eq o 0 ≡ false = grind (arith, nat_tests, f.step.0, f.step.1) in
-    let marks : AreMarks links (mark_of e step ∷ ms) = (got.next ∙ ap (λ z. next_at links.records z) (sym got.place), f.step.2, f.marks) in
-    let used : e.in_use ≡ (carried_node (elements_at links.records e.place)).in_use = ap (λ z. z.in_use) got.carries ∙ ap (λ z. (carried_node (elements_at links.records z)).in_use) (sym got.place) in
-    let goes = here links (level_of path) marks (got.lower ∙ ap (λ z. lower_at links.records z) (sym got.place)) f.step.2.0 refl (λ i. f.step.2.1 i && used i) in
+    let marks : AreMarks links (mark_of e step ∷ ms) = (got.next ∙ ap (λ z. next_at links.records z) (sym got.offset), f.step.2, f.marks) in
+    let used : e.in_use ≡ (carried_node (elements_at links.records e.offset)).in_use = ap (λ z. z.in_use) got.carries ∙ ap (λ z. (carried_node (elements_at links.records z)).in_use) (sym got.offset) in
+    let goes = here links (level_of path) marks (got.lower ∙ ap (λ z. lower_at links.records z) (sym got.offset)) f.step.2.0 refl (λ i. f.step.2.1 i && used i) in
     let few = f.few in
     let fewer = goes.fewer in
     let opened : expected links ms (Some step) ≡ path ∷ expected links ms2 pending2 =
     ap (λ z. z ++ later links step.begins ms) (open_path links step.begins ms f.reached f.is_in few some)
     ∙ (ap (λ z. path ∷ z) (append_assoc (paths_on links (lower_path links path)) (paths_on links (next_path links path)) (later links step.begins ms))
-    ∙ ap (λ z. path ∷ z) ((λ i. paths_on links (record { place = sym got.place i; lower = true } ∷ path) ++ (paths_on links (record { place = sym got.place i; lower = false } ∷ path) ++ later links step.begins ms)) ∙ goes.received)) in
-    let nodes_same : node_on links path ≡ own_node step.shown step.level e.place (carried_by e) =
+    ∙ ap (λ z. path ∷ z) ((λ i. paths_on links (record { offset = sym got.offset i; lower = true } ∷ path) ++ (paths_on links (record { offset = sym got.offset i; lower = false } ∷ path) ++ later links step.begins ms)) ∙ goes.received)) in
+    let nodes_same : node_on links path ≡ own_node step.shown step.level e.offset (carried_by e) =
     (λ i. own_node (sym f.step.2.1 i) (level_of path) o (carried_node (elements_at links.records o)))
     ∙ (own_same step.shown step.level (level_of path) o (carried_node (elements_at links.records o)) f.step.2.0 got.fit
-    ∙ (λ i. own_node step.shown step.level (sym got.place i) (sym got.carries i))) in
+    ∙ (λ i. own_node step.shown step.level (sym got.offset i) (sym got.carries i))) in
     record {
       gone = f.gone ++ path ∷ [];
       reached = o ∷ f.reached;
@@ -164,7 +164,7 @@ turn links entries flags ms marked ms2 step pending2 before nodes nodes2 last la
       nodes_are = ap (λ z. before ++ z) (flat_map-append (node_on links) f.gone (path ∷ []))
           ∙ (sym (append_assoc before (flat_map (node_on links) f.gone) (node_on links path ++ []))
           ∙ ((λ i. f.nodes_are i ++ append-nil (node_on links path) i) ∙ (ap (λ z. nodes ++ z) nodes_same ∙ sym added)));
-      last_is = last_root links f.gone path step.level last f.step.2.0 f.last_is ∙ ((λ i. if nat_eq step.level 1 then sym got.place i else last) ∙ sym ends);
+      last_is = last_root links f.gone path step.level last f.step.2.0 f.last_is ∙ ((λ i. if nat_eq step.level 1 then sym got.offset i else last) ∙ sym ends);
       is_in = got.is_in;
       few = omega (arith, few, fewer);
       flagged = got.flagged;
@@ -191,17 +191,17 @@ same_unreached more names (r ∷ records) members = grind (arith, common_steps, 
 ends : (start : ℕ) (es : Elements) (links : Links) (entries : List ReadRecord) (flags : List Bool) (ms : List Mark) (before nodes : List LevelNode) (last : ℕ)
     → (at : Following links entries flags ms None before nodes last)
     → links_fault start es links
-    ≡ ((if nat_eq (or_zero (last_offset start es)) last then None else fault 60 (place_in (found 0x00041202 start es))) or_else unreached_fault at.reached links.records)
+    ≡ ((if nat_eq (or_zero (last_offset start es)) last then None else fault 60 (offset_in (found 0x00041202 start es))) or_else unreached_fault at.reached links.records)
 ends start es links entries flags ms before nodes last at = grind (arith, common_steps, append-nil at.gone, same_unreached at.reached (reached_by links at.gone) links.records at.members)
 
 pub ends_elsewhere : (root : Root) (entries : List ReadRecord) (start : ℕ) (es : Elements) (records : List Record) (flags : List Bool) (ms : List Mark) (before nodes : List LevelNode) (last : ℕ)
     → AreRead root entries start es records → Following (links_of start es records) entries flags ms None before nodes last
-    → (root.last ≡ last → ⊥) → links_fault start es (links_of start es records) ≡ fault 60 root.last_place
+    → (root.last ≡ last → ⊥) → links_fault start es (links_of start es records) ≡ fault 60 root.last_position
 ends_elsewhere root entries start es records flags ms before nodes last read at other =
     let there : ℕ = or_zero (last_offset start es) in
     let differs : (there ≡ last) → ⊥ = λ same. other (read.last ∙ same) in
     let test : nat_eq there last ≡ false = grind (arith, nat_tests, differs) in
-    grind (arith, common_steps, cond-false (nat_eq there last) None (fault 60 (place_in (found 0x00041202 start es))) test, ends start es (links_of start es records) entries flags ms before nodes last at)
+    grind (arith, common_steps, cond-false (nat_eq there last) None (fault 60 (offset_in (found 0x00041202 start es))) test, ends start es (links_of start es records) entries flags ms before nodes last at)
 
 pub ends_there : (root : Root) (entries : List ReadRecord) (start : ℕ) (es : Elements) (records : List Record) (flags : List Bool) (ms : List Mark) (before nodes : List LevelNode) (last : ℕ)
     → AreRead root entries start es records → (at : Following (links_of start es records) entries flags ms None before nodes last)
@@ -210,7 +210,7 @@ ends_there root entries start es records flags ms before nodes last read at same
     let there : ℕ = or_zero (last_offset start es) in
     let is : there ≡ last = sym read.last ∙ same in
     let test : nat_eq there last ≡ true = grind (arith, nat_tests, is) in
-    grind (arith, common_steps, cond-true (nat_eq there last) None (fault 60 (place_in (found 0x00041202 start es))) test, ends start es (links_of start es records) entries flags ms before nodes last at)
+    grind (arith, common_steps, cond-true (nat_eq there last) None (fault 60 (offset_in (found 0x00041202 start es))) test, ends start es (links_of start es records) entries flags ms before nodes last at)
 
 pub nodes_of_all : (links : Links) (entries : List ReadRecord) (flags : List Bool) (ms : List Mark) (before nodes : List LevelNode) (last : ℕ)
     → Following links entries flags ms None before nodes last
@@ -223,7 +223,7 @@ none_is v1 other = grind (arith, nat_tests)
 -- a fault of the links, and one of the allocator
 
 pub fault_fails : (root : Root) (entries : List ReadRecord) (f : DirFault) → f.tag ≡ no_tag → (f.number ≡ 67 → ⊥)
-    → ((start : ℕ) (es : Elements) (records : List Record) → AreRead root entries start es records → links_fault start es (links_of start es records) ≡ Some (record { number = f.number; place = f.place }))
+    → ((start : ℕ) (es : Elements) (records : List Record) → AreRead root entries start es records → links_fault start es (links_of start es records) ≡ Some (record { number = f.number; offset = f.offset }))
     → FailsToFollow root entries f
 fault_fails root entries f tag other fault = grind (arith, common_steps)
 

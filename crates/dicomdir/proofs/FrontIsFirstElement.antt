@@ -139,12 +139,12 @@ pub record ElementHere (s : Coding) (head : Head) (more text : List ℕ) (es : E
   pub stands : ℕ → Found
   pub size : head.size ≡ header_size head.header
   pub is_tag : IsTag head.header.tag
-  pub content_is : (place : ℕ) → IsContent s head.header place (stands place) content
+  pub content_is : (offset : ℕ) → IsContent s head.header offset (stands offset) content
   pub rest_is : drop head.size text ≡ content ++ rest
   pub long : length text ≡ head.size + (length content + length rest)
   pub spelled : ElementsThen s (number head.header.tag) others more rest
-  pub here : (tag place : ℕ) → nat_eq (number head.header.tag) tag ≡ true → found tag place es ≡ stands place
-  pub there : (tag place : ℕ) → nat_eq (number head.header.tag) tag ≡ false → found tag place es ≡ found tag (place + head.size + length content) others
+  pub here : (tag offset : ℕ) → nat_eq (number head.header.tag) tag ≡ true → found tag offset es ≡ stands offset
+  pub there : (tag offset : ℕ) → nat_eq (number head.header.tag) tag ≡ false → found tag offset es ≡ found tag (offset + head.size + length content) others
 
 data Front (s : Coding) (more text : List ℕ) (es : Elements) : Type 0 where
   at_end : es ≡ no_elements → text ≡ more → Front s more text es
@@ -167,17 +167,17 @@ front_of {s = s} more text native (value_then {h = h} {hb = hb} {v = v} {es = es
       content = v;
       rest = b ++ more;
       others = es;
-      stands = λ place. value_at place v;
+      stands = λ offset. value_at offset v;
       size = header_length e.spelled;
       is_tag = spelled_tag e.spelled;
-      content_is = λ place. of_value sh val;
+      content_is = λ offset. of_value sh val;
       rest_is = dropped hb (v ++ (b ++ more)) text parts;
       long = length_of hb v (b ++ more) text parts;
       spelled = record { native = native; bytes = b; data_set = rest; whole = refl };
-      here = λ tag place same. cond-true (nat_eq (number h.tag) tag) (value_at place v) (found tag (place + header_size h + length v) es) same;
-      there = λ tag place other.
-          cond-false (nat_eq (number h.tag) tag) (value_at place v) (found tag (place + header_size h + length v) es) other
-          ∙ ap (λ n. found tag (place + n + length v) es) (sym (header_length e.spelled));
+      here = λ tag offset same. cond-true (nat_eq (number h.tag) tag) (value_at offset v) (found tag (offset + header_size h + length v) es) same;
+      there = λ tag offset other.
+          cond-false (nat_eq (number h.tag) tag) (value_at offset v) (found tag (offset + header_size h + length v) es) other
+          ∙ ap (λ n. found tag (offset + n + length v) es) (sym (header_length e.spelled));
     })
 front_of {s = s} more text native (sequence_then {h = h} {hb = hb} {inner = inner} {is = is} {ib = ib} {cb = cb} {es = es} {b = b} e sh items end rest) whole =
     let size : length cb ≡ size_of_items is + end_size h.length = let i = items_length items in let n = ended_size end in omega (arith, i, n) in
@@ -186,18 +186,18 @@ front_of {s = s} more text native (sequence_then {h = h} {hb = hb} {inner = inne
       content = cb;
       rest = b ++ more;
       others = es;
-      stands = λ place. items_at place h is;
+      stands = λ offset. items_at offset h is;
       size = header_length e.spelled;
       is_tag = spelled_tag e.spelled;
-      content_is = λ place. of_items (native_inside s inner h native sh) sh items end;
+      content_is = λ offset. of_items (native_inside s inner h native sh) sh items end;
       rest_is = dropped hb (cb ++ (b ++ more)) text parts;
       long = length_of hb cb (b ++ more) text parts;
       spelled = record { native = native; bytes = b; data_set = rest; whole = refl };
-      here = λ tag place same. cond-true (nat_eq (number h.tag) tag) (items_at place h is) (found tag (place + header_size h + size_of_items is + end_size h.length) es) same;
-      there = λ tag place other.
+      here = λ tag offset same. cond-true (nat_eq (number h.tag) tag) (items_at offset h is) (found tag (offset + header_size h + size_of_items is + end_size h.length) es) same;
+      there = λ tag offset other.
           let a = header_length e.spelled in
-          let at : place + header_size h + size_of_items is + end_size h.length ≡ place + length hb + length cb = omega (arith, a, size) in
-          cond-false (nat_eq (number h.tag) tag) (items_at place h is) (found tag (place + header_size h + size_of_items is + end_size h.length) es) other
+          let at : offset + header_size h + size_of_items is + end_size h.length ≡ offset + length hb + length cb = omega (arith, a, size) in
+          cond-false (nat_eq (number h.tag) tag) (items_at offset h is) (found tag (offset + header_size h + size_of_items is + end_size h.length) es) other
           ∙ ap (λ n. found tag n es) at;
     })
 

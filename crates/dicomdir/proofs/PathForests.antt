@@ -9,29 +9,29 @@ use Rattle.std.proofs.lemmas.List.Folds.{list_any-append}
 use Rattle.sequence.specs.Tree.{Elements, no_elements}
 use Rattle.dicomdir.specs.Forest.{Forest, no_nodes, node, count_of}
 use Rattle.dicomdir.specs.Directory.{Record, carried_node}
-use Rattle.dicomdir.specs.Linked.{PlacedNode, places_of, first_place, last_place_behind, record_at, AreLinked, is_one_of, elements_at, lower_at, next_at, is_distinct}
+use Rattle.dicomdir.specs.Linked.{PlacedNode, offsets_of, first_position, last_position_behind, record_at, AreLinked, is_one_of, elements_at, lower_at, next_at, is_distinct}
 use Rattle.dicomdir.specs.NodesInUse.{LevelNode, nodes_in_use}
 use Rattle.dicomdir.specs.Paths.{Links, Turn, named_by, level_of, paths_from, reached_by, root_records, last_from}
 use Rattle.dicomdir.specs.machine.Trail.{is_shown, node_on}
 use Rattle.dicomdir.specs.DirFault.{Fault, ◌or_else◌, names_no_record, names_wrong_level, path_fault, first_fault}
-use Rattle.dicomdir.proofs.Distinct.{same_place, not_place, clash, same_out, either_out}
+use Rattle.dicomdir.proofs.Distinct.{same_offset, not_offset, clash, same_out, either_out}
 
 -- the forest from an offset, with no more records one after or below the other than the first number says
 abbrev pub forest_from : ℕ → List Record → ℕ → Forest PlacedNode
-forest_from zero records offset = no_nodes
-forest_from (suc most) records offset =
-    if nat_eq offset 0 then no_nodes
-    else node (record { place = offset; carries = carried_node (elements_at records offset) })
-    (forest_from most records (lower_at records offset))
-    (forest_from most records (next_at records offset))
+forest_from zero records link = no_nodes
+forest_from (suc most) records link =
+    if nat_eq link 0 then no_nodes
+    else node (record { offset = link; carries = carried_node (elements_at records link) })
+    (forest_from most records (lower_at records link))
+    (forest_from most records (next_at records link))
 
--- the paths that go on from one along the record that it names
+-- the paths that continue from one along the record that it names
 
 abbrev pub lower_path : Links → List Turn → List Turn
-lower_path links path = record { place = named_by links path; lower = true } ∷ path
+lower_path links path = record { offset = named_by links path; lower = true } ∷ path
 
 abbrev pub next_path : Links → List Turn → List Turn
-next_path links path = record { place = named_by links path; lower = false } ∷ path
+next_path links path = record { offset = named_by links path; lower = false } ∷ path
 
 pub paths_none : (most : ℕ) (links : Links) (path : List Turn) → named_by links path ≡ 0 → paths_from most links path ≡ []
 paths_none zero links path e = refl
@@ -41,13 +41,13 @@ pub paths_more : (most : ℕ) (links : Links) (path : List Turn) → nat_eq (nam
     → paths_from (suc most) links path ≡ path ∷ (paths_from most links (lower_path links path) ++ paths_from most links (next_path links path))
 paths_more most links path e = grind (arith, common_steps, cond-false (nat_eq (named_by links path) 0) [] (path ∷ (paths_from most links (lower_path links path) ++ paths_from most links (next_path links path))) e)
 
--- its places are those that the paths name
+-- its offsets are those that the paths name
 
-pub forest_places : (most : ℕ) (links : Links) (path : List Turn) → places_of (forest_from most links.records (named_by links path)) ≡ reached_by links (paths_from most links path)
-forest_places zero links path = refl
-forest_places (suc most) links path = grind (arith, common_steps, forest_places most links (lower_path links path), forest_places most links (next_path links path))
+pub forest_offsets : (most : ℕ) (links : Links) (path : List Turn) → offsets_of (forest_from most links.records (named_by links path)) ≡ reached_by links (paths_from most links path)
+forest_offsets zero links path = refl
+forest_offsets (suc most) links path = grind (arith, common_steps, forest_offsets most links (lower_path links path), forest_offsets most links (next_path links path))
 
--- paths below the root's records name none of them, so the last of these is the forest's last place
+-- paths below the root's records name none of them, so the last of these is the forest's last offset
 
 abbrev at_root : List Turn → Bool
 at_root path = nat_eq (level_of path) 1
@@ -57,7 +57,7 @@ none_at_root zero links path low = refl
 none_at_root (suc most) links path low = grind (arith, common_steps, none_at_root most links (lower_path links path) (omega (arith, low)), none_at_root most links (next_path links path) low)
 
 pub forest_last : (most : ℕ) (links : Links) (path : List Turn) (last : ℕ) → level_of path ≡ 1
-    → last_place_behind last (forest_from most links.records (named_by links path)) ≡ last_from last (root_records links (paths_from most links path))
+    → last_position_behind last (forest_from most links.records (named_by links path)) ≡ last_from last (root_records links (paths_from most links path))
 forest_last zero links path last top = refl
 forest_last (suc most) links path last top = grind (arith, common_steps, none_at_root most links (lower_path links path) (omega (arith, top)), forest_last most links (next_path links path) (named_by links path) top)
 
@@ -83,23 +83,23 @@ forest_nodes (suc most) links path = grind (arith, common_steps, forest_nodes mo
 pub elements_is : (o : Option Elements) (es : Elements) → o ≡ Some es → (elim o [ None ↦ no_elements | Some es ↦ es ]) ≡ es
 elements_is v1 es e = grind (arith, nat_tests)
 
-pub followed_is : (f : Forest PlacedNode) (most : ℕ) (records : List Record) (level : ℕ) → AreLinked records level f → is_one_of 0 (places_of f) ≡ false → count_of f < most
-    → forest_from most records (first_place f) ≡ f
+pub followed_is : (f : Forest PlacedNode) (most : ℕ) (records : List Record) (level : ℕ) → AreLinked records level f → is_one_of 0 (offsets_of f) ≡ false → count_of f < most
+    → forest_from most records (first_position f) ≡ f
 followed_is no_nodes zero records level linked nonzero few = refl
 followed_is no_nodes (suc most) records level linked nonzero few = refl
 followed_is (node n below next) zero records level linked nonzero few = absurd (omega (arith, few))
 followed_is (node n below next) (suc most) records level linked nonzero few =
     let here = linked.0 in
-    let zeros = or_parts (nat_eq 0 n.place) (is_one_of 0 (places_of below ++ places_of next)) nonzero in
-    let inside = or_parts (is_one_of 0 (places_of below)) (is_one_of 0 (places_of next)) (sym (list_any-append (nat_eq 0) (places_of below) (places_of next)) ∙ zeros.1) in
-    grind (arith, common_steps, or_parts (nat_eq 0 n.place) (is_one_of 0 (places_of below ++ places_of next)) nonzero, or_parts (is_one_of 0 (places_of below)) (is_one_of 0 (places_of next)) (sym (list_any-append (nat_eq 0) (places_of below) (places_of next)) ∙ zeros.1), elements_is (record_at n.place records) here.elements here.stands, followed_is below most records (suc level) linked.1 inside.0 (omega (arith, few)), followed_is next most records level linked.2 inside.1 (omega (arith, few)), cond-false)
+    let zeros = or_parts (nat_eq 0 n.offset) (is_one_of 0 (offsets_of below ++ offsets_of next)) nonzero in
+    let inside = or_parts (is_one_of 0 (offsets_of below)) (is_one_of 0 (offsets_of next)) (sym (list_any-append (nat_eq 0) (offsets_of below) (offsets_of next)) ∙ zeros.1) in
+    grind (arith, common_steps, or_parts (nat_eq 0 n.offset) (is_one_of 0 (offsets_of below ++ offsets_of next)) nonzero, or_parts (is_one_of 0 (offsets_of below)) (is_one_of 0 (offsets_of next)) (sym (list_any-append (nat_eq 0) (offsets_of below) (offsets_of next)) ∙ zeros.1), elements_is (record_at n.offset records) here.elements here.stands, followed_is below most records (suc level) linked.1 inside.0 (omega (arith, few)), followed_is next most records level linked.2 inside.1 (omega (arith, few)), cond-false)
 
 -- ---- paths have no fault where each names another record, which fits its level
 
 abbrev pub is_good : Links → List Turn → Bool
 is_good links path = not (names_no_record links path) && not (names_wrong_level links path)
 
--- the places that they name are distinct, and none of them was reached
+-- the offsets that they name are distinct, and none of them was reached
 pub record AreFree (links : Links) (reached : List ℕ) (paths : List (List Turn)) : Type 0 where
   pub distinct : is_distinct (reached_by links paths) ≡ true
   pub apart : (p : ℕ) → is_one_of p (reached_by links paths) ≡ true → is_one_of p reached ≡ false
@@ -133,10 +133,10 @@ are_free links reached (path ∷ paths) e =
     let here = path_free links reached path parts.0 in
     let rest = are_free links (o ∷ reached) paths parts.1 in
     let new : is_one_of o (reached_by links paths) ≡ false = false_from_ne_true (is_one_of o (reached_by links paths))
-    (λ h. clash (is_one_of o (o ∷ reached)) (or_left (nat_eq o o) (is_one_of o reached) (same_place o)) (rest.apart o h)) in
+    (λ h. clash (is_one_of o (o ∷ reached)) (or_left (nat_eq o o) (is_one_of o reached) (same_offset o)) (rest.apart o h)) in
     let first : not (is_one_of o (reached_by links paths)) ≡ true = rw new refl in
     let well : is_good links path ≡ true = rw (here.0, here.2) refl in
-    grind (arith, common_steps, both_none (path_fault links reached path) (first_fault links (o ∷ reached) paths) e, path_free links reached path parts.0, are_free links (o ∷ reached) paths parts.1, false_from_ne_true (is_one_of o (reached_by links paths)), or_left (nat_eq o o) (is_one_of o reached) (same_place o), same_place o, and_from (not (is_one_of o (reached_by links paths))) (is_distinct (reached_by links paths)) first rest.distinct, and_from (is_good links path) (list_all (is_good links) paths) well rest.good, clash, either_out, or_parts, same_out)
+    grind (arith, common_steps, both_none (path_fault links reached path) (first_fault links (o ∷ reached) paths) e, path_free links reached path parts.0, are_free links (o ∷ reached) paths parts.1, false_from_ne_true (is_one_of o (reached_by links paths)), or_left (nat_eq o o) (is_one_of o reached) (same_offset o), same_offset o, and_from (not (is_one_of o (reached_by links paths))) (is_distinct (reached_by links paths)) first rest.distinct, and_from (is_good links path) (list_all (is_good links) paths) well rest.good, clash, either_out, or_parts, same_out)
 
 pub good_parts : (links : Links) (path : List Turn) → is_good links path ≡ true → (names_no_record links path ≡ false) × (names_wrong_level links path ≡ false)
 good_parts links path e = grind (arith, common_steps, and_parts (not (names_no_record links path)) (not (names_wrong_level links path)) e)
@@ -149,10 +149,10 @@ free_paths links reached (path ∷ paths) free =
     let none : is_one_of o (reached_by links paths) ≡ false = not-true (is_one_of o (reached_by links paths)) apart.0 in
     let well = and_parts (is_good links path) (list_all (is_good links) paths) free.good in
     let here = good_parts links path well.0 in
-    let new : is_one_of o reached ≡ false = free.apart o (or_left (nat_eq o o) (is_one_of o (reached_by links paths)) (same_place o)) in
+    let new : is_one_of o reached ≡ false = free.apart o (or_left (nat_eq o o) (is_one_of o (reached_by links paths)) (same_offset o)) in
     two_none (path_fault links reached path) (first_fault links (o ∷ reached) paths) (free_path links reached path here.0 new here.1)
     (free_paths links (o ∷ reached) paths (record {
       distinct = apart.1;
-      apart = λ p h. or_from (nat_eq p o) (is_one_of p reached) (not_place p o (reached_by links paths) none h) (free.apart p (or_right (nat_eq p o) (is_one_of p (reached_by links paths)) h));
+      apart = λ p h. or_from (nat_eq p o) (is_one_of p reached) (not_offset p o (reached_by links paths) none h) (free.apart p (or_right (nat_eq p o) (is_one_of p (reached_by links paths)) h));
       good = well.1;
     }))

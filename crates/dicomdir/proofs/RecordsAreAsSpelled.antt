@@ -48,17 +48,17 @@ pub not_empty : (xs : List ℕ) (b : Bool) → b ≡ nat_eq (length xs) 0 → b 
 not_empty [] b is e = absurd cc
 not_empty (x ∷ xs) b is e = refl
 
-pub entry_is : (place : ℕ) (es : Elements) (e : ReadRecord) → next_offset es ≡ Some e.next → use_flag (number_in 2 (found 0x00041410 0 es)) ≡ Some e.in_use
+pub entry_is : (offset : ℕ) (es : Elements) (e : ReadRecord) → next_offset es ≡ Some e.next → use_flag (number_in 2 (found 0x00041410 0 es)) ≡ Some e.in_use
     → lower_offset es ≡ Some e.lower → e.kind.now ≡ kind_in (found 0x00041430 0 es) → bytes_eq e.kind.now [] ≡ false → e.file_id ≡ file_id_in (found 0x00041500 0 es)
-    → e.place ≡ place → EntrySays e (record { place = place; elements = es })
-entry_is place es e next flag lower kind some file_id at =
+    → e.offset ≡ offset → EntrySays e (record { offset = offset; elements = es })
+entry_is offset es e next flag lower kind some file_id at =
     let used = use_is (number_in 2 (found 0x00041410 0 es)) e.in_use flag in
     let some_kind : bytes_eq (kind_in (found 0x00041430 0 es)) [] ≡ false = ap (λ k. bytes_eq k []) (sym kind) ∙ some in
     let a = some_is (next_offset es) e.next next in
     let b = some_is (lower_offset es) e.lower lower in
     let c = used.1 in
     record {
-      place = at;
+      offset = at;
       next = sym (ap or_zero next);
       lower = sym (ap or_zero lower);
       carries = λ i. record { in_use = used.0 i; kind = kind i; file_id = file_id i };
@@ -70,9 +70,9 @@ entry_is place es e next flag lower kind some file_id at =
 
 -- ---- its file ID
 
-pub file_id_as : (place : ℕ) (es : Elements) (e : ReadRecord) (found_id : Element) → EntrySays e (record { place = place; elements = es }) → Finds found_id (found 0x00041500 0 es)
+pub file_id_as : (offset : ℕ) (es : Elements) (e : ReadRecord) (found_id : Element) → EntrySays e (record { offset = offset; elements = es }) → Finds found_id (found 0x00041500 0 es)
     → entry_has_file_id e found_id ≡ has_file_id es
-file_id_as place es e found_id is finds = grind (arith, common_steps, finds_missing found_id (found 0x00041500 0 es) finds)
+file_id_as offset es e found_id is finds = grind (arith, common_steps, finds_missing found_id (found 0x00041500 0 es) finds)
 
 -- ---- entries and their faults
 
@@ -119,7 +119,7 @@ read_none s first items text old has =
 
 pub read_next : (s : Coding) (first : ℕ) (items : Items) (text rest after : List ℕ) (old now new : List ReadRecord) (head : Head) (e : ReadRecord) → length rest ≤ length text
     → ReadUpTo s first items text rest old now → head_at s rest ≡ Some head → head.header.tag ≡ item_tag
-    → ((es : Elements) → HasElements s es (content_at head.header (drop head.size rest)) → IsEntry e (record { place = first + (length text - length rest); elements = es }))
+    → ((es : Elements) → HasElements s es (content_at head.header (drop head.size rest)) → IsEntry e (record { offset = first + (length text - length rest); elements = es }))
     → ((es : Elements) (c more : List ℕ) → IsItemContent s head.header es c → drop head.size rest ≡ c ++ more → after ≡ more)
     → new ≡ now ++ e ∷ []
     → ReadUpTo s first items text after old new
@@ -127,10 +127,10 @@ read_next s first items text rest after old now new head e fits r read tagged en
     let f = item_here head r.after r.spelled read tagged in
     let is : after ≡ f.rest = passes f.elements f.content f.rest f.content_is f.rest_is in
     let here : ℕ = first + (length text - length rest) in
-    let one : Record = record { place = here; elements = f.elements } in
+    let one : Record = record { offset = here; elements = f.elements } in
     let entered : IsEntry e one = entry f.elements (item_content s head.header f.elements f.content f.rest (drop head.size rest) f.content_is f.rest_is) in
-    let next_place : ℕ = here + header_size head.header + size_of f.elements + end_size head.header.length in
-    let places : next_place ≡ first + (length text - length after) = omega (arith, f.long, f.size, f.content_size, ap length is, fits) in
+    let next_position : ℕ = here + header_size head.header + size_of f.elements + end_size head.header.length in
+    let positions : next_position ≡ first + (length text - length after) = omega (arith, f.long, f.size, f.content_size, ap length is, fits) in
     record {
       done = r.done ++ one ∷ [];
       remaining = f.others;
@@ -143,7 +143,7 @@ read_next s first items text rest after old now new head e fits r read tagged en
       good = each_append r.done (one ∷ []) r.good ∙ ap (λ o. o or_else None) (no_fault entered);
       all = r.all
           ∙ (ap (λ z. r.done ++ records_at here z) f.first
-          ∙ (ap (λ n. r.done ++ (one ∷ records_at n f.others)) places
+          ∙ (ap (λ n. r.done ++ (one ∷ records_at n f.others)) positions
           ∙ sym (append_assoc r.done (one ∷ []) (records_at (first + (length text - length after)) f.others))));
     }
 
@@ -151,12 +151,12 @@ read_next s first items text rest after old now new head e fits r read tagged en
 
 pub read_fails : (s : Coding) (first : ℕ) (items : Items) (text rest : List ℕ) (old now : List ReadRecord) (head : Head) (f : DirFault)
     → ReadUpTo s first items text rest old now → head_at s rest ≡ Some head → head.header.tag ≡ item_tag
-    → ((es : Elements) → HasElements s es (content_at head.header (drop head.size rest)) → FailsAs (record_fault (record { place = first + (length text - length rest); elements = es })) f)
+    → ((es : Elements) → HasElements s es (content_at head.header (drop head.size rest)) → FailsAs (record_fault (record { offset = first + (length text - length rest); elements = es })) f)
     → FailsAs (each_fault (records_at first items)) f
 read_fails s first items text rest old now head f r read tagged fails =
     let i = item_here head r.after r.spelled read tagged in
     let here : ℕ = first + (length text - length rest) in
-    let one : Record = record { place = here; elements = i.elements } in
+    let one : Record = record { offset = here; elements = i.elements } in
     let others : List Record = records_at (here + header_size head.header + size_of i.elements + end_size head.header.length) i.others in
     grind (arith, common_steps, item_here head r.after r.spelled read tagged, item_content s head.header i.elements i.content i.rest (drop head.size rest) i.content_is i.rest_is, each_append r.done (one ∷ others) r.good)
 
@@ -175,9 +175,9 @@ pub read_to_end : (s : Coding) (first : ℕ) (items : Items) (text rest : List �
     → head_at s rest ≡ None → AreEntries old before → AreEntries now (before ++ records_at first items)
 read_to_end s first items text rest old now before r read are = all_read s first items text rest old now before r (no_items_here r.spelled (λ one there tagged. absurd cc)).0 are
 
--- ---- their places rise
+-- ---- their offsets rise
 
-pub records_rise : (least place : ℕ) (items : Items) → least ≤ place → Rise least (records_at place items)
-records_rise least place no_items fits = tt
-records_rise least place (item h es is) fits = (fits, records_rise (suc place) (place + header_size h + size_of es + end_size h.length) is (omega arith))
-records_rise least place (fragment h v is) fits = records_rise least (place + header_size h + length v) is (omega arith)
+pub records_rise : (least offset : ℕ) (items : Items) → least ≤ offset → Rise least (records_at offset items)
+records_rise least offset no_items fits = tt
+records_rise least offset (item h es is) fits = (fits, records_rise (suc offset) (offset + header_size h + size_of es + end_size h.length) is (omega arith))
+records_rise least offset (fragment h v is) fits = records_rise least (offset + header_size h + length v) is (omega arith)

@@ -1,5 +1,5 @@
 -- What leads back along a trail is the path to come as a chain ends (`climbed`, `goes_next`), and an offset leads to the
--- record whose entry is found (`place_found`, `at_offset`), or to none (`place_absent`). Stands on Distinct and PathForests.
+-- record whose entry is found (`offset_found`, `at_offset`), or to none (`offset_absent`). Stands on Distinct and PathForests.
 use Rattle.std.proofs.Common.{◌≡◌, ℕ, zero, suc, ◌<◌, Bool, true, false, List, [], ◌∷◌, get_or, set, arith, if◌then◌else◌, ◌≤◌, ◌-◌, ◌+◌, not, ◌&&◌, ◌||◌, ◌++◌, length, reverse, take, slice_get, Option, Some, ◌⊎◌, refl, sym, ap, subst, ◌∙◌, nat_eq, drop, replicate, None, Less, Equal, Greater, is_none}
 use Rattle.std.proofs.lemmas.Bool.Decides.{nat_tests}
 use Rattle.std.proofs.lemmas.List.{reverse-append, append-nil, take_all, take_more, length-reverse, get_or_default}
@@ -18,7 +18,7 @@ use Rattle.std.proofs.lemmas.Bool.{cases_lt, cond-true}
 use Rattle.dicomdir.specs.declared.records.ReadRecord.{ReadRecord}
 use Rattle.dicomdir.specs.Directory.{Record, carried_node}
 use Rattle.dicomdir.specs.DirFault.{fault, unreached_fault, names_no_record, names_wrong_level, path_fault}
-use Rattle.dicomdir.proofs.Distinct.{same_place}
+use Rattle.dicomdir.proofs.Distinct.{same_offset}
 use Rattle.sequence.specs.Tree.{Elements}
 
 abbrev pub remaining_in : List Bool → ℕ
@@ -37,27 +37,27 @@ remaining_fewer (false ∷ xs) (suc i) e = let fewer = remaining_fewer xs i e in
 -- a trail as it is gone through from its last mark
 
 abbrev pub looks : ℕ → Bool → Bool → List Mark → Bool
-looks offset in_chain is_above [] = false
-looks offset in_chain is_above (m ∷ ms) =
-    ((in_chain || is_above) && nat_eq m.place offset) || looks offset (in_chain && not m.begins) m.begins ms
+looks link in_chain is_above [] = false
+looks link in_chain is_above (m ∷ ms) =
+    ((in_chain || is_above) && nat_eq m.offset link) || looks link (in_chain && not m.begins) m.begins ms
 
 nat_eq_sym : (a b : ℕ) → nat_eq a b ≡ nat_eq b a
 nat_eq_sym a b = grind (arith, nat_tests)
 
-looks_above : (offset : ℕ) (lower : Bool) (ms : List Mark) → looks offset false lower ms ≡ is_one_of offset (above (path_along lower ms))
-looks_above offset lower [] = refl
-looks_above offset true (m ∷ ms) = λ i. nat_eq_sym m.place offset i || looks_above offset m.begins ms i
-looks_above offset false (m ∷ ms) = looks_above offset m.begins ms
+looks_above : (link : ℕ) (lower : Bool) (ms : List Mark) → looks link false lower ms ≡ is_one_of link (above (path_along lower ms))
+looks_above link lower [] = refl
+looks_above link true (m ∷ ms) = λ i. nat_eq_sym m.offset link i || looks_above link m.begins ms i
+looks_above link false (m ∷ ms) = looks_above link m.begins ms
 
-looks_on : (offset : ℕ) (lower : Bool) (ms : List Mark) → looks offset (not lower) lower ms ≡ is_one_of offset (before (path_along lower ms) ++ above (path_along lower ms))
-looks_on offset true [] = refl
-looks_on offset false [] = refl
-looks_on offset true (m ∷ ms) = looks_above offset true (m ∷ ms)
-looks_on offset false (m ∷ ms) = λ i. nat_eq_sym m.place offset i || looks_on offset m.begins ms i
+looks_on : (link : ℕ) (lower : Bool) (ms : List Mark) → looks link (not lower) lower ms ≡ is_one_of link (before (path_along lower ms) ++ above (path_along lower ms))
+looks_on link true [] = refl
+looks_on link false [] = refl
+looks_on link true (m ∷ ms) = looks_above link true (m ∷ ms)
+looks_on link false (m ∷ ms) = λ i. nat_eq_sym m.offset link i || looks_on link m.begins ms i
 
-looks_back : (offset : ℕ) (ms : List Mark) → looks offset true false ms ≡ is_one_of offset (line_of (path_along true ms))
-looks_back offset [] = refl
-looks_back offset (m ∷ ms) = looks_on offset false (m ∷ ms)
+looks_back : (link : ℕ) (ms : List Mark) → looks link true false ms ≡ is_one_of link (line_of (path_along true ms))
+looks_back link [] = refl
+looks_back link (m ∷ ms) = looks_on link false (m ∷ ms)
 
 -- the marks of a list, the last first
 
@@ -67,24 +67,24 @@ push_reverse xs m = reverse-append xs (m ∷ [])
 pub reverse_more : (xs : List Mark) (i : ℕ) (d : Mark) → i < length xs → reverse (take (i + 1) xs) ≡ get_or xs i d ∷ reverse (take i xs)
 reverse_more xs i d fits = ap reverse (take_more xs i d fits) ∙ push_reverse (take i xs) (get_or xs i d)
 
-pub looks_at : (offset : ℕ) (in_chain is_above : Bool) (xs : List Mark) (at : ℕ) (m : Mark) → 0 < at → at ≤ length xs → m ≡ get_or xs (at - 1) m
-    → looks offset in_chain is_above (reverse (take at xs))
-    ≡ (((in_chain || is_above) && nat_eq m.place offset) || looks offset (in_chain && not m.begins) m.begins (reverse (take (at - 1) xs)))
-looks_at offset in_chain is_above xs at m some within is = grind (arith, common_steps, reverse_more xs (at - 1) m (omega (arith, some, within)))
+pub looks_at : (link : ℕ) (in_chain is_above : Bool) (xs : List Mark) (at : ℕ) (m : Mark) → 0 < at → at ≤ length xs → m ≡ get_or xs (at - 1) m
+    → looks link in_chain is_above (reverse (take at xs))
+    ≡ (((in_chain || is_above) && nat_eq m.offset link) || looks link (in_chain && not m.begins) m.begins (reverse (take (at - 1) xs)))
+looks_at link in_chain is_above xs at m some within is = grind (arith, common_steps, reverse_more xs (at - 1) m (omega (arith, some, within)))
 
 pub looks_here : (i a : Bool) (p o : ℕ) → (i ≡ true) ⊎ ((i ≡ false) × (a ≡ true)) → p ≡ o → ((i || a) && nat_eq p o) ≡ true
 looks_here v1 a p o either same = grind (arith, common_steps)
 
-pub looks_found : (offset : ℕ) (in_chain is_above : Bool) (xs : List Mark) (at : ℕ) (m : Mark) → 0 < at → at ≤ length xs → m ≡ get_or xs (at - 1) m
-    → ((in_chain || is_above) && nat_eq m.place offset) ≡ true
-    → looks offset in_chain is_above (reverse (take at xs)) ≡ looks offset true false (reverse xs)
-    → true ≡ is_one_of offset (line_of (path_along true (reverse xs)))
-looks_found offset in_chain is_above xs at m some within is found same = grind (arith, common_steps, looks_at offset in_chain is_above xs at m some within is, looks_back offset (reverse xs))
+pub looks_found : (link : ℕ) (in_chain is_above : Bool) (xs : List Mark) (at : ℕ) (m : Mark) → 0 < at → at ≤ length xs → m ≡ get_or xs (at - 1) m
+    → ((in_chain || is_above) && nat_eq m.offset link) ≡ true
+    → looks link in_chain is_above (reverse (take at xs)) ≡ looks link true false (reverse xs)
+    → true ≡ is_one_of link (line_of (path_along true (reverse xs)))
+looks_found link in_chain is_above xs at m some within is found same = grind (arith, common_steps, looks_at link in_chain is_above xs at m some within is, looks_back link (reverse xs))
 
-pub looks_none : (offset : ℕ) (in_chain is_above : Bool) (xs : List Mark) (at : ℕ) → at ≤ 0
-    → looks offset in_chain is_above (reverse (take at xs)) ≡ looks offset true false (reverse xs)
-    → false ≡ is_one_of offset (line_of (path_along true (reverse xs)))
-looks_none offset in_chain is_above xs at none same = grind (arith, common_steps, looks_back offset (reverse xs))
+pub looks_none : (link : ℕ) (in_chain is_above : Bool) (xs : List Mark) (at : ℕ) → at ≤ 0
+    → looks link in_chain is_above (reverse (take at xs)) ≡ looks link true false (reverse xs)
+    → false ≡ is_one_of link (line_of (path_along true (reverse xs)))
+looks_none link in_chain is_above xs at none same = grind (arith, common_steps, looks_back link (reverse xs))
 
 some_length : (xs : List Mark) (m : Mark) (i : ℕ) → Some m ≡ slice_get xs i → i < length xs
 some_length [] m i e = absurd cc
@@ -143,7 +143,7 @@ climbed links ms xs ys m got none remaining fewer before =
 
 -- it continues
 pub goes_next : (links : Links) (ms xs : List Mark) (m : Mark) → Some m ≡ slice_get xs (length xs - 1) → (m.next ≡ 0 → ⊥) → Climbed links ms (reverse xs)
-    → IsExpected links (later links true ms) ms (reverse xs) (Some (record { offset = m.next; begins = false; level = m.level; shown = m.shown }))
+    → IsExpected links (later links true ms) ms (reverse xs) (Some (record { link = m.next; begins = false; level = m.level; shown = m.shown }))
 goes_next links ms xs m got other before = grind (arith, common_steps, last_first xs m got)
 
 -- no record is below the last mark
@@ -151,58 +151,58 @@ pub lower_none : (links : Links) (ms ms2 : List Mark) (pending : Option Step) (l
     → IsExpected links (later links true ms) ms ms2 pending → IsExpected links (paths_on links (path_along true ms) ++ later links true ms) ms ms2 pending
 lower_none links ms ms2 pending lower none named arrives = grind (arith, common_steps, paths_none)
 
--- ---- entries of records, whose places rise: a search among them, and the flags of those that were reached
+-- ---- entries of records, whose offsets rise: a search among them, and the flags of those that were reached
 
 -- the search
 
-pub place_found : (entries : List ReadRecord) (place at : ℕ) → HoldsAt (λ e. nat_cmp e.place place ≡ Equal) entries at → (d : ReadRecord) → (get_or entries at d).place ≡ place
-place_found entries place at equal d = ranked _ place _ (sym (equal d))
+pub offset_found : (entries : List ReadRecord) (offset at : ℕ) → HoldsAt (λ e. nat_cmp e.offset offset ≡ Equal) entries at → (d : ReadRecord) → (get_or entries at d).offset ≡ offset
+offset_found entries offset at equal d = ranked _ offset _ (sym (equal d))
 
 least_below : (entries : List ReadRecord) (records : List Record) (least : ℕ) → AreEntries entries records → Rise least records
-    → (j : ℕ) (d : ReadRecord) → j < length entries → least ≤ (get_or entries j d).place
+    → (j : ℕ) (d : ReadRecord) → j < length entries → least ≤ (get_or entries j d).offset
 least_below [] (r ∷ rs) least are rise j d fits = elim are [ ]
 least_below (e ∷ es) [] least are rise j d fits = elim are [ ]
 least_below [] [] least no_entries rise j d fits = absurd (omega (arith, fits))
-least_below (e ∷ es) (r ∷ rs) least (entry_then is rest) rise zero d fits = omega (arith, rise.0, is.says.place)
-least_below (e ∷ es) (r ∷ rs) least (entry_then is rest) rise (suc j) d fits = grind (arith, common_steps, least_below es rs (suc r.place) rest rise.1 j d (omega (arith, fits)))
+least_below (e ∷ es) (r ∷ rs) least (entry_then is rest) rise zero d fits = omega (arith, rise.0, is.says.offset)
+least_below (e ∷ es) (r ∷ rs) least (entry_then is rest) rise (suc j) d fits = grind (arith, common_steps, least_below es rs (suc r.offset) rest rise.1 j d (omega (arith, fits)))
 
-places_rise : (entries : List ReadRecord) (records : List Record) (least : ℕ) → AreEntries entries records → Rise least records
-    → (i j : ℕ) (d : ReadRecord) → i ≤ j → j < length entries → (get_or entries i d).place ≤ (get_or entries j d).place
-places_rise [] (r ∷ rs) least are rise i j d below fits = elim are [ ]
-places_rise (e ∷ es) [] least are rise i j d below fits = elim are [ ]
-places_rise [] [] least no_entries rise i j d below fits = absurd (omega (arith, fits))
-places_rise (e ∷ es) (r ∷ rs) least (entry_then is rest) rise zero zero d below fits = omega arith
-places_rise (e ∷ es) (r ∷ rs) least (entry_then is rest) rise zero (suc j) d below fits = grind (arith, common_steps, least_below es rs (suc r.place) rest rise.1 j d (omega (arith, fits)))
-places_rise (e ∷ es) (r ∷ rs) least (entry_then is rest) rise (suc i) zero d below fits = absurd (omega (arith, below))
-places_rise (e ∷ es) (r ∷ rs) least (entry_then is rest) rise (suc i) (suc j) d below fits = grind (arith, common_steps, places_rise es rs (suc r.place) rest rise.1 i j d (omega (arith, below)) (omega (arith, fits)))
+offsets_rise : (entries : List ReadRecord) (records : List Record) (least : ℕ) → AreEntries entries records → Rise least records
+    → (i j : ℕ) (d : ReadRecord) → i ≤ j → j < length entries → (get_or entries i d).offset ≤ (get_or entries j d).offset
+offsets_rise [] (r ∷ rs) least are rise i j d below fits = elim are [ ]
+offsets_rise (e ∷ es) [] least are rise i j d below fits = elim are [ ]
+offsets_rise [] [] least no_entries rise i j d below fits = absurd (omega (arith, fits))
+offsets_rise (e ∷ es) (r ∷ rs) least (entry_then is rest) rise zero zero d below fits = omega arith
+offsets_rise (e ∷ es) (r ∷ rs) least (entry_then is rest) rise zero (suc j) d below fits = grind (arith, common_steps, least_below es rs (suc r.offset) rest rise.1 j d (omega (arith, fits)))
+offsets_rise (e ∷ es) (r ∷ rs) least (entry_then is rest) rise (suc i) zero d below fits = absurd (omega (arith, below))
+offsets_rise (e ∷ es) (r ∷ rs) least (entry_then is rest) rise (suc i) (suc j) d below fits = grind (arith, common_steps, offsets_rise es rs (suc r.offset) rest rise.1 i j d (omega (arith, below)) (omega (arith, fits)))
 
 compared : (a b p : ℕ) → a ≤ b → ordering_index (nat_cmp a p) ≤ ordering_index (nat_cmp b p)
 compared a b p below = grind (arith, nat_tests)
 
-comparisons_rise : (entries : List ReadRecord) (records : List Record) (place : ℕ) → AreEntries entries records → Rise 0 records
-    → IsNonDecreasingBy (λ e. ordering_index (nat_cmp e.place place)) entries
-comparisons_rise entries records place are rise i j d below fits = grind (arith, common_steps, compared (get_or entries i d).place (get_or entries j d).place place (places_rise entries records 0 are rise i j d below fits))
+comparisons_rise : (entries : List ReadRecord) (records : List Record) (offset : ℕ) → AreEntries entries records → Rise 0 records
+    → IsNonDecreasingBy (λ e. ordering_index (nat_cmp e.offset offset)) entries
+comparisons_rise entries records offset are rise i j d below fits = grind (arith, common_steps, compared (get_or entries i d).offset (get_or entries j d).offset offset (offsets_rise entries records 0 are rise i j d below fits))
 
-no_record_step : (r : Record) (rs : List Record) (place : ℕ) → (r.place ≡ place → ⊥) → record_at place rs ≡ None → record_at place (r ∷ rs) ≡ None
-no_record_step r rs place other none = grind (arith, nat_tests)
+no_record_step : (r : Record) (rs : List Record) (offset : ℕ) → (r.offset ≡ offset → ⊥) → record_at offset rs ≡ None → record_at offset (r ∷ rs) ≡ None
+no_record_step r rs offset other none = grind (arith, nat_tests)
 
-no_record : (entries : List ReadRecord) (records : List Record) (place : ℕ) → AreEntries entries records
-    → ((k : ℕ) (d : ReadRecord) → k < length entries → (get_or entries k d).place ≡ place → ⊥) → record_at place records ≡ None
-no_record [] (r ∷ rs) place are none = elim are [ ]
-no_record (e ∷ es) [] place are none = elim are [ ]
-no_record [] [] place no_entries none = refl
-no_record (e ∷ es) (r ∷ rs) place (entry_then is rest) none =
-    no_record_step r rs place (λ same. none 0 e (omega arith) (is.says.place ∙ same)) (no_record es rs place rest (λ k d fits. none (suc k) d (omega (arith, fits))))
+no_record : (entries : List ReadRecord) (records : List Record) (offset : ℕ) → AreEntries entries records
+    → ((k : ℕ) (d : ReadRecord) → k < length entries → (get_or entries k d).offset ≡ offset → ⊥) → record_at offset records ≡ None
+no_record [] (r ∷ rs) offset are none = elim are [ ]
+no_record (e ∷ es) [] offset are none = elim are [ ]
+no_record [] [] offset no_entries none = refl
+no_record (e ∷ es) (r ∷ rs) offset (entry_then is rest) none =
+    no_record_step r rs offset (λ same. none 0 e (omega arith) (is.says.offset ∙ same)) (no_record es rs offset rest (λ k d fits. none (suc k) d (omega (arith, fits))))
 
-neither : (entries : List ReadRecord) (place i k : ℕ) (d : ReadRecord) → AllWithin (λ e. nat_cmp e.place place ≡ Less) entries 0 i
-    → AllWithin (λ e. nat_cmp e.place place ≡ Greater) entries i (length entries) → k < length entries → (get_or entries k d).place ≡ place → ⊥
-neither entries place i k d less greater fits same = grind (arith, common_steps, cases_lt k i)
+neither : (entries : List ReadRecord) (offset i k : ℕ) (d : ReadRecord) → AllWithin (λ e. nat_cmp e.offset offset ≡ Less) entries 0 i
+    → AllWithin (λ e. nat_cmp e.offset offset ≡ Greater) entries i (length entries) → k < length entries → (get_or entries k d).offset ≡ offset → ⊥
+neither entries offset i k d less greater fits same = grind (arith, common_steps, cases_lt k i)
 
-pub place_absent : (entries : List ReadRecord) (place i : ℕ)
-    → (IsNonDecreasingBy (λ e. ordering_index (nat_cmp e.place place)) entries
-    → IsPartitionPoint (λ e. nat_cmp e.place place ≡ Less) (λ e. nat_cmp e.place place ≡ Greater) entries i)
-    → (records : List Record) → AreEntries entries records → Rise 0 records → record_at place records ≡ None
-place_absent entries place i parted records are rise = grind (arith, nat_tests, comparisons_rise entries records place are rise, neither, no_record)
+pub offset_absent : (entries : List ReadRecord) (offset i : ℕ)
+    → (IsNonDecreasingBy (λ e. ordering_index (nat_cmp e.offset offset)) entries
+    → IsPartitionPoint (λ e. nat_cmp e.offset offset ≡ Less) (λ e. nat_cmp e.offset offset ≡ Greater) entries i)
+    → (records : List Record) → AreEntries entries records → Rise 0 records → record_at offset records ≡ None
+offset_absent entries offset i parted records are rise = grind (arith, nat_tests, comparisons_rise entries records offset are rise, neither, no_record)
 
 -- the flags
 
@@ -216,28 +216,28 @@ pub none_flagged : (records : List Record) → flags_of [] records ≡ replicate
 none_flagged [] = refl
 none_flagged (r ∷ rs) = ap (λ z. false ∷ z) (none_flagged rs)
 
--- a place below all others flags none of them
+-- an offset below all others flags none of them
 same_flags : (p : ℕ) (reached : List ℕ) (least : ℕ) (records : List Record) → Rise least records → p < least → flags_of (p ∷ reached) records ≡ flags_of reached records
 same_flags p reached least [] rise below = refl
-same_flags p reached least (r ∷ rs) rise below = grind (arith, common_steps, same_flags p reached (suc r.place) rs rise.1 (omega (arith, rise.0, below)))
+same_flags p reached least (r ∷ rs) rise below = grind (arith, common_steps, same_flags p reached (suc r.offset) rs rise.1 (omega (arith, rise.0, below)))
 
 -- the record of an entry
 pub record AtEntry (e : ReadRecord) (records : List Record) (at least : ℕ) : Type 0 where
   pub of_it : Record
   pub is : IsEntry e of_it
-  pub above : least ≤ of_it.place
-  pub stands : record_at of_it.place records ≡ Some of_it.elements
-  pub flag : (reached : List ℕ) (d : Bool) → get_or (flags_of reached records) at d ≡ is_one_of of_it.place reached
-  pub marked : (reached : List ℕ) → set (flags_of reached records) at true ≡ flags_of (of_it.place ∷ reached) records
+  pub above : least ≤ of_it.offset
+  pub stands : record_at of_it.offset records ≡ Some of_it.elements
+  pub flag : (reached : List ℕ) (d : Bool) → get_or (flags_of reached records) at d ≡ is_one_of of_it.offset reached
+  pub marked : (reached : List ℕ) → set (flags_of reached records) at true ≡ flags_of (of_it.offset ∷ reached) records
   pub remaining : (reached : List ℕ) → unreached_fault reached (drop at records)
-      ≡ (if not (carried_node of_it.elements).in_use || is_one_of of_it.place reached then unreached_fault reached (drop (suc at) records) else fault 63 of_it.place)
+      ≡ (if not (carried_node of_it.elements).in_use || is_one_of of_it.offset reached then unreached_fault reached (drop (suc at) records) else fault 63 of_it.offset)
 
 first_entry : (e : ReadRecord) (r : Record) (rs : List Record) (least : ℕ) → IsEntry e r → Rise least (r ∷ rs) → AtEntry e (r ∷ rs) 0 least
 first_entry e r rs least is rise =
-    let here = same_place r.place in
-    grind (arith, common_steps, same_place r.place, cond-true (nat_eq r.place r.place) (Some r.elements) (record_at r.place rs) here, same_flags)
+    let here = same_offset r.offset in
+    grind (arith, common_steps, same_offset r.offset, cond-true (nat_eq r.offset r.offset) (Some r.elements) (record_at r.offset rs) here, same_flags)
 
-later_entry : (e : ReadRecord) (r : Record) (rs : List Record) (at least : ℕ) → least ≤ r.place → AtEntry e rs at (suc r.place) → AtEntry e (r ∷ rs) (suc at) least
+later_entry : (e : ReadRecord) (r : Record) (rs : List Record) (at least : ℕ) → least ≤ r.offset → AtEntry e rs at (suc r.offset) → AtEntry e (r ∷ rs) (suc at) least
 later_entry e r rs at least first later = grind (arith, common_steps)
 
 pub at_entry : (entries : List ReadRecord) (records : List Record) (least at : ℕ) (d : ReadRecord) → AreEntries entries records → Rise least records → at < length entries
@@ -246,12 +246,12 @@ at_entry [] (r ∷ rs) least at d are rise fits = elim are [ ]
 at_entry (e ∷ es) [] least at d are rise fits = elim are [ ]
 at_entry [] [] least at d no_entries rise fits = absurd (omega (arith, fits))
 at_entry (e ∷ es) (r ∷ rs) least zero d (entry_then is rest) rise fits = first_entry e r rs least is rise
-at_entry (e ∷ es) (r ∷ rs) least (suc at) d (entry_then is rest) rise fits = grind (arith, common_steps, later_entry (get_or es at d) r rs at least rise.0 (at_entry es rs (suc r.place) at d rest rise.1 (omega (arith, fits))))
+at_entry (e ∷ es) (r ∷ rs) least (suc at) d (entry_then is rest) rise fits = grind (arith, common_steps, later_entry (get_or es at d) r rs at least rise.0 (at_entry es rs (suc r.offset) at d rest rise.1 (omega (arith, fits))))
 
 -- an entry in use that was not reached is the first such one; any other is passed over
 pub remaining_at : (entries : List ReadRecord) (flags : List Bool) (records : List Record) (reached : List ℕ) (e : ReadRecord) (at : ℕ) → AreFlagged entries flags records reached
     → e ≡ get_or entries at e → at < length entries
-    → unreached_fault reached (drop at records) ≡ (if not e.in_use || get_or flags at false then unreached_fault reached (drop (suc at) records) else fault 63 e.place)
+    → unreached_fault reached (drop at records) ≡ (if not e.in_use || get_or flags at false then unreached_fault reached (drop (suc at) records) else fault 63 e.offset)
 remaining_at entries flags records reached e at flagged is fits = grind (arith, common_steps, at_entry entries records 0 at e flagged.are flagged.rise fits)
 
 pub passes : (u r : Bool) → (u ≡ false) ⊎ (r ≡ true) → (not u || r) ≡ true
@@ -261,17 +261,17 @@ passes v1 r e = grind (arith, nat_tests)
 
 -- the record at an offset where an entry was found
 
-pub record AtOffset (entries : List ReadRecord) (flags : List Bool) (records : List Record) (reached : List ℕ) (offset at : ℕ) : Type 0 where
+pub record AtOffset (entries : List ReadRecord) (flags : List Bool) (records : List Record) (reached : List ℕ) (link at : ℕ) : Type 0 where
   pub elements : Elements
-  pub stands : record_at offset records ≡ Some elements
+  pub stands : record_at link records ≡ Some elements
   pub carries : (d : ReadRecord) → carried_by (get_or entries at d) ≡ carried_node elements
-  pub flag : (d : Bool) → get_or flags at d ≡ is_one_of offset reached
+  pub flag : (d : Bool) → get_or flags at d ≡ is_one_of link reached
 
-at_offset_by : (entries : List ReadRecord) (flags : List Bool) (records : List Record) (reached : List ℕ) (offset at : ℕ) (d : ReadRecord) → AreFlagged entries flags records reached
-    → at < length entries → ((d : ReadRecord) → (get_or entries at d).place ≡ offset) → AtOffset entries flags records reached offset at
-at_offset_by entries flags records reached offset at d flagged fits found =
+at_offset_by : (entries : List ReadRecord) (flags : List Bool) (records : List Record) (reached : List ℕ) (link at : ℕ) (d : ReadRecord) → AreFlagged entries flags records reached
+    → at < length entries → ((d : ReadRecord) → (get_or entries at d).offset ≡ link) → AtOffset entries flags records reached link at
+at_offset_by entries flags records reached link at d flagged fits found =
     let there = at_entry entries records 0 at d flagged.are flagged.rise fits in
-    let same : there.of_it.place ≡ offset = sym there.is.says.place ∙ found d in
+    let same : there.of_it.offset ≡ link = sym there.is.says.offset ∙ found d in
     record {
       elements = there.of_it.elements;
       stands = ap (λ z. record_at z records) (sym same) ∙ there.stands;
@@ -279,37 +279,37 @@ at_offset_by entries flags records reached offset at d flagged fits found =
       flag = λ b. ap (λ z. get_or z at b) flagged.flagged ∙ (there.flag reached b ∙ ap (λ z. is_one_of z reached) same);
     }
 
-pub at_offset : (entries : List ReadRecord) (flags : List Bool) (records : List Record) (reached : List ℕ) (offset at : ℕ) → AreFlagged entries flags records reached
-    → at < length entries → ((d : ReadRecord) → (get_or entries at d).place ≡ offset) → AtOffset entries flags records reached offset at
-at_offset v1 flags records reached offset at flagged fits found = grind (arith, nat_tests, at_offset_by)
+pub at_offset : (entries : List ReadRecord) (flags : List Bool) (records : List Record) (reached : List ℕ) (link at : ℕ) → AreFlagged entries flags records reached
+    → at < length entries → ((d : ReadRecord) → (get_or entries at d).offset ≡ link) → AtOffset entries flags records reached link at
+at_offset v1 flags records reached link at flagged fits found = grind (arith, nat_tests, at_offset_by)
 
 -- the fault of an offset
 
-has_record : (links : Links) (path : List Turn) (offset : ℕ) (es : Elements) → named_by links path ≡ offset → record_at offset links.records ≡ Some es → names_no_record links path ≡ false
-has_record links path offset es named stands = ap (λ z. is_none (record_at z links.records)) named ∙ ap is_none stands
+has_record : (links : Links) (path : List Turn) (link : ℕ) (es : Elements) → named_by links path ≡ link → record_at link links.records ≡ Some es → names_no_record links path ≡ false
+has_record links path link es named stands = ap (λ z. is_none (record_at z links.records)) named ∙ ap is_none stands
 
-fits_there : (links : Links) (path : List Turn) (offset : ℕ) (es : Elements) (b : Bool) → named_by links path ≡ offset → record_at offset links.records ≡ Some es
+fits_there : (links : Links) (path : List Turn) (link : ℕ) (es : Elements) (b : Bool) → named_by links path ≡ link → record_at link links.records ≡ Some es
     → fits (level_of path) (carried_node es) ≡ b → names_wrong_level links path ≡ not b
-fits_there links path offset es b named stands fit = grind (arith, common_steps, elements_is (record_at offset links.records) es stands)
+fits_there links path link es b named stands fit = grind (arith, common_steps, elements_is (record_at link links.records) es stands)
 
-no_fault : (links : Links) (path : List Turn) (reached : List ℕ) (offset : ℕ) (es : Elements) → named_by links path ≡ offset → record_at offset links.records ≡ Some es
-    → is_one_of offset reached ≡ false → fits (level_of path) (carried_node es) ≡ true → path_fault links reached path ≡ None
-no_fault links path reached offset es named stands new fit = grind (arith, common_steps, has_record links path offset es named stands, fits_there links path offset es true named stands fit)
+no_fault : (links : Links) (path : List Turn) (reached : List ℕ) (link : ℕ) (es : Elements) → named_by links path ≡ link → record_at link links.records ≡ Some es
+    → is_one_of link reached ≡ false → fits (level_of path) (carried_node es) ≡ true → path_fault links reached path ≡ None
+no_fault links path reached link es named stands new fit = grind (arith, common_steps, has_record links path link es named stands, fits_there links path link es true named stands fit)
 
 pub old_target : (links : Links) (entries : List ReadRecord) (flags : List Bool) (reached : List ℕ) (ms : List Mark) (step : Step) (at root reported : ℕ) (b : Bool)
-    → AreFlagged entries flags links.records reached → IsStep links ms (Some step) → root ≡ links.place → at < length entries → ((d : ReadRecord) → (get_or entries at d).place ≡ step.offset)
-    → get_or flags at false ≡ true → is_one_of step.offset (line_of (path_along true ms)) ≡ b → reported ≡ reported_along root ms
+    → AreFlagged entries flags links.records reached → IsStep links ms (Some step) → root ≡ links.offset → at < length entries → ((d : ReadRecord) → (get_or entries at d).offset ≡ step.link)
+    → get_or flags at false ≡ true → is_one_of step.link (line_of (path_along true ms)) ≡ b → reported ≡ reported_along root ms
     → path_fault links reached (path_along step.begins ms) ≡ fault (if b then 61 else 62) reported
-old_target links entries flags reached ms step at root reported b flagged is_step root_is fits found old back is = grind (arith, common_steps, at_offset entries flags links.records reached step.offset at flagged fits found)
+old_target links entries flags reached ms step at root reported b flagged is_step root_is fits found old back is = grind (arith, common_steps, at_offset entries flags links.records reached step.link at flagged fits found)
 
 pub unfit_target : (links : Links) (entries : List ReadRecord) (flags : List Bool) (reached : List ℕ) (ms : List Mark) (step : Step) (at : ℕ) (e : ReadRecord)
-    → AreFlagged entries flags links.records reached → IsStep links ms (Some step) → at < length entries → ((d : ReadRecord) → (get_or entries at d).place ≡ step.offset)
+    → AreFlagged entries flags links.records reached → IsStep links ms (Some step) → at < length entries → ((d : ReadRecord) → (get_or entries at d).offset ≡ step.link)
     → get_or flags at false ≡ false → e ≡ get_or entries at e → fits step.level (carried_by e) ≡ false
-    → path_fault links reached (path_along step.begins ms) ≡ fault 64 step.offset
-unfit_target links entries flags reached ms step at e flagged is_step fits_in found new is unfit = grind (arith, common_steps, at_offset entries flags links.records reached step.offset at flagged fits_in found)
+    → path_fault links reached (path_along step.begins ms) ≡ fault 64 step.link
+unfit_target links entries flags reached ms step at e flagged is_step fits_in found new is unfit = grind (arith, common_steps, at_offset entries flags links.records reached step.link at flagged fits_in found)
 
 pub good_target : (links : Links) (entries : List ReadRecord) (flags : List Bool) (reached : List ℕ) (ms : List Mark) (step : Step) (at : ℕ) (e : ReadRecord)
-    → AreFlagged entries flags links.records reached → IsStep links ms (Some step) → at < length entries → ((d : ReadRecord) → (get_or entries at d).place ≡ step.offset)
+    → AreFlagged entries flags links.records reached → IsStep links ms (Some step) → at < length entries → ((d : ReadRecord) → (get_or entries at d).offset ≡ step.link)
     → get_or flags at false ≡ false → e ≡ get_or entries at e → fits step.level (carried_by e) ≡ true
     → IsTarget links entries ms step reached at
-good_target links entries flags reached ms step at e flagged is_step fits_in found new is fit = grind (arith, common_steps, at_offset entries flags links.records reached step.offset at flagged fits_in found)
+good_target links entries flags reached ms step at e flagged is_step fits_in found new is fit = grind (arith, common_steps, at_offset entries flags links.records reached step.link at flagged fits_in found)

@@ -26,7 +26,7 @@ use Rattle.dictionary.proofs.Public.{native_uid}
 use Rattle.part10.specs.declared.meta.Meta.{Meta}
 use Rattle.part10.specs.declared.meta_fault.MetaFault.{MetaFault}
 use Rattle.part10.specs.declared.meta_fault.MetaFault.TheVariants.{NotPart10, BadMeta, OtherSyntax, ReadFailed}
-use Rattle.part10.specs.MetaText.{meta_values_of, TakesMeta, FailsToRead}
+use Rattle.part10.specs.MetaText.{meta_values_of, ConsumesMeta, FailsToRead}
 use Rattle.dicomdir.specs.declared.fault.DirFault.{DirFault}
 use Rattle.dicomdir.specs.DirFault.{CheckFault, check_limits, HasHeader, IsAtNone, in_header, in_syntax, in_data_set, at_the_end}
 use Rattle.dicomdir.specs.machine.Faults.{header_fault_of, refusal_of}
@@ -38,7 +38,7 @@ use Rattle.sequence.specs.Walk.{Report, Reports, going, refused}
 use Rattle.sequence.specs.declared.step.Step.TheVariants.{Refused}
 use Rattle.sequence.specs.Answering.{IsRun, Answers, no_piece, continues, element, opened, closed, runs, refuses, stays}
 use Rattle.sequence.specs.declared.walker.Walker.{Walker}
-use Rattle.sequence.specs.Taken.{StandsAt, walker_syntax, limits_of, fault_of}
+use Rattle.sequence.specs.Consumed.{StandsAt, walker_syntax, limits_of, fault_of}
 use Rattle.dicomdir.specs.Laws.{WalkersStartWithoutFault}
 use Rattle.sequence.proofs.Public.{fault_stays, nothing_unbroken}
 
@@ -73,7 +73,7 @@ header_rule lim spot size h =
     (if_rule (is_endless spot h) _ _ (some_rule 14 h.tag (omega arith))
     (if_rule (not (is_undefined h.length) && nat_eq (h.length % 2) 1) _ _ (some_rule 11 h.tag (omega arith))
     (if_rule (not (is_undefined h.length) && passes spot.near (size + h.length)) _ _ (some_rule 17 h.tag (omega arith))
-    (if_rule (nat_lt lim.bytes (spot.place + size + counted_length h.length)) _ _ (some_rule 19 h.tag (omega arith))
+    (if_rule (nat_lt lim.bytes (spot.offset + size + counted_length h.length)) _ _ (some_rule 19 h.tag (omega arith))
     (if_rule (is_too_long lim spot h) _ _ (some_rule 21 h.tag (omega arith))
     (if_rule (opens spot h && nat_le lim.depth spot.depth) _ None (some_rule 18 h.tag (omega arith)) none_rule)))))))
 
@@ -91,7 +91,7 @@ fault_at_none fails e = let le = fault_number fails in omega (arith, le, e)
 -- ---- what a file header says of a check
 
 pub header_check : (file : List ℕ) (fault : MetaFault) → FailsToRead fault (Some file) → (header_fault_of fault).number ≢ 67
-    → CheckFault file (header_fault_of fault).number (header_fault_of fault).place (header_fault_of fault).tag
+    → CheckFault file (header_fault_of fault).number (header_fault_of fault).offset (header_fault_of fault).tag
 header_check file NotPart10 r some = in_header NotPart10 r
 header_check file BadMeta r some = in_header BadMeta r
 header_check file OtherSyntax r some = in_header OtherSyntax r
@@ -104,33 +104,33 @@ header_at_none v1 f is e = grind (arith, nat_tests)
 said_native : (meta : Meta) (s : Syntax) → meta.syntax ≡ native (syntax_in meta.syntax) → syntax_in meta.syntax ≡ s → transfer_uid meta.syntax ≡ syntax_uid s
 said_native meta s native_is is = ap transfer_uid native_is ∙ native_uid (syntax_in meta.syntax) ∙ ap syntax_uid is
 
-pub implicit_check : (file rest : List ℕ) (meta : Meta) → TakesMeta (meta_values_of meta) (Some file) (Some rest) → meta.syntax ≡ native (syntax_in meta.syntax) → syntax_in meta.syntax ≡ syntaxes.Implicit
+pub implicit_check : (file rest : List ℕ) (meta : Meta) → ConsumesMeta (meta_values_of meta) (Some file) (Some rest) → meta.syntax ≡ native (syntax_in meta.syntax) → syntax_in meta.syntax ≡ syntaxes.Implicit
     → CheckFault file 53 132 no_tag
-implicit_check file rest meta takes native_is is =
-    in_syntax (record { front = takes.0; back = rest; whole = takes.2; spelled = takes.1 }) (said_native meta syntaxes.Implicit native_is is)
+implicit_check file rest meta accepts native_is is =
+    in_syntax (record { front = accepts.0; back = rest; whole = accepts.2; spelled = accepts.1 }) (said_native meta syntaxes.Implicit native_is is)
 
-pub explicit_check : (file rest : List ℕ) (meta : Meta) → TakesMeta (meta_values_of meta) (Some file) (Some rest) → meta.syntax ≡ native (syntax_in meta.syntax) → syntax_in meta.syntax ≡ syntaxes.Explicit
+pub explicit_check : (file rest : List ℕ) (meta : Meta) → ConsumesMeta (meta_values_of meta) (Some file) (Some rest) → meta.syntax ≡ native (syntax_in meta.syntax) → syntax_in meta.syntax ≡ syntaxes.Explicit
     → HasHeader file rest
-explicit_check file rest meta takes native_is is = grind (arith, common_steps, said_native meta syntaxes.Explicit native_is is)
+explicit_check file rest meta accepts native_is is = grind (arith, common_steps, said_native meta syntaxes.Explicit native_is is)
 
 pub header_before : {file back : List ℕ} → HasHeader file back → length back ≤ length file
 header_before {file = file} {back = back} h = grind (arith, common_steps, length-append h.front back)
 
 pub data_set_check : {file back : List ℕ} (h : HasHeader file back) (fault : Fault) (start : ℕ) → start ≡ length file - length back → Fails Explicit check_limits back fault
-    → CheckFault file fault.number (start + fault.place) fault.tag
+    → CheckFault file fault.number (start + fault.offset) fault.tag
 data_set_check {file = file} {back = back} h fault start from (breaks_rule {p = p} {rule = rule} {tag = tag} first) =
     let whole = ap length h.explicit.whole ∙ length-append h.front back in
-    let place : length h.front + length p ≡ start + length p = omega (arith, whole, from) in
-    subst (λ z. CheckFault file rule z tag) place (in_data_set h.explicit first)
+    let offset : length h.front + length p ≡ start + length p = omega (arith, whole, from) in
+    subst (λ z. CheckFault file rule z tag) offset (in_data_set h.explicit first)
 data_set_check {file = file} {back = back} h fault start from (ends_early {tag = tag} end) =
     let whole = ap length h.explicit.whole ∙ length-append h.front back in
-    let place : length file ≡ start + length back = omega (arith, whole, from) in
-    subst (λ z. CheckFault file 20 z tag) place (at_the_end h.explicit end)
+    let offset : length file ≡ start + length back = omega (arith, whole, from) in
+    subst (λ z. CheckFault file 20 z tag) offset (at_the_end h.explicit end)
 
 -- ---- a walk over a whole text, step by step
 
 -- where nothing is refused, no rule is broken
-pub unrefused : {s : Coding} {lim : Limits} {b piece taken : List ℕ} {step : Step} → Answers s lim b piece taken step → refusal_of step ≡ None → IsUnbroken s lim (b ++ taken)
+pub unrefused : {s : Coding} {lim : Limits} {b piece consumed : List ℕ} {step : Step} → Answers s lim b piece consumed step → refusal_of step ≡ None → IsUnbroken s lim (b ++ consumed)
 unrefused {s = s} {lim = lim} {b = b} (no_piece unbroken p t) e = subst (λ z. IsUnbroken s lim z) (sym (ap (λ z. b ++ z) t ∙ append-nil b)) unbroken
 unrefused (continues unbroken part all) e = unbroken
 unrefused (element unbroken ends mark) e = unbroken
@@ -144,23 +144,23 @@ runs_none : (bytes : List ℕ) (step : Step) → IsRun bytes step → refusal_of
 runs_none bytes v2 r = grind (arith, nat_tests)
 
 -- and else a rule is broken, in any text that continues from there
-pub refused_fails : {s : Coding} {lim : Limits} {b piece taken : List ℕ} {step : Step} (more text : List ℕ) (fault : Fault) → Answers s lim b piece taken step → refusal_of step ≡ Some fault
-    → IsBytes text → text ≡ (b ++ taken) ++ more → Fails s lim text fault
+pub refused_fails : {s : Coding} {lim : Limits} {b piece consumed : List ℕ} {step : Step} (more text : List ℕ) (fault : Fault) → Answers s lim b piece consumed step → refusal_of step ≡ Some fault
+    → IsBytes text → text ≡ (b ++ consumed) ++ more → Fails s lim text fault
 refused_fails more text fault (no_piece unbroken p t) e bytes whole = absurd cc
 refused_fails more text fault (continues unbroken part all) e bytes whole = absurd cc
 refused_fails more text fault (element unbroken ends mark) e bytes whole = absurd cc
 refused_fails more text fault (opened unbroken ends mark same) e bytes whole = absurd cc
 refused_fails more text fault (closed unbroken ends mark same) e bytes whole = absurd cc
-refused_fails {taken = taken} more text fault (runs {step = step} unbroken ends run) e bytes whole = let none = runs_none taken step run in absurd cc
-refused_fails {s = s} {lim = lim} {b = b} {taken = taken} more text fault (refuses {p = p} {u = u} {rule = rule} {tag = tag} unbroken first it at) e bytes whole =
-    let same : record { number = rule; place = length p; tag = tag } ≡ fault = cc in
-    let stays_first = fault_stays s lim (b ++ taken) more p u rule tag (subst (λ z. IsBytes z) whole bytes) first in
-    subst (λ z. Fails s lim text z) same (subst (λ z. Fails s lim z (record { number = rule; place = length p; tag = tag })) (sym whole) (breaks_rule stays_first))
-refused_fails {s = s} {lim = lim} {b = b} {taken = taken} more text fault (stays {p = p} {u = u} {rule = rule} {tag = tag} first none) e bytes whole =
-    let same : record { number = rule; place = length p; tag = tag } ≡ fault = cc in
+refused_fails {consumed = consumed} more text fault (runs {step = step} unbroken ends run) e bytes whole = let none = runs_none consumed step run in absurd cc
+refused_fails {s = s} {lim = lim} {b = b} {consumed = consumed} more text fault (refuses {p = p} {u = u} {rule = rule} {tag = tag} unbroken first it at) e bytes whole =
+    let same : record { number = rule; offset = length p; tag = tag } ≡ fault = cc in
+    let stays_first = fault_stays s lim (b ++ consumed) more p u rule tag (subst (λ z. IsBytes z) whole bytes) first in
+    subst (λ z. Fails s lim text z) same (subst (λ z. Fails s lim z (record { number = rule; offset = length p; tag = tag })) (sym whole) (breaks_rule stays_first))
+refused_fails {s = s} {lim = lim} {b = b} {consumed = consumed} more text fault (stays {p = p} {u = u} {rule = rule} {tag = tag} first none) e bytes whole =
+    let same : record { number = rule; offset = length p; tag = tag } ≡ fault = cc in
     let all : text ≡ b ++ more = whole ∙ ap (λ z. z ++ more) (ap (λ z. b ++ z) none ∙ append-nil b) in
     let stays_first = fault_stays s lim b more p u rule tag (subst (λ z. IsBytes z) all bytes) first in
-    subst (λ z. Fails s lim text z) same (subst (λ z. Fails s lim z (record { number = rule; place = length p; tag = tag })) (sym all) (breaks_rule stays_first))
+    subst (λ z. Fails s lim text z) same (subst (λ z. Fails s lim z (record { number = rule; offset = length p; tag = tag })) (sym all) (breaks_rule stays_first))
 
 -- what is reported where no rule is broken is no fault
 pub reports_none : {s : Coding} {lim : Limits} {b : List ℕ} {reported : Report} → Reports s lim b reported → IsUnbroken s lim b → reported.fault ≡ None
@@ -182,7 +182,7 @@ further_take (suc a) n (x ∷ text) fits =
 pub record Farther (text rest : List ℕ) (n : ℕ) : Type 0 where
   pub fits : length (drop n rest) ≤ length text
   pub is_rest : drop n rest ≡ drop (length text - length (drop n rest)) text
-  pub taken : take (length text - length rest) text ++ take n rest ≡ take (length text - length (drop n rest)) text
+  pub consumed : take (length text - length rest) text ++ take n rest ≡ take (length text - length (drop n rest)) text
   pub whole : text ≡ (take (length text - length rest) text ++ take n rest) ++ drop n rest
 
 pub farther : (text rest : List ℕ) (n : ℕ) → length rest ≤ length text → rest ≡ drop (length text - length rest) text → n ≤ length rest → Farther text rest n
@@ -192,7 +192,7 @@ farther text rest n fits is within =
     grind (arith, common_steps, length-drop n rest, drop-drop n a text, further_take a n text inside, take-append-drop (a + n) text)
 
 -- a fault stands in the text
-pub fault_within : {s : Coding} {lim : Limits} {b : List ℕ} {fault : Fault} → Fails s lim b fault → fault.place ≤ length b
+pub fault_within : {s : Coding} {lim : Limits} {b : List ℕ} {fault : Fault} → Fails s lim b fault → fault.offset ≤ length b
 fault_within {b = b} (breaks_rule {p = p} {u = u} first) = grind (arith, common_steps, length-append p u)
 fault_within (ends_early end) = omega arith
 
@@ -227,7 +227,7 @@ walks_on w0 w v piece rest n step goes g within stands answers syntax limits non
     record {
       fits = far.fits;
       is_rest = far.is_rest;
-      along = λ c at. subst (λ z. StandsAt v z) (append_assoc c (take a piece) (take n rest) ∙ ap (λ z. c ++ z) far.taken) (stands (c ++ take a piece) (g.along c at));
+      along = λ c at. subst (λ z. StandsAt v z) (append_assoc c (take a piece) (take n rest) ∙ ap (λ z. c ++ z) far.consumed) (stands (c ++ take a piece) (g.along c at));
       good = reports_none there.reports moved;
       same = (syntax ∙ g.same.0, limits ∙ g.same.1);
     }
@@ -243,8 +243,8 @@ pub walks_whole : {V D : ℕ} (w0 w : Walker V D) (piece rest : List ℕ) → Wa
 walks_whole w0 w piece rest g none b stands = grind (arith, common_steps, g.along b stands)
 
 -- the text up to the end of the piece, and what follows
-regrouped : (b piece more front taken behind : List ℕ) → piece ≡ (front ++ taken) ++ behind → (b ++ piece) ++ more ≡ ((b ++ front) ++ taken) ++ (behind ++ more)
-regrouped b piece more front taken behind e = ap (λ z. (b ++ z) ++ more) e ∙ simp append_assoc refl
+regrouped : (b piece more front consumed behind : List ℕ) → piece ≡ (front ++ consumed) ++ behind → (b ++ piece) ++ more ≡ ((b ++ front) ++ consumed) ++ (behind ++ more)
+regrouped b piece more front consumed behind e = ap (λ z. (b ++ z) ++ more) e ∙ simp append_assoc refl
 
 pub walks_fails : {V D : ℕ} (w0 w : Walker V D) (piece rest : List ℕ) (n : ℕ) (step : Step) (fault : Fault) → Walks w0 w piece rest → n ≤ length rest
     → ((b : List ℕ) → StandsAt w b → Answers (walker_syntax w) (limits_of w) b rest (take n rest) step)

@@ -20,11 +20,11 @@ use Rattle.dicomdir.specs.declared.fault.DirFault.{DirFault}
 -- a fault: its number, and its position in the file
 pub record Fault : Type 0 where
   pub number : ℕ
-  pub place : ℕ
+  pub offset : ℕ
 
 -- a fault with this number at this position
 abbrev pub fault : ℕ → ℕ → Option Fault
-fault number place = Some (record { number = number; place = place })
+fault number offset = Some (record { number = number; offset = offset })
 
 -- the first of two faults
 infixr 20 ◌or_else◌
@@ -36,14 +36,14 @@ None or_else later = later
 -- wrong size at its header
 abbrev pub offset_fault : ℕ → Found → Option Fault
 offset_fault start missing = fault bad_record start
-offset_fault start (value_at place v) = if nat_eq (length v) 4 then None else fault bad_record place
-offset_fault start (items_at place h is) = fault bad_record place
+offset_fault start (value_at offset v) = if nat_eq (length v) 4 then None else fault bad_record offset
+offset_fault start (items_at offset h is) = fault bad_record offset
 
 -- the fault of Directory Record Sequence itself
 abbrev pub records_fault : ℕ → Found → Option Fault
 records_fault start missing = fault bad_record start
-records_fault start (value_at place v) = fault bad_record place
-records_fault start (items_at place h is) = None
+records_fault start (value_at offset v) = fault bad_record offset
+records_fault start (items_at offset h is) = None
 
 -- the first fault of the root
 abbrev pub root_fault : ℕ → Elements → Option Fault
@@ -55,8 +55,8 @@ root_fault start es =
 -- the fault of a record by itself: a missing or wrong element, or else its file ID
 abbrev pub record_fault : Record → Option Fault
 record_fault r =
-    if not (has_record r.elements) then fault bad_record r.place
-    else (if not (has_file_id r.elements) then fault bad_file_id r.place
+    if not (has_record r.elements) then fault bad_record r.offset
+    else (if not (has_file_id r.elements) then fault bad_file_id r.offset
     else None)
 
 -- the first fault of these records, each by itself
@@ -90,22 +90,22 @@ first_fault links reached [] = None
 first_fault links reached (path ∷ paths) = path_fault links reached path or_else first_fault links (named_by links path ∷ reached) paths
 
 -- the position of what was found
-abbrev pub place_in : Found → ℕ
-place_in missing = 0
-place_in (value_at place v) = place
-place_in (items_at place h is) = place
+abbrev pub offset_in : Found → ℕ
+offset_in missing = 0
+offset_in (value_at offset v) = offset
+offset_in (items_at offset h is) = offset
 
 -- the fault of the root's offset of its last record, which must be the last that the root's own offsets lead to
 abbrev pub last_fault : ℕ → Elements → Links → Option Fault
 last_fault start es links =
     if nat_eq (or_zero (last_offset start es)) (last_from 0 (root_records links (paths_of links))) then None
-    else fault bad_offset (place_in (found 0x00041202 start es))
+    else fault bad_offset (offset_in (found 0x00041202 start es))
 
 -- the fault of the first record in use that was not reached
 abbrev pub unreached_fault : List ℕ → List Record → Option Fault
 unreached_fault reached [] = None
 unreached_fault reached (r ∷ records) =
-    if not (carried_node r.elements).in_use || is_one_of r.place reached then unreached_fault reached records else fault unreached r.place
+    if not (carried_node r.elements).in_use || is_one_of r.offset reached then unreached_fault reached records else fault unreached r.offset
 
 -- the first fault of the offsets of a directory: of the paths along them; then of the root's last offset; then the
 -- first record in use that no path leads to
@@ -118,7 +118,7 @@ links_fault start es links =
 -- the links of a directory with these elements and records: the root's first offset, its position, and the records
 abbrev pub links_of : ℕ → Elements → List Record → Links
 links_of start es records =
-    record { place = place_in (found 0x00041200 start es); first = or_zero (first_offset start es); records = records }
+    record { offset = offset_in (found 0x00041200 start es); first = or_zero (first_offset start es); records = records }
 
 -- the first fault of the records, or else of their offsets
 abbrev pub records_then_links : ℕ → Elements → Option (List Record) → Option Fault
@@ -148,14 +148,14 @@ pub record HasDataSet (file : List ℕ) : Type 0 where
 
 -- the position at which a fault of the file header is reported: 128, at the prefix DICM, for a missing prefix, else
 -- 132, after it
-abbrev pub place_of_meta_fault : ℕ → ℕ
-place_of_meta_fault number = if nat_eq number 50 then 128 else 132
+abbrev pub offset_of_meta_fault : ℕ → ℕ
+offset_of_meta_fault number = if nat_eq number 50 then 128 else 132
 
 -- The fault of a file as a directory: its number, its position, and the tag of a fault of the data set. It is that of
 -- the file header, for which Implicit is an unaccepted transfer syntax; else that of the data set; else that of the
 -- directory.
 pub data CheckFault (file : List ℕ) : ℕ → ℕ → Tag → Type 0 where
-  in_header : (fault : MetaFault) → MetaFaultOf file fault → CheckFault file (fault_number fault) (place_of_meta_fault (fault_number fault)) no_tag
+  in_header : (fault : MetaFault) → MetaFaultOf file fault → CheckFault file (fault_number fault) (offset_of_meta_fault (fault_number fault)) no_tag
   in_syntax : {said : MetaValues} → HasMeta said file → said.syntax ≡ syntax_uid Implicit → CheckFault file 53 132 no_tag
   in_data_set : {front back p u : List ℕ} {rule : ℕ} {tag : Tag} → IsExplicitFile file front back
       → FirstFault codings.Explicit check_limits back p u rule tag → CheckFault file rule (length front + length p) tag
@@ -163,8 +163,8 @@ pub data CheckFault (file : List ℕ) : ℕ → ℕ → Tag → Type 0 where
       → EndFault codings.Explicit check_limits back tag → CheckFault file 20 (length file) tag
   in_directory : {front back : List ℕ} {elements : Elements} {f : Fault} → IsExplicitFile file front back
       → IsUnbroken codings.Explicit check_limits back → DataSet codings.Explicit 0 elements back
-      → directory_fault (length front) elements ≡ Some f → CheckFault file f.number f.place no_tag
+      → directory_fault (length front) elements ≡ Some f → CheckFault file f.number f.offset no_tag
 
 -- the fault of memory that ran out has position 0 and no tag
 abbrev pub IsAtNone : DirFault → Type 0
-IsAtNone f = f.number ≡ out_of_memory → (f.place ≡ 0) × (f.tag ≡ no_tag)
+IsAtNone f = f.number ≡ out_of_memory → (f.offset ≡ 0) × (f.tag ≡ no_tag)

@@ -58,38 +58,38 @@ pub data Found : Type 0 where
   value_at : ℕ → List ℕ → Found
   items_at : ℕ → Header → Items → Found
 
--- the element with this tag among elements, the first of which is at position `place`
+-- the element with this tag among elements, the first of which is at position `offset`
 abbrev pub found : ℕ → ℕ → Elements → Found
-found tag place no_elements = missing
-found tag place (value h v es) =
-    if nat_eq (number h.tag) tag then value_at place v else found tag (place + header_size h + length v) es
-found tag place (sequence h is es) =
-    if nat_eq (number h.tag) tag then items_at place h is
-    else found tag (place + header_size h + size_of_items is + end_size h.length) es
+found tag offset no_elements = missing
+found tag offset (value h v es) =
+    if nat_eq (number h.tag) tag then value_at offset v else found tag (offset + header_size h + length v) es
+found tag offset (sequence h is es) =
+    if nat_eq (number h.tag) tag then items_at offset h is
+    else found tag (offset + header_size h + size_of_items is + end_size h.length) es
 
 -- the number in a value of `size` bytes; none for anything else
 abbrev pub number_in : ℕ → Found → Option ℕ
 number_in size missing = None
-number_in size (value_at place v) = if nat_eq (length v) size then Some (little_number size v) else None
-number_in size (items_at place h is) = None
+number_in size (value_at offset v) = if nat_eq (length v) size then Some (little_number size v) else None
+number_in size (items_at offset h is) = None
 
 -- a record: the position of its item, and its elements
 pub record Record : Type 0 where
-  pub place : ℕ
+  pub offset : ℕ
   pub elements : Elements
 
--- the records in these items, the first of which is at position `place`; a fragment is no record
+-- the records in these items, the first of which is at position `offset`; a fragment is no record
 abbrev pub records_at : ℕ → Items → List Record
-records_at place no_items = []
-records_at place (item h es is) =
-    record { place = place; elements = es } ∷ records_at (place + header_size h + size_of es + end_size h.length) is
-records_at place (fragment h v is) = records_at (place + header_size h + length v) is
+records_at offset no_items = []
+records_at offset (item h es is) =
+    record { offset = offset; elements = es } ∷ records_at (offset + header_size h + size_of es + end_size h.length) is
+records_at offset (fragment h v is) = records_at (offset + header_size h + length v) is
 
 -- the records in these items, each with its position
 abbrev pub records_in : Found → Option (List Record)
 records_in missing = None
-records_in (value_at place v) = None
-records_in (items_at place h is) = Some (records_at (place + header_size h) is)
+records_in (value_at offset v) = None
+records_in (items_at offset h is) = Some (records_at (offset + header_size h) is)
 
 -- the root's offset of its first record (0004,1200)
 abbrev pub first_offset : ℕ → Elements → Option ℕ
@@ -135,20 +135,20 @@ key v = without_trailing is_padding v
 -- the Directory Record Type, without spaces and zero bytes at its end
 abbrev pub kind_in : Found → List ℕ
 kind_in missing = []
-kind_in (value_at place v) = key v
-kind_in (items_at place h is) = []
+kind_in (value_at offset v) = key v
+kind_in (items_at offset h is) = []
 
 -- the Referenced File ID (0004,1500) of a record
 abbrev pub file_id_in : Found → Option (List ℕ)
 file_id_in missing = None
-file_id_in (value_at place v) = file_id_of v
-file_id_in (items_at place h is) = None
+file_id_in (value_at offset v) = file_id_of v
+file_id_in (items_at offset h is) = None
 
 -- whether there is no element with the tag
 abbrev pub is_missing : Found → Bool
 is_missing missing = true
-is_missing (value_at place v) = false
-is_missing (items_at place h is) = false
+is_missing (value_at offset v) = false
+is_missing (items_at offset h is) = false
 
 -- the contents of a node of the tree: whether it is in use, its type, and its file ID, if it has one
 pub record Node : Type 0 where

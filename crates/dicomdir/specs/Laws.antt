@@ -2,7 +2,7 @@
 use Rattle.std.specs.Prelude.{◌≡◌, ℕ, true, List, ◌≤◌, length, false, None, Some, suc, ◌+◌, []}
 use Rattle.element.specs.Padding.{padded}
 use Rattle.sequence.specs.declared.walker.Walker.{Walker}
-use Rattle.sequence.specs.Taken.{StandsAt, fault_of}
+use Rattle.sequence.specs.Consumed.{StandsAt, fault_of}
 use Rattle.sequence.specs.Tree.{Elements}
 use Rattle.element.specs.declared.tag.Tag.{Tag}
 use Rattle.dicomdir.specs.FileId.{is_file_id, file_id_of}
@@ -10,7 +10,7 @@ use Rattle.dicomdir.specs.NodesInUse.{LevelNode, HasNodes}
 use Rattle.dicomdir.specs.DirFault.{CheckFault, HasDataSet, directory_fault, first_fault, links_of}
 use Rattle.dicomdir.specs.Forest.{Forest, count_of}
 use Rattle.dicomdir.specs.Directory.{Node}
-use Rattle.dicomdir.specs.Linked.{Linked, LinkedElements, IsAllReached, places_of, is_one_of}
+use Rattle.dicomdir.specs.Linked.{Linked, LinkedElements, IsAllReached, offsets_of, is_one_of}
 use Rattle.dicomdir.specs.Paths.{Links, paths_from, paths_of, reached_by}
 
 -- ---- file IDs
@@ -33,12 +33,12 @@ WalkersStartWithoutFault = (V D : ℕ) (w : Walker V D) → StandsAt w [] → fa
 
 -- a directory whose records are linked to a tree that contains each record in use has no fault
 abbrev pub AcceptedHasNoFault : Type 0
-AcceptedHasNoFault = (file : List ℕ) (nodes : List LevelNode) (number place : ℕ) (tag : Tag) → HasDataSet file → HasNodes file nodes → CheckFault file number place tag → ⊥
+AcceptedHasNoFault = (file : List ℕ) (nodes : List LevelNode) (number offset : ℕ) (tag : Tag) → HasDataSet file → HasNodes file nodes → CheckFault file number offset tag → ⊥
 
 -- a file has one first fault at most
 abbrev pub OneCheckFault : Type 0
-OneCheckFault = (file : List ℕ) (number number2 place place2 : ℕ) (tag tag2 : Tag)
-    → CheckFault file number place tag → CheckFault file number2 place2 tag2 → (number ≡ number2) × (place ≡ place2) × (tag ≡ tag2)
+OneCheckFault = (file : List ℕ) (number number2 offset offset2 : ℕ) (tag tag2 : Tag)
+    → CheckFault file number offset tag → CheckFault file number2 offset2 tag2 → (number ≡ number2) × (offset ≡ offset2) × (tag ≡ tag2)
 
 -- a file determines the list of its records in use
 abbrev pub OneListOfNodes : Type 0
@@ -50,7 +50,7 @@ OneListOfNodes = (file : List ℕ) (nodes other : List LevelNode) → HasNodes f
 abbrev pub NodesAreRecords : Type 0
 NodesAreRecords =
     (start : ℕ) (elements : Elements) (tree : Forest Node) (linked : LinkedElements start elements tree)
-    → (count_of linked.placed ≤ length linked.records) × (is_one_of 0 (places_of linked.placed) ≡ false)
+    → (count_of linked.placed ≤ length linked.records) × (is_one_of 0 (offsets_of linked.placed) ≡ false)
 
 -- a directory with these elements, whose records are linked to a tree that contains each record in use, has no fault
 abbrev pub LinkedHasNoFault : Type 0
@@ -87,4 +87,4 @@ LongerPathsChangeNothing =
 abbrev pub PathsNameNodes : Type 0
 PathsNameNodes =
     (start : ℕ) (elements : Elements) (tree : Forest Node) (linked : LinkedElements start elements tree)
-    → reached_by (links_of start elements linked.records) (paths_of (links_of start elements linked.records)) ≡ places_of linked.placed
+    → reached_by (links_of start elements linked.records) (paths_of (links_of start elements linked.records)) ≡ offsets_of linked.placed

@@ -33,7 +33,7 @@ fits level n = not n.in_use || fits_level level n.kind
 
 -- the contents of a node, and the position of its record
 pub record PlacedNode : Type 0 where
-  pub place : ℕ
+  pub offset : ℕ
   pub carries : Node
 
 -- the tree without the positions of its records
@@ -42,55 +42,55 @@ nodes_of no_nodes = no_nodes
 nodes_of (node n below next) = node n.carries (nodes_of below) (nodes_of next)
 
 -- the positions of the records of a tree, depth first
-abbrev pub places_of : Forest PlacedNode → List ℕ
-places_of no_nodes = []
-places_of (node n below next) = n.place ∷ (places_of below ++ places_of next)
+abbrev pub offsets_of : Forest PlacedNode → List ℕ
+offsets_of no_nodes = []
+offsets_of (node n below next) = n.offset ∷ (offsets_of below ++ offsets_of next)
 
 -- the position of the first of these siblings, 0 if there is none
-abbrev pub first_place : Forest PlacedNode → ℕ
-first_place no_nodes = 0
-first_place (node n below next) = n.place
+abbrev pub first_position : Forest PlacedNode → ℕ
+first_position no_nodes = 0
+first_position (node n below next) = n.offset
 
--- the position of the last of these siblings, or `place` if there is none
-abbrev pub last_place_behind : ℕ → Forest PlacedNode → ℕ
-last_place_behind place no_nodes = place
-last_place_behind place (node n below next) = last_place_behind n.place next
+-- the position of the last of these siblings, or `offset` if there is none
+abbrev pub last_position_behind : ℕ → Forest PlacedNode → ℕ
+last_position_behind offset no_nodes = offset
+last_position_behind offset (node n below next) = last_position_behind n.offset next
 
 -- the position of the last of these siblings, 0 if there is none
-abbrev pub last_place : Forest PlacedNode → ℕ
-last_place nodes = last_place_behind 0 nodes
+abbrev pub last_position : Forest PlacedNode → ℕ
+last_position nodes = last_position_behind 0 nodes
 
 -- whether the number is in the list
 abbrev pub is_one_of : ℕ → List ℕ → Bool
-is_one_of place places = list_any (nat_eq place) places
+is_one_of offset positions = list_any (nat_eq offset) positions
 
 -- whether no number occurs twice in the list
 abbrev pub is_distinct : List ℕ → Bool
 is_distinct [] = true
-is_distinct (place ∷ places) = not (is_one_of place places) && is_distinct places
+is_distinct (offset ∷ positions) = not (is_one_of offset positions) && is_distinct positions
 
 -- the elements of the record at this position, if there is one
 abbrev pub record_at : ℕ → List Record → Option Elements
-record_at place [] = None
-record_at place (r ∷ records) = if nat_eq r.place place then Some r.elements else record_at place records
+record_at offset [] = None
+record_at offset (r ∷ records) = if nat_eq r.offset offset then Some r.elements else record_at offset records
 
 -- the elements of the record at this position; none if no record is there
 abbrev pub elements_at : List Record → ℕ → Elements
-elements_at records place = elim (record_at place records) [ None ↦ no_elements | Some es ↦ es ]
+elements_at records offset = elim (record_at offset records) [ None ↦ no_elements | Some es ↦ es ]
 
 -- the offset of the first record at the lower level, in the record at this position
 abbrev pub lower_at : List Record → ℕ → ℕ
-lower_at records place = or_zero (lower_offset (elements_at records place))
+lower_at records offset = or_zero (lower_offset (elements_at records offset))
 
 -- the offset of the next record at the same level, in the record at this position
 abbrev pub next_at : List Record → ℕ → ℕ
-next_at records place = or_zero (next_offset (elements_at records place))
+next_at records offset = or_zero (next_offset (elements_at records offset))
 
 -- one of the records is at the position of the node, has its type and file ID, fits the level, and has these two
 -- offsets
 pub record IsRecordOf (records : List Record) (level : ℕ) (n : PlacedNode) (lower next : ℕ) : Type 0 where
   pub elements : Elements
-  pub stands : record_at n.place records ≡ Some elements
+  pub stands : record_at n.offset records ≡ Some elements
   pub carries : carried_node elements ≡ n.carries
   pub fits_there : fits level n.carries ≡ true
   pub names_lower : lower_offset elements ≡ Some lower
@@ -100,7 +100,7 @@ pub record IsRecordOf (records : List Record) (level : ℕ) (n : PlacedNode) (lo
 abbrev pub AreLinked : List Record → ℕ → Forest PlacedNode → Type 0
 AreLinked records level no_nodes = Unit {0}
 AreLinked records level (node n below next) =
-    IsRecordOf records level n (first_place below) (first_place next)
+    IsRecordOf records level n (first_position below) (first_position next)
     × AreLinked records (suc level) below
     × AreLinked records level next
 
@@ -116,9 +116,9 @@ pub record LinkedElements (start : ℕ) (elements : Elements) (tree : Forest Nod
   pub good : are_records records ≡ true
   pub tree_is : nodes_of placed ≡ tree
   pub linked : AreLinked records 1 placed
-  pub distinct : is_distinct (places_of placed) ≡ true
-  pub names_first : first_offset start elements ≡ Some (first_place placed)
-  pub names_last : last_offset start elements ≡ Some (last_place placed)
+  pub distinct : is_distinct (offsets_of placed) ≡ true
+  pub names_first : first_offset start elements ≡ Some (first_position placed)
+  pub names_last : last_offset start elements ≡ Some (last_position placed)
 
 -- the file is a directory whose records are linked to the tree
 pub record Linked (file : List ℕ) (tree : Forest Node) : Type 0 where
@@ -129,4 +129,4 @@ pub record Linked (file : List ℕ) (tree : Forest Node) : Type 0 where
 
 -- each record in use is a node of the tree
 abbrev pub IsAllReached : {start : ℕ} {elements : Elements} {tree : Forest Node} → LinkedElements start elements tree → Type 0
-IsAllReached linked = list_all (λ r. not (carried_node r.elements).in_use || is_one_of r.place (places_of linked.placed)) linked.records ≡ true
+IsAllReached linked = list_all (λ r. not (carried_node r.elements).in_use || is_one_of r.offset (offsets_of linked.placed)) linked.records ≡ true

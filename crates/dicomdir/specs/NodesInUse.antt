@@ -13,7 +13,7 @@ use Rattle.dicomdir.specs.Level.{kind_of}
 
 -- a record of the tree: its position, its level, from 1 for a patient to 4 for an image, and its contents
 pub record LevelNode : Type 0 where
-  pub place : ℕ
+  pub offset : ℕ
   pub level : ℕ
   pub carries : Node
 
@@ -22,7 +22,7 @@ abbrev pub nodes_in_use : ℕ → Forest PlacedNode → List LevelNode
 nodes_in_use level no_nodes = []
 nodes_in_use level (node n below next) =
     if n.carries.in_use
-    then record { place = n.place; level = level; carries = n.carries } ∷ (nodes_in_use (suc level) below ++ nodes_in_use level next)
+    then record { offset = n.offset; level = level; carries = n.carries } ∷ (nodes_in_use (suc level) below ++ nodes_in_use level next)
     else nodes_in_use level next
 
 -- the file is a directory whose records are linked to a tree that contains each record in use, and these are its
@@ -65,7 +65,7 @@ KeptOf tree = images_of (pruned tree)
 
 -- a record of the tree, which is in use
 abbrev pub node_of : TreeRecord → LevelNode
-node_of r = record { place = r.place; level = r.level; carries = record { in_use = true; kind = r.kind.now; file_id = r.file_id } }
+node_of r = record { offset = r.offset; level = r.level; carries = record { in_use = true; kind = r.kind.now; file_id = r.file_id } }
 
 -- the records of a tree, depth first
 abbrev pub tree_nodes : {A : Type 0} → Tree A → List LevelNode

@@ -6,14 +6,14 @@ use Rattle.dicomdir.specs.Linked.{is_one_of, lower_at, next_at}
 
 -- the links of a directory: the position of the root's first offset, that offset, and the records
 pub record Links : Type 0 where
-  pub place : ℕ
+  pub offset : ℕ
   pub first : ℕ
   pub records : List Record
 
 -- a record on a path, and whether the path continues from it by the offset of the lower level or by that of the next
 -- record
 pub record Turn : Type 0 where
-  pub place : ℕ
+  pub offset : ℕ
   pub lower : Bool
 
 -- A path from the root is a list of records, the last one first: the root names the first record, and each record names
@@ -23,13 +23,13 @@ pub record Turn : Type 0 where
 -- empty path
 abbrev pub named_by : Links → List Turn → ℕ
 named_by links [] = links.first
-named_by links (t ∷ path) = if t.lower then lower_at links.records t.place else next_at links.records t.place
+named_by links (t ∷ path) = if t.lower then lower_at links.records t.offset else next_at links.records t.offset
 
 -- the position at which a fault of the offset at the end of a path is reported: the last record, or the element of the
 -- root
 abbrev pub reported_at : Links → List Turn → ℕ
-reported_at links [] = links.place
-reported_at links (t ∷ path) = t.place
+reported_at links [] = links.offset
+reported_at links (t ∷ path) = t.offset
 
 -- the level of the record that a path leads to: 1 from the root, and one more for each offset of a lower level
 abbrev pub level_of : List Turn → ℕ
@@ -39,18 +39,18 @@ level_of (t ∷ path) = if t.lower then suc (level_of path) else level_of path
 -- the positions of the records above the one that a path leads to
 abbrev pub above : List Turn → List ℕ
 above [] = []
-above (t ∷ path) = if t.lower then t.place ∷ above path else above path
+above (t ∷ path) = if t.lower then t.offset ∷ above path else above path
 
 -- the positions of the earlier siblings of the record that a path leads to
 abbrev pub before : List Turn → List ℕ
 before [] = []
-before (t ∷ path) = if t.lower then [] else t.place ∷ before path
+before (t ∷ path) = if t.lower then [] else t.offset ∷ before path
 
 -- the line of a path: the positions of its last record, of the earlier siblings of that, and of the records above;
 -- not of the earlier siblings of those above
 abbrev pub line_of : List Turn → List ℕ
 line_of [] = []
-line_of (t ∷ path) = t.place ∷ (before path ++ above path)
+line_of (t ∷ path) = t.offset ∷ (before path ++ above path)
 
 -- a path makes a cycle if its offset leads to a record of its line
 abbrev pub makes_cycle : Links → List Turn → Bool
@@ -63,8 +63,8 @@ paths_from zero links path = []
 paths_from (suc most) links path =
     if nat_eq (named_by links path) 0 then []
     else path
-    ∷ (paths_from most links (record { place = named_by links path; lower = true } ∷ path)
-    ++ paths_from most links (record { place = named_by links path; lower = false } ∷ path))
+    ∷ (paths_from most links (record { offset = named_by links path; lower = true } ∷ path)
+    ++ paths_from most links (record { offset = named_by links path; lower = false } ∷ path))
 
 -- the paths from the root, in order; any longer one has reached a record twice
 abbrev pub paths_of : Links → List (List Turn)
@@ -78,7 +78,7 @@ reached_by links paths = map (named_by links) paths
 abbrev pub root_records : Links → List (List Turn) → List ℕ
 root_records links paths = reached_by links (filter (λ path. nat_eq (level_of path) 1) paths)
 
--- the last number of a list, or `place` if it is empty
+-- the last number of a list, or `offset` if it is empty
 abbrev pub last_from : ℕ → List ℕ → ℕ
-last_from place [] = place
-last_from place (p ∷ places) = last_from p places
+last_from offset [] = offset
+last_from offset (p ∷ positions) = last_from p positions

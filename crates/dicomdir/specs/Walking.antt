@@ -4,7 +4,7 @@ use Rattle.element.specs.Numbers.{IsBytes}
 use Rattle.sequence.specs.declared.fault.Fault.{Fault}
 use Rattle.sequence.specs.declared.walker.Walker.{Walker}
 use Rattle.sequence.specs.Ending.{Fails}
-use Rattle.sequence.specs.Taken.{StandsAt, walker_syntax, limits_of, fault_of}
+use Rattle.sequence.specs.Consumed.{StandsAt, walker_syntax, limits_of, fault_of}
 
 -- the walker has read some bytes and found no fault
 abbrev pub IsGoing : {V D : ℕ} → Walker V D → Type 0

@@ -40,7 +40,7 @@ fn header_fault(fault: MetaFault) -> DirFault
 fn after_header(bytes: &[u8]) -> Result<&[u8], DirFault>
     ensures read { IfOk result (λ rest. HasHeader bytes.now rest.now) }
     ensures memory { IfErr result IsAtNone }
-    ensures fault { IfErr result (λ f. f.number ≢ 67 → CheckFault bytes.now f.number f.place f.tag) }
+    ensures fault { IfErr result (λ f. f.number ≢ 67 → CheckFault bytes.now f.number f.offset f.tag) }
 {
     let mut rest = bytes;
     match read_meta(&mut rest) {
@@ -73,10 +73,10 @@ fn root_offset(element: &Element, start: u64) -> Result<(u64, u32), DirFault>
 {
     match element {
         Element::Missing => Err(DirFault::at(DirFault::BAD_RECORD, start)),
-        Element::Items { place, .. } => Err(DirFault::at(DirFault::BAD_RECORD, *place)),
-        Element::Value { place, .. } => match element.long() {
-            Some(offset) => Ok((*place, offset)),
-            None => Err(DirFault::at(DirFault::BAD_RECORD, *place)),
+        Element::Items { offset, .. } => Err(DirFault::at(DirFault::BAD_RECORD, *offset)),
+        Element::Value { offset, .. } => match element.long() {
+            Some(link) => Ok((*offset, link)),
+            None => Err(DirFault::at(DirFault::BAD_RECORD, *offset)),
         },
     }
 }
@@ -91,31 +91,31 @@ fn check_elements<'a, A: Allocator + Copy>(
     ensures whole { IfOk result (λ tree. (es : Elements) → DataSet Explicit 0 es text.now → ChecksAs start es (tree_nodes tree)) }
     ensures fails { IfErr result (λ f. (es : Elements) → DataSet Explicit 0 es text.now → FailsAs (directory_fault start es) f) }
 {
-    let (first_place, first) = root_offset(
+    let (first_position, first) = root_offset(
         &find(Coding::Explicit, Tag(0x0004, 0x1200), start, text),
         start,
     )?;
-    let (last_place, last) = root_offset(
+    let (last_position, last) = root_offset(
         &find(Coding::Explicit, Tag(0x0004, 0x1202), start, text),
         start,
     )?;
     match find(Coding::Explicit, Tag(0x0004, 0x1220), start, text) {
         Element::Missing => Err(DirFault::at(DirFault::BAD_RECORD, start)),
-        Element::Value { place, .. } => Err(DirFault::at(DirFault::BAD_RECORD, place)),
+        Element::Value { offset, .. } => Err(DirFault::at(DirFault::BAD_RECORD, offset)),
         Element::Items {
-            first: records_place,
+            first: records_offset,
             syntax,
             text,
             ..
         } => {
             let root = Root {
                 first,
-                first_place,
+                first_position,
                 last,
-                last_place,
+                last_position,
             };
             let mut records = Vec::new(alloc);
-            read_records(syntax, records_place, text, &mut records)?;
+            read_records(syntax, records_offset, text, &mut records)?;
             let mut tree = Vec::new(alloc);
             follow(alloc, records.as_slice(), &root, &mut tree)?;
             Ok(Tree::new(tree))
@@ -140,7 +140,7 @@ fn check_elements<'a, A: Allocator + Copy>(
 pub fn check<'a, A: Allocator + Copy>(alloc: A, bytes: &'a [u8]) -> Result<Tree<'a, A>, DirFault>
     ensures whole { IsOk result → HasDataSet bytes.now }
     ensures nodes { IfOk result (λ tree. HasNodes bytes.now (tree_nodes tree)) }
-    ensures fault { IfErr result (λ f. f.number ≢ 67 → CheckFault bytes.now f.number f.place f.tag) }
+    ensures fault { IfErr result (λ f. f.number ≢ 67 → CheckFault bytes.now f.number f.offset f.tag) }
     ensures memory { IfErr result IsAtNone }
 {
     let text = match after_header(bytes) {
@@ -151,7 +151,7 @@ pub fn check<'a, A: Allocator + Copy>(alloc: A, bytes: &'a [u8]) -> Result<Tree<
     if let Err(fault) = walk(text) {
         return Err(DirFault {
             number: fault.number,
-            place: start + fault.place,
+            offset: start + fault.offset,
             tag: fault.tag,
         });
     }

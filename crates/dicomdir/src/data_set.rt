@@ -1,6 +1,6 @@
 //! Walks data sets piece by piece.
 ghost use Rattle.std.specs.Prelude.{◌≡◌, ℕ, List, ◌++◌, None, OnOk, IfErr};
-ghost use Rattle.sequence.specs.Taken.{StandsAt, fault_of};
+ghost use Rattle.sequence.specs.Consumed.{StandsAt, fault_of};
 ghost use Rattle.dicomdir.specs.Walking.{IsGoing, IsSameSet, FailsIn};
 
 use sequence::{Fault, Step, Walker};

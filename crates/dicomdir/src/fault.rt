@@ -18,7 +18,7 @@ pub struct DirFault {
     /// ([`DirRule`]).
     pub number: u8,
     /// The position of the fault in bytes from the start of the file; 0 for 66 and 67.
-    pub place: u64,
+    pub offset: u64,
     /// The tag of a fault of the data set (10 to 20); (0000,0000) for all others.
     pub tag: Tag,
 }
@@ -52,37 +52,37 @@ impl DirFault {
     pub const BAD_RECORD: u8 = DirRule::BadRecord as u8;
 
     /// Returns the fault with this number at this position of the file, without a tag.
-    pub(crate) fn at(number: u8, place: u64) -> DirFault
-        ensures { result ≡ record { number = number; place = place; tag = no_tag } }
+    pub(crate) fn at(number: u8, offset: u64) -> DirFault
+        ensures { result ≡ record { number = number; offset = offset; tag = no_tag } }
     {
         DirFault {
             number,
-            place,
+            offset,
             tag: Tag(0, 0),
         }
     }
 
     /// Returns the fault of a file that would be too large (66).
     pub fn too_large() -> DirFault
-        ensures { result ≡ record { number = 66; place = 0; tag = no_tag } }
+        ensures { result ≡ record { number = 66; offset = 0; tag = no_tag } }
     {
         DirFault::at(DirFault::TOO_LARGE, 0)
     }
 
     /// Returns the fault that memory ran out (67).
     pub fn out_of_memory() -> DirFault
-        ensures { result ≡ record { number = 67; place = 0; tag = no_tag } }
+        ensures { result ≡ record { number = 67; offset = 0; tag = no_tag } }
     {
         DirFault::at(DirFault::OUT_OF_MEMORY, 0)
     }
 
     /// Returns this fault as one of a data set, with the same number, position and tag.
     fn of_data_set(self) -> Fault
-        ensures { result ≡ record { number = self.number; place = self.place; tag = self.tag } }
+        ensures { result ≡ record { number = self.number; offset = self.offset; tag = self.tag } }
     {
         Fault {
             number: self.number,
-            place: self.place,
+            offset: self.offset,
             tag: self.tag,
         }
     }
@@ -110,6 +110,6 @@ impl Display for DirFault {
         if 10 <= self.number && self.number <= 21 {
             return self.of_data_set().fmt(f);
         }
-        write!(f, "{} {} at {}", self.number, self.name(), self.place)
+        write!(f, "{} {} at {}", self.number, self.name(), self.offset)
     }
 }

@@ -58,7 +58,7 @@ pub(crate) fn head_of(syntax: Coding, text: &[u8]) -> Option<Head>
 #[cycle(levels)]
 pub(crate) fn after_content(syntax: Coding, header: Header, text: &[u8]) -> &[u8]
     ensures within { length result.now ≤ length text.now }
-    ensures after { (place : ℕ) (f : Found) (content rest : List ℕ) → IsContent syntax header place f content → text.now ≡ content ++ rest → result.now ≡ rest }
+    ensures after { (offset : ℕ) (f : Found) (content rest : List ℕ) → IsContent syntax header offset f content → text.now ≡ content ++ rest → result.now ≡ rest }
 {
     if header.length != UNDEFINED {
         return after(text, header.length as usize);
@@ -131,48 +131,51 @@ pub(crate) fn content_of(header: Header, text: &[u8]) -> &[u8]
     }
 }
 
-/// The element with a tag: its position in the file (`place`), and its value; or the encoding and
+/// The element with a tag: its position in the file (`offset`), and its value; or the encoding and
 /// the bytes of its items, and the position of the first (`first`).
 #[derive(Clone, Copy)]
 pub(crate) enum Element<'a> {
     Missing,
     Value {
-        place: u64,
+        offset: u64,
         value: &'a [u8],
     },
     Items {
-        place: u64,
+        offset: u64,
         first: u64,
         syntax: Coding,
         text: &'a [u8],
     },
 }
 
-fn element_at<'a>(syntax: Coding, head: Head, place: u64, text: &'a [u8]) -> Element<'a>
-    requires { place + head.size < 2 ^ 64 }
-    ensures end { EndsBefore (place + head.size + length text.now) result }
-    ensures found { (f : Found) (content more : List ℕ) → head.size ≡ header_size head.header → IsContent syntax head.header place f content
+fn element_at<'a>(syntax: Coding, head: Head, offset: u64, text: &'a [u8]) -> Element<'a>
+    requires { offset + head.size < 2 ^ 64 }
+    ensures end { EndsBefore (offset + head.size + length text.now) result }
+    ensures found { (f : Found) (content more : List ℕ) → head.size ≡ header_size head.header → IsContent syntax head.header offset f content
         → text.now ≡ content ++ more → Finds result f }
 {
     let text = content_of(head.header, text);
     match shape_of(syntax, &head.header) {
         Shape::Sequence(inner) => Element::Items {
-            place,
-            first: place + head.size as u64,
+            offset,
+            first: offset + head.size as u64,
             syntax: inner,
             text,
         },
-        Shape::Value | Shape::NotAllowed => Element::Value { place, value: text },
+        Shape::Value | Shape::NotAllowed => Element::Value {
+            offset,
+            value: text,
+        },
     }
 }
 
-/// Finds the element with this tag among the elements in `text`. `place` is the position of the
+/// Finds the element with this tag among the elements in `text`. `offset` is the position of the
 /// first element in the file.
-pub(crate) fn find<'a>(syntax: Coding, tag: Tag, place: u64, text: &'a [u8]) -> Element<'a>
-    requires room { place + length text.now < 2 ^ 64 }
+pub(crate) fn find<'a>(syntax: Coding, tag: Tag, offset: u64, text: &'a [u8]) -> Element<'a>
+    requires room { offset + length text.now < 2 ^ 64 }
     requires is_tag { IsTag tag }
-    ensures end { EndsBefore (place + length text.now) result }
-    ensures found { (es : Elements) → HasElements syntax es text.now → Finds result (found (number tag) place es) }
+    ensures end { EndsBefore (offset + length text.now) result }
+    ensures found { (es : Elements) → HasElements syntax es text.now → Finds result (found (number tag) offset es) }
 {
     let mut rest = text;
     while let Some(head) = head_of(syntax, rest) {
@@ -181,8 +184,8 @@ pub(crate) fn find<'a>(syntax: Coding, tag: Tag, place: u64, text: &'a [u8]) -> 
             return Element::Missing;
         }
         if head.header.tag == tag {
-            let place = place + (text.len() - rest.len()) as u64;
-            return element_at(syntax, head, place, next);
+            let offset = offset + (text.len() - rest.len()) as u64;
+            return element_at(syntax, head, offset, next);
         }
         rest = after_content(syntax, head.header, next);
     }

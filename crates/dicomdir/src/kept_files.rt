@@ -35,7 +35,7 @@ pub fn omitted(node: &TreeRecord) -> Option<FileId>
 /// Returns the file IDs of the records of type IMAGE, in their order.
 fn images<A: Allocator + Copy>(alloc: A, records: &[TreeRecord]) -> Result<Vec<FileId, A>, DirFault>
     ensures kept { IfOk result (λ kept. kept.items ≡ kept_in (map node_of records.now)) }
-    ensures fault { IfErr result (λ f. f ≡ record { number = 67; place = 0; tag = no_tag }) }
+    ensures fault { IfErr result (λ f. f ≡ record { number = 67; offset = 0; tag = no_tag }) }
 {
     let mut kept = Vec::new(alloc);
     for record in records {
@@ -56,7 +56,7 @@ pub fn kept_of<'a, A: Allocator + Copy>(
 ) -> Result<Vec<FileId, A>, DirFault>
     ensures kept { IfOk result (λ kept. (file : List ℕ) (has : HasNodes file (tree_nodes tree.now)) → kept.items ≡ KeptOf has.tree) }
     ensures listed { IfOk result (λ kept. kept.items ≡ kept_in (tree_nodes tree.now)) }
-    ensures fault { IfErr result (λ f. f ≡ record { number = 67; place = 0; tag = no_tag }) }
+    ensures fault { IfErr result (λ f. f ≡ record { number = 67; offset = 0; tag = no_tag }) }
 {
     images(alloc, tree.records())
 }

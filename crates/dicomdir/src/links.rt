@@ -3,7 +3,7 @@ ghost use Rattle.std.specs.Prelude.{◌≡◌, ◌≤◌, ◌<◌, ◌+◌, ◌+
 ghost use Rattle.sequence.specs.Rules.{no_tag};
 ghost use Rattle.dicomdir.specs.Linked as linked;
 ghost use Rattle.dicomdir.specs.NodesInUse.{node_of};
-ghost use Rattle.dicomdir.specs.machine.Trail.{AreFollowed, FailsToFollow, carried_by, remaining_of, mark_of, own_node, path_along, reported_along, AreAllReached, Begins, Climbs, IsWrongOffset, LeadsTo, Continues, IsRemainder, IsNoPlace};
+ghost use Rattle.dicomdir.specs.machine.Trail.{AreFollowed, FailsToFollow, carried_by, remaining_of, mark_of, own_node, path_along, reported_along, AreAllReached, Begins, Climbs, IsWrongOffset, LeadsTo, Continues, IsRemainder, IsNoOffset};
 ghost use Rattle.dicomdir.specs.Paths.{line_of};
 ghost use Rattle.dicomdir.specs.Linked.{is_one_of};
 
@@ -18,16 +18,16 @@ use std::alloc::Allocator;
 #[derive(Clone, Copy)]
 pub(crate) struct Root {
     pub first: u32,
-    pub first_place: u64,
+    pub first_position: u64,
     pub last: u32,
-    pub last_place: u64,
+    pub last_position: u64,
 }
 
 /// A record that was reached, in a chain that has not ended. A chain is a list of sibling records,
 /// each with the offset of the next.
 #[derive(Clone, Copy)]
 struct Mark {
-    place: u64,
+    offset: u64,
     next: u32,
     /// Whether the record is the first of its chain.
     begins: bool,
@@ -40,7 +40,7 @@ struct Mark {
 /// which it leads, and whether no record above that record is inactive.
 #[derive(Clone, Copy)]
 struct Step {
-    offset: u32,
+    link: u32,
     begins: bool,
     level: u8,
     shown: bool,
@@ -85,13 +85,13 @@ fn below(level: u8) -> u8
 
 /// Returns the index of the record at a position of the file, by binary search, or `None` if no
 /// record is there.
-fn index_of(entries: &[ReadRecord], place: u32) -> Option<usize>
+fn index_of(entries: &[ReadRecord], offset: u32) -> Option<usize>
     ensures within { IfSome result (λ at. at < length entries.now) }
-    ensures found { IfSome result (λ at. (d : ReadRecord) → (slice_index_or entries.now at d).place ≡ place) }
-    ensures absent { IfNone result (IsNoPlace entries.now place) }
+    ensures found { IfSome result (λ at. (d : ReadRecord) → (slice_index_or entries.now at d).offset ≡ offset) }
+    ensures absent { IfNone result (IsNoOffset entries.now offset) }
 {
-    let place = u64::from(place);
-    match entries.binary_search_by_key(&place, |entry| entry.place) {
+    let offset = u64::from(offset);
+    match entries.binary_search_by_key(&offset, |entry| entry.offset) {
         Ok(at) => Some(at),
         Err(_) => None,
     }
@@ -100,8 +100,8 @@ fn index_of(entries: &[ReadRecord], place: u32) -> Option<usize>
 /// Returns whether an offset leads back to a record of the last chain of the trail, or to one above
 /// that chain. The trail has the records whose chains have not ended, in the order they were
 /// reached.
-fn leads_back(trail: &[Mark], offset: u32) -> bool
-    ensures { result ≡ is_one_of offset (line_of (path_along true (reverse trail.now))) }
+fn leads_back(trail: &[Mark], link: u32) -> bool
+    ensures { result ≡ is_one_of link (line_of (path_along true (reverse trail.now))) }
 {
     let mut in_chain = true;
     let mut is_above = false;
@@ -109,7 +109,7 @@ fn leads_back(trail: &[Mark], offset: u32) -> bool
     while at > 0 {
         at -= 1;
         let mark = trail[at];
-        if (in_chain || is_above) && mark.place == u64::from(offset) {
+        if (in_chain || is_above) && mark.offset == u64::from(link) {
             return true;
         }
         is_above = mark.begins;
@@ -138,7 +138,7 @@ fn climb<A: Allocator + Copy>(trail: &mut Vec<Mark, A>) -> Option<Step>
     while let Some(mark) = trail.last() {
         if mark.next != 0 {
             return Some(Step {
-                offset: mark.next,
+                link: mark.next,
                 begins: false,
                 level: mark.level,
                 shown: mark.shown,
@@ -151,7 +151,7 @@ fn climb<A: Allocator + Copy>(trail: &mut Vec<Mark, A>) -> Option<Step>
 
 fn none_reached<A: Allocator + Copy>(alloc: A, count: usize) -> Result<Vec<bool, A>, DirFault>
     ensures flags { IfOk result (λ reached. reached.items ≡ replicate count false) }
-    ensures memory { IfErr result (λ f. f ≡ record { number = 67; place = 0; tag = no_tag }) }
+    ensures memory { IfErr result (λ f. f ≡ record { number = 67; offset = 0; tag = no_tag }) }
 {
     match vec![in alloc; false; count] {
         Ok(reached) => Ok(reached),
@@ -162,11 +162,11 @@ fn none_reached<A: Allocator + Copy>(alloc: A, count: usize) -> Result<Vec<bool,
 /// Returns where a fault of the next offset is reported: the position of the record that has the
 /// offset, or of the root's element.
 fn reported_of(trail: &[Mark], root: &Root) -> u64
-    ensures { result ≡ reported_along root.now.first_place (reverse trail.now) }
+    ensures { result ≡ reported_along root.now.first_position (reverse trail.now) }
 {
     match trail.last() {
-        Some(mark) => mark.place,
-        None => root.first_place,
+        Some(mark) => mark.offset,
+        None => root.first_position,
     }
 }
 
@@ -183,21 +183,21 @@ fn target(
     ensures within { IfOk result (λ at. at < length entries.now) }
     ensures first { IfOk result (λ at. get_or reached.now at true ≡ false) }
     ensures good { IfOk result (LeadsTo entries.now reached.now (reverse trail.now) step.now) }
-    ensures fault { IfErr result (IsWrongOffset root.now.first_place entries.now reached.now (reverse trail.now) step.now) }
+    ensures fault { IfErr result (IsWrongOffset root.now.first_position entries.now reached.now (reverse trail.now) step.now) }
     ensures links { IfErr result (λ f. record { from : 60 ≤ f.number; to : f.number ≤ 64; tag : f.tag ≡ no_tag }) }
 {
     let reported = reported_of(trail, root);
-    let Some(at) = index_of(entries, step.offset) else {
+    let Some(at) = index_of(entries, step.link) else {
         return Err(DirFault::at(DirFault::BAD_OFFSET, reported));
     };
     if reached[at] {
-        if leads_back(trail, step.offset) {
+        if leads_back(trail, step.link) {
             return Err(DirFault::at(DirFault::CYCLE, reported));
         }
         return Err(DirFault::at(DirFault::TWICE_REACHED, reported));
     }
     if !fits(step.level, &entries[at]) {
-        return Err(DirFault::at(DirFault::WRONG_LEVEL, entries[at].place));
+        return Err(DirFault::at(DirFault::WRONG_LEVEL, entries[at].offset));
     }
     Ok(at)
 }
@@ -211,11 +211,11 @@ fn reach<'a, A: Allocator + Copy>(
     tree: &mut Vec<TreeRecord<'a>, A>,
 ) -> Result<(), DirFault>
     ensures mark { IsOk result → trail.new.items ≡ trail.old.items ++ mark_of entry.now step.now ∷ [] }
-    ensures node { IsOk result → map node_of tree.new.items ≡ map node_of tree.old.items ++ own_node step.now.shown step.now.level entry.now.place (carried_by entry.now) }
-    ensures memory { IfErr result (λ f. f ≡ record { number = 67; place = 0; tag = no_tag }) }
+    ensures node { IsOk result → map node_of tree.new.items ≡ map node_of tree.old.items ++ own_node step.now.shown step.now.level entry.now.offset (carried_by entry.now) }
+    ensures memory { IfErr result (λ f. f ≡ record { number = 67; offset = 0; tag = no_tag }) }
 {
     let mark = Mark {
-        place: entry.place,
+        offset: entry.offset,
         next: entry.next,
         begins: step.begins,
         level: step.level,
@@ -225,7 +225,7 @@ fn reach<'a, A: Allocator + Copy>(
         return Err(DirFault::out_of_memory());
     }
     if step.shown && entry.in_use {
-        let record = TreeRecord::new(entry.place, step.level, entry.kind, entry.file_id);
+        let record = TreeRecord::new(entry.offset, step.level, entry.kind, entry.file_id);
         if tree.push(record).is_err() {
             return Err(DirFault::out_of_memory());
         }
@@ -244,7 +244,7 @@ fn step_after<A: Allocator + Copy>(
 {
     if entry.lower != 0 {
         return Some(Step {
-            offset: entry.lower,
+            link: entry.lower,
             begins: true,
             level: below(step.level),
             shown: step.shown && entry.in_use,
@@ -255,9 +255,9 @@ fn step_after<A: Allocator + Copy>(
 
 /// Returns the position of the last record of the root's chain, after this record was reached.
 fn last_of_root(entry: &ReadRecord, step: &Step, last: u64) -> u64
-    ensures { result ≡ (if nat_eq step.now.level 1 then entry.now.place else last) }
+    ensures { result ≡ (if nat_eq step.now.level 1 then entry.now.offset else last) }
 {
-    if step.level == 1 { entry.place } else { last }
+    if step.level == 1 { entry.offset } else { last }
 }
 
 fn first_step(root: &Root) -> Option<Step>
@@ -267,7 +267,7 @@ fn first_step(root: &Root) -> Option<Step>
         return None;
     }
     Some(Step {
-        offset: root.first,
+        link: root.first,
         begins: true,
         level: 1,
         shown: true,
@@ -300,7 +300,7 @@ pub(crate) fn follow<'a, A: Allocator + Copy>(
         pending = step_after(entry, &step, &mut trail);
     }
     if u64::from(root.last) != last {
-        return Err(DirFault::at(DirFault::BAD_OFFSET, root.last_place));
+        return Err(DirFault::at(DirFault::BAD_OFFSET, root.last_position));
     }
     all_reached(entries, reached.as_slice())
 }
@@ -314,7 +314,7 @@ fn all_reached(entries: &[ReadRecord], reached: &[bool]) -> Result<(), DirFault>
 {
     for (at, entry) in entries.iter().enumerate() {
         if entry.in_use && !reached[at] {
-            return Err(DirFault::at(DirFault::UNREACHED, entry.place));
+            return Err(DirFault::at(DirFault::UNREACHED, entry.offset));
         }
     }
     Ok(())

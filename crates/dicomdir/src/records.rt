@@ -19,7 +19,7 @@ use std::alloc::Allocator;
 /// and to the lower level, whether it is in use, its type without padding, and file ID.
 #[derive(Clone, Copy)]
 pub(crate) struct ReadRecord<'a> {
-    pub place: u64,
+    pub offset: u64,
     pub next: u32,
     pub lower: u32,
     pub in_use: bool,
@@ -64,10 +64,10 @@ fn file_id_of<'a>(element: &Element<'a>) -> Option<FileId>
     }
 }
 
-/// Reads the record of an item at `place` with the elements in `text`. Returns `None` if an offset,
+/// Reads the record of an item at `offset` with the elements in `text`. Returns `None` if an offset,
 /// Record In-use Flag or Directory Record Type is missing or wrong.
-fn entry_of<'a>(syntax: Coding, place: u64, text: &'a [u8]) -> Option<ReadRecord<'a>>
-    ensures read { IfSome result (λ e. (es : Elements) → HasElements syntax es text.now → EntrySays e (record { place = place; elements = es })) }
+fn entry_of<'a>(syntax: Coding, offset: u64, text: &'a [u8]) -> Option<ReadRecord<'a>>
+    ensures read { IfSome result (λ e. (es : Elements) → HasElements syntax es text.now → EntrySays e (record { offset = offset; elements = es })) }
     ensures lacks { IsNone result → (es : Elements) → HasElements syntax es text.now → has_record es ≡ false }
 {
     let next = find(syntax, Tag(0x0004, 0x1400), 0, text).long()?;
@@ -79,7 +79,7 @@ fn entry_of<'a>(syntax: Coding, place: u64, text: &'a [u8]) -> Option<ReadRecord
     }
     let file_id = file_id_of(&find(syntax, Tag(0x0004, 0x1500), 0, text));
     Some(ReadRecord {
-        place,
+        offset,
         next,
         lower,
         in_use,
@@ -98,16 +98,16 @@ fn has_file_id(entry: &ReadRecord, element: &Element) -> bool
         || (element.is_missing() && !is_text(entry.kind, Level::Image.kind()))
 }
 
-/// Reads the record of an item at `place`. Fails with 68 (`BadRecord`) or 65 (`BadFileId`).
-fn read_record<'a>(syntax: Coding, place: u64, text: &'a [u8]) -> Result<ReadRecord<'a>, DirFault>
-    ensures read { IfOk result (λ e. (es : Elements) → HasElements syntax es text.now → IsEntry e (record { place = place; elements = es })) }
-    ensures fails { IfErr result (λ f. (es : Elements) → HasElements syntax es text.now → FailsAs (record_fault (record { place = place; elements = es })) f) }
+/// Reads the record of an item at `offset`. Fails with 68 (`BadRecord`) or 65 (`BadFileId`).
+fn read_record<'a>(syntax: Coding, offset: u64, text: &'a [u8]) -> Result<ReadRecord<'a>, DirFault>
+    ensures read { IfOk result (λ e. (es : Elements) → HasElements syntax es text.now → IsEntry e (record { offset = offset; elements = es })) }
+    ensures fails { IfErr result (λ f. (es : Elements) → HasElements syntax es text.now → FailsAs (record_fault (record { offset = offset; elements = es })) f) }
 {
-    let Some(entry) = entry_of(syntax, place, text) else {
-        return Err(DirFault::at(DirFault::BAD_RECORD, place));
+    let Some(entry) = entry_of(syntax, offset, text) else {
+        return Err(DirFault::at(DirFault::BAD_RECORD, offset));
     };
     if !has_file_id(&entry, &find(syntax, Tag(0x0004, 0x1500), 0, text)) {
-        return Err(DirFault::at(DirFault::BAD_FILE_ID, place));
+        return Err(DirFault::at(DirFault::BAD_FILE_ID, offset));
     }
     Ok(entry)
 }
@@ -131,8 +131,8 @@ pub(crate) fn read_records<'a, A: Allocator + Copy>(
             return Ok(());
         }
         let next = after(rest, head.size);
-        let place = first + (text.len() - rest.len()) as u64;
-        match read_record(syntax, place, content_of(head.header, next)) {
+        let offset = first + (text.len() - rest.len()) as u64;
+        match read_record(syntax, offset, content_of(head.header, next)) {
             Err(fault) => return Err(fault),
             Ok(record) => {
                 if records.push(record).is_err() {

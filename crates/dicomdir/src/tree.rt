@@ -8,7 +8,7 @@ use std::alloc::Allocator;
 /// A record of a directory that is in use and has no inactive record above it.
 #[derive(Clone, Copy, Debug)]
 pub struct TreeRecord<'a> {
-    place: u64,
+    offset: u64,
     level: u8,
     kind: &'a [u8],
     file_id: Option<FileId>,
@@ -16,18 +16,18 @@ pub struct TreeRecord<'a> {
 
 impl<'a> TreeRecord<'a> {
     pub(crate) fn new(
-        place: u64,
+        offset: u64,
         level: u8,
         kind: &'a [u8],
         file_id: Option<FileId>,
     ) -> TreeRecord<'a>
-        ensures place { result.place ≡ place }
+        ensures offset { result.offset ≡ offset }
         ensures level { result.level ≡ level }
         ensures kind { result.kind.now ≡ kind.now }
         ensures file_id { result.file_id ≡ file_id }
     {
         TreeRecord {
-            place,
+            offset,
             level,
             kind,
             file_id,
@@ -35,10 +35,10 @@ impl<'a> TreeRecord<'a> {
     }
 
     /// Returns the position of the record's item, in bytes from the start of the file.
-    pub fn place(&self) -> u64
-        ensures { result ≡ (node_of self.now).place }
+    pub fn offset(&self) -> u64
+        ensures { result ≡ (node_of self.now).offset }
     {
-        self.place
+        self.offset
     }
 
     /// Returns the level of the record: 1 for a patient, 2 for a study, 3 for a series, 4 for an

@@ -27,7 +27,7 @@ use Rattle.dicomdir_writing.specs.declared.record_table.RecordKeys.TheVariants.{
 use Rattle.dicomdir_writing.specs.RecordTable.{key_table, is_read, keys_read}
 use Rattle.dicomdir_writing.specs.Row.{Row, key_in}
 use Rattle.dicomdir_writing.specs.Laws.{DescriptionsCostNoRow}
-use Rattle.dicomdir_writing.proofs.RowLaws.{taken_from, one_row, keys_fit, no_header_fault, same_instance, fails_too, spells_too}
+use Rattle.dicomdir_writing.proofs.RowLaws.{consumed_from, one_row, keys_fit, no_header_fault, same_instance, fails_too, spells_too}
 use Rattle.dicomdir_writing.specs.Keys.{needs_value, is_missing, is_empty_key, fits_rooms, first_empty, row_unless, checked_row}
 use Rattle.dicomdir_writing.specs.RowOf.{row_wants, row_limits, with_value, values_for, row_from, IsInstance, RowOf, in_header, in_data_set, of_values, DescribedRow, described, undescribed}
 use Rattle.dicomdir_writing.specs.RowOf.{is_too_long as is_long_reason}
@@ -65,8 +65,8 @@ fits_some p (rule ∷ rest) last n size rising fits =
     by : (passes (room_of (row_wants rest) n) size ≡ false → passes (room_of (row_wants (filter p rest)) n) size ≡ false) → are_rising (number rule.tag) (row_wants rest) ≡ true
         → (b : Bool) → p rule ≡ b → (c : Bool) → nat_eq (number rule.tag) n ≡ c → passes (cond c (Some rule.room) (room_of (row_wants rest) n)) size ≡ false
         → passes (room_of (row_wants (cond b (rule ∷ filter p rest) (filter p rest))) n) size ≡ false
-    by more rises true taken true same fits = rw same fits
-    by more rises true taken false other fits = rw other (more fits)
+    by more rises true consumed true same fits = rw same fits
+    by more rises true consumed false other fits = rw other (more fits)
     by more rises false remaining true same fits =
         let is = eqb-true (number rule.tag) n same in
         let none = none_below (row_wants rest) (number rule.tag) n rises (omega (arith, is)) in
@@ -123,7 +123,7 @@ header_breaks spot size h rule tag other =
     let deep : Broken = cond (opens spot h && nat_le all.depth spot.depth) (Some (too_deep, h.tag)) None in
     let here = (nat_eq spot.depth 0 && not (is_marker h.tag)) && is_value (shape spot.syntax h) in
     six_under (is_long_mark h) (not (is_marker h.tag) && is_not_allowed (shape spot.syntax h)) (is_endless spot h) (not (is_undefined h.length) && nat_eq (h.length % 2) 1)
-    (not (is_undefined h.length) && passes spot.near (size + h.length)) (nat_lt all.bytes (spot.place + size + counted_length h.length))
+    (not (is_undefined h.length) && passes spot.near (size + h.length)) (nat_lt all.bytes (spot.offset + size + counted_length h.length))
     (Some (delimiter_length, h.tag)) (Some (undefined_not_allowed, h.tag)) (Some (undefined_not_allowed, h.tag)) (Some (odd_length, h.tag)) (Some (overrun, h.tag)) (Some (too_long, h.tag))
     (cond (is_too_long all spot h) (Some (kept_too_long, h.tag)) deep) (cond (is_too_long plain spot h) (Some (kept_too_long, h.tag)) deep) (Some (rule, tag))
     (past_room (is_too_long all spot h) (is_too_long plain spot h) h.tag deep rule tag
@@ -181,14 +181,14 @@ kept_value ws (value h v es) t wanted = by (is_wanted ws (number h.tag)) refl (n
         absurd cc
     by false is false other rest = rest
 
-taken_value : (rules : List RecordRule) (values : Values) (t : ℕ) → is_wanted (row_wants rules) t ≡ true → value_of (values_for rules values) t ≡ value_of values t
-taken_value [] values t wanted = absurd cc
-taken_value (rule ∷ rest) values t wanted =
-    by (λ f. taken_value rest values t f) (value_of values (number rule.tag)) refl (nat_eq (number rule.tag) t) refl wanted
+consumed_value : (rules : List RecordRule) (values : Values) (t : ℕ) → is_wanted (row_wants rules) t ≡ true → value_of (values_for rules values) t ≡ value_of values t
+consumed_value [] values t wanted = absurd cc
+consumed_value (rule ∷ rest) values t wanted =
+    by (λ f. consumed_value rest values t f) (value_of values (number rule.tag)) refl (nat_eq (number rule.tag) t) refl wanted
   where
     rest_none : (o : Option (List ℕ)) → value_of (values_for rest values) t ≡ o → value_of values t ≡ None → o ≡ None
     rest_none None is none = refl
-    rest_none (Some v) is none = let never : None ≡ Some v = sym none ∙ taken_from rest values t v is in absurd cc
+    rest_none (Some v) is none = let never : None ≡ Some v = sym none ∙ consumed_from rest values t v is in absurd cc
 
     by : (is_wanted (row_wants rest) t ≡ true → value_of (values_for rest values) t ≡ value_of values t) → (o : Option (List ℕ)) → value_of values (number rule.tag) ≡ o
         → (c : Bool) → nat_eq (number rule.tag) t ≡ c → is_some (cond c (Some rule.room) (room_of (row_wants rest) t)) ≡ true
@@ -201,7 +201,7 @@ taken_value (rule ∷ rest) values t wanted =
     by more (Some v) is false other wanted = rw other (more wanted)
 
 row_value : (rules : List RecordRule) (es : Elements) (t : ℕ) → is_wanted (row_wants rules) t ≡ true → value_of (values_for rules (kept_of (row_wants rules) es)) t ≡ first_value es t
-row_value rules es t wanted = taken_value rules (kept_of (row_wants rules) es) t wanted ∙ kept_value (row_wants rules) es t wanted
+row_value rules es t wanted = consumed_value rules (kept_of (row_wants rules) es) t wanted ∙ kept_value (row_wants rules) es t wanted
 
 -- ---- so nothing is missing in the one row that is not missing in the other
 
@@ -240,8 +240,8 @@ row_is_full row other e = by (fits_rooms row) (first_empty row) e
     by true (Some t) e = absurd cc
     by false o e = absurd cc
 
-row_is_taken : (row : Row) → fits_rooms row ≡ true → first_empty row ≡ None → checked_row row ≡ Ok row
-row_is_taken row fits none = ap (λ (b : Bool). cond b (row_unless row (first_empty row)) (Err (skip.Fault 21))) fits ∙ ap (row_unless row) none
+row_is_allowed : (row : Row) → fits_rooms row ≡ true → first_empty row ≡ None → checked_row row ≡ Ok row
+row_is_allowed row fits none = ap (λ (b : Bool). cond b (row_unless row (first_empty row)) (Err (skip.Fault 21))) fits ∙ ap (row_unless row) none
 
 module _ {additional : List Transfer} {file : List ℕ} (file_id : List ℕ) (row : Row) (result : Result Row Skip) (is : IsInstance additional file) (es : Elements) (text : DataSet (coding_in is.syntax) 0 es is.back) (within : Within (coding_in is.syntax) plain es is.back)
     (e : Ok row ≡ checked_row (row_from (keys_read Needed) file_id is.class is.instance is.syntax (kept_of (row_wants (keys_read Needed)) es))) where
@@ -254,19 +254,19 @@ module _ {additional : List Transfer} {file : List ℕ} (file_id : List ℕ) (ro
   with_description (of_values b fs text2 within2 is_row) fits =
       let same = same_instance is b in
       let tree : es ≡ fs = one_tree (coding_in b.syntax) 0 es fs b.back (spells_too same.syntax same.back text) text2 in
-      let taken = row_from (keys_read Described) file_id b.class b.instance b.syntax (kept_of (row_wants (keys_read Described)) fs) in
+      let consumed = row_from (keys_read Described) file_id b.class b.instance b.syntax (kept_of (row_wants (keys_read Described)) fs) in
       let full = row_is_full (row_from (keys_read Needed) file_id is.class is.instance is.syntax (kept_of (row_wants (keys_read Needed)) es)) row (sym e) in
-      let none : first_empty taken ≡ None =
+      let none : first_empty consumed ≡ None =
       ap (option_map (λ rule. rule.tag)) (same_first key_table fs refl)
       ∙ subst (λ z. option_map (λ rule. rule.tag) (find (is_missing (values_with (keys_read Needed) z)) key_table) ≡ None) tree full in
-      subst (λ z. IsOk z) (sym (is_row ∙ row_is_taken taken (keys_fit Described file_id b.class b.instance b.syntax fs within2.rooms) none)) refl
+      subst (λ z. IsOk z) (sym (is_row ∙ row_is_allowed consumed (keys_fit Described file_id b.class b.instance b.syntax fs within2.rooms) none)) refl
 
-  taken_anyway : DescribedRow additional file file_id result → IsOk result
-  taken_anyway (described a fits) = with_description a fits
-  taken_anyway (undescribed reason a long c) =
+  allowed_anyway : DescribedRow additional file file_id result → IsOk result
+  allowed_anyway (described a fits) = with_description a fits
+  allowed_anyway (undescribed reason a long c) =
       subst (λ z. IsOk z) (sym (one_row additional (keys_read Needed) file file_id result (Ok row) c (of_values is es text within e))) refl
 
 pub no_row_is_lost : DescriptionsCostNoRow
 no_row_is_lost additional file file_id row result (in_header f m e) d = absurd cc
 no_row_is_lost additional file file_id row result (in_data_set is f m e) d = absurd cc
-no_row_is_lost additional file file_id row result (of_values is es text within e) d = taken_anyway file_id row result is es text within e d
+no_row_is_lost additional file file_id row result (of_values is es text within e) d = allowed_anyway file_id row result is es text within e d

@@ -10,7 +10,7 @@ use Rattle.sequence.specs.Tree.{Elements, no_elements, value, sequence, Items, n
 use Rattle.dicomdir.specs.Forest.{Forest, no_nodes, node, count_of}
 use Rattle.dicomdir_writing.specs.TreeOf.{TreeOf, forest_for}
 use Rattle.dicomdir_writing.specs.Record.{tag, field, spelled, spelled_items, with_offsets, root_elements}
-use Rattle.dicomdir_writing.specs.Places.{record_size, root_size, forest_size, with_places, flattened, first_record_place, record_items, directory_elements, last_record_place, elements_with_places, directory_of}
+use Rattle.dicomdir_writing.specs.Positions.{record_size, root_size, forest_size, with_positions, flattened, first_record_offset, record_items, directory_elements, last_record_offset, elements_with_offsets, directory_of}
 use Rattle.dicomdir_writing.specs.Examples.{SizesAreTrue}
 use Rattle.std.proofs.lemmas.Grind.{common_steps}
 use Rattle.dicomdir_writing.specs.declared.build_plan.LaidRecord.{LaidRecord}
@@ -20,40 +20,40 @@ use Rattle.dicomdir.specs.declared.fault.DirFault.{DirFault}
 use Rattle.dicomdir.specs.Directory.{Record}
 use Rattle.dicomdir_writing.specs.declared.build_plan.Stop.{Stop}
 use Rattle.dicomdir_writing.specs.declared.build_plan.Stop.TheVariants.{TooLarge, OutOfMemory}
-use Rattle.dicomdir_writing.specs.machine.Building.{StopsFor, stop_fault, place_from_end, laid_text, forest_text, Lays, entry_text, IsBuilt, root_text}
+use Rattle.dicomdir_writing.specs.machine.Building.{StopsFor, stop_fault, offset_from_end, laid_text, forest_text, Lays, entry_text, IsBuilt, root_text}
 use Rattle.dicomdir_writing.specs.Row.{Row, without_duplicates}
 use Rattle.std.proofs.lemmas.Bool.{ltb-false}
 use Rattle.std.proofs.KnownBytes.{Appends-trans}
 use Rattle.std.specs.Io.KnownBytes.{Appends}
 use Rattle.dicomdir_writing.proofs.TreeIsLaidDown.{laid_push}
 
-abbrev offset : ℕ → Elements → Elements
-offset l es = field (tag 0x0004 0x1420) (codes "UL") (le l 4) es
+abbrev offset_field : ℕ → Elements → Elements
+offset_field l es = field (tag 0x0004 0x1420) (codes "UL") (le l 4) es
 
 pub offsets_size : (n l : ℕ) (es : Elements) → length (spelled (with_offsets n l es)) ≡ length (spelled (with_offsets 0 0 es))
 unfolding is_short
 offsets_size n l no_elements = refl
 offsets_size n l (sequence h is es) = refl
-offsets_size n l (value in_use flag es) = grind (arith, common_steps, length-append (header_bytes in_use) (flag ++ spelled (offset l es)), length-append flag (spelled (offset l es)), length-append (header_bytes in_use) (flag ++ spelled (offset 0 es)), length-append flag (spelled (offset 0 es)))
+offsets_size n l (value in_use flag es) = grind (arith, common_steps, length-append (header_bytes in_use) (flag ++ spelled (offset_field l es)), length-append flag (spelled (offset_field l es)), length-append (header_bytes in_use) (flag ++ spelled (offset_field 0 es)), length-append flag (spelled (offset_field 0 es)))
 
-pub items_size : (place : ℕ) (f : Forest Elements) (others : Items) → length (spelled_items (record_items (with_places place f) others)) ≡ forest_size f + length (spelled_items others)
-items_size place no_nodes others = omega arith
-items_size place (node es below next) others =
-    let after = place + record_size es in
-    let lower = with_places after below in
-    let siblings = with_places (after + forest_size below) next in
-    let own = spelled (with_offsets (first_record_place siblings) (first_record_place lower) es) in
-    grind (arith, common_steps, items_size (after + forest_size below) next others, items_size after below (record_items siblings others), length-append own (spelled_items (record_items lower (record_items siblings others))), offsets_size (first_record_place siblings) (first_record_place lower) es)
+pub items_size : (offset : ℕ) (f : Forest Elements) (others : Items) → length (spelled_items (record_items (with_positions offset f) others)) ≡ forest_size f + length (spelled_items others)
+items_size offset no_nodes others = omega arith
+items_size offset (node es below next) others =
+    let after = offset + record_size es in
+    let lower = with_positions after below in
+    let siblings = with_positions (after + forest_size below) next in
+    let own = spelled (with_offsets (first_record_offset siblings) (first_record_offset lower) es) in
+    grind (arith, common_steps, items_size (after + forest_size below) next others, items_size after below (record_items siblings others), length-append own (spelled_items (record_items lower (record_items siblings others))), offsets_size (first_record_offset siblings) (first_record_offset lower) es)
 
 root_is : (first last : ℕ) (is : Items) → length (spelled (root_elements first last is)) ≡ root_size + length (spelled_items is)
 unfolding is_short
 root_is first last is = grind (arith, common_steps, length-append (spelled_items is) [])
 
-count_is : (place : ℕ) (f : Forest Elements) → length (flattened (with_places place f)) ≡ count_of f
-count_is place no_nodes = refl
-count_is place (node es below next) =
-    let after = place + record_size es in
-    grind (arith, common_steps, count_is after below, count_is (after + forest_size below) next, length-append (flattened (with_places after below)) (flattened (with_places (after + forest_size below) next)))
+count_is : (offset : ℕ) (f : Forest Elements) → length (flattened (with_positions offset f)) ≡ count_of f
+count_is offset no_nodes = refl
+count_is offset (node es below next) =
+    let after = offset + record_size es in
+    grind (arith, common_steps, count_is after below, count_is (after + forest_size below) next, length-append (flattened (with_positions after below)) (flattened (with_positions (after + forest_size below) next)))
 
 elements_size : (start : ℕ) (tree : Forest Elements) → length (spelled (directory_elements start tree)) ≡ root_size + forest_size tree
 unfolding directory_elements
@@ -133,25 +133,25 @@ items_are no_nodes others = refl
 items_are (node r below next) others = grind (arith, common_steps, items_are next others, items_are below (record_items next others))
 
 placed_text : (tree : Forest Elements) (start : ℕ)
-    → spelled (elements_with_places (with_places start tree))
-    ≡ root_text (first_record_place (with_places start tree)) (last_record_place (with_places start tree)) (forest_size tree) ++ forest_text (with_places start tree)
+    → spelled (elements_with_offsets (with_positions start tree))
+    ≡ root_text (first_record_offset (with_positions start tree)) (last_record_offset (with_positions start tree)) (forest_size tree) ++ forest_text (with_positions start tree)
 placed_text tree start =
-    let placed = with_places start tree in
-    grind (arith, common_steps, items_are placed no_items, append-nil (forest_text placed), items_size start tree no_items, root_elements_are (first_record_place placed) (last_record_place placed) (record_items placed no_items))
+    let placed = with_positions start tree in
+    grind (arith, common_steps, items_are placed no_items, append-nil (forest_text placed), items_size start tree no_items, root_elements_are (first_record_offset placed) (last_record_offset placed) (record_items placed no_items))
 
 pub directory_text : (front : List ℕ) (rows : List Row)
-    → directory_of front rows ≡ front ++ spelled (elements_with_places (with_places (length front + root_size) (TreeOf rows)))
+    → directory_of front rows ≡ front ++ spelled (elements_with_offsets (with_positions (length front + root_size) (TreeOf rows)))
 unfolding directory_elements
 directory_text front rows = refl
 
 -- the file is its header, its root, and the records that are laid down
 pub file_text : {A : Type 0} {uid : List ℕ} {rows : List Row} {entries : List (LaidRecord A)} {records first last size : ℕ} {duplicates top root : List ℕ} → IsBuilt uid rows entries records first last size duplicates
-    → top ≡ directory_header uid → root ≡ root_text (place_from_end size first) (place_from_end size last) records
+    → top ≡ directory_header uid → root ≡ root_text (offset_from_end size first) (offset_from_end size last) records
     → directory_file (record { uid = uid; rows = rows }) ≡ top ++ (root ++ laid_text size entries)
 file_text {uid = uid} {rows = rows} {entries = entries} {records = records} {first = first} {last = last} {size = size} b top_is root_is =
     let header = directory_header uid in
     let start = length header + root_size in
-    let placed = with_places start (TreeOf rows) in
+    let placed = with_positions start (TreeOf rows) in
     grind (arith, common_steps, append-nil (forest_text placed), directory_text header rows, placed_text (TreeOf rows) start)
 
 -- ---- what a writer has after several texts, or after a beginning of the last one

@@ -1,5 +1,5 @@
 -- Worked directories compute: what is linked (`one_image_is_linked`), the faults (`one_image_faults`, `record_faults`), the
--- places (`places_are_assigned`), what is kept (`inactive_records`) and the paths (`paths_name_records`). Stands on Laid and
+-- offsets (`positions_are_assigned`), what is kept (`inactive_records`) and the paths (`paths_name_records`). Stands on Laid and
 -- WrittenLinked.
 use Rattle.std.proofs.Common.{◌≡◌, ℕ, false, List, [], ◌∷◌, ◌++◌, length, Option, Some, None, refl, subst, arith, codes}
 use Rattle.element.specs.Vr.{is_short}
@@ -9,17 +9,17 @@ use Rattle.sequence.specs.Tree.{Elements}
 use Rattle.dicomdir.specs.Forest.{Forest, no_nodes, node}
 use Rattle.dicomdir_writing.specs.TreeOf.{TreeOf}
 use Rattle.dicomdir.specs.Directory.{carried_node, IsExplicitFile, IsDirectoryFile, Record, records_of}
-use Rattle.dicomdir.specs.Linked.{LinkedElements, elements_at, nodes_of, Linked, PlacedNode, carried_forest, record_at, first_place, AreLinked}
+use Rattle.dicomdir.specs.Linked.{LinkedElements, elements_at, nodes_of, Linked, PlacedNode, carried_forest, record_at, first_position, AreLinked}
 use Rattle.dicomdir.specs.DirFault.{directory_fault}
 use Rattle.dicomdir_writing.specs.Record.{spelled}
-use Rattle.dicomdir_writing.specs.Examples.{one_image_row, one_image_header, one_image_file, one_image_elements, OneImageIsLinked, OneImageFaults, preamble_omitted, PreambleCounts, RecordFaults, no_rows_elements, NoRowsAreLinked, OneImageHasNodes, RowsAreGrouped, InactiveRecords, PlacesAreAssigned}
+use Rattle.dicomdir_writing.specs.Examples.{one_image_row, one_image_header, one_image_file, one_image_elements, OneImageIsLinked, OneImageFaults, preamble_omitted, PreambleCounts, RecordFaults, no_rows_elements, NoRowsAreLinked, OneImageHasNodes, RowsAreGrouped, InactiveRecords, PositionsAreAssigned}
 use Rattle.dicomdir_writing.proofs.Laid.{laid_elements}
 use Rattle.dicomdir_writing.proofs.WrittenLinked.{header_read, written_is_linked}
 use Rattle.dicomdir_writing.specs.Built.{directory_meta, directory_header, directory_file, file_is_too_large}
 use Rattle.dicomdir_writing.specs.Keys.{IsRow}
 use Rattle.dicomdir_writing.specs.Row.{Row}
 use Rattle.std.specs.List.{AllByRecursion}
-use Rattle.dicomdir_writing.specs.Places.{greatest_size, directory_elements}
+use Rattle.dicomdir_writing.specs.Positions.{greatest_size, directory_elements}
 use Rattle.std.proofs.lemmas.Bool.Decides.{nat_tests}
 use Rattle.dicomdir_writing.specs.Laws.{PathsNameRecords}
 
@@ -65,7 +65,7 @@ one_image_is_linked = linked_as (one_image_row ∷ []) one_image_file (record { 
 
 -- the record of that directory at a position, as a node
 node_at : ℕ → PlacedNode
-node_at place = record { place = place; carries = carried_node (elements_at the_records place) }
+node_at offset = record { offset = offset; carries = carried_node (elements_at the_records offset) }
 
 the_nodes : Forest PlacedNode
 the_nodes = node (node_at 320) (node (node_at 404) (node (node_at 534) (node (node_at 626) no_nodes no_nodes) no_nodes) no_nodes) no_nodes
@@ -125,7 +125,7 @@ none_there : record_at 192 preamble_records ≡ None
 unfolding preamble_records records_or_none is_short
 none_there = refl
 
-not_linked : (records : List Record) (placed : Forest PlacedNode) → records ≡ preamble_records → Some 192 ≡ Some (first_place placed) → AreLinked records 1 placed → ⊥
+not_linked : (records : List Record) (placed : Forest PlacedNode) → records ≡ preamble_records → Some 192 ≡ Some (first_position placed) → AreLinked records 1 placed → ⊥
 not_linked records no_nodes is first linked = absurd cc
 not_linked records (node n below next) is first linked = grind (arith, nat_tests, none_there)
 
@@ -162,11 +162,11 @@ pub inactive_records : InactiveRecords
 unfolding directory_fault directory_elements is_short
 inactive_records = (refl, refl, refl, refl, refl, refl, refl, refl, refl, refl, refl)
 
--- ---- the places and the sizes of known directories compute
+-- ---- the offsets and the sizes of known directories compute
 
-pub places_are_assigned : PlacesAreAssigned
+pub positions_are_assigned : PositionsAreAssigned
 unfolding TreeOf directory_elements is_short
-places_are_assigned = (refl, refl, refl, refl, refl, refl, refl, refl, refl, refl, refl, refl, refl, refl)
+positions_are_assigned = (refl, refl, refl, refl, refl, refl, refl, refl, refl, refl, refl, refl, refl, refl)
 
 -- ---- paths of known directories compute
 

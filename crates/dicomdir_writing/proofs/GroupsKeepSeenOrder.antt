@@ -11,8 +11,8 @@ use Rattle.dicomdir_writing.specs.Row.{Row, without_duplicates}
 use Rattle.dicomdir_writing.specs.TreeOf.{with_key, seen_after, rows_with, rows_at, row_groups, groups_of}
 use Rattle.std.proofs.lemmas.Grind.{common_steps}
 use Rattle.std.specs.Borrow.{Bor}
-use Rattle.dicomdir_writing.specs.machine.FirstSeen.{texts, is_seen, Sees, Puts, TakesRow}
-use Rattle.dicomdir_writing.specs.Places.{duplicates_of, duplicates_after}
+use Rattle.dicomdir_writing.specs.machine.FirstSeen.{texts, is_seen, Sees, Puts, ConsumesRow}
+use Rattle.dicomdir_writing.specs.Positions.{duplicates_of, duplicates_after}
 use Rattle.std.proofs.lemmas.Bool.{false_from_ne_true, true≢false}
 use Rattle.std.proofs.lemmas.Bool.Decides.{nat_tests}
 
@@ -65,33 +65,33 @@ module _ (key_of : Row → List ℕ) (done : List Row) (row : Row) where
       let parts = or_parts (bytes_eq (key_of row) x) _ e in
       ap₂ (λ (a : List Row) (b : List (List Row)). a ∷ b) (sym (other_key x (other_way (key_of row) x parts.0))) (others_stay keys parts.1)
 
-  abbrev place : List (List ℕ) → ℕ
-  place keys = position_or_len (bytes_eq (key_of row)) keys
+  abbrev offset : List (List ℕ) → ℕ
+  offset keys = position_or_len (bytes_eq (key_of row)) keys
 
   abbrev put : List (List Row) → ℕ → List (List Row)
   put groups n = set groups n (get_or groups n [] ++ row ∷ [])
 
   put_at : (x : List ℕ) (keys : List (List ℕ)) (b : Bool) → bytes_eq (key_of row) x ≡ b → list_any (bytes_eq x) keys ≡ false
-      → (list_any (bytes_eq (key_of row)) keys ≡ true → put (map before keys) (place keys) ≡ map after keys)
+      → (list_any (bytes_eq (key_of row)) keys ≡ true → put (map before keys) (offset keys) ≡ map after keys)
       → (b || list_any (bytes_eq (key_of row)) keys) ≡ true
-      → put (map before (x ∷ keys)) (cond (not b) (1 + place keys) 0) ≡ map after (x ∷ keys)
+      → put (map before (x ∷ keys)) (cond (not b) (1 + offset keys) 0) ≡ map after (x ∷ keys)
   put_at x keys true same apart more e =
       let one = same_is (key_of row) x same in
       ap₂ (λ (a : List Row) (b : List (List Row)). a ∷ b)
       (sym (same_key x (rw (← one) (is_same (key_of row)))))
       (others_stay keys (rw one apart))
   put_at x keys false same apart more e =
-      let n : 1 + place keys ≡ suc (place keys) = omega arith in
+      let n : 1 + offset keys ≡ suc (offset keys) = omega arith in
       ap (put (map before (x ∷ keys))) n
       ∙ ap₂ (λ (a : List Row) (b : List (List Row)). a ∷ b) (sym (other_key x (other_way (key_of row) x same))) (more e)
 
-  put_there : (keys : List (List ℕ)) → Distinct keys → list_any (bytes_eq (key_of row)) keys ≡ true → put (map before keys) (place keys) ≡ map after keys
+  put_there : (keys : List (List ℕ)) → Distinct keys → list_any (bytes_eq (key_of row)) keys ≡ true → put (map before keys) (offset keys) ≡ map after keys
   put_there [] d e = absurd cc
   put_there (x ∷ keys) d e = put_at x keys (bytes_eq (key_of row) x) refl d.0 (put_there keys d.1) e
 
-place_more : (p : List ℕ → Bool) (keys : List (List ℕ)) (k : List ℕ) → p k ≡ true → position_or_len p (keys ++ k ∷ []) ≡ position_or_len p keys
-place_more p [] k e = rw e refl
-place_more p (x ∷ keys) k e = ap (λ (n : ℕ). cond (not (p x)) (1 + n) 0) (place_more p keys k e)
+offset_more : (p : List ℕ → Bool) (keys : List (List ℕ)) (k : List ℕ) → p k ≡ true → position_or_len p (keys ++ k ∷ []) ≡ position_or_len p keys
+offset_more p [] k e = rw e refl
+offset_more p (x ∷ keys) k e = ap (λ (n : ℕ). cond (not (p x)) (1 + n) 0) (offset_more p keys k e)
 
 any_last : (p : List ℕ → Bool) (keys : List (List ℕ)) (k : List ℕ) → p k ≡ true → list_any p (keys ++ k ∷ []) ≡ true
 any_last p [] k e = rw e refl
@@ -134,7 +134,7 @@ grouped_new key_of done row keys groups g e =
     record {
       seen = sym (ap (λ (b : Bool). cond b keys (keys ++ k ∷ [])) e) ∙ seen_step key_of done row keys g.seen;
       each =
-          ap₂ (λ (gs : List (List Row)) (n : ℕ). put key_of done row gs n) more (sym (place_more (bytes_eq k) keys k (is_same k)))
+          ap₂ (λ (gs : List (List Row)) (n : ℕ). put key_of done row gs n) more (sym (offset_more (bytes_eq k) keys k (is_same k)))
           ∙ put_there key_of done row (keys ++ k ∷ []) (distinct_more keys k g.distinct e) (any_last (bytes_eq k) keys k (is_same k));
       distinct = distinct_more keys k g.distinct e;
       covers = λ x apart.
@@ -148,15 +148,15 @@ pub any_texts : {A : Type 0} (k : List ℕ) (keys : List (Vec ℕ A)) → list_a
 any_texts k [] = refl
 any_texts k (x ∷ keys) = ap (λ (b : Bool). bytes_eq k x.items || b) (any_texts k keys)
 
-place_texts : {A : Type 0} (k : List ℕ) (keys : List (Vec ℕ A)) → position_or_len (λ y. bytes_eq k y.items) keys ≡ position_or_len (bytes_eq k) (texts keys)
-place_texts k [] = refl
-place_texts k (x ∷ keys) = ap (λ (n : ℕ). cond (not (bytes_eq k x.items)) (1 + n) 0) (place_texts k keys)
+offset_texts : {A : Type 0} (k : List ℕ) (keys : List (Vec ℕ A)) → position_or_len (λ y. bytes_eq k y.items) keys ≡ position_or_len (bytes_eq k) (texts keys)
+offset_texts k [] = refl
+offset_texts k (x ∷ keys) = ap (λ (n : ℕ). cond (not (bytes_eq k x.items)) (1 + n) 0) (offset_texts k keys)
 
 -- the row at the index comes after those before it
-taken : (rows : List (Bor Row)) (i : ℕ) (row : Bor Row) → i < length rows → row ≡ get_or rows i row → take (suc i) (rows_at rows) ≡ take i (rows_at rows) ++ row.now ∷ []
-taken [] i row lt is = absurd (omega (arith, lt))
-taken (r ∷ rows) zero row lt is = ap (λ (x : Bor Row). x.now ∷ []) (sym is)
-taken (r ∷ rows) (suc i) row lt is = ap (λ (rs : List Row). r.now ∷ rs) (taken rows i row (omega (arith, lt)) is)
+consumed : (rows : List (Bor Row)) (i : ℕ) (row : Bor Row) → i < length rows → row ≡ get_or rows i row → take (suc i) (rows_at rows) ≡ take i (rows_at rows) ++ row.now ∷ []
+consumed [] i row lt is = absurd (omega (arith, lt))
+consumed (r ∷ rows) zero row lt is = ap (λ (x : Bor Row). x.now ∷ []) (sym is)
+consumed (r ∷ rows) (suc i) row lt is = ap (λ (rs : List Row). r.now ∷ rs) (consumed rows i row (omega (arith, lt)) is)
 
 pub row_put : {A : Type 0} (groups : List (Vec (Bor Row) A)) (n : ℕ) (d g : Vec (Bor Row) A) (row : Bor Row) → n < length groups → g.items ≡ (get_or groups n d).items ++ row ∷ []
     → row_groups (set groups n g) ≡ set (row_groups groups) n (get_or (row_groups groups) n [] ++ row.now ∷ [])
@@ -169,15 +169,15 @@ step_by : (b : Bool) (key_of : Row → List ℕ) (done : List Row) (row : Row) (
     → new ≡ cond b keys (keys ++ key_of row ∷ []) → n ≡ position_or_len (bytes_eq (key_of row)) keys
     → g1 ≡ cond (not b) (groups ++ [] ∷ []) groups → g2 ≡ set g1 n (get_or g1 n [] ++ row ∷ [])
     → Grouped key_of (done ++ row ∷ []) new g2
-step_by true key_of done row keys new groups g1 g2 n any g is place opened put = grind (arith, common_steps, grouped_old key_of done row keys groups g any)
-step_by false key_of done row keys new groups g1 g2 n any g is place opened put = grind (arith, common_steps, grouped_new key_of done row keys groups g any)
+step_by true key_of done row keys new groups g1 g2 n any g is offset opened put = grind (arith, common_steps, grouped_old key_of done row keys groups g any)
+step_by false key_of done row keys new groups g1 g2 n any g is offset opened put = grind (arith, common_steps, grouped_new key_of done row keys groups g any)
 
 pub sees : {A : Type 0} (k : List ℕ) (keys new : List (Vec ℕ A)) (v : Vec ℕ A) (n : ℕ) (is_new : Bool) → v.items ≡ k
     → new ≡ cond (list_any (λ y. bytes_eq v.items y.items) keys) keys (keys ++ v ∷ [])
     → n ≡ position_or_len (λ y. bytes_eq v.items y.items) keys
     → is_new ≡ not (list_any (λ y. bytes_eq v.items y.items) keys)
     → Sees k (texts keys) (texts new) n is_new
-sees k keys new v n is_new key news place newness = grind (arith, common_steps, any_texts v.items keys, place_texts v.items keys)
+sees k keys new v n is_new key news offset newness = grind (arith, common_steps, any_texts v.items keys, offset_texts v.items keys)
 
 pub as_many : (key_of : Row → List ℕ) (done : List Row) (keys : List (List ℕ)) (groups : List (List Row)) → Grouped key_of done keys groups → length groups ≡ length keys
 as_many key_of done keys groups g = ap length g.each ∙ length-map keys (λ k. rows_with key_of k done)
@@ -189,7 +189,7 @@ step key_of rows i row k keys new groups after lt is key g p =
     let q : Puts (key_of row.now) row.now keys new groups after = subst (λ z. Puts z row.now keys new groups after) key p in
     let b = is_seen (key_of row.now) keys in
     let whole = step_by b key_of (take i (rows_at rows)) row.now keys new groups (cond (not b) (groups ++ [] ∷ []) groups) after (position_or_len (bytes_eq (key_of row.now)) keys) refl g q.keys_are refl refl q.groups_are in
-    rw (taken rows i row lt is) whole
+    rw (consumed rows i row lt is) whole
 
 pub finished : (key_of : Row → List ℕ) (rows : List (Bor Row)) (n : ℕ) (keys : List (List ℕ)) (groups : List (List Row)) → length rows ≤ n
     → Grouped key_of (take n (rows_at rows)) keys groups → groups ≡ groups_of key_of (rows_at rows)
@@ -206,7 +206,7 @@ pub record Leaves (rows : List Row) (at : ℕ) (before : List (List ℕ)) (kept 
   pub duplicates_are : duplicates ++ duplicates_after at before (drop at rows) ≡ duplicates_of rows
 
 pub leaves_next : (rows : List Row) (at : ℕ) (row : Row) (keys new : List (List ℕ)) (kept kept2 : List Row) (duplicates duplicates2 : List ℕ) → at < length rows → row ≡ get_or rows at row
-    → Leaves rows at keys kept duplicates → TakesRow at row keys new kept kept2 duplicates duplicates2 → Leaves rows (at + 1) new kept2 duplicates2
+    → Leaves rows at keys kept duplicates → ConsumesRow at row keys new kept kept2 duplicates duplicates2 → Leaves rows (at + 1) new kept2 duplicates2
 leaves_next rows at row keys new kept kept2 duplicates duplicates2 lt is l t = grind (arith, common_steps, rest_is rows at row lt is)
 
 pub leaves_all : (rows : List Row) (at : ℕ) (before : List (List ℕ)) (kept : List Row) (duplicates : List ℕ) → length rows ≤ at → Leaves rows at before kept duplicates
@@ -219,9 +219,9 @@ all_more P [] at x lt is one all = absurd (omega (arith, lt))
 all_more P (y ∷ xs) zero x lt is one all = (subst P is one, tt)
 all_more P (y ∷ xs) (suc at) x lt is one all = grind (arith, nat_tests, all_more P xs at x (omega (arith, lt)) is one all.1)
 
-pub all_taken : {X : Type 0} (P : X → Type 0) (xs : List X) (at : ℕ) → length xs ≤ at → AllByRecursion P (take at xs) → AllByRecursion P xs
-all_taken P xs at le all = rw (← take_all at xs le) all
+pub all_consumed : {X : Type 0} (P : X → Type 0) (xs : List X) (at : ℕ) → length xs ≤ at → AllByRecursion P (take at xs) → AllByRecursion P xs
+all_consumed P xs at le all = rw (← take_all at xs le) all
 
 pub duplicate_remaining : (at : ℕ) (row : Row) (key : List ℕ) (keys new : List (List ℕ)) (number : ℕ) (is_new : Bool) (rows : List Row) (duplicates more : List ℕ)
-    → key ≡ row.instance → Sees key keys new number is_new → is_new ≡ false → more ≡ duplicates ++ at ∷ [] → TakesRow at row keys new rows rows duplicates more
+    → key ≡ row.instance → Sees key keys new number is_new → is_new ≡ false → more ≡ duplicates ++ at ∷ [] → ConsumesRow at row keys new rows rows duplicates more
 duplicate_remaining at row key keys new number is_new rows duplicates more is sees old last = grind (arith, common_steps)

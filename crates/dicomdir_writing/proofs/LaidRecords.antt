@@ -99,9 +99,9 @@ good_record level row next lower is =
 abbrev are_others : List RecordRule → Bool
 are_others rules = list_all (λ rule. not (nat_eq (number rule.tag) 0x00041500)) rules
 
-no_file_id : (level : Level) (rules : List RecordRule) (says : ℕ → Option (List ℕ)) (place : ℕ) → are_others rules ≡ true → found 0x00041500 place (fields level rules says) ≡ missing
-no_file_id level [] says place e = refl
-no_file_id level (rule ∷ rules) says place e = grind (arith, common_steps, no_file_id level rules says)
+no_file_id : (level : Level) (rules : List RecordRule) (says : ℕ → Option (List ℕ)) (offset : ℕ) → are_others rules ≡ true → found 0x00041500 offset (fields level rules says) ≡ missing
+no_file_id level [] says offset e = refl
+no_file_id level (rule ∷ rules) says offset e = grind (arith, common_steps, no_file_id level rules says)
 
 -- what the tree's nodes are: with any offsets they are good, and say what they say without them
 pub record IsNode (level : ℕ) (es : Elements) : Type 0 where
@@ -127,7 +127,7 @@ own_fields level behind = field (tag 0x0004 0x1410) (codes "US") (le 0xffff 2) (
 
 -- a record that has no file ID
 plain_node : (level : Level) (keys : Elements) → is_image level ≡ false → ((next lower : ℕ) → IsGood 0 (with_offsets next lower (own_fields level keys)))
-    → ((place : ℕ) → found 0x00041500 place keys ≡ missing) → IsNode (node_level level) (own_fields level keys)
+    → ((offset : ℕ) → found 0x00041500 offset keys ≡ missing) → IsNode (node_level level) (own_fields level keys)
 unfolding own_fields
 plain_node level keys e good none = record {
   good = good;
@@ -165,7 +165,7 @@ unfolding key_elements
 plain_row level row e is =
     subst (λ es. IsNode (node_level level) es) (sym (plain_is level row e))
     (plain_node level (key_elements level row) e (λ n l. subst (λ es. IsGood 0 (with_offsets n l es)) (plain_is level row e) (good_record level row n l is))
-    (λ place. no_file_id level key_table (says (own_values level row) row.values) place refl))
+    (λ offset. no_file_id level key_table (says (own_values level row) row.values) offset refl))
 
 pub record_node : (level : Level) (row : Row) → IsRow row → IsNode (node_level level) (record_for level row)
 record_node Patient row is = plain_row Patient row refl is

@@ -131,14 +131,14 @@ has_letters {file = file} has =
     let parts : file ≡ s.preamble ++ (codes "DICM" ++ behind) = has.whole ∙ ap (λ z. z ++ has.back) s.whole ∙ simp append_assoc refl in
     ap (λ z. take 4 (drop 128 z)) parts ∙ ap (λ z. take 4 z) (drop_at s.preamble (codes "DICM" ++ behind) 128 s.preamble_size)
 
--- a file whose header names a transfer syntax that is taken has no fault there
+-- a file whose header names a transfer syntax that is accepted has no fault there
 pub no_header_fault : {additional : List Transfer} {file : List ℕ} (is : IsInstance additional file) (fault : MetaFault) → HeaderFaultOf additional file fault → ⊥
 unfolding has_meta
 no_header_fault is NotPart10 f = f (has_letters (has_meta is))
 no_header_fault is BadMeta f = f.1 (record { class = is.class; instance = is.instance; syntax = transfer_uid is.syntax }) (has_meta is)
 no_header_fault {file = file} is OtherSyntax f =
     let same = one_header file f.0 (record { class = is.class; instance = is.instance; syntax = transfer_uid is.syntax }) f.1 (has_meta is) in
-    f.2 is.syntax is.taken (ap (λ z. z.syntax) same.0)
+    f.2 is.syntax is.allowed (ap (λ z. z.syntax) same.0)
 no_header_fault is ReadFailed f = f
 
 one_header_fault : (additional : List Transfer) (file : List ℕ) (f g : MetaFault) → HeaderFaultOf additional file f → HeaderFaultOf additional file g → f ≡ g
@@ -251,9 +251,9 @@ kept_fits ws (value h w es) t room v fit r e =
     some_fits ws (number h.tag) t room w v (kept_of ws es) (is_wanted ws (number h.tag)) fit.0 r (λ f. kept_fits ws es t room v fit.1 r f) e
 
 -- what a row consumes of the values is among them
-pub taken_from : (rules : List RecordRule) (values : Values) (t : ℕ) (v : List ℕ) → value_of (values_for rules values) t ≡ Some v → value_of values t ≡ Some v
-taken_from [] values t v e = absurd cc
-taken_from (rule ∷ rules) values t v e = by (λ f. taken_from rules values t v f) (value_of values (number rule.tag)) refl e
+pub consumed_from : (rules : List RecordRule) (values : Values) (t : ℕ) (v : List ℕ) → value_of (values_for rules values) t ≡ Some v → value_of values t ≡ Some v
+consumed_from [] values t v e = absurd cc
+consumed_from (rule ∷ rules) values t v e = by (λ f. consumed_from rules values t v f) (value_of values (number rule.tag)) refl e
   where
     here : (value_of (values_for rules values) t ≡ Some v → value_of values t ≡ Some v) → (w : List ℕ) (b : Bool) → nat_eq (number rule.tag) t ≡ b → value_of values (number rule.tag) ≡ Some w
         → cond b (Some w) (value_of (values_for rules values) t) ≡ Some v → value_of values t ≡ Some v
@@ -288,22 +288,22 @@ is_within (Some wanted) room = nat_le wanted room
 abbrev has_room : List Want → RecordRule → Bool
 has_room ws rule = is_within (room_of ws (number rule.tag)) rule.room
 
-one_has_room : (ws : List Want) (es : Elements) (taken : List RecordRule) (rule : RecordRule) → FitRooms ws es → has_room ws rule ≡ true → fits_room (values_for taken (kept_of ws es)) rule ≡ true
-one_has_room ws es taken rule fit has = by (value_of (values_for taken (kept_of ws es)) (number rule.tag)) refl
+one_has_room : (ws : List Want) (es : Elements) (consumed : List RecordRule) (rule : RecordRule) → FitRooms ws es → has_room ws rule ≡ true → fits_room (values_for consumed (kept_of ws es)) rule ≡ true
+one_has_room ws es consumed rule fit has = by (value_of (values_for consumed (kept_of ws es)) (number rule.tag)) refl
   where
     size : (v : List ℕ) (r : Option ℕ) → room_of ws (number rule.tag) ≡ r → is_within r rule.room ≡ true → value_of (kept_of ws es) (number rule.tag) ≡ Some v → nat_le (length v) rule.room ≡ true
     size v None is within kept = let wanted : false ≡ true = sym (ap is_some is) ∙ only_wanted ws es (number rule.tag) v kept in absurd cc
     size v (Some r) is within kept = le-leb _ _ (let a = kept_fits ws es (number rule.tag) r v fit is kept in let b = leb-true _ _ within in omega (arith, a, b))
 
-    by : (o : Option (List ℕ)) → value_of (values_for taken (kept_of ws es)) (number rule.tag) ≡ o → nat_le (optional_size o) rule.room ≡ true
+    by : (o : Option (List ℕ)) → value_of (values_for consumed (kept_of ws es)) (number rule.tag) ≡ o → nat_le (optional_size o) rule.room ≡ true
     by None is = le-leb 0 rule.room (omega arith)
-    by (Some v) is = size v (room_of ws (number rule.tag)) refl has (taken_from taken (kept_of ws es) (number rule.tag) v is)
+    by (Some v) is = size v (room_of ws (number rule.tag)) refl has (consumed_from consumed (kept_of ws es) (number rule.tag) v is)
 
-rooms_fit : (ws : List Want) (es : Elements) (taken rules : List RecordRule) → FitRooms ws es → list_all (has_room ws) rules ≡ true → list_all (fits_room (values_for taken (kept_of ws es))) rules ≡ true
-rooms_fit ws es taken [] fit e = refl
-rooms_fit ws es taken (rule ∷ rules) fit e =
+rooms_fit : (ws : List Want) (es : Elements) (consumed rules : List RecordRule) → FitRooms ws es → list_all (has_room ws) rules ≡ true → list_all (fits_room (values_for consumed (kept_of ws es))) rules ≡ true
+rooms_fit ws es consumed [] fit e = refl
+rooms_fit ws es consumed (rule ∷ rules) fit e =
     let parts = and_parts (has_room ws rule) _ e in
-    rw (one_has_room ws es taken rule fit parts.0) (rooms_fit ws es taken rules fit parts.1)
+    rw (one_has_room ws es consumed rule fit parts.0) (rooms_fit ws es consumed rules fit parts.1)
 
 all_have_room : (keys : RecordKeys) → list_all (has_room (row_wants (keys_read keys))) key_table ≡ true
 all_have_room Needed = refl
@@ -315,12 +315,12 @@ keys_fit keys file_id class instance s es fit = rooms_fit (row_wants (keys_read 
 -- ---- the row of a file that was filed
 
 pub filed_has_row : FiledHasRow
-filed_has_row additional rules meta file_id rest elements taken class instance title few set within =
+filed_has_row additional rules meta file_id rest elements consumed class instance title few set within =
     let is : IsInstance additional (File meta rest) = record {
       class = meta.class;
       instance = meta.instance;
       syntax = meta.syntax;
-      taken = taken;
+      allowed = consumed;
       front = head meta;
       back = rest;
       whole = refl;

@@ -10,11 +10,11 @@ use Rattle.sequence.specs.Transfer.{coding_in}
 use Rattle.sequence.specs.declared.fault.Fault.{Fault}
 use Rattle.sequence.specs.declared.walker.Walker.{Walker}
 use Rattle.sequence.specs.Ending.{Fails, IsWholeDataSet}
-use Rattle.sequence.specs.Taken.{StandsAt, walker_syntax, limits_of, fault_of, reported_by}
+use Rattle.sequence.specs.Consumed.{StandsAt, walker_syntax, limits_of, fault_of, reported_by}
 use Rattle.sequence.proofs.Public.{one_path, no_header, whole_breaks_no_rule}
 use Rattle.dicomdir_writing.specs.declared.skip.Skip.{Skip}
 use Rattle.dicomdir.specs.Walking.{IsSameSet, FailsIn}
-use Rattle.dicomdir_writing.specs.machine.RowReading.{FailsBy, WalkFails, text_fails, TookWhole, FailsToTake}
+use Rattle.dicomdir_writing.specs.machine.RowReading.{FailsBy, WalkFails, text_fails, ConsumedWhole, FailsToTake}
 use Rattle.dicomdir.proofs.Public.{starts_good}
 use Rattle.std.proofs.lemmas.Bool.Decides.{nat_tests}
 use Rattle.std.proofs.lemmas.Grind.{common_steps}
@@ -23,7 +23,7 @@ use Rattle.part10.specs.declared.meta.Meta.{Meta}
 use Rattle.part10.specs.declared.meta_fault.MetaFault.{MetaFault}
 use Rattle.part10.specs.declared.meta_fault.MetaFault.TheVariants.{NotPart10, BadMeta, OtherSyntax, ReadFailed}
 use Rattle.dictionary.specs.declared.transfer.Transfer.{Transfer}
-use Rattle.part10.specs.MetaText.{meta_values_of, TakesMeta, fault_number}
+use Rattle.part10.specs.MetaText.{meta_values_of, ConsumesMeta, fault_number}
 use Rattle.sequence.specs.Tree.{Elements, DataSet}
 use Rattle.sequence.specs.Open.{header_tail, in_header, last_of, Nested, at_elements, Open}
 use Rattle.sequence.specs.Walk.{Report, Reports, going, refused}
@@ -31,7 +31,7 @@ use Rattle.sequence.specs.Wanted.{kept_of}
 use Rattle.sequence.specs.Rules.{Limits}
 use Rattle.dicomdir_writing.specs.Row.{Row}
 use Rattle.dicomdir_writing.specs.Keys.{checked_row}
-use Rattle.dicomdir_writing.specs.RowOf.{row_wants, row_limits, row_from, is_taken, IsInstance, in_header as header_fault, in_data_set, of_values, RowOf, DescribedRow, described, undescribed, is_too_long, RowIsRead, no_memory, read_failed, has_row}
+use Rattle.dicomdir_writing.specs.RowOf.{row_wants, row_limits, row_from, is_allowed, IsInstance, in_header as header_fault, in_data_set, of_values, RowOf, DescribedRow, described, undescribed, is_too_long, RowIsRead, no_memory, read_failed, has_row}
 use Rattle.dicomdir_writing.specs.declared.record_table.RecordRule.{RecordRule}
 use Rattle.dicomdir_writing.specs.declared.record_table.RecordKeys.TheVariants.{Needed, Described}
 use Rattle.dicomdir_writing.specs.RecordTable.{keys_read}
@@ -42,9 +42,9 @@ use Rattle.dicomdir_writing.specs.machine.RowReading as walking
 
 -- what was read so far is what the walker consumed
 pub record Reads {V D : ℕ} (w0 w : Walker V D) (old new : Option (List ℕ)) : Type 0 where
-  pub taken : List ℕ
-  pub consumed : Consumes old new taken
-  pub stands : StandsAt w taken
+  pub consumed : List ℕ
+  pub consumes : Consumes old new consumed
+  pub stands : StandsAt w consumed
   pub good : fault_of w ≡ None
   pub same : IsSameSet w0 w
 
@@ -54,38 +54,38 @@ reads_first {V = V} {D = D} w old stands = grind (arith, common_steps, starts_go
 pub reads_on : {V D : ℕ} (w0 w v : Walker V D) (old mid new : Option (List ℕ)) (piece : List ℕ) → Reads w0 w old mid → Consumes mid new piece
     → ((b : List ℕ) → StandsAt w b → StandsAt v (b ++ piece)) → fault_of v ≡ None → IsSameSet w v → Reads w0 v old new
 reads_on w0 w v old mid new piece r more along good same = record {
-  taken = r.taken ++ piece;
-  consumed = Consumes-trans old mid new r.taken piece r.consumed more;
-  stands = along r.taken r.stands;
+  consumed = r.consumed ++ piece;
+  consumes = Consumes-trans old mid new r.consumed piece r.consumes more;
+  stands = along r.consumed r.stands;
   good = good;
   same = (same.0 ∙ r.same.0, same.1 ∙ r.same.1);
 }
 
 -- at the end of what the reader has
 pub reads_whole : {V D : ℕ} (w0 w : Walker V D) (old mid new : Option (List ℕ)) (room : List ℕ) (count : ℕ) → Reads w0 w old mid → Consumes mid new (take count room) → count ≡ 0
-    → IsAtEnd new → ((b : List ℕ) → StandsAt w b → IsWholeDataSet (walker_syntax w) (limits_of w) b) → TookWhole w old
-reads_whole w0 w old mid new room count r more none end whole = by old new (Consumes-trans old mid new r.taken (take count room) r.consumed more) end
+    → IsAtEnd new → ((b : List ℕ) → StandsAt w b → IsWholeDataSet (walker_syntax w) (limits_of w) b) → ConsumedWhole w old
+reads_whole w0 w old mid new room count r more none end whole = by old new (Consumes-trans old mid new r.consumed (take count room) r.consumes more) end
   where
-    same : (text remaining : List ℕ) → text ≡ (r.taken ++ take count room) ++ remaining → remaining ≡ [] → r.taken ≡ text
-    same text remaining c e = grind (arith, common_steps, append-nil r.taken)
+    same : (text remaining : List ℕ) → text ≡ (r.consumed ++ take count room) ++ remaining → remaining ≡ [] → r.consumed ≡ text
+    same text remaining c e = grind (arith, common_steps, append-nil r.consumed)
 
-    by : (o n : Option (List ℕ)) → Consumes o n (r.taken ++ take count room) → IsAtEnd n → TookWhole w o
+    by : (o n : Option (List ℕ)) → Consumes o n (r.consumed ++ take count room) → IsAtEnd n → ConsumedWhole w o
     by None n c e = tt
     by (Some text) None c e = absurd c
-    by (Some text) (Some remaining) c e = subst (λ z. StandsAt w z × IsWholeDataSet (walker_syntax w) (limits_of w) z) (same text remaining c e) (r.stands, whole r.taken r.stands)
+    by (Some text) (Some remaining) c e = subst (λ z. StandsAt w z × IsWholeDataSet (walker_syntax w) (limits_of w) z) (same text remaining c e) (r.stands, whole r.consumed r.stands)
 
 by_same : {V D : ℕ} (w0 w : Walker V D) (text : List ℕ) (reason : Skip) → IsSameSet w0 w → FailsBy (walker_syntax w) (limits_of w) text reason → FailsBy (walker_syntax w0) (limits_of w0) text reason
 by_same w0 w text reason same f = (f.0, subst (λ z. Fails (walker_syntax w0) z text f.0) same.1 (subst (λ z. Fails z (limits_of w) text f.0) same.0 f.1), f.2)
 
 pub reads_fails : {V D : ℕ} (w0 w : Walker V D) (old mid new : Option (List ℕ)) (piece : List ℕ) (fault : Fault) → Reads w0 w old mid → Consumes mid new piece
     → FailsIn w piece fault → WalkFails w0 old (skip.Fault fault.number)
-reads_fails w0 w old mid new piece fault r more fails = text_fails (by old new (Consumes-trans old mid new r.taken piece r.consumed more))
+reads_fails w0 w old mid new piece fault r more fails = text_fails (by old new (Consumes-trans old mid new r.consumed piece r.consumes more))
   where
-    by : (o n : Option (List ℕ)) → Consumes o n (r.taken ++ piece) → IfSome o (λ text. IsBytes text → FailsBy (walker_syntax w0) (limits_of w0) text (skip.Fault fault.number))
+    by : (o n : Option (List ℕ)) → Consumes o n (r.consumed ++ piece) → IfSome o (λ text. IsBytes text → FailsBy (walker_syntax w0) (limits_of w0) text (skip.Fault fault.number))
     by None n c = tt
     by (Some text) None c = absurd c
     by (Some text) (Some remaining) c = λ bytes. by_same w0 w text (skip.Fault fault.number) r.same
-        (fault, subst (λ z. Fails (walker_syntax w) (limits_of w) z fault) (sym c) (fails r.taken remaining r.stands (subst (λ z. IsBytes z) c bytes)), refl)
+        (fault, subst (λ z. Fails (walker_syntax w) (limits_of w) z fault) (sym c) (fails r.consumed remaining r.stands (subst (λ z. IsBytes z) c bytes)), refl)
 
 -- ---- what reading a file for its row gives
 
@@ -115,46 +115,46 @@ refused_header additional rules BadMeta (Some file) file_id r = λ _. has_row (h
 refused_header additional rules OtherSyntax (Some file) file_id r = λ _. has_row (header_fault OtherSyntax r refl)
 refused_header additional rules ReadFailed (Some file) file_id r = λ _. read_failed refl
 
--- what was read of a header that names a transfer syntax that is taken
-pub record Takes (additional : List Transfer) (meta : Meta) (old new : Option (List ℕ)) : Type 0 where
-  pub header : TakesMeta (meta_values_of meta) old new
-  pub taken : is_taken additional meta.syntax ≡ true
+-- what was read of a header that names a transfer syntax that is accepted
+pub record Accepts (additional : List Transfer) (meta : Meta) (old new : Option (List ℕ)) : Type 0 where
+  pub header : ConsumesMeta (meta_values_of meta) old new
+  pub allowed : is_allowed additional meta.syntax ≡ true
 
-abbrev instance_of : (additional : List Transfer) (meta : Meta) (file back : List ℕ) → Takes additional meta (Some file) (Some back) → IsInstance additional file
-instance_of additional meta file back takes = record {
+abbrev instance_of : (additional : List Transfer) (meta : Meta) (file back : List ℕ) → Accepts additional meta (Some file) (Some back) → IsInstance additional file
+instance_of additional meta file back accepts = record {
   class = meta.class;
   instance = meta.instance;
   syntax = meta.syntax;
-  taken = takes.taken;
-  front = takes.header.0;
+  allowed = accepts.allowed;
+  front = accepts.header.0;
   back = back;
-  whole = takes.header.2;
-  header = takes.header.1;
+  whole = accepts.header.2;
+  header = accepts.header.1;
 }
 
-pub refused_data_set : {V D : ℕ} (w : Walker V D) (additional : List Transfer) (rules : List RecordRule) (meta : Meta) (old mid : Option (List ℕ)) (file_id : List ℕ) (reason : Skip) → Takes additional meta old mid
+pub refused_data_set : {V D : ℕ} (w : Walker V D) (additional : List Transfer) (rules : List RecordRule) (meta : Meta) (old mid : Option (List ℕ)) (file_id : List ℕ) (reason : Skip) → Accepts additional meta old mid
     → walker_syntax w ≡ coding_in meta.syntax → limits_of w ≡ row_limits rules → WalkFails w mid reason → Read additional rules old file_id (Err reason)
-refused_data_set w additional rules meta None mid file_id reason takes syntax limits fails = tt
-refused_data_set w additional rules meta (Some file) None file_id reason takes syntax limits fails = absurd takes.header.2
-refused_data_set w additional rules meta (Some file) (Some back) file_id reason takes syntax limits (walking.read_failed e) = λ _. read_failed (ap (λ z. Err z) e)
-refused_data_set w additional rules meta (Some file) (Some back) file_id reason takes syntax limits (walking.text_fails f) = λ bytes.
-    let reported = f (bytes_behind takes.header.0 back (subst (λ z. IsBytes z) takes.header.2 bytes)) in
+refused_data_set w additional rules meta None mid file_id reason accepts syntax limits fails = tt
+refused_data_set w additional rules meta (Some file) None file_id reason accepts syntax limits fails = absurd accepts.header.2
+refused_data_set w additional rules meta (Some file) (Some back) file_id reason accepts syntax limits (walking.read_failed e) = λ _. read_failed (ap (λ z. Err z) e)
+refused_data_set w additional rules meta (Some file) (Some back) file_id reason accepts syntax limits (walking.text_fails f) = λ bytes.
+    let reported = f (bytes_behind accepts.header.0 back (subst (λ z. IsBytes z) accepts.header.2 bytes)) in
     let fails : Fails (coding_in meta.syntax) (row_limits rules) back reported.0 = subst (λ z. Fails z (row_limits rules) back reported.0) syntax (subst (λ z. Fails (walker_syntax w) z back reported.0) limits reported.1) in
-    has_row (in_data_set (instance_of additional meta file back takes) reported.0 fails (ap (λ z. Err z) reported.2))
+    has_row (in_data_set (instance_of additional meta file back accepts) reported.0 fails (ap (λ z. Err z) reported.2))
 
 pub out_of_memory : (additional : List Transfer) (rules : List RecordRule) (old : Option (List ℕ)) (file_id : List ℕ) (reason : Skip) → reason ≡ skip.OutOfMemory → Read additional rules old file_id (Err reason)
 out_of_memory additional rules v1 file_id reason e = grind (arith, nat_tests)
 
-pub whole_file : {V D : ℕ} (w : Walker V D) (additional : List Transfer) (rules : List RecordRule) (meta : Meta) (old mid : Option (List ℕ)) (file_id : List ℕ) (result : Result Row Skip) → Takes additional meta old mid
-    → walker_syntax w ≡ coding_in meta.syntax → limits_of w ≡ row_limits rules → TookWhole w mid
+pub whole_file : {V D : ℕ} (w : Walker V D) (additional : List Transfer) (rules : List RecordRule) (meta : Meta) (old mid : Option (List ℕ)) (file_id : List ℕ) (result : Result Row Skip) → Accepts additional meta old mid
+    → walker_syntax w ≡ coding_in meta.syntax → limits_of w ≡ row_limits rules → ConsumedWhole w mid
     → result ≡ checked_row (row_from rules file_id meta.class meta.instance meta.syntax (reported_by w).kept) → Read additional rules old file_id result
-whole_file w additional rules meta None mid file_id result takes syntax limits took is = tt
-whole_file w additional rules meta (Some file) None file_id result takes syntax limits took is = absurd takes.header.2
-whole_file w additional rules meta (Some file) (Some back) file_id result takes syntax limits took is = λ _.
-    let whole : IsWholeDataSet (coding_in meta.syntax) (row_limits rules) back = subst (λ z. IsWholeDataSet z (row_limits rules) back) syntax (subst (λ z. IsWholeDataSet (walker_syntax w) z back) limits took.1) in
-    let reports : Reports (coding_in meta.syntax) (row_limits rules) back (reported_by w) = subst (λ z. Reports z (row_limits rules) back (reported_by w)) syntax (subst (λ z. Reports (walker_syntax w) z back (reported_by w)) limits took.0.reports) in
+whole_file w additional rules meta None mid file_id result accepts syntax limits consumes is = tt
+whole_file w additional rules meta (Some file) None file_id result accepts syntax limits consumes is = absurd accepts.header.2
+whole_file w additional rules meta (Some file) (Some back) file_id result accepts syntax limits consumes is = λ _.
+    let whole : IsWholeDataSet (coding_in meta.syntax) (row_limits rules) back = subst (λ z. IsWholeDataSet z (row_limits rules) back) syntax (subst (λ z. IsWholeDataSet (walker_syntax w) z back) limits consumes.1) in
+    let reports : Reports (coding_in meta.syntax) (row_limits rules) back (reported_by w) = subst (λ z. Reports z (row_limits rules) back (reported_by w)) syntax (subst (λ z. Reports (walker_syntax w) z back (reported_by w)) limits consumes.0.reports) in
     let kept : (reported_by w).kept ≡ kept_of (row_wants rules) whole.elements = kept_at_end whole reports in
-    has_row (of_values (instance_of additional meta file back takes) whole.elements whole.text whole.within
+    has_row (of_values (instance_of additional meta file back accepts) whole.elements whole.text whole.within
     (is ∙ ap (λ z. checked_row (row_from rules file_id meta.class meta.instance meta.syntax z)) kept))
 
 -- ---- the result where Series Description is asked for

@@ -1,4 +1,4 @@
--- Records that are laid down last record first have the text, the places and the size of the tree (`whole_laid`,
+-- Records that are laid down last record first have the text, the offsets and the size of the tree (`whole_laid`,
 -- `image_laid`), or stop where they are too large (`image_stops`, `below_stops`). Stands on the definitions alone.
 use Rattle.std.proofs.Common.{◌≡◌, ℕ, zero, suc, ◌+◌, ◌-◌, ◌≤◌, ◌<◌, Bool, false, cond, List, [], ◌∷◌, ◌++◌, length, map, drop, get_or, nat_eq, refl, sym, ap, subst, slice_get, Some, None, Vec, ◌∙◌, append_assoc, arith}
 use Rattle.std.proofs.lemmas.List.{append-nil, length-append}
@@ -12,17 +12,17 @@ use Rattle.std.specs.Borrow.{Bor}
 use Rattle.dicomdir_writing.specs.TreeOf.{groups_of, rows_at, row_groups, forest_for, group_node, group_nodes, rows_with, seen_after, images, key_for}
 use Rattle.dicomdir.specs.Level.{lower_level, is_image}
 use Rattle.dicomdir.specs.Forest.{Forest, no_nodes, node}
-use Rattle.dicomdir_writing.specs.machine.Building.{StopsFor, place_from_end, entry_text, laid_text, forest_text, has_none, Adds, groups_forest, Lays}
+use Rattle.dicomdir_writing.specs.machine.Building.{StopsFor, offset_from_end, entry_text, laid_text, forest_text, has_none, Adds, groups_forest, Lays}
 use Rattle.dicomdir_writing.specs.Record.{spelled, spelled_items, with_offsets, record_item, record_for, record_text}
-use Rattle.dicomdir_writing.specs.Places.{record_size, forest_size, with_places, first_record_place, last_record_place, last_record_place_after}
+use Rattle.dicomdir_writing.specs.Positions.{record_size, forest_size, with_positions, first_record_offset, last_record_offset, last_record_offset_after}
 use Rattle.dicomdir_writing.specs.Row.{Row}
 use Rattle.std.proofs.lemmas.Grind.{common_steps}
 
 none_is : (n : ℕ) → 0 < n → nat_eq n 0 ≡ false
 none_is n h = grind (arith, nat_tests)
 
-place_is : (start size : ℕ) → 0 < size → place_from_end (start + size) size ≡ start
-place_is start size h = let e : start + size - size ≡ start = omega arith in ap (λ (b : Bool). cond b 0 (start + size - size)) (none_is size h) ∙ e
+position_is : (start size : ℕ) → 0 < size → offset_from_end (start + size) size ≡ start
+position_is start size h = let e : start + size - size ≡ start = omega arith in ap (λ (b : Bool). cond b 0 (start + size - size)) (none_is size h) ∙ e
 
 pub laid_push : {A : Type 0} (total : ℕ) (es : List (LaidRecord A)) (e : LaidRecord A) → laid_text total (es ++ e ∷ []) ≡ entry_text total e ++ laid_text total es
 laid_push total [] e = sym (append-nil (entry_text total e))
@@ -32,17 +32,17 @@ pub lays_none : {A : Type 0} (es : List (LaidRecord A)) (size : ℕ) → Lays no
 lays_none es size = grind (arith, common_steps)
 
 module _ {A : Type 0} (forest : Forest Elements) (old new : List (LaidRecord A)) (old_size new_size first last : ℕ) (lays : Lays forest old new old_size new_size first last) where
-  text_at : (start total : ℕ) → total ≡ start + new_size → laid_text total new ≡ forest_text (with_places start forest) ++ laid_text total old
+  text_at : (start total : ℕ) → total ≡ start + new_size → laid_text total new ≡ forest_text (with_positions start forest) ++ laid_text total old
   text_at start total e = rw e (lays.text start)
 
-  first_at : (start total : ℕ) → total ≡ start + new_size → place_from_end total first ≡ first_record_place (with_places start forest)
+  first_at : (start total : ℕ) → total ≡ start + new_size → offset_from_end total first ≡ first_record_offset (with_positions start forest)
   first_at start total e = rw e (lays.first_is start)
 
-  last_at : (start total : ℕ) → total ≡ start + new_size → place_from_end total last ≡ last_record_place (with_places start forest)
+  last_at : (start total : ℕ) → total ≡ start + new_size → offset_from_end total last ≡ last_record_offset (with_positions start forest)
   last_at start total e = rw e (lays.last_is start)
 
-last_of_node : (next : Forest Elements) (start p s f l last total : ℕ) → nat_eq f 0 ≡ has_none next → last ≡ cond (nat_eq f 0) s l → place_from_end total s ≡ start
-    → place_from_end total l ≡ last_record_place (with_places p next) → place_from_end total last ≡ last_record_place_after start (with_places p next)
+last_of_node : (next : Forest Elements) (start p s f l last total : ℕ) → nat_eq f 0 ≡ has_none next → last ≡ cond (nat_eq f 0) s l → offset_from_end total s ≡ start
+    → offset_from_end total l ≡ last_record_offset (with_positions p next) → offset_from_end total last ≡ last_record_offset_after start (with_positions p next)
 last_of_node no_nodes start p s f l last total none is own others = grind (arith, common_steps)
 last_of_node (node es below next) start p s f l last total none is own others = grind (arith, common_steps)
 
@@ -50,12 +50,12 @@ record_is : (level : Level) (row : Row) (next lower : ℕ) → record_text level
 unfolding record_text
 record_is level row next lower = refl
 
-entry_is : {A : Type 0} (e : LaidRecord A) (total : ℕ) (level : Level) (row : Row) (next lower next_place lower_place : ℕ)
-    → e.level ≡ level → e.row.now ≡ row → e.next ≡ next → e.lower ≡ lower → place_from_end total next ≡ next_place → place_from_end total lower ≡ lower_place
-    → entry_text total e ≡ spelled_items (record_item next_place lower_place (record_for level row) no_items)
-entry_is e total level row next lower next_place lower_place a b c d f g =
-    let whole : entry_text total e ≡ record_text level row next_place lower_place = rw (a, b, c, d, f, g) refl in
-    whole ∙ record_is level row next_place lower_place
+entry_is : {A : Type 0} (e : LaidRecord A) (total : ℕ) (level : Level) (row : Row) (next lower next_position lower_offset : ℕ)
+    → e.level ≡ level → e.row.now ≡ row → e.next ≡ next → e.lower ≡ lower → offset_from_end total next ≡ next_position → offset_from_end total lower ≡ lower_offset
+    → entry_text total e ≡ spelled_items (record_item next_position lower_offset (record_for level row) no_items)
+entry_is e total level row next lower next_position lower_offset a b c d f g =
+    let whole : entry_text total e ≡ record_text level row next_position lower_offset = rw (a, b, c, d, f, g) refl in
+    whole ∙ record_is level row next_position lower_offset
 
 regrouped : (a b c d : List ℕ) → a ++ (b ++ (c ++ d)) ≡ (a ++ (b ++ c)) ++ d
 regrouped a b c d = simp append_assoc
@@ -68,7 +68,7 @@ lays_node level row below next e0 e1 e2 e3 s0 s1 s2 s3 f1 l1 f2 l2 last others u
     let bs = forest_size below in
     let some : 0 < rs = omega arith in
     let under_size : s2 ≡ s1 + bs = under.size in
-    let own : (start : ℕ) → place_from_end (start + s3) s3 ≡ start = λ (start : ℕ). place_is start s3 (omega (arith, size, some)) in
+    let own : (start : ℕ) → offset_from_end (start + s3) s3 ≡ start = λ (start : ℕ). position_is start s3 (omega (arith, size, some)) in
     let one_more = length-append e2 (adds.entry ∷ []) in
     record {
       size = omega (arith, size, under_size, others.size);
@@ -79,12 +79,12 @@ lays_node level row below next e0 e1 e2 e3 s0 s1 s2 s3 f1 l1 f2 l2 last others u
           let e2' : total ≡ ((start + rs) + bs) + s1 = omega (arith, size, under_size) in
           let first_text = text_at _ _ _ _ _ _ _ under (start + rs) total e1 in
           let next_text = text_at _ _ _ _ _ _ _ others ((start + rs) + bs) total e2' in
-          let lower_place = first_at _ _ _ _ _ _ _ under (start + rs) total e1 in
-          let next_place = first_at _ _ _ _ _ _ _ others ((start + rs) + bs) total e2' in
-          let entry = entry_is adds.entry total level row f1 f2 _ _ adds.level_is adds.row_is adds.next_is adds.lower_is next_place lower_place in
-          ap (laid_text total) adds.last ∙ laid_push total e2 adds.entry ∙ ap (λ (t : List ℕ). entry_text total adds.entry ++ t) (first_text ∙ ap (λ (t : List ℕ). forest_text (with_places (start + rs) below) ++ t) next_text)
-          ∙ ap (λ (t : List ℕ). t ++ (forest_text (with_places (start + rs) below) ++ (forest_text (with_places ((start + rs) + bs) next) ++ laid_text total e0))) entry
-          ∙ regrouped (spelled_items (record_item (first_record_place (with_places ((start + rs) + bs) next)) (first_record_place (with_places (start + rs) below)) (record_for level row) no_items)) (forest_text (with_places (start + rs) below)) (forest_text (with_places ((start + rs) + bs) next)) (laid_text total e0);
+          let lower_offset = first_at _ _ _ _ _ _ _ under (start + rs) total e1 in
+          let next_position = first_at _ _ _ _ _ _ _ others ((start + rs) + bs) total e2' in
+          let entry = entry_is adds.entry total level row f1 f2 _ _ adds.level_is adds.row_is adds.next_is adds.lower_is next_position lower_offset in
+          ap (laid_text total) adds.last ∙ laid_push total e2 adds.entry ∙ ap (λ (t : List ℕ). entry_text total adds.entry ++ t) (first_text ∙ ap (λ (t : List ℕ). forest_text (with_positions (start + rs) below) ++ t) next_text)
+          ∙ ap (λ (t : List ℕ). t ++ (forest_text (with_positions (start + rs) below) ++ (forest_text (with_positions ((start + rs) + bs) next) ++ laid_text total e0))) entry
+          ∙ regrouped (spelled_items (record_item (first_record_offset (with_positions ((start + rs) + bs) next)) (first_record_offset (with_positions (start + rs) below)) (record_for level row) no_items)) (forest_text (with_positions (start + rs) below)) (forest_text (with_positions ((start + rs) + bs) next)) (laid_text total e0);
       first_is = own;
       last_is = λ start.
           let total = start + s3 in

@@ -16,8 +16,8 @@ use Rattle.dicomdir_writing.specs.Built.{directory_meta, directory_header, direc
 use Rattle.dicomdir.specs.Directory.{Record, size_of, end_size, records_at, first_offset, last_offset, records_of}
 use Rattle.dicomdir_writing.specs.Keys.{IsRow}
 use Rattle.dicomdir_writing.specs.Record.{spelled, spelled_items, with_offsets, root_elements}
-use Rattle.dicomdir.specs.Linked.{Linked, LinkedElements, IsAllReached, carried_forest, places_of}
-use Rattle.dicomdir_writing.specs.Places.{greatest_size, record_size, root_size, forest_size, with_places, first_record_place, last_record_place, record_items, elements_with_places}
+use Rattle.dicomdir.specs.Linked.{Linked, LinkedElements, IsAllReached, carried_forest, offsets_of}
+use Rattle.dicomdir_writing.specs.Positions.{greatest_size, record_size, root_size, forest_size, with_positions, first_record_offset, last_record_offset, record_items, elements_with_offsets}
 use Rattle.dicomdir_writing.specs.Row.{Row}
 use Rattle.dicomdir.specs.Forest.{Forest, no_nodes, node}
 use Rattle.dicomdir_writing.specs.TreeOf.{TreeOf}
@@ -33,17 +33,17 @@ use Rattle.std.proofs.lemmas.Grind.{common_steps}
 item_good : (n : ℕ) → n < undefined_length → n % 2 ≡ 0 → is_item (record { tag = item_tag; vr = None; length = n }) ≡ true
 item_good n short even = grind (arith, common_steps)
 
-items_laid : (place : ℕ) (tree : Forest Elements) (level : ℕ) (others : Items) → AreNodes level tree → place + forest_size tree < 2 ^ 32 → are_laid others ≡ true
-    → are_laid (record_items (with_places place tree) others) ≡ true
-items_laid place no_nodes level others nodes small laid = laid
-items_laid place (node es below next) level others nodes small laid =
-    let after = place + record_size es in
+items_laid : (offset : ℕ) (tree : Forest Elements) (level : ℕ) (others : Items) → AreNodes level tree → offset + forest_size tree < 2 ^ 32 → are_laid others ≡ true
+    → are_laid (record_items (with_positions offset tree) others) ≡ true
+items_laid offset no_nodes level others nodes small laid = laid
+items_laid offset (node es below next) level others nodes small laid =
+    let after = offset + record_size es in
     let beyond = after + forest_size below in
-    let b = with_places after below in
-    let n = with_places beyond next in
-    let own = with_offsets (first_record_place n) (first_record_place b) es in
-    let good = nodes.0.good (first_record_place n) (first_record_place b) in
-    let same = offsets_size (first_record_place n) (first_record_place b) es in
+    let b = with_positions after below in
+    let n = with_positions beyond next in
+    let own = with_offsets (first_record_offset n) (first_record_offset b) es in
+    let good = nodes.0.good (first_record_offset n) (first_record_offset b) in
+    let same = offsets_size (first_record_offset n) (first_record_offset b) es in
     let short : length (spelled own) < undefined_length = omega (arith, small, same) in
     let size : nat_eq (length (spelled own)) (length (spelled own)) ≡ true = grind (arith, nat_tests) in
     grind (arith, common_steps, item_good (length (spelled own)) short good.even, items_laid after below (suc level) (record_items n others) nodes.1 (omega (arith, small)) (items_laid beyond next level others nodes.2 (omega (arith, small)) laid))
@@ -52,28 +52,28 @@ forest_even : (tree : Forest Elements) (level : ℕ) → AreNodes level tree →
 forest_even no_nodes level nodes = refl
 forest_even (node es below next) level nodes = grind (arith, common_steps, forest_even below (suc level) nodes.1, forest_even next level nodes.2)
 
-records_are : (place : ℕ) (tree : Forest Elements) (level : ℕ) (others : Items) → AreNodes level tree → place + forest_size tree < 2 ^ 32
-    → records_at place (record_items (with_places place tree) others) ≡ written (with_places place tree) ++ records_at (place + forest_size tree) others
-records_are place no_nodes level others nodes small = let e : place ≡ place + 0 = omega arith in ap (λ (p : ℕ). records_at p others) e
-records_are place (node es below next) level others nodes small =
-    let after = place + record_size es in
+records_are : (offset : ℕ) (tree : Forest Elements) (level : ℕ) (others : Items) → AreNodes level tree → offset + forest_size tree < 2 ^ 32
+    → records_at offset (record_items (with_positions offset tree) others) ≡ written (with_positions offset tree) ++ records_at (offset + forest_size tree) others
+records_are offset no_nodes level others nodes small = let e : offset ≡ offset + 0 = omega arith in ap (λ (p : ℕ). records_at p others) e
+records_are offset (node es below next) level others nodes small =
+    let after = offset + record_size es in
     let beyond = after + forest_size below in
-    let b = with_places after below in
-    let n = with_places beyond next in
-    let own = with_offsets (first_record_place n) (first_record_place b) es in
-    let good = nodes.0.good (first_record_place n) (first_record_place b) in
-    let same = offsets_size (first_record_place n) (first_record_place b) es in
+    let b = with_positions after below in
+    let n = with_positions beyond next in
+    let own = with_offsets (first_record_offset n) (first_record_offset b) es in
+    let good = nodes.0.good (first_record_offset n) (first_record_offset b) in
+    let same = offsets_size (first_record_offset n) (first_record_offset b) es in
     let defined : is_undefined (length (spelled own)) ≡ false = let short : length (spelled own) < undefined_length = omega (arith, small, same) in grind (arith, nat_tests) in
     let no_end : end_size (length (spelled own)) ≡ 0 = rw defined refl in
     let size = good.size in
-    let next_place : place + 8 + size_of own + end_size (length (spelled own)) ≡ after = omega (arith, no_end, size, same) in
-    let total : beyond + forest_size next ≡ place + (record_size es + forest_size below + forest_size next) = omega arith in
-    let head : Record = record { place = place; elements = own } in
-    let rest : records_at after (record_items b (record_items n others)) ≡ (written b ++ written n) ++ records_at (place + (record_size es + forest_size below + forest_size next)) others =
+    let next_position : offset + 8 + size_of own + end_size (length (spelled own)) ≡ after = omega (arith, no_end, size, same) in
+    let total : beyond + forest_size next ≡ offset + (record_size es + forest_size below + forest_size next) = omega arith in
+    let head : Record = record { offset = offset; elements = own } in
+    let rest : records_at after (record_items b (record_items n others)) ≡ (written b ++ written n) ++ records_at (offset + (record_size es + forest_size below + forest_size next)) others =
     records_are after below (suc level) (record_items n others) nodes.1 (omega (arith, small))
     ∙ ap (λ (rs : List Record). written b ++ rs) (records_are beyond next level others nodes.2 (omega (arith, small)) ∙ ap (λ (p : ℕ). written n ++ records_at p others) total)
-    ∙ sym (append_assoc (written b) (written n) (records_at (place + (record_size es + forest_size below + forest_size next)) others)) in
-    ap (λ (p : ℕ). head ∷ records_at p (record_items b (record_items n others))) next_place ∙ ap (λ (rs : List Record). head ∷ rs) rest
+    ∙ sym (append_assoc (written b) (written n) (records_at (offset + (record_size es + forest_size below + forest_size next)) others)) in
+    ap (λ (p : ℕ). head ∷ records_at p (record_items b (record_items n others))) next_position ∙ ap (λ (rs : List Record). head ∷ rs) rest
 
 -- the root
 
@@ -112,10 +112,10 @@ module _ (uid : List ℕ) (rows : List Row) (is_one : is_uid uid ≡ true) (all 
   start = length (directory_header uid)
 
   abbrev forest : Forest Record
-  forest = with_places (start + root_size) (TreeOf rows)
+  forest = with_positions (start + root_size) (TreeOf rows)
 
   abbrev elements : Elements
-  elements = elements_with_places forest
+  elements = elements_with_offsets forest
 
   nodes : AreNodes 1 (TreeOf rows)
   nodes = tree_nodes rows all
@@ -129,7 +129,7 @@ module _ (uid : List ℕ) (rows : List Row) (is_one : is_uid uid ≡ true) (all 
       let even = forest_even (TreeOf rows) 1 nodes in
       let total = small in
       let root = root_size_is in
-      root_laid (first_record_place forest) (last_record_place forest) (record_items forest no_items) (omega (arith, size, total, root)) (omega (arith, size, even))
+      root_laid (first_record_offset forest) (last_record_offset forest) (record_items forest no_items) (omega (arith, size, total, root)) (omega (arith, size, even))
       (items_laid (start + root_size) (TreeOf rows) 1 no_items nodes small refl)
 
   linked_elements : LinkedElements start elements (carried_forest (TreeOf rows))
@@ -137,23 +137,23 @@ module _ (uid : List ℕ) (rows : List Row) (is_one : is_uid uid ≡ true) (all 
     records = written forest;
     placed = placed forest;
     has_records =
-        root_records start (first_record_place forest) (last_record_place forest) (record_items forest no_items)
+        root_records start (first_record_offset forest) (last_record_offset forest) (record_items forest no_items)
         ∙ ap (λ (rs : List Record). Some rs) (records_are (start + root_size) (TreeOf rows) 1 no_items nodes small ∙ append-nil (written forest));
     good = good_records (start + root_size) (TreeOf rows) 1 nodes;
     tree_is = nodes_are (start + root_size) (TreeOf rows);
     linked = linked (start + root_size) (TreeOf rows) 1 (written forest) nodes small (λ p es h. h);
     distinct = distinct (start + root_size) (TreeOf rows);
     names_first =
-        root_first start (first_record_place forest) (last_record_place forest) (record_items forest no_items) (first_small (start + root_size) (TreeOf rows) small)
+        root_first start (first_record_offset forest) (last_record_offset forest) (record_items forest no_items) (first_small (start + root_size) (TreeOf rows) small)
         ∙ ap (λ (n : ℕ). Some n) (sym (first_same forest));
     names_last =
-        root_last start (first_record_place forest) (last_record_place forest) (record_items forest no_items) (last_small 0 (start + root_size) (TreeOf rows) (omega arith) small)
+        root_last start (first_record_offset forest) (last_record_offset forest) (record_items forest no_items) (last_small 0 (start + root_size) (TreeOf rows) (omega arith) small)
         ∙ ap (λ (n : ℕ). Some n) (sym (last_same 0 forest));
   }
 
   all_reached : IsAllReached linked_elements
   unfolding linked_elements
-  all_reached = reached forest (places_of (placed forest)) (λ p h. h)
+  all_reached = reached forest (offsets_of (placed forest)) (λ p h. h)
 
   linked_file : Linked (directory_file (record { uid = uid; rows = rows })) (carried_forest (TreeOf rows))
   linked_file = record {

@@ -5,7 +5,7 @@ use Rattle.part10.specs.declared.meta.Meta.{Meta}
 use Rattle.part10.specs.File.{head}
 use Rattle.sequence.specs.Rules.{no_tag}
 use Rattle.dicomdir.specs.declared.fault.DirFault.{DirFault}
-use Rattle.dicomdir_writing.specs.Places.{directory_of, is_too_large}
+use Rattle.dicomdir_writing.specs.Positions.{directory_of, is_too_large}
 use Rattle.dicomdir_writing.specs.Row.{Row}
 use Rattle.std.specs.Io.KnownBytes.{Appends}
 use Rattle.dicomdir.specs.FaultNumbers as numbered
@@ -42,11 +42,11 @@ file_is_too_large most uid rows = is_too_large most (length (directory_header ui
 
 -- the fault of a file that is too large
 abbrev pub too_large_fault : DirFault
-too_large_fault = record { number = numbered.too_large; place = 0; tag = no_tag }
+too_large_fault = record { number = numbered.too_large; offset = 0; tag = no_tag }
 
 -- the fault of memory that ran out
 abbrev pub memory_fault : DirFault
-memory_fault = record { number = numbered.out_of_memory; place = 0; tag = no_tag }
+memory_fault = record { number = numbered.out_of_memory; offset = 0; tag = no_tag }
 
 -- no directory is built if its file is too large, or if memory ran out
 pub data IsNotBuilt (most : ℕ) (uid : List ℕ) (rows : List Row) (f : DirFault) : Type 0 where

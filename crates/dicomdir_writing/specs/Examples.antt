@@ -11,7 +11,7 @@ use Rattle.dicomdir_writing.specs.TreeOf.{TreeOf}
 use Rattle.dicomdir.specs.Directory.{IsDirectoryFile, Node, carried_node}
 use Rattle.dicomdir.specs.Linked.{Linked, LinkedElements, carried_forest}
 use Rattle.dicomdir.specs.DirFault.{directory_fault, fault}
-use Rattle.dicomdir_writing.specs.Places.{record_size, root_size, with_places, flattened, place_each, directory_elements, directory_of, directory_size, duplicates_of}
+use Rattle.dicomdir_writing.specs.Positions.{record_size, root_size, with_positions, flattened, offset_each, directory_elements, directory_of, directory_size, duplicates_of}
 use Rattle.dicomdir.specs.NodesInUse.{HasNodes, pruned, KeptOf}
 
 abbrev pub one_image_row : Row
@@ -248,18 +248,18 @@ RowsAreGrouped =
 -- of the directory of one image the sizes of its four records, their positions, the elements and the whole file; of two
 -- images of a series the positions and the size; of no rows the elements and the size; and the duplicate among four
 -- rows
-abbrev pub PlacesAreAssigned : Type 0
-PlacesAreAssigned =
+abbrev pub PositionsAreAssigned : Type 0
+PositionsAreAssigned =
     (root_size ≡ 54)
     × (record_size (record_for Patient one_image_row) ≡ 84)
     × (record_size (record_for Study one_image_row) ≡ 130)
     × (record_size (record_for Series one_image_row) ≡ 92)
     × (record_size (record_for Image one_image_row) ≡ 162)
-    × (place_each (flattened (with_places 320 (TreeOf (one_image_row ∷ [])))) ≡ 320 ∷ 404 ∷ 534 ∷ 626 ∷ [])
+    × (offset_each (flattened (with_positions 320 (TreeOf (one_image_row ∷ [])))) ≡ 320 ∷ 404 ∷ 534 ∷ 626 ∷ [])
     × (directory_size 266 (one_image_row ∷ []) ≡ 788)
     × (directory_elements 266 (TreeOf (one_image_row ∷ [])) ≡ one_image_elements 320 320 0 404 534 626)
     × (directory_of one_image_header (one_image_row ∷ []) ≡ one_image_file)
-    × (place_each (flattened (with_places 320 (TreeOf (one_image_row ∷ second_row ∷ [])))) ≡ 320 ∷ 404 ∷ 534 ∷ 626 ∷ 788 ∷ [])
+    × (offset_each (flattened (with_positions 320 (TreeOf (one_image_row ∷ second_row ∷ [])))) ≡ 320 ∷ 404 ∷ 534 ∷ 626 ∷ 788 ∷ [])
     × (directory_size 266 (one_image_row ∷ second_row ∷ []) ≡ 950)
     × (directory_elements 266 (TreeOf []) ≡ no_rows_elements)
     × (directory_size 266 [] ≡ 320)
@@ -271,17 +271,17 @@ abbrev pub SizesAreTrue : Type 0
 SizesAreTrue =
     (front : List ℕ) (rows : List Row)
     → (length (directory_of front rows) ≡ directory_size (length front) rows)
-    × (length (flattened (with_places (length front + root_size) (TreeOf rows))) ≡ count_of (TreeOf rows))
+    × (length (flattened (with_positions (length front + root_size) (TreeOf rows))) ≡ count_of (TreeOf rows))
 
 -- ---- the records of the directory of one image, with their positions and levels
 
 abbrev pub OneImageHasNodes : Type 0
 OneImageHasNodes =
     HasNodes one_image_file
-    (record { place = 320; level = 1; carries = carried_node (record_for Patient one_image_row) }
-    ∷ record { place = 404; level = 2; carries = carried_node (record_for Study one_image_row) }
-    ∷ record { place = 534; level = 3; carries = carried_node (record_for Series one_image_row) }
-    ∷ record { place = 626; level = 4; carries = carried_node (record_for Image one_image_row) }
+    (record { offset = 320; level = 1; carries = carried_node (record_for Patient one_image_row) }
+    ∷ record { offset = 404; level = 2; carries = carried_node (record_for Study one_image_row) }
+    ∷ record { offset = 534; level = 3; carries = carried_node (record_for Series one_image_row) }
+    ∷ record { offset = 626; level = 4; carries = carried_node (record_for Image one_image_row) }
     ∷ [])
 
 -- ---- two images of a series, of which a record is inactive

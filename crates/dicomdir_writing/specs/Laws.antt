@@ -10,7 +10,7 @@ use Rattle.dicomdir_writing.specs.declared.skip.Skip.{Skip}
 use Rattle.dicomdir_writing.specs.Row.{Row}
 use Rattle.dicomdir_writing.specs.Keys.{fits_rooms, checked_row, IsRow}
 use Rattle.dicomdir_writing.specs.RecordTable.{keys_read}
-use Rattle.dicomdir_writing.specs.RowOf.{RowOf, DescribedRow, row_wants, row_from, row_limits, is_taken, HeaderFaultOf}
+use Rattle.dicomdir_writing.specs.RowOf.{RowOf, DescribedRow, row_wants, row_from, row_limits, is_allowed, HeaderFaultOf}
 use Rattle.dicomdir_writing.specs.declared.record_table.RecordKeys.{RecordKeys}
 use Rattle.dicomdir_writing.specs.declared.record_table.RecordKeys.TheVariants.{Needed}
 use Rattle.dicomdir_writing.specs.declared.record_table.RecordRule.{RecordRule}
@@ -25,7 +25,7 @@ use Rattle.dicomdir.specs.Directory.{records_of}
 use Rattle.dicomdir.specs.Linked.{Linked, IsAllReached, carried_forest}
 use Rattle.std.specs.List.{AllByRecursion}
 use Rattle.dicomdir_writing.specs.Built.{directory_file, file_is_too_large}
-use Rattle.dicomdir_writing.specs.Places.{greatest_size}
+use Rattle.dicomdir_writing.specs.Positions.{greatest_size}
 use Rattle.dicomdir_writing.specs.Record.{record_item, root_elements, record_for}
 use Rattle.dicomdir.specs.Paths.{Links, level_of, paths_of, reached_by}
 use Rattle.dicomdir_writing.specs.Examples.{one_image_row, one_image_elements}
@@ -49,8 +49,8 @@ DescriptionsCostNoRow =
 
 -- if no transfer syntax is accepted in addition to the two native ones, a file header has the faults that it has for
 -- those
-abbrev pub NativeAloneAreTaken : Type 0
-NativeAloneAreTaken = (file : List ℕ) (fault : MetaFault) → (HeaderFaultOf [] file fault → MetaFaultOf file fault) × (MetaFaultOf file fault → HeaderFaultOf [] file fault)
+abbrev pub NativeAloneAreAllowed : Type 0
+NativeAloneAreAllowed = (file : List ℕ) (fault : MetaFault) → (HeaderFaultOf [] file fault → MetaFaultOf file fault) × (MetaFaultOf file fault → HeaderFaultOf [] file fault)
 
 -- values that are within the limits with which a file is read are within those of a row
 abbrev pub KeysFit : Type 0
@@ -66,7 +66,7 @@ KeysFit =
 abbrev pub FiledHasRow : Type 0
 FiledHasRow =
     (additional : List Transfer) (rules : List RecordRule) (meta : Meta) (file_id back : List ℕ) (elements : Elements)
-    → is_taken additional meta.syntax ≡ true → is_uid meta.class ≡ true → is_uid meta.instance ≡ true → length meta.calling.0 ≡ 16 → length (meta_group meta) ≤ 360
+    → is_allowed additional meta.syntax ≡ true → is_uid meta.class ≡ true → is_uid meta.instance ≡ true → length meta.calling.0 ≡ 16 → length (meta_group meta) ≤ 360
     → DataSet (coding_in meta.syntax) 0 elements back → Within (coding_in meta.syntax) (row_limits rules) elements back
     → RowOf additional rules (File meta back) file_id (checked_row (row_from rules file_id meta.class meta.instance meta.syntax (kept_of (row_wants rules) elements)))
 

@@ -3,7 +3,7 @@ pub mod Record
 pub mod TreeOf
 pub mod Laws
 pub mod Examples
-pub mod Places
+pub mod Positions
 pub mod machine
 pub mod RecordTable
 pub mod Keys

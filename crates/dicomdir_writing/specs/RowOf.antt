@@ -53,15 +53,15 @@ row_from rules file_id class instance syntax values = record {
 }
 
 -- whether files in this transfer syntax are accepted: in a native one, or in one of `additional`
-abbrev pub is_taken : List Transfer → Transfer → Bool
-is_taken additional transfer = not (is_encapsulated transfer) || list_any (is_text_of (transfer_uid transfer)) additional
+abbrev pub is_allowed : List Transfer → Transfer → Bool
+is_allowed additional transfer = not (is_encapsulated transfer) || list_any (is_text_of (transfer_uid transfer)) additional
 
 -- the fault of a file header, if the native transfer syntaxes and these further ones are accepted; `OtherSyntax` is
 -- that of any other
 abbrev pub HeaderFaultOf : List Transfer → List ℕ → MetaFault → Type 0
 HeaderFaultOf additional file NotPart10 = MetaFaultOf file NotPart10
 HeaderFaultOf additional file BadMeta = MetaFaultOf file BadMeta
-HeaderFaultOf additional file OtherSyntax = (said : MetaValues) × HasMeta said file × ((t : Transfer) → is_taken additional t ≡ true → said.syntax ≢ transfer_uid t)
+HeaderFaultOf additional file OtherSyntax = (said : MetaValues) × HasMeta said file × ((t : Transfer) → is_allowed additional t ≡ true → said.syntax ≢ transfer_uid t)
 HeaderFaultOf additional file ReadFailed = ⊥
 
 -- the file is a file header with an accepted transfer syntax, followed by the bytes `back`
@@ -69,7 +69,7 @@ pub record IsInstance (additional : List Transfer) (file : List ℕ) : Type 0 wh
   pub class : List ℕ
   pub instance : List ℕ
   pub syntax : Transfer
-  pub taken : is_taken additional syntax ≡ true
+  pub allowed : is_allowed additional syntax ≡ true
   pub front : List ℕ
   pub back : List ℕ
   pub whole : file ≡ front ++ back

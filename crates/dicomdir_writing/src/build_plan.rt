@@ -3,7 +3,7 @@ ghost use Rattle.std.specs.Prelude.{◌≡◌, ◌<◌, ◌≤◌, ◌+◌, [], 
 ghost use Rattle.dicomdir_writing.specs.TreeOf.{rows_at, images, forest_for};
 ghost use Rattle.dicomdir_writing.specs.machine.Building.{StopsFor, stop_fault, Adds, Lays};
 ghost use Rattle.dicomdir_writing.specs.Record.{record_for};
-ghost use Rattle.dicomdir_writing.specs.Places.{record_size, forest_size};
+ghost use Rattle.dicomdir_writing.specs.Positions.{record_size, forest_size};
 
 use crate::Row;
 use crate::build_groups::groups;

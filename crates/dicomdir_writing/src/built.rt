@@ -2,7 +2,7 @@
 ghost use Rattle.std.specs.Prelude.{◌≡◌, true, false, IfOk, OnOk, IfErr, OnErr, IsErrAnd};
 ghost use Rattle.std.specs.Io.KnownBytes.{Appends};
 ghost use Rattle.dicomdir_writing.specs.Built.{file_is_too_large, IsNotBuilt, FailsAsTooLarge, directory_file, AppendsFront};
-ghost use Rattle.dicomdir_writing.specs.Places.{duplicates_of, greatest_size};
+ghost use Rattle.dicomdir_writing.specs.Positions.{duplicates_of, greatest_size};
 ghost use Rattle.dicomdir_writing.specs.TreeOf.{TreeOf};
 ghost use Rattle.dicomdir.specs.Forest.{count_of};
 ghost use Rattle.dicomdir_writing.specs.Laws.{IsDirectoryOf};
@@ -10,7 +10,7 @@ ghost use Rattle.dicomdir_writing.specs.Laws.{IsDirectoryOf};
 use crate::Row;
 use crate::build_plan::{Chain, Plan, Stop, lay, sum_up_to};
 use crate::duplicates::leave_out_duplicates;
-use crate::record_writer::{place_of, write_records};
+use crate::record_writer::{offset_of, write_records};
 use crate::root_bytes::{ROOT_SIZE, file_header, root_bytes};
 use crate::writing::write_all;
 use dicomdir::{DirFault, Level};
@@ -142,8 +142,8 @@ pub fn write_dir<A: Allocator, W: Write>(built: &Built<'_, A>, writer: &mut W) -
 {
     let header = file_header(&built.uid);
     write_all(writer, header.as_slice())?;
-    let first = place_of(built.size, built.chain.first);
-    let last = place_of(built.size, built.chain.last);
+    let first = offset_of(built.size, built.chain.first);
+    let last = offset_of(built.size, built.chain.last);
     let root = root_bytes(first, last, built.plan.size);
     write_all(writer, root.as_slice())?;
     write_records(writer, built.plan.entries.as_slice(), built.size)

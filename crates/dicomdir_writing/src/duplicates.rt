@@ -3,9 +3,9 @@ ghost use Rattle.std.specs.Prelude.{◌≡◌, [], IfOk, OnOk};
 ghost use Rattle.std.specs.List.{AllByRecursion};
 ghost use Rattle.dicomdir_writing.specs.Keys.{IsRow};
 ghost use Rattle.dicomdir_writing.specs.TreeOf.{rows_at};
-ghost use Rattle.dicomdir_writing.specs.Places.{duplicates_of};
+ghost use Rattle.dicomdir_writing.specs.Positions.{duplicates_of};
 ghost use Rattle.dicomdir_writing.specs.Row.{without_duplicates};
-ghost use Rattle.dicomdir_writing.specs.machine.FirstSeen.{TakesRow, texts};
+ghost use Rattle.dicomdir_writing.specs.machine.FirstSeen.{ConsumesRow, texts};
 
 use crate::Row;
 use crate::first_seen::{SeenKeys, see};
@@ -29,7 +29,8 @@ fn take_row<'r, A: Allocator + Copy>(
     at: usize,
     row: &'r Row<A>,
 ) -> Result<(), AllocError>
-    ensures { OnOk result (TakesRow at row.now (texts seen.old.keys) (texts seen.new.keys) (rows_at kept.old.rows.items) (rows_at kept.new.rows.items) kept.old.duplicates.items kept.new.duplicates.items) }
+    ensures { OnOk result (ConsumesRow at row.now (texts seen.old.keys) (texts seen.new.keys) (rows_at kept.old.rows.items) (rows_at kept.new.rows.items)
+        kept.old.duplicates.items kept.new.duplicates.items) }
 {
     let (_, is_new) = see(alloc, seen, row.instance())?;
     if is_new {

@@ -1,7 +1,7 @@
 //! Lemmas on the definitions of this crate, and examples, each stated as the contract of a function
 //! with an empty body. [`dicomdir::laws`] defines when a directory is linked to a tree.
-ghost use Rattle.dicomdir_writing.specs.Examples.{OneImageHasNodes, RowsAreGrouped, InactiveRecords, OneImageIsLinked, OneImageFaults, PreambleCounts, RecordFaults, NoRowsAreLinked, PlacesAreAssigned, SizesAreTrue};
-ghost use Rattle.dicomdir_writing.specs.Laws.{FiledHasRow, PathsNameRecords, KeysFit, NativeAloneAreTaken, OneRow, OneDescribedRow, DescriptionsCostNoRow, WrittenIsLinked};
+ghost use Rattle.dicomdir_writing.specs.Examples.{OneImageHasNodes, RowsAreGrouped, InactiveRecords, OneImageIsLinked, OneImageFaults, PreambleCounts, RecordFaults, NoRowsAreLinked, PositionsAreAssigned, SizesAreTrue};
+ghost use Rattle.dicomdir_writing.specs.Laws.{FiledHasRow, PathsNameRecords, KeysFit, NativeAloneAreAllowed, OneRow, OneDescribedRow, DescriptionsCostNoRow, WrittenIsLinked};
 
 /// Example: the directory of one image, given byte by byte, is linked to the tree of its row.
 #[tactic(auto, using(crate::proofs::Examples::one_image_is_linked))]
@@ -44,9 +44,9 @@ pub fn no_rows_are_linked()
 
 /// Examples: sizes, record positions and bytes of the directories of one image, of two images and
 /// of no rows; and the duplicate among four rows.
-#[tactic(auto, using(crate::proofs::Examples::places_are_assigned))]
-pub fn places_are_assigned()
-    ensures { PlacesAreAssigned }
+#[tactic(auto, using(crate::proofs::Examples::positions_are_assigned))]
+pub fn positions_are_assigned()
+    ensures { PositionsAreAssigned }
 {}
 
 /// The directory of any rows has the size for which its offsets are computed, and one record for
@@ -87,8 +87,8 @@ pub fn descriptions_cost_no_row()
 /// If no transfer syntax is accepted besides the two native ones, File Meta Information has the
 /// faults that `part10::read_meta` returns.
 #[tactic(auto, using(crate::proofs::OtherSyntaxesFail::native_alone))]
-pub fn native_alone_are_taken()
-    ensures { NativeAloneAreTaken }
+pub fn native_alone_are_allowed()
+    ensures { NativeAloneAreAllowed }
 {}
 
 /// Values within the limits with which a file is read are within the limits of a row.

@@ -2,6 +2,7 @@
 //! reads the rows of files, [`build`] makes a directory of them, and [`write_dir`] writes it.
 #![tactic(auto)]
 
+mod allowed;
 mod build_groups;
 mod build_plan;
 mod built;
@@ -17,7 +18,6 @@ mod row;
 mod row_reading;
 mod row_record;
 mod skip;
-mod taken;
 mod writing;
 
 pub use built::{Built, build, build_within, write_dir};

@@ -1,7 +1,7 @@
 //! Writes the records of a directory.
 ghost use Rattle.std.specs.Prelude.{◌≡◌, OnOk, OnErr};
 ghost use Rattle.std.specs.Io.KnownBytes.{Appends};
-ghost use Rattle.dicomdir_writing.specs.machine.Building.{place_from_end, entry_text, laid_text};
+ghost use Rattle.dicomdir_writing.specs.machine.Building.{offset_from_end, entry_text, laid_text};
 ghost use Rattle.dicomdir_writing.specs.Built.{AppendsFront};
 
 use crate::build_plan::LaidRecord;
@@ -13,8 +13,8 @@ use std::io::Write;
 
 /// Returns the offset from the start of a file of this size, for an offset counted back from its
 /// end, which is at most `size`. 0 is no record in both.
-pub(crate) fn place_of(size: u32, distance: u32) -> u32
-    ensures { result ≡ place_from_end size distance }
+pub(crate) fn offset_of(size: u32, distance: u32) -> u32
+    ensures { result ≡ offset_from_end size distance }
 {
     if distance == 0 {
         0
@@ -31,8 +31,8 @@ fn write_record<A: Allocator, W: Write>(
     ensures all { OnOk result (Appends (W.contents writer.old) (W.contents writer.new) (entry_text size entry.now)) }
     ensures front { OnErr result (AppendsFront (W.contents writer.old) (W.contents writer.new) (entry_text size entry.now)) }
 {
-    let next = place_of(size, entry.next);
-    let lower = place_of(size, entry.lower);
+    let next = offset_of(size, entry.next);
+    let lower = offset_of(size, entry.lower);
     let record = record_bytes(entry.level, entry.row, next, lower);
     write_all(writer, record.as_slice())
 }

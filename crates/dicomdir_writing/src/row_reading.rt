@@ -3,7 +3,7 @@ ghost use Rattle.std.specs.Prelude.{◌≡◌, ◌<◌, ◌≤◌, ℕ, List, []
 ghost use Rattle.element.specs.Numbers.{IsBytes};
 ghost use Rattle.element.specs.Header.{number};
 ghost use Rattle.sequence.specs.Wanted.{value_of};
-ghost use Rattle.sequence.specs.Taken.{StandsAt, reported_by};
+ghost use Rattle.sequence.specs.Consumed.{StandsAt, reported_by};
 ghost use Rattle.sequence.specs.Stored.{wanted_tags};
 ghost use Rattle.dicomdir_writing.specs.declared.skip.Skip.TheVariants as skip;
 ghost use Rattle.dicomdir_writing.specs.RowOf.{row_wants, with_value, values_for, RowOf, DescribedRow, RowIsRead};
@@ -12,13 +12,13 @@ ghost use Rattle.dicomdir_writing.specs.RecordTable.{is_read, keys_read};
 ghost use Rattle.dicomdir_writing.specs.declared.record_table.RecordKeys.TheVariants.{Needed};
 ghost use Rattle.dicomdir_writing.specs.Keys.{key_values};
 ghost use Rattle.dicomdir.specs.Walking.{IsSameSet};
-ghost use Rattle.dicomdir_writing.specs.machine.RowReading.{TookWhole, WalkFails};
+ghost use Rattle.dicomdir_writing.specs.machine.RowReading.{ConsumedWhole, WalkFails};
 
+use crate::allowed::read_allowed;
 use crate::keys::Keys;
 use crate::record_table::{RecordKeys, RecordRule, key_table};
 use crate::row::Row;
 use crate::skip::Skip;
-use crate::taken::read_taken;
 use arrayvec::ArrayVec;
 use dicomdir::{FileId, walk_piece};
 use dictionary::Transfer;
@@ -68,7 +68,7 @@ fn wanted(keys: RecordKeys) -> Wanted
 /// 21), or with 54 if a read fails.
 fn walk<R: Read>(walker: &mut RowWalker, reader: &mut R) -> Result<(), Skip>
     requires start { StandsAt walker.old [] }
-    ensures whole { OnOk result (TookWhole walker.new (R.remaining reader.old)) }
+    ensures whole { OnOk result (ConsumedWhole walker.new (R.remaining reader.old)) }
     ensures same { IsSameSet walker.old walker.new }
     ensures fails { IfErr result (WalkFails walker.old (R.remaining reader.old)) }
 {
@@ -146,7 +146,7 @@ fn row_with<A: Allocator + Copy, R: Read>(
     ensures row { IfSome (R.remaining reader.old) (λ file. IsBytes file → RowIsRead (RowOf additional.now (keys_read keys) file file_id.now) result) }
     ensures file { IfOk result (λ row. row.file_id ≡ file_id.now) }
 {
-    let meta = match read_taken(reader, additional) {
+    let meta = match read_allowed(reader, additional) {
         Ok(meta) => meta,
         Err(fault) => return Err(Skip::Fault(fault.number())),
     };

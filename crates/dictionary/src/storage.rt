@@ -17,12 +17,12 @@ pub struct StorageClass {
     pub is_image: bool,
 }
 
-/// Returns the row with index `place` in the concatenated `parts` of a table, or `None` past its
+/// Returns the row with index `index` in the concatenated `parts` of a table, or `None` past its
 /// end.
-fn class_in(parts: &[&'static [StorageClass]], place: usize) -> Option<StorageClass>
-    ensures { option_map table.storage_row result ≡ slice_get (flat_map (λ rows. map table.storage_row rows.now) parts.now) place }
+fn class_in(parts: &[&'static [StorageClass]], index: usize) -> Option<StorageClass>
+    ensures { option_map table.storage_row result ≡ slice_get (flat_map (λ rows. map table.storage_row rows.now) parts.now) index }
 {
-    let mut remaining = place;
+    let mut remaining = index;
     for rows in parts {
         if remaining < rows.len() {
             return Some(rows[remaining]);
@@ -32,10 +32,10 @@ fn class_in(parts: &[&'static [StorageClass]], place: usize) -> Option<StorageCl
     None
 }
 
-/// Returns the storage class with index `place` in the standard's table, ordered by the numbers of
+/// Returns the storage class with index `index` in the standard's table, ordered by the numbers of
 /// the UIDs, or `None` past its end.
-pub fn storage_class(place: usize) -> Option<StorageClass>
-    ensures { option_map table.storage_row result ≡ slice_get storage_classes place }
+pub fn storage_class(index: usize) -> Option<StorageClass>
+    ensures { option_map table.storage_row result ≡ slice_get storage_classes index }
 {
-    class_in(&table_parts(), place)
+    class_in(&table_parts(), index)
 }

@@ -1,4 +1,4 @@
--- An element that is read is the one that its bytes spell (`element_takes`), and the other way round
+-- An element that is read is the one that its bytes spell (`element_consumes`), and the other way round
 -- (`element_again`). Stands on the laws of `element`.
 use Rattle.std.proofs.Common.{◌≡◌, ℕ, ◌+◌, ◌-◌, ◌*◌, ◌%◌, ◌^◌, ◌<◌, ◌≤◌, Bool, true, false, cond, ◌&&◌, leb, eqb, List, ◌∷◌, ◌++◌, length, take, drop, nat_le, nat_lt, Option, Some, None, refl, sym, ap, subst, ◌∙◌, arith, inl, inr, eq-eqb}
 use Rattle.std.proofs.lemmas.Bool.Decides.{nat_tests}
@@ -115,7 +115,7 @@ bytes_take n b bytes i =
     ]
 
 -- what a reader consumed from the front
-pub record Takes (b : List ℕ) (x : CommandElement × List ℕ) : Type 0 where
+pub record Accepts (b : List ℕ) (x : CommandElement × List ℕ) : Type 0 where
   pub parts : b ≡ command_element_bytes x.0 ++ x.1
   pub element : IsCommandElement x.0
   pub value : IsBytes x.0.value
@@ -132,9 +132,9 @@ chosen : (t : Bool) (y x : CommandElement × List ℕ) → cond t (Some y) None 
 chosen true y x e = (refl, cc)
 chosen false y x e = absurd cc
 
-pub element_takes : (b : List ℕ) (x : CommandElement × List ℕ) → IsBytes b → element_at b ≡ Some x → Takes b x
+pub element_consumes : (b : List ℕ) (x : CommandElement × List ℕ) → IsBytes b → element_at b ≡ Some x → Accepts b x
 unfolding element_at
-element_takes b x bytes e =
+element_consumes b x bytes e =
     let number = little_number 2 (drop 2 b) in
     let size = little_number 4 (drop 4 b) in
     let value = take size (drop 8 b) in
@@ -149,7 +149,7 @@ element_takes b x bytes e =
     let whole : b ≡ front number size (drop 8 b) = cells b bytes long (eqb-true _ _ tests.1) in
     let parts : b ≡ command_element_bytes read.0 ++ rest =
     whole ∙ ap (λ (n : ℕ). front number n (drop 8 b)) (sym len) ∙ ap (front number (length value)) (sym (take-append-drop size (drop 8 b))) ∙ sym (bytes_front read.0 rest) in
-    subst (Takes b) c.1 (record {
+    subst (Accepts b) c.1 (record {
       parts = parts;
       element = record { in_group = two_below (drop 2 b) (bytes_drop 2 b bytes); even = ap (λ (n : ℕ). n % 2) len ∙ even; fits = rw len (four_below (drop 4 b) (bytes_drop 4 b bytes)) };
       value = bytes_take size (drop 8 b) (bytes_drop 8 b bytes);

@@ -42,21 +42,21 @@ same_context first context other e = rw (eq-eqb context first e) refl
 has_room : (room size : ℕ) → size ≤ room → if_room room size ≡ None
 has_room room size le = rw (le-leb size room le) refl
 
-command_taken : (room context : ℕ) (acc : List ℕ) (p : Pdv) → IsFragment context true p → length acc + length p.fragment ≤ room → refusal room (InCommand context acc) (length p.fragment + 2) p.context p.control ≡ None
-command_taken room context acc p h le =
+command_consumed : (room context : ℕ) (acc : List ℕ) (p : Pdv) → IsFragment context true p → length acc + length p.fragment ≤ room → refusal room (InCommand context acc) (length p.fragment + 2) p.context p.control ≡ None
+command_consumed room context acc p h le =
     let size : length acc + (length p.fragment + 2 - 2) ≤ room = omega arith in
     same_context context p.context _ h.0 ∙ rw h.1 (has_room room (length acc + (length p.fragment + 2 - 2)) size)
 
 next_command : (room context : ℕ) (acc : List ℕ) (p : Pdv) (last : Bool) → IsFragment context true p → is_last p.control ≡ last → length acc + length p.fragment ≤ room
     → next room (InCommand context acc) p ≡ in_command context (acc ++ p.fragment) last
 next_command room context acc p last h e le =
-    ap (λ (o : Option DimseFault). unless_refused o (brought (InCommand context acc) p)) (command_taken room context acc p h le)
+    ap (λ (o : Option DimseFault). unless_refused o (brought (InCommand context acc) p)) (command_consumed room context acc p h le)
     ∙ command_row context acc p last e
 
 next_set : (room context : ℕ) (command acc : List ℕ) (p : Pdv) (last : Bool) → IsFragment context false p → is_last p.control ≡ last → next room (InSet context command acc) p ≡ in_set context command (acc ++ p.fragment) last
 next_set room context command acc p last h e =
-    let taken : refusal room (InSet context command acc) (length p.fragment + 2) p.context p.control ≡ None = same_context context p.context _ h.0 ∙ rw h.1 refl in
-    ap (λ (o : Option DimseFault). unless_refused o (brought (InSet context command acc) p)) taken ∙ set_row context command acc p last e
+    let consumed : refusal room (InSet context command acc) (length p.fragment + 2) p.context p.control ≡ None = same_context context p.context _ h.0 ∙ rw h.1 refl in
+    ap (λ (o : Option DimseFault). unless_refused o (brought (InSet context command acc) p)) consumed ∙ set_row context command acc p last e
 
 -- a first fragment is like a later one after nothing
 next_first : (room : ℕ) (p : Pdv) → is_command p.control ≡ true → next room NoMessage p ≡ next room (InCommand p.context []) p

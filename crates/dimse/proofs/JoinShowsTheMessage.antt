@@ -201,10 +201,10 @@ other_part Between xs part no_command = refl
 other_part Command xs part no_command = absurd (no_command refl)
 other_part Set xs part no_command = refl
 
--- what fits a room is taken
-pub taken : {T E P : Type 0} (r : Result T E) → IsOk r → OnOk r P → P
-taken (Ok x) ok holds = holds
-taken (Err e) ok holds = absurd cc
+-- what fits a room is accepted
+pub consumed : {T E P : Type 0} (r : Result T E) → IsOk r → OnOk r P → P
+consumed (Ok x) ok holds = holds
+consumed (Err e) ok holds = absurd cc
 
 -- while fewer than six bytes of a presentation data value have come a join shows none of them
 pub shows_short : (room : ℕ) (join : Joining) (m : Started) (started other : List ℕ) → length started < 6 → length other < 6 → ShowsMessage room join m started → ShowsMessage room join m other

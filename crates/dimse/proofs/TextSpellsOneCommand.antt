@@ -14,7 +14,7 @@ use Rattle.dimse.specs.Reading.{element_at, with_element, elements_in, elements_
 use Rattle.dimse.specs.Reply.{element}
 use Rattle.dimse.proofs.SetIsItsElements.{element_length}
 use Rattle.dimse.proofs.SetElementsAreFound.{guarded, element_none}
-use Rattle.dimse.proofs.BytesSpellTheElement.{element_again, element_takes, low_four, four_below}
+use Rattle.dimse.proofs.BytesSpellTheElement.{element_again, element_consumes, low_four, four_below}
 
 -- ---- elements
 
@@ -44,7 +44,7 @@ first_take : (most last : ℕ) (b : List ℕ) (es : List CommandElement) (o : Op
 first_take most last b es None again bytes e h = absurd cc
 first_take most last b es (Some x) again bytes e h =
     let g = guarded (ltb last x.0.number) x.0 (elements_in most x.0.number x.1) es h in
-    let t = element_takes b x bytes e in
+    let t = element_consumes b x bytes e in
     let rest = again x.0.number x.1 g.1.0 t.bytes g.1.1.0 in
     subst (IsSpelled last b) (sym g.1.1.1)
     ((t.element, ltb-true _ _ g.0, rest.0), t.parts ∙ ap (λ (r : List ℕ). command_element_bytes x.0 ++ r) rest.1)
@@ -101,7 +101,7 @@ set_first text es None bytes e h = absurd cc
 set_first text es (Some x) bytes e h =
     let c = chosen (counts x.0 (length x.1)) (elements_of x.1) es h in
     let tests = both (eqb x.0.number 0) (eqb (length x.0.value) 4) (eqb (little_number 4 x.0.value) (length x.1)) c.0 in
-    let t = element_takes text x bytes e in
+    let t = element_consumes text x bytes e in
     let count : little_number 4 x.0.value ≡ length x.1 = eqb-true _ _ tests.2 in
     let first : x.0 ≡ element 0 (le (length x.1) 4) = element_is x.0 0 (le (length x.1) 4) (eqb-true _ _ tests.0) (four_is x.0.value (length x.1) t.value (eqb-true _ _ tests.1) count) in
     let rest = elements_take (length x.1) 0 x.1 es t.bytes c.1 in
@@ -112,9 +112,9 @@ set_first text es (Some x) bytes e h =
       whole = t.parts ∙ ap (λ (f : CommandElement). command_element_bytes f ++ x.1) first ∙ ap (λ (r : List ℕ). command_element_bytes (element 0 (le (length r) 4)) ++ r) rest.1;
     }
 
-pub set_takes : (text : List ℕ) (es : List CommandElement) → IsBytes text → set_of text ≡ Some es → SpellsSet text es
+pub set_consumes : (text : List ℕ) (es : List CommandElement) → IsBytes text → set_of text ≡ Some es → SpellsSet text es
 unfolding set_of
-set_takes text es bytes h = set_first text es (element_at text) bytes refl h
+set_consumes text es bytes h = set_first text es (element_at text) bytes refl h
 
 -- ---- commands
 
@@ -134,7 +134,7 @@ one_command text a b p q =
 
 found_by : (text : List ℕ) (command : CommandRecord) (o : Option (List CommandElement)) → IsBytes text → set_of text ≡ o → command_in_set o ≡ Ok command → CommandText command text
 found_by text command None bytes e h = absurd cc
-found_by text command (Some es) bytes e h = (es, set_takes text es bytes e, h)
+found_by text command (Some es) bytes e h = (es, set_consumes text es bytes e, h)
 
 pub command_found : (text : List ℕ) (command : CommandRecord) → IsBytes text → command_in text ≡ Ok command → CommandText command text
 unfolding command_in
@@ -145,7 +145,7 @@ no_set text e es h = let same : Some es ≡ None = sym (set_again text es h) ∙
 
 fault_by : (text : List ℕ) (fault : DimseFault) (o : Option (List CommandElement)) → IsBytes text → set_of text ≡ o → command_in_set o ≡ Err fault → CommandFault fault text
 fault_by text fault None bytes e h = inr (cc, λ x. no_set text e x.0 x.1)
-fault_by text fault (Some es) bytes e h = inl (es, set_takes text es bytes e, h)
+fault_by text fault (Some es) bytes e h = inl (es, set_consumes text es bytes e, h)
 
 pub command_fault : (text : List ℕ) (fault : DimseFault) → IsBytes text → command_in text ≡ Err fault → CommandFault fault text
 unfolding command_in

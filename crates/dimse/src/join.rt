@@ -110,7 +110,7 @@ impl<const C: usize> Join<C> {
     {
         if let Stage::Command = self.stage {
             // This fits: `head` rejects longer fragments.
-            let _taken = self.command.try_extend_from_slice(part);
+            let _consumed = self.command.try_extend_from_slice(part);
         }
         self.remaining -= part.len() as u32;
     }
@@ -139,7 +139,8 @@ impl<const C: usize> Join<C> {
     /// (`BadCommand`, `UnknownField` or `WrongKind`), and `self` is unchanged. After `Message`,
     /// `command` still returns the command set, until `clear` or the next message.
     pub fn end(&mut self) -> Result<Joined, DimseFault>
-        ensures { (message : Started) (started : List ℕ) → 6 ≤ length started → ShowsMessage C self.old message started → Joins C message (brought message (pdv_of started)) self.old self.new result }
+        ensures { (message : Started) (started : List ℕ) → 6 ≤ length started → ShowsMessage C self.old message started
+            → Joins C message (brought message (pdv_of started)) self.old self.new result }
     {
         let joined = self.joined()?;
         match joined {

@@ -115,11 +115,11 @@ fn records_of_other_types(rt: HostRuntime) -> Result<(), Fail> {
     put_images(&rt, "kept", &images)?;
     assert!(rt; reports(&rt, ("kept", false), ("", ""), (2, 0))?);
     let mut bytes = fs::read(&rt, "kept/DICOMDIR")?;
-    let place = bytes
+    let offset = bytes
         .windows(6)
         .position(|part| part == b"IMAGE ".as_slice())
         .ok_or("no record")?;
-    bytes.as_mut_slice()[place..place + 6].copy_from_slice(b"RTDOSE");
+    bytes.as_mut_slice()[offset..offset + 6].copy_from_slice(b"RTDOSE");
     fs::write(&rt, "kept/DICOMDIR", bytes.as_slice())?;
     let reported = "dcmbox: kept/I0000001: left out: its record is of type RTDOSE, not IMAGE\n";
     let why = "left out: records of other types 1\n";

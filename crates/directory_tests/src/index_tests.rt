@@ -263,11 +263,11 @@ fn put_flag(
     rt: &HostRuntime,
     path: &str,
     whole: &[u8],
-    place: usize,
+    offset: usize,
     flag: u8,
 ) -> Result<(), Fail> {
     let mut changed = Vec::from_slice(rt.alloc(), whole)?;
-    for (at, byte) in [(place, flag), (place.saturating_add(1), 0)] {
+    for (at, byte) in [(offset, flag), (offset.saturating_add(1), 0)] {
         if let Some(old) = changed.get_mut(at) {
             *old = byte;
         }
@@ -285,12 +285,12 @@ fn inactive_records_are_not_kept(rt: HostRuntime) -> Result<(), Fail> {
     assert!(rt; prints(&rt, "kept", false, b"records 5\n")?);
     let whole = fs::read(&rt, "kept/DICOMDIR")?;
     assert!(rt; whole.len() == 950);
-    for (place, flag, printed, size) in [
+    for (offset, flag, printed, size) in [
         (654usize, 0u8, b"records 4\n".as_slice(), 788usize),
         (562, 0, b"records 0\n", 320),
         (654, 1, b"fault 68 BadRecord at 626\n", 950),
     ] {
-        put_flag(&rt, "kept/DICOMDIR", whole.as_slice(), place, flag)?;
+        put_flag(&rt, "kept/DICOMDIR", whole.as_slice(), offset, flag)?;
         assert!(rt; keeps(&rt, "kept", printed)? && has_size(&rt, "kept/DICOMDIR", size)?);
     }
     Ok(())

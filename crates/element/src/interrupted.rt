@@ -24,7 +24,7 @@ fn is_interrupted(call: &io::Result<usize>) -> bool
 pub fn read_retrying<R: Read>(reader: &mut R, room: &mut [u8]) -> io::Result<usize>
     ensures size { length room.new ≡ length room.old }
     ensures within { IfOk result (λ n. n ≤ length room.new) }
-    ensures took { IfOk result (λ n. Consumes (R.remaining reader.old) (R.remaining reader.new) (take n room.new)) }
+    ensures consumes { IfOk result (λ n. Consumes (R.remaining reader.old) (R.remaining reader.new) (take n room.new)) }
     ensures end { IfOk result (λ n. n ≡ 0 → 0 < length room.new → IsAtEnd (R.remaining reader.new)) }
     ensures keeps { OnErr result (Keeps (R.remaining reader.old) (R.remaining reader.new)) }
     ensures retried { IfErr result (λ error. error_kind error ≢ ErrorKind.Interrupted) }

@@ -1,4 +1,4 @@
--- The bytes that `held` returns are those that are held of the stream, one number, and within the limits at every place.
+-- The bytes that `held` returns are those that are held of the stream, one number, and within the limits at every point.
 --
 -- KeptByPhase         how many bytes are kept, by the phase
 -- HeldIsExact         they are those that are held of the stream

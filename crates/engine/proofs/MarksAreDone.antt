@@ -7,7 +7,7 @@
 -- WholePdu       the end of a PDU, by its type
 -- PdvJoined      the head and the fragment of a presentation data value
 -- StoreAsked     which commands ask for a store
--- DataOfStores   the data of a store begin and go on
+-- DataOfStores   the data of a store begin and continue
 -- MessageEnds    a message is whole, and is answered
 pub mod PduHead
 pub mod BodyPart

@@ -1,4 +1,4 @@
--- The events of a piece, one after the other, do what the marks of the piece give (`DoesPart`): `PieceIsDone.took_all`.
+-- The events of a piece, one after the other, do what the marks of the piece give (`DoesPart`): `PieceIsDone.consumed_all`.
 --
 -- EntriesJoin      one entry after the other, with failures that count at the next
 -- EventShape       what a call with an event says of the deframer, and the room for it

@@ -1,4 +1,4 @@
--- What is kept of a store is the draft of its file, and a walker that has taken the bytes of its data set (`Carried`).
+-- What is kept of a store is the draft of its file, and a walker that has consumed the bytes of its data set (`Carried`).
 --
 -- DraftAndWalk     draft and walker with a part more; what the filing's calls leave
 -- PartsAreWalked   a walker consumes a data set part by part, also after it refused

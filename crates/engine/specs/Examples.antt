@@ -14,7 +14,7 @@ use Rattle.engine.specs.Run.{Rooms, progress_of, sent_of}
 use Rattle.engine.specs.Held.{held_before_data}
 use Rattle.engine.specs.Reached.{reached}
 use Rattle.engine.specs.Recording.{request, other_request, echo, release, accept, reply, released}
-use Rattle.negotiate.specs.Taken.{nothing_additional}
+use Rattle.negotiate.specs.Allowed.{nothing_additional}
 
 abbrev pub rooms : Rooms
 rooms = record { request = 65536; command = 1024; values = 256; depth = 64 }

@@ -7,7 +7,7 @@ use Rattle.pdu.specs.Deframing.{At, SkipsAt}
 use Rattle.engine.specs.Progress.{Progress}
 use Rattle.engine.specs.Reached.{started_in}
 use Rattle.engine.specs.Held.{is_ended}
-use Rattle.engine.specs.Kept.{Kept, Pends, body_in, takes_pdvs_in, takes_body_in}
+use Rattle.engine.specs.Kept.{Kept, Pends, body_in, accepts_pdvs_in, accepts_body_in}
 use Rattle.part10.specs.Store.{Store}
 
 -- the received bytes of the body, if the unfinished PDU r is an A-ASSOCIATE-RQ
@@ -20,8 +20,8 @@ pub record Fields : Type 0 where
 
 -- neither the presentation data values nor the body of a PDU of this type are handled
 pub record IsUncounted (kept : Kept) (kind : ℕ) : Type 0 where
-  pub pdvs : takes_pdvs_in kept ≡ false
-  pub body : takes_body_in kept kind ≡ false
+  pub pdvs : accepts_pdvs_in kept ≡ false
+  pub body : accepts_body_in kept kind ≡ false
 
 -- the deframer is at the end of the bytes r of a PDU, with these marks due; or it skips the rest of the PDU, which is
 -- not handled

@@ -68,13 +68,13 @@ abbrev pub shown_after : State → Option State → Option State
 shown_after state known = option_map (λ _. state) known
 
 -- if the remaining inputs are known, the input is the first of them, and the others remain
-abbrev pub TakesFirst : Option (List Received) → Option (List Received) → Received → Type 0
-TakesFirst None new input = new ≡ None
-TakesFirst (Some inputs) new input = (input ≡ first_of inputs) × (new ≡ Some (others_of inputs))
+abbrev pub ConsumesFirst : Option (List Received) → Option (List Received) → Received → Type 0
+ConsumesFirst None new input = new ≡ None
+ConsumesFirst (Some inputs) new input = (input ≡ first_of inputs) × (new ≡ Some (others_of inputs))
 
 -- a source returns this input: the first of the remaining ones, appended to those returned
 pub record Gives (old new : Supply) (last : List ℕ) (named : Input) : Type 0 where
-  pub first : TakesFirst old.expected new.expected (input_of named last)
+  pub first : ConsumesFirst old.expected new.expected (input_of named last)
   pub added : new.given ≡ with_given (input_of named last ∷ []) old.given
 
 -- the input of a list entry

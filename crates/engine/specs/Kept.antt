@@ -21,11 +21,11 @@ use Rattle.engine.specs.Phases.{state_in, caller_in, maximum_in, rows_in, reques
 use Rattle.decisions.specs.declared.decision.Decision.{Decision}
 use Rattle.engine.specs.Progress.{Progress, is_due, is_established}
 use Rattle.engine.specs.Held.{is_ended, peer_size, row_size}
-use Rattle.engine.specs.Reached.{takes_pdvs}
+use Rattle.engine.specs.Reached.{accepts_pdvs}
 use Rattle.engine.specs.Drafts.{IsDraft}
 use Rattle.engine.specs.Fair.{InStore}
 use Rattle.engine.specs.StoredData.{Stored, Walks, drafting_in, held_in}
-use Rattle.negotiate.specs.Taken.{Taken}
+use Rattle.negotiate.specs.Allowed.{Allowed}
 
 -- the values of the fields
 pub record Kept : Type 0 where
@@ -41,7 +41,7 @@ pub record Kept : Type 0 where
   pub peer_max : ℕ
   pub table : List ContextRow
   -- the storage classes that the configuration adds to those of the dictionary
-  pub additional : Taken
+  pub additional : Allowed
   -- the received bytes of the body of a request
   pub body : List ℕ
   pub join : Joining
@@ -76,7 +76,7 @@ settings_in p = settings_of p.config.now
 
 -- the values that are kept of an accepted request, with these added storage classes: calling AE title, maximum length
 -- and presentation contexts
-pub record Agreed (calling : List ℕ) (most : ℕ) (table : List ContextRow) (additional : Taken) (r : RequestRecord) : Type 0 where
+pub record Agreed (calling : List ℕ) (most : ℕ) (table : List ContextRow) (additional : Allowed) (r : RequestRecord) : Type 0 where
   pub caller : calling ≡ r.calling
   pub maximum : most ≡ r.maximum
   pub rows : table ≡ context_rows additional r
@@ -94,7 +94,7 @@ abbrev pub counted_body : Progress → List ℕ → List ℕ
 counted_body p body = if is_due p.state && not p.refused then body else []
 
 abbrev pub counted_pdv : Progress → List ℕ → List ℕ
-counted_pdv p started = if takes_pdvs p then started else []
+counted_pdv p started = if accepts_pdvs p then started else []
 
 -- the bytes of the body of a PDU of this type that may be kept: those of an A-ASSOCIATE-RQ
 abbrev pub body_in : ℕ → List ℕ → List ℕ
@@ -119,12 +119,12 @@ pub record Pends (kept : Kept) (store : Store) (p : Progress) (body started : Li
   pub failed_in : is_ended p.state ≡ false → p.filing_failed ≡ true → InStore p.request p.message
 
 -- whether the presentation data values of the unfinished PDU are handled
-abbrev pub takes_pdvs_in : Kept → Bool
-takes_pdvs_in kept = is_established kept.state && not kept.refused
+abbrev pub accepts_pdvs_in : Kept → Bool
+accepts_pdvs_in kept = is_established kept.state && not kept.refused
 
 -- whether the body of a PDU of this type is buffered
-abbrev pub takes_body_in : Kept → ℕ → Bool
-takes_body_in kept kind = is_due kept.state && (not kept.refused && nat_eq kind associate_rq)
+abbrev pub accepts_body_in : Kept → ℕ → Bool
+accepts_body_in kept kind = is_due kept.state && (not kept.refused && nat_eq kind associate_rq)
 
 -- how many bytes are held of a request and of a message
 abbrev pub held_by : Kept → ℕ

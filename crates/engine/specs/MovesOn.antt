@@ -17,7 +17,7 @@ use Rattle.engine.specs.OutputLaws.{SendsFew}
 use Rattle.engine.specs.Parts.{DecidesNothingBefore, CompletesPart}
 use Rattle.engine.specs.Reached.{reached, message_so_far}
 use Rattle.engine.specs.Stands.{Stands}
-use Rattle.engine.specs.Turns.{TookInput}
+use Rattle.engine.specs.Turns.{ConsumedInput}
 
 -- the input has moved the association and its devices on
 abbrev pub MovesOn : {A C V D : ℕ} → Association A C V D → Association A C V D → Received → Devices → Devices → Type 0
@@ -61,6 +61,6 @@ EndsWithPart {A} {C} {V} {D} seen most = (inputs : List Received) (story : List 
     → DecidesNothingBefore (rooms_of A C V D) (settings_in seen) inputs story most × (is_ended (state_of seen) ≡ false → CompletesPart inputs most)
 
 -- the source returned an input, which moved the association on
-abbrev pub TakesNext : {A C V D : ℕ} → Association A C V D → Association A C V D → Supply → Supply → Devices → Devices → Type 0
-TakesNext {A} {C} {V} {D} before after given_old given_new old new =
-    TookInput (rooms_of A C V D) (settings_in before) given_old given_new (fields_of before) (fields_of after) old new
+abbrev pub ConsumesNext : {A C V D : ℕ} → Association A C V D → Association A C V D → Supply → Supply → Devices → Devices → Type 0
+ConsumesNext {A} {C} {V} {D} before after given_old given_new old new =
+    ConsumedInput (rooms_of A C V D) (settings_in before) given_old given_new (fields_of before) (fields_of after) old new

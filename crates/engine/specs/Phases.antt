@@ -48,7 +48,7 @@ stored_in (Established peer message) = stored_of message.storing
 stored_in phase = Nothing
 
 -- how many bytes the body of a request uses of its limit, with 12 for the heads of a PDU and a presentation data value
-abbrev pub taken_in : {A C V D : ℕ} → Phase A C V D → ℕ
-taken_in (AwaitingRequest body) = array_vec_len body + heads_size
-taken_in (Established peer message) = heads_size + peer_size + row_size * array_vec_len peer.contexts
-taken_in phase = 0
+abbrev pub consumed_in : {A C V D : ℕ} → Phase A C V D → ℕ
+consumed_in (AwaitingRequest body) = array_vec_len body + heads_size
+consumed_in (Established peer message) = heads_size + peer_size + row_size * array_vec_len peer.contexts
+consumed_in phase = 0

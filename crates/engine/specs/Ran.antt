@@ -50,36 +50,36 @@ standing_of state = standing.Open
 -- The effect of the inputs: a story of them gives the bytes that were sent, the files that were stored, the state of
 -- the association and the number of held bytes, of which at most 544 are not of a message once a request is accepted;
 -- and the number of failures of the wire and of the filing. No draft remains (law `engine::a_store_is_filed`).
-pub record Answered (rooms : Rooms) (s : Settings) (taken : List Received) (report : Report) (old new : Devices) : Type 0 where
+pub record Answered (rooms : Rooms) (s : Settings) (consumed : List Received) (report : Report) (old new : Devices) : Type 0 where
   pub story : List Happened
   pub failed : Bool
   pub sent : List ℕ
   pub files : List (List ℕ)
   pub state : State
-  pub run : Run rooms s taken story failed sent files state
-  pub last : EndsLast rooms s taken story
+  pub run : Run rooms s consumed story failed sent files state
+  pub last : EndsLast rooms s consumed story
   pub standing : report.standing ≡ standing_of state
-  pub held : Held rooms s (reached rooms s taken story failed) report.held
+  pub held : Held rooms s (reached rooms s consumed story failed) report.held
   pub accepted_room : state ≡ Sta6 → report.held ≤ accepted_most + rooms.command + rooms.values + level_size * rooms.depth
   pub line : new.line ≡ line_with sent (wire_failures story) old.line
   pub reported : new.store.reported ≡ reported_after (filed files) old.store.reported
   pub count : new.store.failures ≡ old.store.failures + filing_failures story failed
 
 -- the source has returned these inputs, and the others remain
-pub record LeavesOthers (taken all : List Received) (new : Option (List Received)) : Type 0 where
-  pub first : taken ≡ first_inputs (length taken) all
-  pub others : new ≡ Some (inputs_after (length taken) all)
+pub record LeavesOthers (consumed all : List Received) (new : Option (List Received)) : Type 0 where
+  pub first : consumed ≡ first_inputs (length consumed) all
+  pub others : new ≡ Some (inputs_after (length consumed) all)
 
 -- The first inputs of the source were handled, as many as there were turns, or fewer if the last of them ended the
 -- association, with this effect; no draft remains. They are the first of the remaining ones, and those that the source
 -- has returned, as far as each is known.
 pub record Ran (rooms : Rooms) (s : Settings) (turns : ℕ) (report : Report) (source_old source_new : Supply) (old new : Devices) : Type 0 where
-  pub taken : List Received
-  pub most_turns : length taken ≤ turns
-  pub all_turns : length taken < turns → report.standing ≡ standing.Ended
-  pub source : (all : List Received) → source_old.expected ≡ Some all → LeavesOthers taken all source_new.expected
-  pub given : source_new.given ≡ with_given taken source_old.given
-  pub answered : Answered rooms s taken report old new
+  pub consumed : List Received
+  pub most_turns : length consumed ≤ turns
+  pub all_turns : length consumed < turns → report.standing ≡ standing.Ended
+  pub source : (all : List Received) → source_old.expected ≡ Some all → LeavesOthers consumed all source_new.expected
+  pub given : source_new.given ≡ with_given consumed source_old.given
+  pub answered : Answered rooms s consumed report old new
   pub no_draft : new.store.has_draft ≡ false
 
 -- an association with these limits (`Rooms`) and this configuration ran with this effect

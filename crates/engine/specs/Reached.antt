@@ -29,14 +29,14 @@ started_in Plain = []
 started_in (InPdv started) = started
 
 -- whether the presentation data values of the unfinished PDU are handled
--- e.g. takes_pdvs at_start ≡ false
-abbrev pub takes_pdvs : Progress → Bool
-takes_pdvs p = is_established p.state && not p.refused
+-- e.g. accepts_pdvs at_start ≡ false
+abbrev pub accepts_pdvs : Progress → Bool
+accepts_pdvs p = is_established p.state && not p.refused
 
 -- the bytes of the unfinished presentation data value, with its head; none if they are not handled (law
 -- `engine::held_in_a_data_set`)
 abbrev pub started_pdv : Reached → List ℕ
-started_pdv r = if takes_pdvs r.progress then started_in (spot r.rest) else []
+started_pdv r = if accepts_pdvs r.progress then started_in (spot r.rest) else []
 
 -- the unfinished message, with the bytes of the unfinished fragment (law `engine::held_in_a_data_set`)
 abbrev pub message_so_far : Reached → Started

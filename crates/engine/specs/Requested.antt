@@ -4,11 +4,11 @@ use Rattle.std.specs.Prelude.{ℕ, List, []}
 use Rattle.pdu.specs.Record.{RequestRecord}
 use Rattle.pdu.specs.Items as items
 use Rattle.negotiate.specs.Contexts.{offered}
-use Rattle.negotiate.specs.Taken.{Taken, nothing_additional}
+use Rattle.negotiate.specs.Allowed.{Allowed, nothing_additional}
 
 -- the UIDs of the added storage classes, and the body of the A-ASSOCIATE-RQ
 pub record Requested : Type 0 where
-  pub additional : Taken
+  pub additional : Allowed
   pub body : List ℕ
 
 -- there is no request

@@ -14,7 +14,7 @@ use Rattle.engine.specs.Reached.{Reached, message_so_far}
 use Rattle.engine.specs.Held.{held_before_data}
 use Rattle.engine.specs.Run.{progress_of, sent_of, files_of, wire_failures, filing_failures}
 use Rattle.engine.specs.Examples.{rooms, settings}
-use Rattle.negotiate.specs.Taken.{nothing_additional}
+use Rattle.negotiate.specs.Allowed.{nothing_additional}
 
 -- the body of a request of SCANNER1 for CT images in Explicit VR Little Endian
 abbrev pub request_body : List ℕ

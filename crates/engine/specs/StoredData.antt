@@ -4,7 +4,7 @@ use Rattle.sequence.specs.Transfer.{coding_in}
 use Rattle.sequence.specs.declared.coding.Coding.{Coding}
 use Rattle.sequence.specs.declared.walker.Walker.{Walker}
 use Rattle.sequence.specs.Rules.{Limits}
-use Rattle.sequence.specs.Taken.{StandsAt, walker_syntax, limits_of, reported_by}
+use Rattle.sequence.specs.Consumed.{StandsAt, walker_syntax, limits_of, reported_by}
 use Rattle.dimse.specs.Messages.{Started}
 use Rattle.engine.specs.declared.stores.Storing.{Storing}
 use Rattle.engine.specs.declared.stores.Storing.TheVariants as storing

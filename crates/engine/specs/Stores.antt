@@ -117,8 +117,8 @@ cause status number tag = record { status = status; detail = Some (record { numb
 
 -- the finding for a fault of the data set: A700 (out of resources) for too many open levels or bytes, else C000 (cannot
 -- understand) with the fault as its cause (law `engine::verdicts_on_faults`)
--- e.g. (of_fault (record { number = 20; place = 3; tag = class_tag })).status ≡ 0xc000
--- e.g. (of_fault (record { number = 18; place = 3; tag = class_tag })).status ≡ 0xa700
+-- e.g. (of_fault (record { number = 20; offset = 3; tag = class_tag })).status ≡ 0xc000
+-- e.g. (of_fault (record { number = 18; offset = 3; tag = class_tag })).status ≡ 0xa700
 abbrev pub of_fault : Fault → Finding
 of_fault fault = if nat_eq fault.number too_deep || nat_eq fault.number too_long then failure out_of_resources else cause cannot_understand fault.number fault.tag
 

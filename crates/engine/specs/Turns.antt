@@ -21,33 +21,33 @@ use Rattle.engine.specs.FrameFields.{Fields}
 use Rattle.engine.specs.Timeline.{Happened}
 
 -- if the remaining inputs are known, the source has returned these of them, and the others remain
-abbrev pub TakesFront : Option (List Received) → Option (List Received) → List Received → Type 0
-TakesFront None now taken = now ≡ None
-TakesFront (Some all) now taken = (taken ≡ first_inputs (length taken) all) × (now ≡ Some (inputs_after (length taken) all))
+abbrev pub ConsumesFront : Option (List Received) → Option (List Received) → List Received → Type 0
+ConsumesFront None now consumed = now ≡ None
+ConsumesFront (Some all) now consumed = (consumed ≡ first_inputs (length consumed) all) × (now ≡ Some (inputs_after (length consumed) all))
 
 -- a source has returned these inputs
-pub record Follows (old now : Supply) (taken : List Received) : Type 0 where
-  pub front : TakesFront old.expected now.expected taken
-  pub given : now.given ≡ with_given taken old.given
+pub record Follows (old now : Supply) (consumed : List Received) : Type 0 where
+  pub front : ConsumesFront old.expected now.expected consumed
+  pub given : now.given ≡ with_given consumed old.given
 
 -- after these inputs the association has these fields, it had not ended before the last of them, and the devices have
 -- changed by them
-pub record Stood (rooms : Rooms) (s : Settings) (taken : List Received) (seen : Fields) (old new : Devices) : Type 0 where
+pub record Stood (rooms : Rooms) (s : Settings) (consumed : List Received) (seen : Fields) (old new : Devices) : Type 0 where
   pub story : List Happened
   pub failed : Bool
-  pub stands : Stands rooms s taken story failed seen new.store
-  pub last : EndsLast rooms s taken story
+  pub stands : Stands rooms s consumed story failed seen new.store
+  pub last : EndsLast rooms s consumed story
   pub gains : Gains rooms s at_start story false failed old new
 
 -- this many inputs of the source were handled, or fewer if the association has ended, with this effect
-pub record TookTurns (rooms : Rooms) (s : Settings) (turns : ℕ) (source_old source_now : Supply) (seen : Fields) (old new : Devices) : Type 0 where
-  pub taken : List Received
-  pub number : length taken ≡ turns
-  pub follows : Follows source_old source_now taken
-  pub stood : Stood rooms s taken seen old new
+pub record ConsumedTurns (rooms : Rooms) (s : Settings) (turns : ℕ) (source_old source_now : Supply) (seen : Fields) (old new : Devices) : Type 0 where
+  pub consumed : List Received
+  pub number : length consumed ≡ turns
+  pub follows : Follows source_old source_now consumed
+  pub stood : Stood rooms s consumed seen old new
 
 -- a source returned one more input, with this effect on the association and its devices
-pub record TookInput (rooms : Rooms) (s : Settings) (source_old source_now : Supply) (seen_old seen_new : Fields) (old new : Devices) : Type 0 where
+pub record ConsumedInput (rooms : Rooms) (s : Settings) (source_old source_now : Supply) (seen_old seen_new : Fields) (old new : Devices) : Type 0 where
   pub bytes : List ℕ
   pub kind : Input
   pub gives : Gives source_old source_now bytes kind

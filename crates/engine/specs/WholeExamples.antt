@@ -30,7 +30,7 @@ use Rattle.dimse.specs.Detail.{class_mismatch}
 use Rattle.engine.specs.Stores.{Verdict, cause, class_tag}
 use Rattle.engine.specs.Recording.{request, accept, reply, released}
 use Rattle.engine.specs.Examples.{rooms, settings, calm, recording}
-use Rattle.negotiate.specs.Taken.{nothing_additional}
+use Rattle.negotiate.specs.Allowed.{nothing_additional}
 
 abbrev pub calmly : List Received → List Happened
 calmly inputs = calm (entries [] inputs)

@@ -2,12 +2,12 @@
 ghost use Rattle.std.specs.Prelude.{◌≡◌, ◌≤◌, ◌<◌, ◌+◌, ◌*◌, ◌-◌, ◌^◌, false};
 ghost use Rattle.pdu.specs.Deframed.{position_of};
 ghost use Rattle.pdu.specs.Steps.{body_kind, body_due, fragment_due};
-ghost use Rattle.engine.specs.Kept.{kept_of, takes_pdvs_in};
+ghost use Rattle.engine.specs.Kept.{kept_of, accepts_pdvs_in};
 ghost use Rattle.engine.specs.machine.Capacity.{BodyFits, FragmentFits};
 ghost use Rattle.engine.specs.machine.Skips.{in_pdv_head};
 
+mod consuming;
 mod fields;
-mod taking;
 
 use crate::devices::Devices;
 use crate::phase::Phase;
@@ -34,7 +34,7 @@ pub struct Association<'c, const A: usize, const C: usize, const V: usize, const
     provider: Provider<'c, A, C, V, D>,
     ghost body_fits: { BodyFits (A - 12) (kept_of provider) (body_kind (position_of deframer)) (body_due (position_of deframer)) },
     ghost fragment_fits: { FragmentFits (kept_of provider) (fragment_due (position_of deframer)) },
-    ghost headless: { takes_pdvs_in (kept_of provider) ≡ false → in_pdv_head (position_of deframer) ≡ false },
+    ghost headless: { accepts_pdvs_in (kept_of provider) ≡ false → in_pdv_head (position_of deframer) ≡ false },
 }
 
 impl<'c, const A: usize, const C: usize, const V: usize, const D: usize> Association<

@@ -9,7 +9,7 @@ use pdu::{Event, Wire};
 
 impl<'c, const A: usize, const C: usize, const V: usize, const D: usize> Provider<'c, A, C, V, D> {
     ghost use Rattle.engine.specs.machine.Lent.{before, after, DraftIsThere, KeepsDraft};
-    ghost use Rattle.engine.specs.machine.Events.{Takes, HasRoom, LeavesRoom};
+    ghost use Rattle.engine.specs.machine.Events.{Accepts, HasRoom, LeavesRoom};
     ghost use Rattle.engine.specs.Kept.{kept_of, settings_in};
     ghost use Rattle.engine.specs.Run.{rooms_of};
 
@@ -26,7 +26,7 @@ impl<'c, const A: usize, const C: usize, const V: usize, const D: usize> Provide
         ensures settings { settings_in self.new ≡ settings_in self.old }
         ensures drafts { KeepsDraft (kept_of self.old) (kept_of self.new) (F.store devices.entry.filing.now) (after W.line F.store devices.exit).store }
         ensures room { LeavesRoom (A - 12) (kept_of self.old) (kept_of self.new) kind event.entry }
-        ensures takes { Takes (rooms_of A C V D) (settings_in self.old) (kept_of self.old) (kept_of self.new) kind event.entry
+        ensures accepts { Accepts (rooms_of A C V D) (settings_in self.old) (kept_of self.old) (kept_of self.new) kind event.entry
             (before W.line F.store devices.entry) (after W.line F.store devices.exit) }
     {
         match event {
@@ -50,7 +50,7 @@ impl<'c, const A: usize, const C: usize, const V: usize, const D: usize> Provide
                 self.perform(due, devices);
             }
             Event::PduEnd(kind) => {
-                if self.takes_body(kind) {
+                if self.accepts_body(kind) {
                     self.on_request(devices);
                 } else {
                     let due = self.on_end(kind);

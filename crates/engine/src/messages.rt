@@ -103,7 +103,7 @@ impl<'c, const A: usize, const C: usize, const V: usize, const D: usize> Provide
     ghost use Rattle.engine.specs.machine.Lent.{before, after, DraftIsThere, KeepsDraft};
     ghost use Rattle.engine.specs.Kept.{kept_of, settings_in};
     ghost use Rattle.engine.specs.machine.Capacity.{FragmentFits};
-    ghost use Rattle.engine.specs.machine.Events.{TakesFragment, TakesPdvEnd};
+    ghost use Rattle.engine.specs.machine.Events.{AcceptsFragment, AcceptsPdvEnd};
     ghost use Rattle.engine.specs.machine.Judged.{StaysThen, JudgesPdvHead};
     ghost use Rattle.part10.specs.Store.{Store};
     ghost use Rattle.engine.specs.Run.{rooms_of};
@@ -150,7 +150,7 @@ impl<'c, const A: usize, const C: usize, const V: usize, const D: usize> Provide
         ensures settings { settings_in self.new ≡ settings_in self.old }
         ensures drafts { KeepsDraft (kept_of self.old) (kept_of self.new) (F.store filing.old) (F.store filing.new) }
         ensures fits { (m : ℕ) → FragmentFits (kept_of self.old) (length part.now + m) → FragmentFits (kept_of self.new) m }
-        ensures takes { (l : Line) → TakesFragment (rooms_of A C V D) (settings_in self.old) (kept_of self.old) (kept_of self.new) part.now
+        ensures accepts { (l : Line) → AcceptsFragment (rooms_of A C V D) (settings_in self.old) (kept_of self.old) (kept_of self.new) part.now
             (devices l (F.store filing.old)) (devices l (F.store filing.new)) }
     {
         if self.refused {
@@ -168,7 +168,7 @@ impl<'c, const A: usize, const C: usize, const V: usize, const D: usize> Provide
         requires draft { DraftIsThere (kept_of self.old) (F.store devices.filing.now) }
         ensures settings { settings_in self.new ≡ settings_in self.old }
         ensures drafts { KeepsDraft (kept_of self.old) (kept_of self.new) (F.store devices.entry.filing.now) (after W.line F.store devices.exit).store }
-        ensures does { TakesPdvEnd (rooms_of A C V D) (settings_in self.old) (kept_of self.old) (kept_of self.new) (before W.line F.store devices.entry) (after W.line F.store devices.exit) }
+        ensures does { AcceptsPdvEnd (rooms_of A C V D) (settings_in self.old) (kept_of self.old) (kept_of self.new) (before W.line F.store devices.entry) (after W.line F.store devices.exit) }
     {
         if self.refused {
             return;

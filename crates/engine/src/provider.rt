@@ -2,7 +2,7 @@
 //! bytes into PDUs.
 ghost use Rattle.std.specs.Prelude.{◌≡◌, ◌≤◌, ◌+◌, ◌*◌, ◌-◌, ◌^◌, [], false};
 ghost use Rattle.acceptor.specs.declared.state.State.TheVariants.{Sta6};
-ghost use Rattle.engine.specs.Phases.{taken_in};
+ghost use Rattle.engine.specs.Phases.{consumed_in};
 ghost use Rattle.engine.specs.StoredData.{drafting_in};
 
 use crate::devices::Devices;
@@ -34,7 +34,7 @@ pub(crate) struct Provider<'c, const A: usize, const C: usize, const V: usize, c
     ghost greatest_kept: { V ≤ 2 ^ 24 },
     ghost least_levels: { 2 ≤ D },
     ghost greatest_levels: { D ≤ 2 ^ 24 },
-    ghost room: { taken_in phase ≤ A },
+    ghost room: { consumed_in phase ≤ A },
 }
 
 impl<'c, const A: usize, const C: usize, const V: usize, const D: usize> Provider<'c, A, C, V, D> {
@@ -44,7 +44,7 @@ impl<'c, const A: usize, const C: usize, const V: usize, const D: usize> Provide
     ghost use Rattle.negotiate.specs.Settings.{settings_of};
     ghost use Rattle.part10.specs.Store.{Store};
     ghost use Rattle.engine.specs.Held.{request_most};
-    ghost use Rattle.engine.specs.Kept.{Pends, held_by, takes_pdvs_in, kept_of, settings_in};
+    ghost use Rattle.engine.specs.Kept.{Pends, held_by, accepts_pdvs_in, kept_of, settings_in};
     ghost use Rattle.pdu.specs.Deframed.{position_of};
     ghost use Rattle.pdu.specs.Steps.{events_due};
     ghost use Rattle.engine.specs.machine.Skips.{passed};
@@ -92,8 +92,8 @@ impl<'c, const A: usize, const C: usize, const V: usize, const D: usize> Provide
 
     /// Returns whether the presentation data values of the unfinished PDU are handled: in an
     /// established association, unless the PDU was already answered.
-    pub(crate) fn takes_pdvs(&self) -> bool
-        ensures { result ≡ takes_pdvs_in (kept_of self.now) }
+    pub(crate) fn accepts_pdvs(&self) -> bool
+        ensures { result ≡ accepts_pdvs_in (kept_of self.now) }
     {
         match &self.phase {
             Phase::Established { .. } => !self.refused,
@@ -107,7 +107,7 @@ impl<'c, const A: usize, const C: usize, const V: usize, const D: usize> Provide
         ensures passes { position_of deframer.new ≡ passed (kept_of self.now) (position_of deframer.old) }
         ensures fewer { events_due (position_of deframer.new) ≤ events_due (position_of deframer.old) }
     {
-        if self.takes_pdvs() || self.takes_body(deframer.kind()) {
+        if self.accepts_pdvs() || self.accepts_body(deframer.kind()) {
             return;
         }
         deframer.skip_frame();
@@ -221,7 +221,7 @@ impl<'c, const A: usize, const C: usize, const V: usize, const D: usize> Provide
         ensures stays { StaysThen (kept_of self.new).state result }
         ensures due { (store : Store) → JudgesInvalid decided (kept_of self.old) (kept_of self.new) result store }
     {
-        if !self.takes_pdvs() {
+        if !self.accepts_pdvs() {
             return Reaction::Nothing;
         }
         self.refused = true;

@@ -106,17 +106,17 @@ fn answer_request<W: Wire>(
 impl<'c, const A: usize, const C: usize, const V: usize, const D: usize> Provider<'c, A, C, V, D> {
     ghost use Rattle.engine.specs.Run.{rooms_of};
     ghost use Rattle.engine.specs.machine.Lent.{before, after, DraftIsThere, KeepsDraft};
-    ghost use Rattle.engine.specs.Kept.{takes_body_in, kept_of, settings_in};
+    ghost use Rattle.engine.specs.Kept.{accepts_body_in, kept_of, settings_in};
     ghost use Rattle.engine.specs.machine.Capacity.{BodyFits};
     ghost use Rattle.part10.specs.Store.{Store};
-    ghost use Rattle.engine.specs.machine.Events.{TakesBody};
+    ghost use Rattle.engine.specs.machine.Events.{AcceptsBody};
     ghost use Rattle.engine.specs.machine.Tries.{TriesRequest};
     ghost use Rattle.engine.specs.machine.Judged.{StaysThen, JudgesEnd};
 
     /// Returns whether the body of a PDU of this type is buffered: only that of an awaited
     /// A-ASSOCIATE-RQ, unless it was already answered.
-    pub(crate) fn takes_body(&self, kind: u8) -> bool
-        ensures { result ≡ takes_body_in (kept_of self.now) kind }
+    pub(crate) fn accepts_body(&self, kind: u8) -> bool
+        ensures { result ≡ accepts_body_in (kept_of self.now) kind }
     {
         match &self.phase {
             Phase::AwaitingRequest { .. } => !self.refused && kind == pdu_type::A_ASSOCIATE_RQ,
@@ -131,7 +131,7 @@ impl<'c, const A: usize, const C: usize, const V: usize, const D: usize> Provide
         ensures settings { settings_in self.new ≡ settings_in self.old }
         ensures storing { (kept_of self.new).storing ≡ (kept_of self.old).storing }
         ensures fits { (m : ℕ) → BodyFits (A - 12) (kept_of self.old) kind (length part.now + m) → BodyFits (A - 12) (kept_of self.new) kind m }
-        ensures pends { (store : Store) → TakesBody (kept_of self.old) (kept_of self.new) kind part.now store }
+        ensures pends { (store : Store) → AcceptsBody (kept_of self.old) (kept_of self.new) kind part.now store }
     {
         if self.refused || kind != pdu_type::A_ASSOCIATE_RQ {
             return;
@@ -175,7 +175,7 @@ impl<'c, const A: usize, const C: usize, const V: usize, const D: usize> Provide
     /// A-ABORT, and an A-RELEASE-RQ of an established association, cause a reaction, unless the PDU
     /// was already answered.
     pub(crate) fn on_end(&mut self, kind: u8) -> Reaction
-        requires unkept { takes_body_in (kept_of self.old) kind ≡ false }
+        requires unkept { accepts_body_in (kept_of self.old) kind ≡ false }
         ensures settings { settings_in self.new ≡ settings_in self.old }
         ensures storing { (kept_of self.new).storing ≡ (kept_of self.old).storing }
         ensures stays { StaysThen (kept_of self.new).state result }

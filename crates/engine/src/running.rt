@@ -22,7 +22,7 @@ impl<'c, const A: usize, const C: usize, const V: usize, const D: usize> Associa
     ghost use Rattle.engine.specs.Drafts.{IsThere};
     ghost use Rattle.engine.specs.Fields.{drafting_of, fields_of, settings_in, state_of};
     ghost use Rattle.engine.specs.Inputs.{input_of, shown_after};
-    ghost use Rattle.engine.specs.MovesOn.{MovesOn, StaysOnceEnded, TakesNext};
+    ghost use Rattle.engine.specs.MovesOn.{MovesOn, StaysOnceEnded, ConsumesNext};
     ghost use Rattle.engine.specs.Turns.{Reports};
 
     /// Handles an input like the method for its kind ([`feed`](Association::feed), ..). `piece` has
@@ -61,7 +61,7 @@ impl<'c, const A: usize, const C: usize, const V: usize, const D: usize> Associa
         ensures draft { IsThere (drafting_of self.new) (F.store filing.new) }
         ensures settings { settings_in self.new ≡ settings_in self.old }
         ensures shown { S.shown source.new ≡ shown_after (state_of self.old) (S.shown source.old) }
-        ensures took { TakesNext self.old self.new (S.supply source.old) (S.supply source.new)
+        ensures consumes { ConsumesNext self.old self.new (S.supply source.old) (S.supply source.new)
             (devices (W.line wire.old) (F.store filing.old)) (devices (W.line wire.new) (F.store filing.new)) }
     {
         let input = source.next(self.state());

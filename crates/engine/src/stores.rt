@@ -3,7 +3,7 @@
 ghost use Rattle.std.specs.Prelude.{◌≡◌, ◌≤◌, ◌+◌, ◌*◌, ◌^◌, ◌++◌, List, ℕ, true, false, Some, None};
 ghost use Rattle.sequence.specs.declared.coding.Coding.{Coding};
 ghost use Rattle.sequence.specs.Rules.{Limits};
-ghost use Rattle.sequence.specs.Taken.{reported_by};
+ghost use Rattle.sequence.specs.Consumed.{reported_by};
 ghost use Rattle.sequence.specs.Stored.{wanted_tags};
 ghost use Rattle.engine.specs.Drafts.{IsThere, Drafts};
 ghost use Rattle.negotiate.specs.declared.proposals.Service.TheVariants as services;
@@ -184,11 +184,11 @@ fn walk<const V: usize, const D: usize>(walker: &mut Walker<V, D>, part: &[u8])
 {
     let mut rest = part;
     while !rest.is_empty() {
-        let (taken, _) = walker.step(rest);
-        if taken == 0 {
+        let (consumed, _) = walker.step(rest);
+        if consumed == 0 {
             break;
         }
-        let (_, more) = rest.split_at(taken);
+        let (_, more) = rest.split_at(consumed);
         rest = more;
     }
 }

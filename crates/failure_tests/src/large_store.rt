@@ -178,10 +178,10 @@ fn a_store_of_16_mib_without_memory(rt: HostRuntime) -> Result<(), Fail> {
     let stored = answer_of(rt.alloc(), status::SUCCESS)?;
     let refused = answer_of(rt.alloc(), status::OUT_OF_RESOURCES)?;
     let heap = LocalHeap::new(rt.alloc(), 16)?;
-    let taken = Vec::from_slice(&heap, &[1u8; 16])?;
+    let used = Vec::from_slice(&heap, &[1u8; 16])?;
     assert!(rt; heap.free() == 0 && Vec::from_slice(&heap, &[1u8]).is_err());
     assert!(rt; is_still(&opening, &rest, stored.as_slice()));
     assert!(rt; is_noticed(&opening, &rest, &heap, refused.as_slice()));
-    assert!(rt; taken.len() == 16);
+    assert!(rt; used.len() == 16);
     Ok(())
 }

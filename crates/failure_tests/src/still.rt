@@ -57,8 +57,8 @@ pub(crate) struct StillFiling<'a> {
 }
 
 /// Returns whether the bytes are those of the file from this offset.
-fn are_at(front: &[u8], place: usize, bytes: &[u8]) -> bool {
-    let rest = front.get(place..).unwrap_or(&[]);
+fn are_at(front: &[u8], offset: usize, bytes: &[u8]) -> bool {
+    let rest = front.get(offset..).unwrap_or(&[]);
     let (first, zeros) = bytes.split_at(rest.len().min(bytes.len()));
     rest.starts_with(first) && ZEROS.starts_with(zeros)
 }

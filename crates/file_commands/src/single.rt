@@ -120,7 +120,7 @@ fn report_rule(rt: &HostRuntime, file: &str, rule: MetaRule) {
     let _ = eprintln!(rt; "dcmbox: {file}: its file meta information is wrong: {rule}");
 }
 
-/// Reports the form in which a file without header was read, if the file is such.
+/// Reports the transfer syntax as which a file is read, if it has no file meta information.
 fn report_form(rt: &HostRuntime, file: &str, beginning: &[u8]) {
     let Some(form) = bare_form(beginning) else {
         return;

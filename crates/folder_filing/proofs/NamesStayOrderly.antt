@@ -1,5 +1,5 @@
 -- The names of a filing stay orderly from call to call (`continues`, `names_one`, `tries_one`), and along a search for a
--- free name (`search_begins`, `search_continues`, `search_ends`, `search_fails`); places that rise differ (`are_apart`).
+-- free name (`search_begins`, `search_continues`, `search_ends`, `search_fails`); locations that rise differ (`are_apart`).
 -- Stands on the definitions alone.
 use Rattle.std.proofs.Common.{◌≢◌, inl, inr, Result, Ok, Err, ◌^◌, ◌∙◌, ◌≡◌, ℕ, ◌+◌, ◌<◌, ◌≤◌, Bool, true, List, [], ◌∷◌, Option, Some, None, refl, sym, ap, subst, arith, nat_lt, false}
 use Rattle.std.specs.Result.{OnOk, OnErr}
@@ -20,41 +20,41 @@ use Rattle.folder_filing.specs.declared.named_file.NamedFile.{NamedFile}
 use Rattle.folder_filing.specs.declared.naming.Attempt.{Attempt}
 use Rattle.folder_filing.specs.declared.naming.Attempt.TheVariants.{Named, Met}
 use Rattle.folder_filing.specs.declared.naming.Obstacle.{Obstacle}
-use Rattle.folder_filing.specs.machine.Naming.{PlaceLeaves, SameTerms, SyncsName}
+use Rattle.folder_filing.specs.machine.Naming.{LocationLeaves, SameTerms, SyncsName}
 
--- a later last place is behind the same places
-pub behind_more : (last later : Location) → order last ≤ order later → (places : List Location)
-    → AllByRecursion (λ place. order place ≤ order last) places → AllByRecursion (λ place. order place ≤ order later) places
+-- a later last location is behind the same locations
+pub behind_more : (last later : Location) → order last ≤ order later → (locations : List Location)
+    → AllByRecursion (λ location. order location ≤ order last) locations → AllByRecursion (λ location. order location ≤ order later) locations
 behind_more last later more [] behind = tt
-behind_more last later more (place ∷ places) behind = (omega (arith, more, behind.0), behind_more last later more places behind.1)
+behind_more last later more (location ∷ locations) behind = (omega (arith, more, behind.0), behind_more last later more locations behind.1)
 
--- a place after the last one is after each that this is behind
-pub after_all : (last place : Location) → order last < order place → (places : List Location)
-    → AllByRecursion (λ other. order other ≤ order last) places → AllByRecursion (λ other. order other < order place) places
-after_all last place more [] behind = tt
-after_all last place more (other ∷ places) behind = (omega (arith, more, behind.0), after_all last place more places behind.1)
+-- a location after the last one is after each that this is behind
+pub after_all : (last location : Location) → order last < order location → (locations : List Location)
+    → AllByRecursion (λ other. order other ≤ order last) locations → AllByRecursion (λ other. order other < order location) locations
+after_all last location more [] behind = tt
+after_all last location more (other ∷ locations) behind = (omega (arith, more, behind.0), after_all last location more locations behind.1)
 
-covers_more : (layout : Layout) (kept more : Numbers) → Keeps kept more → (place : Location) → is_covered layout kept place ≡ true → is_covered layout more place ≡ true
-covers_more Flat kept more keeps place covered = le-leb place.file more.file (omega (arith, leb-true place.file kept.file covered, keeps.0))
-covers_more (Levels per) kept more keeps place covered = le-leb place.folder more.folder (omega (arith, leb-true place.folder kept.folder covered, keeps.1))
+covers_more : (layout : Layout) (kept more : Numbers) → Keeps kept more → (location : Location) → is_covered layout kept location ≡ true → is_covered layout more location ≡ true
+covers_more Flat kept more keeps location covered = le-leb location.file more.file (omega (arith, leb-true location.file kept.file covered, keeps.0))
+covers_more (Levels per) kept more keeps location covered = le-leb location.folder more.folder (omega (arith, leb-true location.folder kept.folder covered, keeps.1))
 
 -- what is kept stays kept
-pub kept_more : (layout : Layout) (kept more : Option Numbers) → KeepsAll kept more → (place : Location) → IsKept layout kept place → IsKept layout more place
-kept_more layout None None keeps place is = tt
-kept_more layout None (Some more) keeps place is = absurd keeps
-kept_more layout (Some kept) None keeps place is = tt
-kept_more layout (Some kept) (Some more) keeps place is = covers_more layout kept more keeps place is
+pub kept_more : (layout : Layout) (kept more : Option Numbers) → KeepsAll kept more → (location : Location) → IsKept layout kept location → IsKept layout more location
+kept_more layout None None keeps location is = tt
+kept_more layout None (Some more) keeps location is = absurd keeps
+kept_more layout (Some kept) None keeps location is = tt
+kept_more layout (Some kept) (Some more) keeps location is = covers_more layout kept more keeps location is
 
-pub all_kept_more : (layout : Layout) (kept more : Option Numbers) → KeepsAll kept more → (places : List Location)
-    → AllByRecursion (IsKept layout kept) places → AllByRecursion (IsKept layout more) places
+pub all_kept_more : (layout : Layout) (kept more : Option Numbers) → KeepsAll kept more → (locations : List Location)
+    → AllByRecursion (IsKept layout kept) locations → AllByRecursion (IsKept layout more) locations
 all_kept_more layout kept more keeps [] are = tt
-all_kept_more layout kept more keeps (place ∷ places) are = (kept_more layout kept more keeps place are.0, all_kept_more layout kept more keeps places are.1)
+all_kept_more layout kept more keeps (location ∷ locations) are = (kept_more layout kept more keeps location are.0, all_kept_more layout kept more keeps locations are.1)
 
 pub keeps_same : (kept : Option Numbers) → KeepsAll kept kept
 keeps_same None = tt
 keeps_same (Some kept) = (omega arith, omega arith)
 
--- A filing continues: its last place is no earlier, no kept number is missing, and the calls name no file and lose none.
+-- A filing continues: its last location is no earlier, no kept number is missing, and the calls name no file and lose none.
 pub continues : (old new : Naming) → new.layout ≡ old.layout → order old.last ≤ order new.last → KeepsAll old.kept new.kept
     → standing new.calls ≡ standing old.calls → (LosesNone old.has_sync old.own old.calls → LosesNone new.has_sync new.own new.calls) → IsOrderly old → IsOrderly new
 continues old new layout last kept same loses was =
@@ -68,48 +68,48 @@ continues old new layout last kept same loses was =
 -- A call that was passed on, or with which the draft was synced, names no file and loses none.
 pub passed_on : {T E : Type 0} (result : Result T E) (old new : List Call) → OnOk result (new ≡ old) → OnErr result (new ≡ Refused ∷ old)
     → (standing new ≡ standing old) × ((has_sync : Bool) (own : Own) → LosesNone has_sync own old → LosesNone has_sync own new)
-passed_on (Ok value) old new taken refused = (ap standing taken, λ has_sync own h. rw taken h)
-passed_on (Err error) old new taken refused = (rw refused refl, λ has_sync own h. rw refused h)
+passed_on (Ok value) old new unchanged refused = (ap standing unchanged, λ has_sync own h. rw unchanged h)
+passed_on (Err error) old new unchanged refused = (rw refused refl, λ has_sync own h. rw refused h)
 
 pub written_on : {T E : Type 0} (result : Result T E) (old new : List Call) → OnOk result (new ≡ Written ∷ old) → OnErr result (new ≡ Refused ∷ old)
     → (standing new ≡ standing old) × ((has_sync : Bool) (own : Own) → LosesNone has_sync own old → LosesNone has_sync own new)
-written_on (Ok value) old new taken refused = (rw taken refl, λ has_sync own h. rw taken h)
-written_on (Err error) old new taken refused = (rw refused refl, λ has_sync own h. rw refused h)
+written_on (Ok value) old new unchanged refused = (rw unchanged refl, λ has_sync own h. rw unchanged h)
+written_on (Err error) old new unchanged refused = (rw refused refl, λ has_sync own h. rw refused h)
 
--- It names a file: at a place after the last one, whose number is kept, and which is the last one or before it.
-pub names_one : (old new : Naming) (place : Location) → new.layout ≡ old.layout → new.kept ≡ old.kept → order old.last < order place
-    → order place ≤ order new.last → IsKept old.layout old.kept place
-    → standing new.calls ≡ place ∷ standing old.calls → (LosesNone old.has_sync old.own old.calls → LosesNone new.has_sync new.own new.calls) → IsOrderly old → IsOrderly new
-names_one old new place layout kept after behind is more loses was =
+-- It names a file: at a location after the last one, whose number is kept, and which is the last one or before it.
+pub names_one : (old new : Naming) (location : Location) → new.layout ≡ old.layout → new.kept ≡ old.kept → order old.last < order location
+    → order location ≤ order new.last → IsKept old.layout old.kept location
+    → standing new.calls ≡ location ∷ standing old.calls → (LosesNone old.has_sync old.own old.calls → LosesNone new.has_sync new.own new.calls) → IsOrderly old → IsOrderly new
+names_one old new location layout kept after behind is more loses was =
     record {
       loses = loses was.loses;
-      rises = rw more (after_all old.last place after _ was.behind, was.rises);
+      rises = rw more (after_all old.last location after _ was.behind, was.rises);
       behind = rw more (behind, behind_more old.last new.last (omega (arith, after, behind)) _ was.behind);
       kept =
-          let one : IsKept new.layout new.kept place = rw (layout, kept) is in
+          let one : IsKept new.layout new.kept location = rw (layout, kept) is in
           let all : AllByRecursion (IsKept new.layout new.kept) (standing old.calls) = rw (layout, kept) was.kept in
           rw more (one, all);
     }
 
--- A try at a place after the last one, whose number is kept, continues, whatever its result.
-pub tries_one : {E : Type 0} (result : Result Attempt E) (old new : Naming) (place : Location) → order old.last < order place → IsKept old.layout old.kept place
-    → PlaceLeaves place result old new → SameTerms old new → (LosesNone old.has_sync old.own old.calls → LosesNone new.has_sync new.own new.calls) → IsOrderly old → IsOrderly new
-tries_one (Ok (Named how)) old new place after is remaining same loses was =
-    names_one old new place same.0 same.1 after (rw remaining.2 (omega arith)) is remaining.0 loses was
-tries_one (Ok (Met obstacle)) old new place after is remaining same loses was =
+-- A try at a location after the last one, whose number is kept, continues, whatever its result.
+pub tries_one : {E : Type 0} (result : Result Attempt E) (old new : Naming) (location : Location) → order old.last < order location → IsKept old.layout old.kept location
+    → LocationLeaves location result old new → SameTerms old new → (LosesNone old.has_sync old.own old.calls → LosesNone new.has_sync new.own new.calls) → IsOrderly old → IsOrderly new
+tries_one (Ok (Named how)) old new location after is remaining same loses was =
+    names_one old new location same.0 same.1 after (rw remaining.2 (omega arith)) is remaining.0 loses was
+tries_one (Ok (Met obstacle)) old new location after is remaining same loses was =
     continues old new same.0 (rw remaining.2 (omega arith)) (rw same.1 (keeps_same old.kept)) remaining.0 loses was
-tries_one (Err error) old new place after is remaining same loses was = elim remaining.0 [
+tries_one (Err error) old new location after is remaining same loses was = elim remaining.0 [
   | inl stays ↦ continues old new same.0 (rw stays.1 (omega arith)) (rw same.1 (keeps_same old.kept)) stays.0 loses was
-  | inr more ↦ names_one old new place same.0 same.1 after (rw more.1 (omega arith)) is more.0 loses was
+  | inr more ↦ names_one old new location same.0 same.1 after (rw more.1 (omega arith)) is more.0 loses was
 ]
 
 -- The commit of the file that was named last is reported, with syncs after its folder was synced.
-pub reports : (old new : Naming) (place : Location) → new ≡ record old { own = record old.own { reported = place ∷ old.own.reported }; calls = Reported place ∷ old.calls }
-    → IsNewest place (standing old.calls) → (old.has_sync ≡ true → IsNameSynced old.calls) → IsOrderly old → IsOrderly new
-reports old new place is newest synced was =
+pub reports : (old new : Naming) (location : Location) → new ≡ record old { own = record old.own { reported = location ∷ old.own.reported }; calls = Reported location ∷ old.calls }
+    → IsNewest location (standing old.calls) → (old.has_sync ≡ true → IsNameSynced old.calls) → IsOrderly old → IsOrderly new
+reports old new location is newest synced was =
     subst IsOrderly (sym is) (record { loses = (newest, synced, refl, was.loses); rises = was.rises; behind = was.behind; kept = was.kept })
 
--- the search for a free name, after so many places that were met
+-- the search for a free name, after so many locations that were met
 pub record Searches (old now : Naming) (met : ℕ) : Type 0 where
   pub same : standing now.calls ≡ standing old.calls
   pub refused : refusals now.calls ≡ refusals old.calls
@@ -131,53 +131,53 @@ search_begins old now terms calls last written =
       far = omega arith;
     }
 
--- the next place, at which a name is tried: it is after the last one, and its number is kept
-pub record Reaches (now next : Naming) (place : Location) : Type 0 where
+-- the next location, at which a name is tried: it is after the last one, and its number is kept
+pub record Reaches (now next : Naming) (location : Location) : Type 0 where
   pub calls : next.calls ≡ now.calls
   pub sync : next.has_sync ≡ now.has_sync
   pub own : next.own ≡ now.own
   pub rises : order now.last ≤ order next.last
-  pub behind : order next.last < order place
-  pub kept : IsKept next.layout next.kept place
+  pub behind : order next.last < order location
+  pub kept : IsKept next.layout next.kept location
   pub orderly : IsOrderly now → IsOrderly next
 
--- what the try at this place leaves, whatever its result
-pub record Tries {E : Type 0} (result : Result Attempt E) (place : Location) (next tried : Naming) : Type 0 where
-  pub remaining : PlaceLeaves place result next tried
+-- what the try at this location leaves, whatever its result
+pub record Tries {E : Type 0} (result : Result Attempt E) (location : Location) (next tried : Naming) : Type 0 where
+  pub remaining : LocationLeaves location result next tried
   pub same : SameTerms next tried
   pub loses : LosesNone next.has_sync next.own next.calls → LosesNone tried.has_sync tried.own tried.calls
 
-orderly_then : {E : Type 0} (result : Result Attempt E) (old now next tried : Naming) (place : Location) (met : ℕ)
-    → Searches old now met → Reaches now next place → Tries result place next tried → IsOrderly old → IsOrderly tried
-orderly_then result old now next tried place met was reaches tries h =
-    tries_one result next tried place reaches.behind reaches.kept tries.remaining tries.same tries.loses (reaches.orderly (was.orderly h))
+orderly_then : {E : Type 0} (result : Result Attempt E) (old now next tried : Naming) (location : Location) (met : ℕ)
+    → Searches old now met → Reaches now next location → Tries result location next tried → IsOrderly old → IsOrderly tried
+orderly_then result old now next tried location met was reaches tries h =
+    tries_one result next tried location reaches.behind reaches.kept tries.remaining tries.same tries.loses (reaches.orderly (was.orderly h))
 
-same_calls : (old now next : Naming) (place : Location) (met : ℕ) → Searches old now met → Reaches now next place
+same_calls : (old now next : Naming) (location : Location) (met : ℕ) → Searches old now met → Reaches now next location
     → (standing next.calls ≡ standing old.calls) × (refusals next.calls ≡ refusals old.calls)
-same_calls old now next place met was reaches = (ap standing reaches.calls ∙ was.same, ap refusals reaches.calls ∙ was.refused)
+same_calls old now next location met was reaches = (ap standing reaches.calls ∙ was.same, ap refusals reaches.calls ∙ was.refused)
 
--- the place was given
-pub search_ends : (old now next tried : Naming) (place : Location) (met : ℕ) (attempt : Attempt) (file : NamedFile) → attempt ≡ Named file
-    → Searches old now met → Reaches now next place → Tries {E = Error} (Ok attempt) place next tried
-    → (standing tried.calls ≡ place ∷ standing old.calls) × (refusals tried.calls ≡ refusals old.calls) × (IsOrderly old → IsOrderly tried)
-search_ends old now next tried place met (Named how) _ is was reaches tries =
-    let same = same_calls old now next place met was reaches in
-    (tries.remaining.0 ∙ ap (λ z. place ∷ z) same.0, tries.remaining.1 ∙ same.1, orderly_then (Ok (Named how)) old now next tried place met was reaches tries)
-search_ends old now next tried place met (Met obstacle) file is was reaches tries = absurd cc
+-- the location was given
+pub search_ends : (old now next tried : Naming) (location : Location) (met : ℕ) (attempt : Attempt) (file : NamedFile) → attempt ≡ Named file
+    → Searches old now met → Reaches now next location → Tries {E = Error} (Ok attempt) location next tried
+    → (standing tried.calls ≡ location ∷ standing old.calls) × (refusals tried.calls ≡ refusals old.calls) × (IsOrderly old → IsOrderly tried)
+search_ends old now next tried location met (Named how) _ is was reaches tries =
+    let same = same_calls old now next location met was reaches in
+    (tries.remaining.0 ∙ ap (λ z. location ∷ z) same.0, tries.remaining.1 ∙ same.1, orderly_then (Ok (Named how)) old now next tried location met was reaches tries)
+search_ends old now next tried location met (Met obstacle) file is was reaches tries = absurd cc
 
 -- its name was synced
-pub search_syncs : (old now next : Naming) (calls : List Call) (place : Location) (met : ℕ) (attempt : Attempt) (file : NamedFile) → attempt ≡ Named file
-    → Searches old now met → Reaches now next place → (next.has_sync ≡ true → SyncsName {E = Error} (Ok attempt) calls) → old.has_sync ≡ true → IsNameSynced calls
-search_syncs old now next calls place met attempt file is was reaches syncs has =
+pub search_syncs : (old now next : Naming) (calls : List Call) (location : Location) (met : ℕ) (attempt : Attempt) (file : NamedFile) → attempt ≡ Named file
+    → Searches old now met → Reaches now next location → (next.has_sync ≡ true → SyncsName {E = Error} (Ok attempt) calls) → old.has_sync ≡ true → IsNameSynced calls
+search_syncs old now next calls location met attempt file is was reaches syncs has =
     subst (λ z. SyncsName {E = Error} (Ok z) calls) is (syncs (reaches.sync ∙ was.sync ∙ has))
 
--- an obstacle was met, and the search continues after the place
-pub search_continues : (old now next tried over : Naming) (place : Location) (met : ℕ) (attempt : Attempt) (obstacle : Obstacle) → attempt ≡ Met obstacle
-    → Searches old now met → Reaches now next place → Tries {E = Error} (Ok attempt) place next tried
-    → over.calls ≡ tried.calls → SameTerms tried over → order place ≤ order over.last → Searches old over (met + 1)
-search_continues old now next tried over place met (Named how) _ is was reaches tries calls terms behind = absurd cc
-search_continues old now next tried over place met (Met obstacle) _ is was reaches tries calls terms behind =
-    let same = same_calls old now next place met was reaches in
+-- an obstacle was met, and the search continues after the location
+pub search_continues : (old now next tried over : Naming) (location : Location) (met : ℕ) (attempt : Attempt) (obstacle : Obstacle) → attempt ≡ Met obstacle
+    → Searches old now met → Reaches now next location → Tries {E = Error} (Ok attempt) location next tried
+    → over.calls ≡ tried.calls → SameTerms tried over → order location ≤ order over.last → Searches old over (met + 1)
+search_continues old now next tried over location met (Named how) _ is was reaches tries calls terms behind = absurd cc
+search_continues old now next tried over location met (Met obstacle) _ is was reaches tries calls terms behind =
+    let same = same_calls old now next location met was reaches in
     let last : order tried.last ≤ order over.last = rw tries.remaining.2 (omega (arith, reaches.behind, behind)) in
     record {
       same = ap standing calls ∙ tries.remaining.0 ∙ same.0;
@@ -185,25 +185,25 @@ search_continues old now next tried over place met (Met obstacle) _ is was reach
       sync = terms.2 ∙ tries.same.2 ∙ reaches.sync ∙ was.sync;
       own = terms.3 ∙ tries.same.3 ∙ reaches.own ∙ was.own;
       orderly = λ h. continues tried over terms.0 last (rw terms.1 (keeps_same tried.kept)) (ap standing calls) (λ l. rw (calls, terms.2, terms.3) l)
-          (orderly_then (Ok (Met obstacle)) old now next tried place met was reaches tries h);
+          (orderly_then (Ok (Met obstacle)) old now next tried location met was reaches tries h);
       written = rw (calls, terms.2, tries.same.2, tries.remaining.3, reaches.sync, reaches.calls) was.written;
       far = omega (arith, was.far, reaches.rises, reaches.behind, behind);
     }
 
 -- the try failed
-pub search_fails : {E : Type 0} (old now next tried : Naming) (place : Location) (met : ℕ) (error : E)
-    → Searches old now met → Reaches now next place → Tries (Err error) place next tried
+pub search_fails : {E : Type 0} (old now next tried : Naming) (location : Location) (met : ℕ) (error : E)
+    → Searches old now met → Reaches now next location → Tries (Err error) location next tried
     → LeavesNames (standing old.calls) (standing tried.calls) × WasRefused old tried × (IsOrderly old → IsOrderly tried)
-search_fails old now next tried place met error was reaches tries =
-    let same = same_calls old now next place met was reaches in
+search_fails old now next tried location met error was reaches tries =
+    let same = same_calls old now next location met was reaches in
     let remaining : LeavesNames (standing old.calls) (standing tried.calls) = elim tries.remaining.0 [
       | inl stays ↦ inl (stays.0 ∙ same.0)
-      | inr more ↦ inr (place, more.0 ∙ ap (λ z. place ∷ z) same.0)
+      | inr more ↦ inr (location, more.0 ∙ ap (λ z. location ∷ z) same.0)
     ] in
     let refused : refusals old.calls < refusals tried.calls = rw (← same.1) tries.remaining.1 in
-    (remaining, inl refused, orderly_then (Err error) old now next tried place met was reaches tries)
+    (remaining, inl refused, orderly_then (Err error) old now next tried location met was reaches tries)
 
--- no place was reached
+-- no location was reached
 pub search_is_refused : (old now next : Naming) (met : ℕ) → Searches old now met → standing next.calls ≡ standing now.calls → WasRefused now next → (IsOrderly now → IsOrderly next)
     → LeavesNames (standing old.calls) (standing next.calls) × WasRefused old next × (IsOrderly old → IsOrderly next)
 search_is_refused old now next met was same refused orderly =
@@ -216,7 +216,7 @@ search_is_refused old now next met was same refused orderly =
 lt_no : (a b : ℕ) → b ≤ a → nat_lt a b ≡ false
 lt_no a b more = le-ltb a b more
 
--- A place so far behind that none comes after it.
+-- A location so far behind that none comes after it.
 pub none_behind : (folder file : ℕ) → folder < 2 ^ 32 → file < 2 ^ 32 → 18446744073709551615 ≤ order (record { folder = folder; file = file })
     → next_location Flat (record { folder = folder; file = file }) ≡ None
 none_behind folder file least most far = rw (lt_no file 9999999 (omega (arith, least, most, far))) refl
@@ -226,14 +226,14 @@ pub none_behind_levels : (per folder file : ℕ) → per < 2 ^ 32 → folder < 2
 none_behind_levels per folder file fits least most far =
     rw (lt_no file per (omega (arith, fits, least, most, far))) (rw (lt_no folder 9999999 (omega (arith, least, most, far))) refl)
 
-apart : (place : Location) (before : List Location) → AllByRecursion (λ other. order other < order place) before → AllByRecursion (λ other. other ≢ place) before
-apart place [] rises = tt
-apart place (other ∷ before) rises = ((λ same. absurd (let less : order place < order place = subst (λ z. order z < order place) same rises.0 in omega (arith, less))), apart place before rises.1)
+apart : (location : Location) (before : List Location) → AllByRecursion (λ other. order other < order location) before → AllByRecursion (λ other. other ≢ location) before
+apart location [] rises = tt
+apart location (other ∷ before) rises = ((λ same. absurd (let less : order location < order location = subst (λ z. order z < order location) same rises.0 in omega (arith, less))), apart location before rises.1)
 
--- places that rise are apart
-pub are_apart : (places : List Location) → Rises places → AreApart places
+-- locations that rise are apart
+pub are_apart : (locations : List Location) → Rises locations → AreApart locations
 are_apart [] rises = tt
-are_apart (place ∷ before) rises = (apart place before rises.0, are_apart before rises.1)
+are_apart (location ∷ before) rises = (apart location before rises.0, are_apart before rises.1)
 
 pub worked_names : WorkedNames
 worked_names =

@@ -30,66 +30,66 @@ both : (x y : Bool) → x ≡ true → y ≡ true → (x && y) ≡ true
 both true y h k = k
 both false y h k = absurd cc
 
-same_place : (place : Location) → is_same place place ≡ true
-same_place place = both _ _ (eq-eqb place.folder place.folder refl) (eq-eqb place.file place.file refl)
+same_location : (location : Location) → is_same location location ≡ true
+same_location location = both _ _ (eq-eqb location.folder location.folder refl) (eq-eqb location.file location.file refl)
 
 abbrev has : Location → List Location → Bool
-has place places = list_any (is_same place) places
+has location locations = list_any (is_same location) locations
 
-has_dropped : (place : Location) (places : List Location) → has place (drop 1 places) ≡ true → has place places ≡ true
-has_dropped place [] h = h
-has_dropped place (other ∷ places) h = or_right _ _ h
+has_dropped : (location : Location) (locations : List Location) → has location (drop 1 locations) ≡ true → has location locations ≡ true
+has_dropped location [] h = h
+has_dropped location (other ∷ locations) h = or_right _ _ h
 
-newest_has : (place : Location) (places : List Location) → IsNewest place places → has place places ≡ true
-newest_has place [] newest = absurd newest
-newest_has place (other ∷ places) newest = or_left _ _ (subst (λ z. is_same place z ≡ true) (sym newest) (same_place place))
+newest_has : (location : Location) (locations : List Location) → IsNewest location locations → has location locations ≡ true
+newest_has location [] newest = absurd newest
+newest_has location (other ∷ locations) newest = or_left _ _ (subst (λ z. is_same location z ≡ true) (sym newest) (same_location location))
 
-in_folder : (place : Location) (folder : ℕ) (places : List Location) → IsNewest place places → IsNewestIn folder places → nat_eq folder place.folder ≡ true
-in_folder place folder [] newest is = absurd newest
-in_folder place folder (other ∷ places) newest is = eq-eqb folder place.folder (sym is ∙ ap (λ z. z.folder) newest)
+in_folder : (location : Location) (folder : ℕ) (locations : List Location) → IsNewest location locations → IsNewestIn folder locations → nat_eq folder location.folder ≡ true
+in_folder location folder [] newest is = absurd newest
+in_folder location folder (other ∷ locations) newest is = eq-eqb folder location.folder (sym is ∙ ap (λ z. z.folder) newest)
 
 -- a file that has a name got it after its bytes were synced
-named_after : (place : Location) (own : Own) (calls : List Call) → LosesNone true own calls → has place (standing calls) ≡ true → was_named place calls ≡ true
-named_after place own [] loses h = h
-named_after place own (Created draft ∷ before) loses h = named_after place own before loses.1 h
-named_after place own (Written ∷ before) loses h = named_after place own before loses h
-named_after place own (Linked draft other ∷ before) loses h = or_with _ _ _ _ (loses.1 refl) (named_after place own before loses.2) h
-named_after place own (SeenFree other ∷ before) loses h = named_after place own before loses h
-named_after place own (Renamed draft other ∷ before) loses h = or_with _ _ _ _ (loses.2 refl) (named_after place own before loses.3) h
-named_after place own (Removed other ∷ before) loses h = named_after place own before loses.1 (has_dropped place (standing before) h)
-named_after place own (Synced folder ∷ before) loses h = named_after place own before loses h
-named_after place own (Reported other ∷ before) loses h = named_after place (record own { reported = drop 1 own.reported }) before loses.3 h
-named_after place own (Refused ∷ before) loses h = named_after place own before loses h
-named_after place own (Replaced ∷ before) loses h = named_after place own before loses h
+named_after : (location : Location) (own : Own) (calls : List Call) → LosesNone true own calls → has location (standing calls) ≡ true → was_named location calls ≡ true
+named_after location own [] loses h = h
+named_after location own (Created draft ∷ before) loses h = named_after location own before loses.1 h
+named_after location own (Written ∷ before) loses h = named_after location own before loses h
+named_after location own (Linked draft other ∷ before) loses h = or_with _ _ _ _ (loses.1 refl) (named_after location own before loses.2) h
+named_after location own (SeenFree other ∷ before) loses h = named_after location own before loses h
+named_after location own (Renamed draft other ∷ before) loses h = or_with _ _ _ _ (loses.2 refl) (named_after location own before loses.3) h
+named_after location own (Removed other ∷ before) loses h = named_after location own before loses.1 (has_dropped location (standing before) h)
+named_after location own (Synced folder ∷ before) loses h = named_after location own before loses h
+named_after location own (Reported other ∷ before) loses h = named_after location (record own { reported = drop 1 own.reported }) before loses.3 h
+named_after location own (Refused ∷ before) loses h = named_after location own before loses h
+named_after location own (Replaced ∷ before) loses h = named_after location own before loses h
 
 -- the file that was named last is on the disk, where its folder was synced since
-synced_after : (place : Location) (own : Own) (calls : List Call) → LosesNone true own calls → IsNewest place (standing calls) → IsNameSynced calls → is_durable place calls ≡ true
-synced_after place own [] loses newest synced = absurd synced
-synced_after place own (Created draft ∷ before) loses newest synced = absurd synced
-synced_after place own (Written ∷ before) loses newest synced = absurd synced
-synced_after place own (Linked draft other ∷ before) loses newest synced = absurd synced
-synced_after place own (SeenFree other ∷ before) loses newest synced = absurd synced
-synced_after place own (Renamed draft other ∷ before) loses newest synced = absurd synced
-synced_after place own (Removed other ∷ before) loses newest synced = absurd synced
-synced_after place own (Synced folder ∷ before) loses newest synced =
-    or_left _ _ (both _ _ (in_folder place folder (standing before) newest synced) (named_after place own before loses (newest_has place (standing before) newest)))
-synced_after place own (Reported other ∷ before) loses newest synced = synced_after place (record own { reported = drop 1 own.reported }) before loses.3 newest synced
-synced_after place own (Refused ∷ before) loses newest synced = absurd synced
-synced_after place own (Replaced ∷ before) loses newest synced = absurd synced
+synced_after : (location : Location) (own : Own) (calls : List Call) → LosesNone true own calls → IsNewest location (standing calls) → IsNameSynced calls → is_durable location calls ≡ true
+synced_after location own [] loses newest synced = absurd synced
+synced_after location own (Created draft ∷ before) loses newest synced = absurd synced
+synced_after location own (Written ∷ before) loses newest synced = absurd synced
+synced_after location own (Linked draft other ∷ before) loses newest synced = absurd synced
+synced_after location own (SeenFree other ∷ before) loses newest synced = absurd synced
+synced_after location own (Renamed draft other ∷ before) loses newest synced = absurd synced
+synced_after location own (Removed other ∷ before) loses newest synced = absurd synced
+synced_after location own (Synced folder ∷ before) loses newest synced =
+    or_left _ _ (both _ _ (in_folder location folder (standing before) newest synced) (named_after location own before loses (newest_has location (standing before) newest)))
+synced_after location own (Reported other ∷ before) loses newest synced = synced_after location (record own { reported = drop 1 own.reported }) before loses.3 newest synced
+synced_after location own (Refused ∷ before) loses newest synced = absurd synced
+synced_after location own (Replaced ∷ before) loses newest synced = absurd synced
 
 pub reports_are_durable : (own : Own) (calls : List Call) → LosesNone true own calls → durable_reports calls ≡ length own.reported
 reports_are_durable own [] loses = sym (ap length loses)
 reports_are_durable own (Created draft ∷ before) loses = reports_are_durable own before loses.1
 reports_are_durable own (Written ∷ before) loses = reports_are_durable own before loses
-reports_are_durable own (Linked draft place ∷ before) loses = reports_are_durable own before loses.2
-reports_are_durable own (SeenFree place ∷ before) loses = reports_are_durable own before loses
-reports_are_durable own (Renamed draft place ∷ before) loses = reports_are_durable own before loses.3
-reports_are_durable own (Removed place ∷ before) loses = reports_are_durable own before loses.1
+reports_are_durable own (Linked draft location ∷ before) loses = reports_are_durable own before loses.2
+reports_are_durable own (SeenFree location ∷ before) loses = reports_are_durable own before loses
+reports_are_durable own (Renamed draft location ∷ before) loses = reports_are_durable own before loses.3
+reports_are_durable own (Removed location ∷ before) loses = reports_are_durable own before loses.1
 reports_are_durable own (Synced folder ∷ before) loses = reports_are_durable own before loses
-reports_are_durable own (Reported place ∷ before) loses =
+reports_are_durable own (Reported location ∷ before) loses =
     let rest : Own = record own { reported = drop 1 own.reported } in
     let more : length own.reported ≡ suc (length rest.reported) = ap length loses.2 in
-    rw (synced_after place rest before loses.3 loses.0 (loses.1 refl), reports_are_durable rest before loses.3) (omega (arith, more))
+    rw (synced_after location rest before loses.3 loses.0 (loses.1 refl), reports_are_durable rest before loses.3) (omega (arith, more))
 reports_are_durable own (Refused ∷ before) loses = reports_are_durable own before loses
 reports_are_durable own (Replaced ∷ before) loses = reports_are_durable own before loses
 
@@ -104,5 +104,5 @@ pub waits_as : (files : ℕ) (pending : Pending) (names : Naming) → ∥ IsOrde
 waits_as files Settled names orderly reported =
     ap not (∥∥₁_elim orderly (Coded-set coded_bool _ _) (λ o. durable_then names.has_sync names.own names.calls files o.loses reported))
 waits_as files Unnamed names orderly reported = refl
-waits_as files (Named place) names orderly reported = refl
+waits_as files (Named location) names orderly reported = refl
 waits_as files Lost names orderly reported = refl

@@ -11,13 +11,13 @@ greatest = 9999999
 -- the location after this one, while there are numbers: the next number; with subfolders of `per` files, after the last
 -- file of one the first of the next
 abbrev pub next_location : Layout → Location → Option Location
-next_location Flat place =
-    if nat_lt place.file greatest then Some (record { folder = place.folder; file = place.file + 1 }) else None
-next_location (Levels per) place =
-    if nat_lt place.file per then Some (record { folder = place.folder; file = place.file + 1 })
-    else (if nat_lt place.folder greatest then Some (record { folder = place.folder + 1; file = 1 })
+next_location Flat location =
+    if nat_lt location.file greatest then Some (record { folder = location.folder; file = location.file + 1 }) else None
+next_location (Levels per) location =
+    if nat_lt location.file per then Some (record { folder = location.folder; file = location.file + 1 })
+    else (if nat_lt location.folder greatest then Some (record { folder = location.folder + 1; file = 1 })
     else None)
 
 -- a location as one number, by which locations are ordered: by the number of the folder, then by that of the file
 abbrev pub order : Location → ℕ
-order place = place.folder * 4294967296 + place.file
+order location = location.folder * 4294967296 + location.file

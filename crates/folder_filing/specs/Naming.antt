@@ -16,12 +16,12 @@ abbrev pub standing : List Call → List Location
 standing [] = []
 standing (Created draft ∷ before) = standing before
 standing (Written ∷ before) = standing before
-standing (Linked draft place ∷ before) = place ∷ standing before
-standing (SeenFree place ∷ before) = standing before
-standing (Renamed draft place ∷ before) = place ∷ standing before
-standing (Removed place ∷ before) = drop 1 (standing before)
+standing (Linked draft location ∷ before) = location ∷ standing before
+standing (SeenFree location ∷ before) = standing before
+standing (Renamed draft location ∷ before) = location ∷ standing before
+standing (Removed location ∷ before) = drop 1 (standing before)
 standing (Synced folder ∷ before) = standing before
-standing (Reported place ∷ before) = standing before
+standing (Reported location ∷ before) = standing before
 standing (Refused ∷ before) = standing before
 standing (Replaced ∷ before) = standing before
 
@@ -30,33 +30,33 @@ abbrev pub refusals : List Call → ℕ
 refusals [] = 0
 refusals (Created draft ∷ before) = refusals before
 refusals (Written ∷ before) = refusals before
-refusals (Linked draft place ∷ before) = refusals before
-refusals (SeenFree place ∷ before) = refusals before
-refusals (Renamed draft place ∷ before) = refusals before
-refusals (Removed place ∷ before) = refusals before
+refusals (Linked draft location ∷ before) = refusals before
+refusals (SeenFree location ∷ before) = refusals before
+refusals (Renamed draft location ∷ before) = refusals before
+refusals (Removed location ∷ before) = refusals before
 refusals (Synced folder ∷ before) = refusals before
-refusals (Reported place ∷ before) = refusals before
+refusals (Reported location ∷ before) = refusals before
 refusals (Refused ∷ before) = refusals before + 1
 refusals (Replaced ∷ before) = refusals before + 1
 
 -- the last call found the name of this location free
 abbrev pub FoundFree : Location → List Call → Type 0
-FoundFree place [] = ⊥
-FoundFree place (SeenFree free ∷ before) = free ≡ place
-FoundFree place (Created draft ∷ before) = ⊥
-FoundFree place (Written ∷ before) = ⊥
-FoundFree place (Linked draft other ∷ before) = ⊥
-FoundFree place (Renamed draft other ∷ before) = ⊥
-FoundFree place (Removed other ∷ before) = ⊥
-FoundFree place (Synced folder ∷ before) = ⊥
-FoundFree place (Reported other ∷ before) = ⊥
-FoundFree place (Refused ∷ before) = ⊥
-FoundFree place (Replaced ∷ before) = ⊥
+FoundFree location [] = ⊥
+FoundFree location (SeenFree free ∷ before) = free ≡ location
+FoundFree location (Created draft ∷ before) = ⊥
+FoundFree location (Written ∷ before) = ⊥
+FoundFree location (Linked draft other ∷ before) = ⊥
+FoundFree location (Renamed draft other ∷ before) = ⊥
+FoundFree location (Removed other ∷ before) = ⊥
+FoundFree location (Synced folder ∷ before) = ⊥
+FoundFree location (Reported other ∷ before) = ⊥
+FoundFree location (Refused ∷ before) = ⊥
+FoundFree location (Replaced ∷ before) = ⊥
 
 -- the file that was named last has this location
 abbrev pub IsNewest : Location → List Location → Type 0
-IsNewest place [] = ⊥
-IsNewest place (newest ∷ before) = newest ≡ place
+IsNewest location [] = ⊥
+IsNewest location (newest ∷ before) = newest ≡ location
 
 -- the draft was synced after it was created, and has not been named since, or only by links that were removed again;
 -- and the same before the last call, by which it was linked
@@ -65,12 +65,12 @@ abbrev mutual
   is_written [] = false
   is_written (Created draft ∷ before) = false
   is_written (Written ∷ before) = true
-  is_written (Linked draft place ∷ before) = false
-  is_written (SeenFree place ∷ before) = is_written before
-  is_written (Renamed draft place ∷ before) = false
-  is_written (Removed place ∷ before) = was_written before
+  is_written (Linked draft location ∷ before) = false
+  is_written (SeenFree location ∷ before) = is_written before
+  is_written (Renamed draft location ∷ before) = false
+  is_written (Removed location ∷ before) = was_written before
   is_written (Synced folder ∷ before) = is_written before
-  is_written (Reported place ∷ before) = is_written before
+  is_written (Reported location ∷ before) = is_written before
   is_written (Refused ∷ before) = is_written before
   is_written (Replaced ∷ before) = is_written before
 
@@ -79,12 +79,12 @@ abbrev mutual
   was_written [] = false
   was_written (Created draft ∷ before) = false
   was_written (Written ∷ before) = false
-  was_written (Linked draft place ∷ before) = is_written before
-  was_written (SeenFree place ∷ before) = false
-  was_written (Renamed draft place ∷ before) = false
-  was_written (Removed place ∷ before) = false
+  was_written (Linked draft location ∷ before) = is_written before
+  was_written (SeenFree location ∷ before) = false
+  was_written (Renamed draft location ∷ before) = false
+  was_written (Removed location ∷ before) = false
   was_written (Synced folder ∷ before) = false
-  was_written (Reported place ∷ before) = false
+  was_written (Reported location ∷ before) = false
   was_written (Refused ∷ before) = false
   was_written (Replaced ∷ before) = false
 
@@ -102,12 +102,12 @@ abbrev pub IsNameSynced : List Call → Type 0
 IsNameSynced [] = ⊥
 IsNameSynced (Created draft ∷ before) = ⊥
 IsNameSynced (Written ∷ before) = ⊥
-IsNameSynced (Linked draft place ∷ before) = ⊥
-IsNameSynced (SeenFree place ∷ before) = ⊥
-IsNameSynced (Renamed draft place ∷ before) = ⊥
-IsNameSynced (Removed place ∷ before) = ⊥
+IsNameSynced (Linked draft location ∷ before) = ⊥
+IsNameSynced (SeenFree location ∷ before) = ⊥
+IsNameSynced (Renamed draft location ∷ before) = ⊥
+IsNameSynced (Removed location ∷ before) = ⊥
 IsNameSynced (Synced folder ∷ before) = IsNewestIn folder (standing before)
-IsNameSynced (Reported place ∷ before) = IsNameSynced before
+IsNameSynced (Reported location ∷ before) = IsNameSynced before
 IsNameSynced (Refused ∷ before) = ⊥
 IsNameSynced (Replaced ∷ before) = ⊥
 
@@ -125,32 +125,32 @@ abbrev pub LosesNone : Bool → Own → List Call → Type 0
 LosesNone has_sync own [] = own.reported ≡ []
 LosesNone has_sync own (Created draft ∷ before) = (draft ≡ own.draft) × LosesNone has_sync own before
 LosesNone has_sync own (Written ∷ before) = LosesNone has_sync own before
-LosesNone has_sync own (Linked draft place ∷ before) = (draft ≡ own.draft) × IsWritten has_sync before × LosesNone has_sync own before
-LosesNone has_sync own (SeenFree place ∷ before) = LosesNone has_sync own before
-LosesNone has_sync own (Renamed draft place ∷ before) =
-    (draft ≡ own.draft) × FoundFree place before × IsWritten has_sync before × LosesNone has_sync own before
-LosesNone has_sync own (Removed place ∷ before) = IsNewest place (standing before) × LosesNone has_sync own before
+LosesNone has_sync own (Linked draft location ∷ before) = (draft ≡ own.draft) × IsWritten has_sync before × LosesNone has_sync own before
+LosesNone has_sync own (SeenFree location ∷ before) = LosesNone has_sync own before
+LosesNone has_sync own (Renamed draft location ∷ before) =
+    (draft ≡ own.draft) × FoundFree location before × IsWritten has_sync before × LosesNone has_sync own before
+LosesNone has_sync own (Removed location ∷ before) = IsNewest location (standing before) × LosesNone has_sync own before
 LosesNone has_sync own (Synced folder ∷ before) = LosesNone has_sync own before
-LosesNone has_sync own (Reported place ∷ before) =
-    IsNewest place (standing before) × (has_sync ≡ true → IsNameSynced before)
-    × (own.reported ≡ place ∷ drop 1 own.reported) × LosesNone has_sync (record own { reported = drop 1 own.reported }) before
+LosesNone has_sync own (Reported location ∷ before) =
+    IsNewest location (standing before) × (has_sync ≡ true → IsNameSynced before)
+    × (own.reported ≡ location ∷ drop 1 own.reported) × LosesNone has_sync (record own { reported = drop 1 own.reported }) before
 LosesNone has_sync own (Refused ∷ before) = LosesNone has_sync own before
 LosesNone has_sync own (Replaced ∷ before) = LosesNone has_sync own before
 
 -- each location in this list, newest first, is after all older ones in the order of locations
 abbrev pub Rises : List Location → Type 0
 Rises [] = ⊤
-Rises (place ∷ before) = AllByRecursion (λ other. order other < order place) before × Rises before
+Rises (location ∷ before) = AllByRecursion (λ other. order other < order location) before × Rises before
 
 -- no location occurs twice in this list
 abbrev pub AreApart : List Location → Type 0
 AreApart [] = ⊤
-AreApart (place ∷ before) = AllByRecursion (λ other. other ≢ place) before × AreApart before
+AreApart (location ∷ before) = AllByRecursion (λ other. other ≢ location) before × AreApart before
 
 -- the file of numbers, if one is in use, covers the number of this location
 abbrev pub IsKept : Layout → Option Numbers → Location → Type 0
-IsKept layout None place = ⊤
-IsKept layout (Some kept) place = is_covered layout kept place ≡ true
+IsKept layout None location = ⊤
+IsKept layout (Some kept) location = is_covered layout kept location ≡ true
 
 -- the file of numbers, if one is in use, still covers each number that it covered
 abbrev pub KeepsAll : Option Numbers → Option Numbers → Type 0
@@ -174,7 +174,7 @@ pub record Naming : Type 0 where
 pub record IsOrderly (naming : Naming) : Type 0 where
   pub loses : LosesNone naming.has_sync naming.own naming.calls
   pub rises : Rises (standing naming.calls)
-  pub behind : AllByRecursion (λ place. order place ≤ order naming.last) (standing naming.calls)
+  pub behind : AllByRecursion (λ location. order location ≤ order naming.last) (standing naming.calls)
   pub kept : AllByRecursion (IsKept naming.layout naming.kept) (standing naming.calls)
 
 -- no location follows the last one: all numbers are in use
@@ -194,11 +194,11 @@ WasRefused old new = (refusals old.calls < refusals new.calls) ⊎ NoneIsRemaini
 
 -- the second list is the first with one more location
 abbrev pub IsOneMore : List Location → List Location → Type 0
-IsOneMore old new = (place : Location) × (new ≡ place ∷ old)
+IsOneMore old new = (location : Location) × (new ≡ location ∷ old)
 
 -- a commit was reported: one more location has a name, and is the last one that was reported
 abbrev pub IsCommitted : Naming → Naming → Type 0
-IsCommitted old new = (place : Location) × (standing new.calls ≡ place ∷ standing old.calls) × (new.own ≡ record old.own { reported = place ∷ old.own.reported })
+IsCommitted old new = (location : Location) × (standing new.calls ≡ location ∷ standing old.calls) × (new.own ≡ record old.own { reported = location ∷ old.own.reported })
 
 -- after a failed commit: the same files have names, or one more, whose name could not be removed again
 abbrev pub LeavesNames : List Location → List Location → Type 0

@@ -25,8 +25,8 @@ numbers_of line =
 
 -- whether these numbers cover that of this location: that of its file or, with subfolders, that of its subfolder
 abbrev pub is_covered : Layout → Numbers → Location → Bool
-is_covered Flat kept place = nat_le place.file kept.file
-is_covered (Levels per) kept place = nat_le place.folder kept.folder
+is_covered Flat kept location = nat_le location.file kept.file
+is_covered (Levels per) kept location = nat_le location.folder kept.folder
 
 -- the second numbers cover all that the first cover
 abbrev pub Keeps : Numbers → Numbers → Type 0

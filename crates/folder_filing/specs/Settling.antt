@@ -12,7 +12,7 @@ use Rattle.folder_filing.specs.Naming.{IsNewest, LeavesNames, Naming, WasRefused
 abbrev pub is_waiting : Pending → Bool
 is_waiting Settled = false
 is_waiting Unnamed = true
-is_waiting (Named place) = true
+is_waiting (Named location) = true
 is_waiting Lost = true
 
 -- each of so many committed files was reported, except the last one while it waits or if it was lost
@@ -29,18 +29,18 @@ is_unsettled filing = is_waiting filing.pending || not (are_durable (length fili
 
 -- the file that waits, once it has a name, is the one that the filing has named last
 abbrev pub IsNamedLast : Pending → List Location → Type 0
-IsNamedLast Settled places = ⊤
-IsNamedLast Unnamed places = ⊤
-IsNamedLast (Named place) places = IsNewest place places
-IsNamedLast Lost places = ⊤
+IsNamedLast Settled locations = ⊤
+IsNamedLast Unnamed locations = ⊤
+IsNamedLast (Named location) locations = IsNewest location locations
+IsNamedLast Lost locations = ⊤
 
 -- the effect of writing a file out that has no name: it has got one, or it is lost, and then the same files have names,
 -- or one more, whose name could not be removed again
 abbrev pub IsWrittenOut : Pending → Naming → Naming → Type 0
 IsWrittenOut Settled old new = ⊥
 IsWrittenOut Unnamed old new = ⊥
-IsWrittenOut (Named place) old new =
-    (standing new.calls ≡ place ∷ standing old.calls) × (refusals new.calls ≡ refusals old.calls) × (new.has_sync ≡ old.has_sync) × (new.own ≡ old.own)
+IsWrittenOut (Named location) old new =
+    (standing new.calls ≡ location ∷ standing old.calls) × (refusals new.calls ≡ refusals old.calls) × (new.has_sync ≡ old.has_sync) × (new.own ≡ old.own)
 IsWrittenOut Lost old new = LeavesNames (standing old.calls) (standing new.calls) × WasRefused old new × (new.has_sync ≡ old.has_sync) × (new.own ≡ old.own)
 
 -- the effect of writing out the last commit, which was in the first state and is in the second one: nothing, except for
@@ -48,22 +48,22 @@ IsWrittenOut Lost old new = LeavesNames (standing old.calls) (standing new.calls
 abbrev pub WritesOut : Pending → Pending → Naming → Naming → Type 0
 WritesOut Settled pending old new = (pending ≡ Settled) × (new ≡ old)
 WritesOut Unnamed pending old new = IsWrittenOut pending old new
-WritesOut (Named place) pending old new = (pending ≡ Named place) × (new ≡ old)
+WritesOut (Named location) pending old new = (pending ≡ Named location) × (new ≡ old)
 WritesOut Lost pending old new = (pending ≡ Lost) × (new ≡ old)
 
 -- the file that waits has its name on the disk, by this sync of names
 abbrev pub is_on_disk : Pending → List FolderNames → Bool
 is_on_disk Settled synced = false
 is_on_disk Unnamed synced = false
-is_on_disk (Named place) synced = is_synced place synced
+is_on_disk (Named location) synced = is_synced location synced
 is_on_disk Lost synced = false
 
 -- the state of the last commit after it was settled, if its name is on the disk (true) or could not be synced
 abbrev pub settled : Bool → Pending → Pending
 settled are_named Settled = Settled
 settled are_named Unnamed = Unnamed
-settled true (Named place) = Settled
-settled false (Named place) = Lost
+settled true (Named location) = Settled
+settled false (Named location) = Lost
 settled are_named Lost = Lost
 
 -- the name of a file that is lost is removed, or it could not be
@@ -74,14 +74,14 @@ TakesBack old new =
 
 -- a commit was reported, after the sync of the folder in which its file has this location
 abbrev pub reported : Location → Naming → Naming
-reported place names =
-    record names { own = record names.own { reported = place ∷ names.own.reported }; calls = Reported place ∷ Synced place.folder ∷ names.calls }
+reported location names =
+    record names { own = record names.own { reported = location ∷ names.own.reported }; calls = Reported location ∷ Synced location.folder ∷ names.calls }
 
 -- the effect of settling the last commit on the names: it is reported, or a file whose name could not be synced loses
 -- it
 abbrev pub SettlesNames : Bool → Pending → Naming → Naming → Type 0
 SettlesNames are_named Settled old new = new ≡ old
 SettlesNames are_named Unnamed old new = new ≡ old
-SettlesNames true (Named place) old new = new ≡ reported place old
-SettlesNames false (Named place) old new = TakesBack old new × (new.has_sync ≡ old.has_sync) × (new.own ≡ old.own)
+SettlesNames true (Named location) old new = new ≡ reported location old
+SettlesNames false (Named location) old new = TakesBack old new × (new.has_sync ≡ old.has_sync) × (new.own ≡ old.own)
 SettlesNames are_named Lost old new = new ≡ old

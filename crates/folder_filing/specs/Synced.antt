@@ -18,60 +18,60 @@ abbrev pub was_synced : ℕ → List Call → Bool
 was_synced folder [] = false
 was_synced folder (Created draft ∷ before) = was_synced folder before
 was_synced folder (Written ∷ before) = was_synced folder before
-was_synced folder (Linked draft place ∷ before) = was_synced folder before
-was_synced folder (SeenFree place ∷ before) = was_synced folder before
-was_synced folder (Renamed draft place ∷ before) = was_synced folder before
-was_synced folder (Removed place ∷ before) = was_synced folder before
+was_synced folder (Linked draft location ∷ before) = was_synced folder before
+was_synced folder (SeenFree location ∷ before) = was_synced folder before
+was_synced folder (Renamed draft location ∷ before) = was_synced folder before
+was_synced folder (Removed location ∷ before) = was_synced folder before
 was_synced folder (Synced other ∷ before) = nat_eq other folder || was_synced folder before
-was_synced folder (Reported place ∷ before) = was_synced folder before
+was_synced folder (Reported location ∷ before) = was_synced folder before
 was_synced folder (Refused ∷ before) = was_synced folder before
 was_synced folder (Replaced ∷ before) = was_synced folder before
 
 -- a file has this location
 abbrev pub is_at : Location → NamedFile → Bool
-is_at place file = nat_eq file.place.folder place.folder && nat_eq file.place.file place.file
+is_at location file = nat_eq file.location.folder location.folder && nat_eq file.location.file location.file
 
 -- the file of this location is one of these, and the system has synced its folder after it was named
 abbrev pub is_synced_in : Location → FolderNames → Bool
-is_synced_in place names =
-    nat_eq names.folder place.folder && list_any (is_at place) names.files && was_synced place.folder names.calls
+is_synced_in location names =
+    nat_eq names.folder location.folder && list_any (is_at location) names.files && was_synced location.folder names.calls
 
 -- the file of this location is one of those whose folders the system has synced after they were named
 abbrev pub is_synced : Location → List FolderNames → Bool
-is_synced place synced = list_any (is_synced_in place) synced
+is_synced location synced = list_any (is_synced_in location) synced
 
 -- two locations are the same
 abbrev pub is_same : Location → Location → Bool
-is_same place other = nat_eq place.folder other.folder && nat_eq place.file other.file
+is_same location other = nat_eq location.folder other.folder && nat_eq location.file other.file
 
 -- the file of this location got its name after its bytes were synced
 abbrev pub was_named : Location → List Call → Bool
-was_named place [] = false
-was_named place (Created draft ∷ before) = was_named place before
-was_named place (Written ∷ before) = was_named place before
-was_named place (Linked draft other ∷ before) = (is_same place other && is_written before) || was_named place before
-was_named place (SeenFree other ∷ before) = was_named place before
-was_named place (Renamed draft other ∷ before) = (is_same place other && is_written before) || was_named place before
-was_named place (Removed other ∷ before) = was_named place before
-was_named place (Synced folder ∷ before) = was_named place before
-was_named place (Reported other ∷ before) = was_named place before
-was_named place (Refused ∷ before) = was_named place before
-was_named place (Replaced ∷ before) = was_named place before
+was_named location [] = false
+was_named location (Created draft ∷ before) = was_named location before
+was_named location (Written ∷ before) = was_named location before
+was_named location (Linked draft other ∷ before) = (is_same location other && is_written before) || was_named location before
+was_named location (SeenFree other ∷ before) = was_named location before
+was_named location (Renamed draft other ∷ before) = (is_same location other && is_written before) || was_named location before
+was_named location (Removed other ∷ before) = was_named location before
+was_named location (Synced folder ∷ before) = was_named location before
+was_named location (Reported other ∷ before) = was_named location before
+was_named location (Refused ∷ before) = was_named location before
+was_named location (Replaced ∷ before) = was_named location before
 
 -- the file of this location is on the disk: its folder was synced after it got its name, and that after its bytes were
 -- synced
 abbrev pub is_durable : Location → List Call → Bool
-is_durable place [] = false
-is_durable place (Created draft ∷ before) = is_durable place before
-is_durable place (Written ∷ before) = is_durable place before
-is_durable place (Linked draft other ∷ before) = is_durable place before
-is_durable place (SeenFree other ∷ before) = is_durable place before
-is_durable place (Renamed draft other ∷ before) = is_durable place before
-is_durable place (Removed other ∷ before) = is_durable place before
-is_durable place (Synced folder ∷ before) = (nat_eq folder place.folder && was_named place before) || is_durable place before
-is_durable place (Reported other ∷ before) = is_durable place before
-is_durable place (Refused ∷ before) = is_durable place before
-is_durable place (Replaced ∷ before) = is_durable place before
+is_durable location [] = false
+is_durable location (Created draft ∷ before) = is_durable location before
+is_durable location (Written ∷ before) = is_durable location before
+is_durable location (Linked draft other ∷ before) = is_durable location before
+is_durable location (SeenFree other ∷ before) = is_durable location before
+is_durable location (Renamed draft other ∷ before) = is_durable location before
+is_durable location (Removed other ∷ before) = is_durable location before
+is_durable location (Synced folder ∷ before) = (nat_eq folder location.folder && was_named location before) || is_durable location before
+is_durable location (Reported other ∷ before) = is_durable location before
+is_durable location (Refused ∷ before) = is_durable location before
+is_durable location (Replaced ∷ before) = is_durable location before
 
 -- 1 for yes, 0 for no
 abbrev pub one_if : Bool → ℕ
@@ -88,6 +88,6 @@ durable_reports (SeenFree other ∷ before) = durable_reports before
 durable_reports (Renamed draft other ∷ before) = durable_reports before
 durable_reports (Removed other ∷ before) = durable_reports before
 durable_reports (Synced folder ∷ before) = durable_reports before
-durable_reports (Reported place ∷ before) = one_if (is_durable place before) + durable_reports before
+durable_reports (Reported location ∷ before) = one_if (is_durable location before) + durable_reports before
 durable_reports (Refused ∷ before) = durable_reports before
 durable_reports (Replaced ∷ before) = durable_reports before

@@ -13,12 +13,12 @@ pub enum Call {
     Written,
     /// The file of the draft with this number got the name of this location besides its own, by a
     /// hard link, which fails if the name is in use.
-    Linked { draft: u32, place: Location },
+    Linked { draft: u32, location: Location },
     /// The name of this location was checked and is free.
     SeenFree(Location),
     /// The file of the draft with this number was renamed to the name of this location, which
     /// replaces a file that has the name.
-    Renamed { draft: u32, place: Location },
+    Renamed { draft: u32, location: Location },
     /// The name of this location was removed from its file, or was gone with its folder.
     Removed(Location),
     /// The subfolder with this number was synced, or with 0 the folder itself.

@@ -91,7 +91,7 @@ impl FolderCalls {
     /// Returns the result `given` of a system call, and records a failed call if it is an error.
     pub(crate) fn passed<T, E>(&mut self, given: Result<T, E>) -> Result<T, E>
         ensures same { result ≡ given }
-        ensures taken { OnOk result (self.new ≡ self.old) }
+        ensures unchanged { OnOk result (self.new ≡ self.old) }
         ensures refused { OnErr result (self.new ≡ seen.Refused ∷ self.old) }
     {
         if given.is_err() {
@@ -131,7 +131,7 @@ impl FolderCalls {
         &mut self,
         text: Result<String<A>, AllocError>,
     ) -> io::Result<String<A>>
-        ensures taken { OnOk result (self.new ≡ self.old) }
+        ensures unchanged { OnOk result (self.new ≡ self.old) }
         ensures refused { OnErr result (self.new ≡ seen.Refused ∷ self.old) }
     {
         match self.passed(text) {
@@ -148,7 +148,7 @@ impl FolderCalls {
         identity: FolderIdentity,
         path: &str,
     ) -> io::Result<()>
-        ensures taken { OnOk result (self.new ≡ self.old) }
+        ensures unchanged { OnOk result (self.new ≡ self.old) }
         ensures refused { OnErr result (Asks (standing self.old) (refusals self.old + 1) self.old self.new) }
     {
         let found = self.passed(FolderIdentity::at(rt, path))?;
@@ -182,7 +182,7 @@ impl FolderCalls {
     ) -> io::Result<()>
         ensures traced { OnOk result (draft.new.trace.bytes ≡ draft.old.trace.bytes ++ bytes.now) }
         ensures failed { OnErr result (draft.new.trace ≡ draft.old.trace) }
-        ensures taken { OnOk result (self.new ≡ self.old) }
+        ensures unchanged { OnOk result (self.new ≡ self.old) }
         ensures refused { OnErr result (self.new ≡ seen.Refused ∷ self.old) }
     {
         self.passed(draft.write_all(bytes))
@@ -217,29 +217,29 @@ impl FolderCalls {
     pub(crate) fn has_synced<A: Allocator>(
         &mut self,
         synced: &NamesSynced<A>,
-        place: Location,
+        location: Location,
     ) -> bool
-        ensures covers { result ≡ is_synced place synced.now }
-        ensures has { result ≡ true → self.new ≡ seen.Synced place.folder ∷ self.old }
+        ensures covers { result ≡ is_synced location synced.now }
+        ensures has { result ≡ true → self.new ≡ seen.Synced location.folder ∷ self.old }
         ensures has_not { result ≡ false → self.new ≡ self.old }
     {
-        let has = synced.has(place);
+        let has = synced.has(location);
         if has {
-            self.push(&Call::Synced(place.folder));
+            self.push(&Call::Synced(location.folder));
         }
         has
     }
 
     /// Records that the commit of the file at this location is reported.
-    pub(crate) fn report(&mut self, place: Location)
-        ensures { self.new ≡ seen.Reported place ∷ self.old }
+    pub(crate) fn report(&mut self, location: Location)
+        ensures { self.new ≡ seen.Reported location ∷ self.old }
     {
-        self.push(&Call::Reported(place));
+        self.push(&Call::Reported(location));
     }
 
     /// Creates a folder for files, unless something has its path. Records a failure.
     pub(crate) fn create_folder<R: Files>(&mut self, rt: &R, path: &str) -> io::Result<()>
-        ensures taken { OnOk result (self.new ≡ self.old) }
+        ensures unchanged { OnOk result (self.new ≡ self.old) }
         ensures refused { OnErr result (self.new ≡ seen.Refused ∷ self.old) }
     {
         self.passed(create_folder(rt, path))
@@ -252,14 +252,14 @@ impl FolderCalls {
         rt: &R,
         file: &mut NumbersFile<R::A>,
         layout: Layout,
-        place: Location,
+        location: Location,
     ) -> io::Result<()>
-        ensures kept { OnOk result (is_covered layout file.new.kept place ≡ true) }
+        ensures kept { OnOk result (is_covered layout file.new.kept location ≡ true) }
         ensures keeps { Keeps file.old.kept file.new.kept }
-        ensures taken { OnOk result (self.new ≡ self.old) }
+        ensures unchanged { OnOk result (self.new ≡ self.old) }
         ensures refused { OnErr result (self.new ≡ seen.Refused ∷ self.old) }
     {
-        self.passed(file.keep(rt, layout, place))
+        self.passed(file.keep(rt, layout, location))
     }
 
     /// Gives the file of a draft the target name as a second name, by a hard link. Returns `None`,
@@ -271,11 +271,11 @@ impl FolderCalls {
         draft: &DraftPath<R::A>,
         target: Target<'_>,
     ) -> io::Result<Option<Obstacle>>
-        ensures { TriesLeave (seen.Linked draft.now target.entry.place) result self.old self.new }
+        ensures { TriesLeave (seen.Linked draft.now target.entry.location) result self.old self.new }
     {
         let call = Call::Linked {
             draft: draft.number(),
-            place: target.place,
+            location: target.location,
         };
         match fs::hard_link(rt, draft.as_str(), target.path) {
             Err(error) if is_without_links(&error) => Ok(Some(Obstacle::NoLinks)),
@@ -290,10 +290,10 @@ impl FolderCalls {
         rt: &R,
         target: Target<'_>,
     ) -> io::Result<Option<Obstacle>>
-        ensures { TriesLeave (seen.SeenFree target.entry.place) result self.old self.new }
+        ensures { TriesLeave (seen.SeenFree target.entry.location) result self.old self.new }
     {
         self.tried(
-            Call::SeenFree(target.place),
+            Call::SeenFree(target.location),
             check_free(rt, target.path),
             target,
         )
@@ -307,11 +307,11 @@ impl FolderCalls {
         draft: &DraftPath<R::A>,
         target: Target<'_>,
     ) -> io::Result<Option<Obstacle>>
-        ensures { TriesLeave (seen.Renamed draft.now target.entry.place) result self.old self.new }
+        ensures { TriesLeave (seen.Renamed draft.now target.entry.location) result self.old self.new }
     {
         let call = Call::Renamed {
             draft: draft.number(),
-            place: target.place,
+            location: target.location,
         };
         let given = fs::rename(rt, draft.as_str(), target.path);
         self.tried(call, given, target)
@@ -326,7 +326,7 @@ impl FolderCalls {
         draft: &str,
         target: Target<'_>,
     ) -> io::Result<()>
-        ensures removed { OnOk result (self.new ≡ seen.Removed target.entry.place ∷ self.old) }
+        ensures removed { OnOk result (self.new ≡ seen.Removed target.entry.location ∷ self.old) }
         ensures refused { OnErr result (self.new ≡ seen.Refused ∷ self.old) }
     {
         let own = self.passed(FolderIdentity::at(rt, draft))?;
@@ -335,17 +335,17 @@ impl FolderCalls {
             Err(error) if error.kind() != ErrorKind::NotFound => return self.passed(Err(error)),
             _ => {}
         }
-        self.push(&Call::Removed(target.place));
+        self.push(&Call::Removed(target.location));
         Ok(())
     }
 
     /// Removes the file with the target name, and records the removal, or the failure.
     pub(crate) fn remove<R: Files>(&mut self, rt: &R, target: Target<'_>) -> io::Result<()>
-        ensures removed { OnOk result (self.new ≡ seen.Removed target.entry.place ∷ self.old) }
+        ensures removed { OnOk result (self.new ≡ seen.Removed target.entry.location ∷ self.old) }
         ensures refused { OnErr result (self.new ≡ seen.Refused ∷ self.old) }
     {
         self.passed(fs::remove_file(rt, target.path))?;
-        self.push(&Call::Removed(target.place));
+        self.push(&Call::Removed(target.location));
         Ok(())
     }
 }

@@ -261,7 +261,7 @@ where
         ensures written { OnOk result (IsWritten self.new.names.has_sync self.new.names.calls) }
         ensures sync { self.new.names.has_sync ≡ self.old.names.has_sync }
         ensures own { self.new.names.own ≡ self.old.names.own }
-        ensures taken { OnOk result (refusals self.new.names.calls ≡ refusals self.old.names.calls) }
+        ensures unchanged { OnOk result (refusals self.new.names.calls ≡ refusals self.old.names.calls) }
         ensures refused { OnErr result (refusals self.old.names.calls < refusals self.new.names.calls) }
     {
         match &self.draft {
@@ -271,10 +271,10 @@ where
     }
 
     /// Notes the location of a file that was committed.
-    fn note(&self, place: Location) {
-        self.notes.committed(place);
-        if self.folder.runs_low(place) {
-            self.notes.ran_low(place);
+    fn note(&self, location: Location) {
+        self.notes.committed(location);
+        if self.folder.runs_low(location) {
+            self.notes.ran_low(location);
         }
     }
 
@@ -296,12 +296,12 @@ where
         ensures failed { OnErr result (self.new.contents.files ≡ self.old.contents.files) }
         ensures same_count { self.new.contents.failures ≡ self.old.contents.failures }
     {
-        let place = self.folder.name_draft(false, &mut self.names)?;
-        self.names.report(place);
+        let location = self.folder.name_draft(false, &mut self.names)?;
+        self.names.report(location);
         if let Some(draft) = &self.draft {
             self.kept.push(draft.trace());
         }
-        Ok(place)
+        Ok(location)
     }
 
     /// Removes the draft name of a file that was just committed, which it still has after a hard
@@ -327,10 +327,10 @@ where
         ensures same_count { self.new.contents.failures ≡ self.old.contents.failures }
     {
         self.sync_draft()?;
-        let place = self.name_draft()?;
+        let location = self.name_draft()?;
         self.draft = None;
         self.remove_old_name();
-        self.note(place);
+        self.note(location);
         self.committed = self.committed.saturating_add(1);
         Ok(())
     }
@@ -382,7 +382,7 @@ where
     fn append(&mut self, bytes: &[u8]) -> Result<(), FilingFailed>
         requires { (store_of self.old.contents).has_draft ≡ true }
         ensures leaves { LeavesStore (appended bytes.now) true result (store_of self.old.contents) (store_of self.new.contents) }
-        ensures taken { OnOk result (self.new.names ≡ self.old.names) }
+        ensures unchanged { OnOk result (self.new.names ≡ self.old.names) }
         ensures refused { OnErr result (refusals self.old.names.calls < refusals self.new.names.calls) }
         ensures sync { self.new.names.has_sync ≡ self.old.names.has_sync }
         ensures own { self.new.names.own ≡ self.old.names.own }

@@ -73,16 +73,16 @@ impl<A: Allocator> GivenNames<A> {
     }
 
     /// Records that the commit of the file at this location, the last one named, is reported.
-    pub(crate) fn report(&mut self, place: Location)
-        requires newest { ∥ IsNewest place (standing self.old.calls) ∥₁ }
+    pub(crate) fn report(&mut self, location: Location)
+        requires newest { ∥ IsNewest location (standing self.old.calls) ∥₁ }
         requires synced { self.old.has_sync ≡ true → IsNameSynced self.old.calls }
         ensures reported { self.new ≡ record self.old {
-          own = record self.old.own { reported = place ∷ self.old.own.reported };
-          calls = seen.Reported place ∷ self.old.calls;
+          own = record self.old.own { reported = location ∷ self.old.own.reported };
+          calls = seen.Reported location ∷ self.old.calls;
         } }
         ensures orderly { ∥ IsOrderly self.old ∥₁ → ∥ IsOrderly self.new ∥₁ }
     {
-        self.calls.report(place);
-        self.reported.push(&place);
+        self.calls.report(location);
+        self.reported.push(&location);
     }
 }

@@ -21,7 +21,7 @@ use std::io::{self, Error, ErrorKind};
 use std::rt::Files;
 
 mod groups;
-mod places;
+mod locations;
 mod subfolders;
 
 /// A folder that stays locked until this value is dropped. All filings over it share it, so that
@@ -157,7 +157,7 @@ where
 
     /// Fails if the path leads to another folder than the locked one.
     fn check_path(&self, calls: &mut FolderCalls) -> io::Result<()>
-        ensures taken { OnOk result (calls.new ≡ calls.old) }
+        ensures unchanged { OnOk result (calls.new ≡ calls.old) }
         ensures refused { OnErr result (Asks (standing calls.old) (refusals calls.old + 1) calls.old calls.new) }
     {
         calls.check_at(&self.rt, self.identity(), self.dir.as_str())
@@ -204,12 +204,12 @@ where
         quarantine.take_in(draft.as_str())
     }
 
-    fn path_of(&self, place: Location) -> Result<String<R::A>, AllocError> {
+    fn path_of(&self, location: Location) -> Result<String<R::A>, AllocError> {
         let dir = self.dir.as_str();
-        if place.folder == 0 {
-            return file_path(self.rt.alloc(), dir, place.file);
+        if location.folder == 0 {
+            return file_path(self.rt.alloc(), dir, location.file);
         }
-        let folder = folder_path(self.rt.alloc(), dir, place.folder)?;
-        file_path(self.rt.alloc(), folder.as_str(), place.file)
+        let folder = folder_path(self.rt.alloc(), dir, location.folder)?;
+        file_path(self.rt.alloc(), folder.as_str(), location.file)
     }
 }

@@ -11,7 +11,7 @@ use crate::naming::{Named, Target};
 /// A file that the system has just named: only [`NamedFile::newest`] makes one.
 #[derive(Clone, Copy)]
 pub(crate) struct NamedFile {
-    place: Location,
+    location: Location,
     how: Named,
     /// The subfolder that had this number right before the file was named.
     folder: Option<FolderIdentity>,
@@ -20,21 +20,21 @@ pub(crate) struct NamedFile {
 impl NamedFile {
     /// Returns the file that was named last, with the name of this target.
     pub(crate) fn newest(target: Target<'_>, how: Named, _calls: &FolderCalls) -> NamedFile
-        requires { ∥ IsNewest target.place (standing _calls.now) ∥₁ }
-        ensures place { result.place ≡ target.entry.place }
+        requires { ∥ IsNewest target.location (standing _calls.now) ∥₁ }
+        ensures location { result.location ≡ target.entry.location }
         ensures how { result.how ≡ how }
     {
         NamedFile {
-            place: target.place,
+            location: target.location,
             how,
             folder: target.folder,
         }
     }
 
-    pub(crate) fn place(self) -> Location
-        ensures { result ≡ self.place }
+    pub(crate) fn location(self) -> Location
+        ensures { result ≡ self.location }
     {
-        self.place
+        self.location
     }
 
     pub(crate) fn how(self) -> Named
@@ -48,14 +48,14 @@ impl NamedFile {
     }
 
     /// Returns whether the file is at this location.
-    pub(crate) fn is_at(self, place: Location) -> bool
-        ensures { result ≡ is_at place self }
+    pub(crate) fn is_at(self, location: Location) -> bool
+        ensures { result ≡ is_at location self }
     {
-        self.place.folder == place.folder && self.place.file == place.file
+        self.location.folder == location.folder && self.location.file == location.file
     }
 
     /// Returns whether the draft of the file was renamed from another folder.
     pub(crate) fn has_remaining(self) -> bool {
-        self.place.folder != 0 && self.how == Named::Renamed
+        self.location.folder != 0 && self.how == Named::Renamed
     }
 }

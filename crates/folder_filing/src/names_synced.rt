@@ -54,14 +54,14 @@ impl<A: Allocator> SyncedFolder<A> {
     }
 
     /// Returns whether the file at this location is among the files.
-    fn has(&self, place: Location) -> bool
-        ensures { result ≡ is_synced_in place self.now }
+    fn has(&self, location: Location) -> bool
+        ensures { result ≡ is_synced_in location self.now }
     {
-        if self.number != place.folder {
+        if self.number != location.folder {
             return false;
         }
         for file in &self.files {
-            if file.is_at(place) {
+            if file.is_at(location) {
                 return true;
             }
         }
@@ -134,11 +134,11 @@ impl<A: Allocator> NamesSynced<A> {
     }
 
     /// Returns whether the file at this location has its name on the disk.
-    pub(crate) fn has(&self, place: Location) -> bool
-        ensures { result ≡ is_synced place self.now }
+    pub(crate) fn has(&self, location: Location) -> bool
+        ensures { result ≡ is_synced location self.now }
     {
         for folder in &self.folders {
-            if folder.has(place) {
+            if folder.has(location) {
                 return true;
             }
         }

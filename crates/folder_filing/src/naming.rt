@@ -26,7 +26,7 @@ pub(crate) enum Named {
 #[derive(Clone, Copy, PartialEq, Eq)]
 pub(crate) enum Obstacle {
     /// The name is in use.
-    Taken,
+    InUse,
     /// The subfolder in the path does not exist, or was moved away while the file was named.
     Missing,
     /// The subfolder in the path is no directory.
@@ -45,7 +45,7 @@ pub(crate) enum Attempt {
 /// The name that a file is to get: its location, and the path of that location.
 #[derive(Clone, Copy)]
 pub(crate) struct Target<'a> {
-    pub(crate) place: Location,
+    pub(crate) location: Location,
     pub(crate) path: &'a str,
     pub(crate) layout: Layout,
     /// Whether the file and its name are synced to the disk.
@@ -68,7 +68,7 @@ pub(crate) fn is_without_links(error: &Error) -> bool {
 pub(crate) fn obstacle_of(error: &Error, target: Target<'_>) -> Option<Obstacle> {
     let in_levels = matches!(target.layout, Layout::Levels { .. });
     match error.kind() {
-        ErrorKind::AlreadyExists => Some(Obstacle::Taken),
+        ErrorKind::AlreadyExists => Some(Obstacle::InUse),
         ErrorKind::NotFound if in_levels && target.may_miss => Some(Obstacle::Missing),
         ErrorKind::NotADirectory if in_levels => Some(Obstacle::Blocked),
         _ => None,
@@ -96,7 +96,7 @@ pub(crate) fn name_file<R: Files + Alloc>(
     target: Target<'_>,
     calls: &mut FolderCalls,
 ) -> io::Result<Attempt>
-    ensures remaining { NameLeaves target.entry.has_sync draft.now target.entry.place result calls.old calls.new }
+    ensures remaining { NameLeaves target.entry.has_sync draft.now target.entry.location result calls.old calls.new }
 {
     match calls.link(rt, draft, target)? {
         None => {

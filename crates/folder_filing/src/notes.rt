@@ -16,7 +16,7 @@ pub struct DraftNotes<R: Files + Alloc + Clone + Drop>
 where
     R::File: StoredFile,
 {
-    place: Cell<Option<Location>>,
+    location: Cell<Option<Location>>,
     error: Cell<Option<Error>>,
     low: Cell<Option<Location>>,
     aside: Cell<Option<SetAside<R>>>,
@@ -30,7 +30,7 @@ where
     /// Creates empty notes.
     pub(crate) fn new() -> DraftNotes<R> {
         DraftNotes {
-            place: Cell::new(None),
+            location: Cell::new(None),
             error: Cell::new(None),
             low: Cell::new(None),
             aside: Cell::new(None),
@@ -39,8 +39,8 @@ where
     }
 
     /// Records that a draft was committed as the file at this location.
-    pub(crate) fn committed(&self, place: Location) {
-        self.place.set(Some(place));
+    pub(crate) fn committed(&self, location: Location) {
+        self.location.set(Some(location));
     }
 
     /// Records the error of a failed call.
@@ -49,8 +49,8 @@ where
     }
 
     /// Records the warning that few numbers remain after this location.
-    pub(crate) fn ran_low(&self, place: Location) {
-        self.low.set(Some(place));
+    pub(crate) fn ran_low(&self, location: Location) {
+        self.low.set(Some(location));
     }
 
     /// Records a draft that was moved to a quarantine. Removes the draft recorded before, if it was
@@ -86,8 +86,8 @@ where
 
     /// Returns the location of the last committed file, or `None` if none was committed since the
     /// last call.
-    pub fn take_place(&self) -> Option<Location> {
-        self.place.take()
+    pub fn take_location(&self) -> Option<Location> {
+        self.location.take()
     }
 
     /// Returns the error of the last failed call of the filing, or `None` if none failed since the

@@ -59,32 +59,32 @@ impl Numbers {
 
     /// Returns whether these numbers cover this location: the number of its file or, with
     /// subfolders, that of its subfolder. Only covered numbers are given.
-    fn covers(self, layout: Layout, place: Location) -> bool
-        ensures { result ≡ is_covered layout self place }
+    fn covers(self, layout: Layout, location: Location) -> bool
+        ensures { result ≡ is_covered layout self location }
     {
         match layout {
-            Layout::Flat => place.file <= self.file,
-            Layout::Levels { .. } => place.folder <= self.folder,
+            Layout::Flat => location.file <= self.file,
+            Layout::Levels { .. } => location.folder <= self.folder,
         }
     }
 
     /// Returns the numbers to write before a number that these do not cover is given, that of this
     /// location. Without subfolders they reserve 100 numbers, starting with it.
-    fn with(self, layout: Layout, place: Location) -> Numbers
-        requires uncovered { is_covered layout self place ≡ false }
-        ensures covers { is_covered layout result place ≡ true }
+    fn with(self, layout: Layout, location: Location) -> Numbers
+        requires uncovered { is_covered layout self location ≡ false }
+        ensures covers { is_covered layout result location ≡ true }
         ensures keeps { Keeps self result }
     {
         match layout {
             Layout::Flat => Numbers {
-                file: place
+                file: location
                     .file
-                    .max(GREATEST.min(place.file.saturating_add(AHEAD - 1))),
+                    .max(GREATEST.min(location.file.saturating_add(AHEAD - 1))),
                 folder: self.folder,
             },
             Layout::Levels { .. } => Numbers {
                 file: self.file,
-                folder: place.folder,
+                folder: location.folder,
             },
         }
     }
@@ -199,7 +199,7 @@ impl<A: Allocator> NumbersFile<A> {
     /// Records the numbers that another filing of the folder has written to the file.
     pub(crate) fn take_over(&mut self, kept: Numbers)
         ensures keeps { Keeps self.old.kept self.new.kept }
-        ensures taken { Keeps kept self.new.kept }
+        ensures covers { Keeps kept self.new.kept }
     {
         self.kept = self.kept.max(kept);
     }
@@ -219,14 +219,14 @@ impl<A: Allocator> NumbersFile<A> {
         &mut self,
         rt: &R,
         layout: Layout,
-        place: Location,
+        location: Location,
     ) -> io::Result<()>
-        ensures kept { OnOk result (is_covered layout self.new.kept place ≡ true) }
+        ensures kept { OnOk result (is_covered layout self.new.kept location ≡ true) }
         ensures keeps { Keeps self.old.kept self.new.kept }
         ensures failed { OnErr result (self.new.kept ≡ self.old.kept) }
     {
-        if !self.kept.covers(layout, place) {
-            let numbers = self.kept.with(layout, place);
+        if !self.kept.covers(layout, location) {
+            let numbers = self.kept.with(layout, location);
             replace(rt, self.path.as_str(), numbers)?;
             self.kept = numbers;
         }

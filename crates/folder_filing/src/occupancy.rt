@@ -26,8 +26,8 @@ impl Occupancy {
         ensures number { IfSome result (λ new. new.last ≤ 999999) }
         ensures some { self.kept + self.pending < self.most → self.last < 999999 → IsSome result }
     {
-        let taken = u64::from(self.kept) + u64::from(self.pending);
-        if taken >= u64::from(self.most) || self.last >= GREATEST {
+        let used = u64::from(self.kept) + u64::from(self.pending);
+        if used >= u64::from(self.most) || self.last >= GREATEST {
             return None;
         }
         Some(Occupancy {

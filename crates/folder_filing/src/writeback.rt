@@ -52,7 +52,7 @@ impl Writeback {
         ensures least { IfSome result (λ range. 4194304 ≤ range.count) }
         ensures none { IfNone result (self.new.from ≡ self.old.from) }
         ensures some { 4194304 ≤ self.old.waiting + count → self.old.from + self.old.waiting + count < 2 ^ 64 → IsSome result }
-        ensures taken { self.old.from + self.old.waiting + count < 2 ^ 64 → self.new.from + self.new.waiting ≡ self.old.from + self.old.waiting + count }
+        ensures consumed { self.old.from + self.old.waiting + count < 2 ^ 64 → self.new.from + self.new.waiting ≡ self.old.from + self.old.waiting + count }
     {
         let waiting = self.waiting.saturating_add(count as u64);
         match self.from.checked_add(waiting) {

@@ -31,8 +31,8 @@ pub(crate) enum Reason {
 /// Returns whether a directory has IMAGE records for instances of this class; `true` for a class
 /// outside the standard's table, which has fewer than 256 rows.
 fn is_image_class(uid: &[u8]) -> bool {
-    for place in 0..256 {
-        match storage_class(place) {
+    for index in 0..256 {
+        match storage_class(index) {
             Some(class) if class.uid == uid => return class.is_image,
             Some(_) => {}
             None => break,

@@ -40,8 +40,8 @@ impl<A: Allocator + Copy> FirstRows<A> {
 
     /// Returns the file of the first row with this SOP Instance UID.
     fn file(&self, instance: &[u8]) -> Option<FileId> {
-        let place = self.instances.get_index_of(instance)?;
-        self.files.get(place).copied()
+        let index = self.instances.get_index_of(instance)?;
+        self.files.get(index).copied()
     }
 }
 
@@ -84,8 +84,8 @@ where
         return Ok(());
     }
     let first = FirstRows::of(rt.alloc(), built.rows())?;
-    for place in built.duplicates() {
-        if let Some(row) = built.rows().get(*place) {
+    for index in built.duplicates() {
+        if let Some(row) = built.rows().get(*index) {
             if let Some(file) = first.file(row.instance()) {
                 report_duplicate(rt, dir, (row.file_id(), file), err)?;
             }
@@ -99,8 +99,8 @@ pub(crate) fn list_duplicates<A: Allocator, O: Write>(
     built: &Built<'_, A>,
     out: &mut O,
 ) -> io::Result<()> {
-    for place in built.duplicates() {
-        if let Some(row) = built.rows().get(*place) {
+    for index in built.duplicates() {
+        if let Some(row) = built.rows().get(*index) {
             let path = PathText(row.file_id());
             writeln!(out, "double {path}")?;
         }

@@ -40,11 +40,11 @@ pub(crate) fn open_object<O: Write>(skipped: &[Skipped], out: &mut O) -> io::Res
 /// Writes the file of the row at this index as an element of an array.
 fn write_duplicate<A: Allocator, O: Write>(
     built: &Built<'_, A>,
-    place: usize,
+    index: usize,
     between: &str,
     out: &mut O,
 ) -> io::Result<()> {
-    match built.rows().get(place) {
+    match built.rows().get(index) {
         Some(row) => {
             let path = PathText(row.file_id());
             write!(out, "{between}\"{path}\"")
@@ -59,8 +59,8 @@ pub(crate) fn write_duplicates<A: Allocator, O: Write>(
     out: &mut O,
 ) -> io::Result<()> {
     let mut between = "";
-    for place in built.duplicates() {
-        write_duplicate(built, *place, between, out)?;
+    for index in built.duplicates() {
+        write_duplicate(built, *index, between, out)?;
         between = ",";
     }
     Ok(())

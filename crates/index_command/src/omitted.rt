@@ -20,7 +20,7 @@ fn fault_name(number: u8) -> &'static str {
     }
     let fault = DirFault {
         number,
-        place: 0,
+        offset: 0,
         tag: Tag(0, 0),
     };
     fault.name()
@@ -79,8 +79,8 @@ fn write_count<E: Write>(count: usize, text: &str, comma: &str, err: &mut E) -> 
 /// Writes each reason once, with its number of files.
 fn write_reasons<E: Write>(skipped: &[Skipped], err: &mut E) -> io::Result<()> {
     let mut comma = "";
-    for (place, file) in skipped.iter().enumerate() {
-        let before = skipped.get(..place).unwrap_or(&[]);
+    for (index, file) in skipped.iter().enumerate() {
+        let before = skipped.get(..index).unwrap_or(&[]);
         if !before
             .iter()
             .any(|other: &Skipped| are_same(&other.reason, &file.reason))

@@ -15,4 +15,4 @@ vr_by_rule tag =
 
 -- whether an element or item at this offset, of this length unless it is undefined, passes the end of its level
 abbrev pub passes : ℕ → ℕ → ℕ → Bool
-passes place length end = not (nat_eq length 0xffff_ffff) && nat_lt (end - place) length
+passes offset length end = not (nat_eq length 0xffff_ffff) && nat_lt (end - offset) length

@@ -25,7 +25,7 @@ tag_of group element = tag_with (number_of group) (number_of element)
 
 -- whether a text has this byte at this offset
 abbrev pub is_at : List ℕ → ℕ → ℕ → Bool
-is_at text place byte = nat_eq (get_or text place 0) byte
+is_at text offset byte = nat_eq (get_or text offset 0) byte
 
 -- the tag that a text spells: alone, with a comma between group and element, or also in parentheses
 abbrev pub tag_spelled : List ℕ → Option Tag

@@ -21,7 +21,7 @@ const SHORT: usize = 1024;
 #[derive(Clone, Copy)]
 struct Due {
     /// The offset of the value's header.
-    place: u64,
+    offset: u64,
     tag: Tag,
     vr: Vr,
     length: usize,
@@ -29,14 +29,14 @@ struct Due {
 
 /// Returns the value to check after a header, or `None` if it is longer than `SHORT` or its VR is
 /// unknown.
-fn due_of(place: u64, header: Header) -> Option<Due> {
+fn due_of(offset: u64, header: Header) -> Option<Due> {
     let length = header.length as usize;
     if SHORT < length {
         return None;
     }
     let vr = header.vr.or(vr_of(header.tag))?;
     Some(Due {
-        place,
+        offset,
         tag: header.tag,
         vr,
         length,
@@ -55,7 +55,7 @@ struct Values {
 fn note_of(due: Due, value: &[u8]) -> Option<Judgement> {
     match check_value(due.vr, value) {
         Ok(()) => None,
-        Err(fault) => Some(Judgement::Note(due.place, due.tag, due.vr, fault)),
+        Err(fault) => Some(Judgement::Note(due.offset, due.tag, due.vr, fault)),
     }
 }
 
@@ -70,13 +70,13 @@ impl<O: Write> Listing<O> for Values {
 
     fn on_header(
         &mut self,
-        place: u64,
+        offset: u64,
         _levels: usize,
         header: &Header,
         _out: &mut O,
     ) -> io::Result<()> {
         self.value.clear();
-        self.due = due_of(place, *header);
+        self.due = due_of(offset, *header);
         Ok(())
     }
 
@@ -97,7 +97,7 @@ impl<O: Write> Listing<O> for Values {
         self.notes.add_value(&note, &shown, out)
     }
 
-    fn on_items_fault(&mut self, _place: u64, _tag: Tag, _out: &mut O) -> io::Result<()> {
+    fn on_items_fault(&mut self, _offset: u64, _tag: Tag, _out: &mut O) -> io::Result<()> {
         Ok(())
     }
 
@@ -125,8 +125,8 @@ fn check_usual<R: Read, O: Write>(
         value: ArrayVec::new(),
         notes,
     };
-    let taken = (syntaxes, Vocabulary::Dictionary);
-    let outcome = list(input, taken, &mut values, out);
+    let accepted = (syntaxes, Vocabulary::Dictionary);
+    let outcome = list(input, accepted, &mut values, out);
     let notes = values.notes;
     (outcome, NoteCounts { notes, unjudged: 0 })
 }

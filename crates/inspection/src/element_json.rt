@@ -52,7 +52,7 @@ pub(crate) struct ElementsJson<'a> {
 
 /// Writes the members of an element except its value.
 fn write_element<O: Write>(
-    (place, levels): (u64, usize),
+    (offset, levels): (u64, usize),
     header: &Header,
     before: &str,
     out: &mut O,
@@ -62,7 +62,7 @@ fn write_element<O: Write>(
     let (tag, length) = (TagText(tag), LengthJson(length));
     write!(
         out,
-        "{before}{{\"place\":{place},\"level\":{levels},\"tag\":\"{tag}\","
+        "{before}{{\"place\":{offset},\"level\":{levels},\"tag\":\"{tag}\","
     )?;
     write!(out, "\"vr\":{vr},\"length\":{length},\"keyword\":{keyword}")
 }
@@ -129,7 +129,7 @@ impl<O: Write> Listing<O> for ElementsJson<'_> {
 
     fn on_header(
         &mut self,
-        place: u64,
+        offset: u64,
         levels: usize,
         header: &Header,
         out: &mut O,
@@ -141,7 +141,7 @@ impl<O: Write> Listing<O> for ElementsJson<'_> {
             return Ok(());
         }
         let before = self.close(out)?;
-        write_element((place, levels), header, before, out)?;
+        write_element((offset, levels), header, before, out)?;
         self.written = Written::Open;
         if self.options.values {
             let vr = header.vr.or(vr_of(tag));
@@ -164,7 +164,7 @@ impl<O: Write> Listing<O> for ElementsJson<'_> {
         Ok(())
     }
 
-    fn on_items_fault(&mut self, _place: u64, _tag: Tag, _out: &mut O) -> io::Result<()> {
+    fn on_items_fault(&mut self, _offset: u64, _tag: Tag, _out: &mut O) -> io::Result<()> {
         Ok(())
     }
 

@@ -87,8 +87,8 @@ impl ElementVrs {
 
     /// Sets the values of a level on which VRs depend.
     fn put(&mut self, level: usize, vrs: LevelVrs) {
-        if let Some(place) = self.levels.get_mut(level) {
-            *place = vrs;
+        if let Some(offset) = self.levels.get_mut(level) {
+            *offset = vrs;
         }
     }
 

@@ -57,12 +57,12 @@ impl Entering {
         }
     }
 
-    /// Starts reading the items of a sequence, whose header spans the offsets from `place` to
+    /// Starts reading the items of a sequence, whose header spans the offsets from `offset` to
     /// `end`.
-    fn enter(&mut self, (place, end): (u64, u64), levels: usize, header: &Header) {
+    fn enter(&mut self, (offset, end): (u64, u64), levels: usize, header: &Header) {
         self.items.begin(end, levels, header.length);
         self.bytes = BytesOf::Items;
-        self.sequence = Some((place, header.tag));
+        self.sequence = Some((offset, header.tag));
     }
 
     /// Returns the header with its VR, if the VR is known.

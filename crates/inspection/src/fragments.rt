@@ -55,17 +55,17 @@ impl Fragments {
     }
 
     /// Applies a header at an offset of the file.
-    pub(crate) fn on_header(&mut self, place: u64, header: &Header) -> FragmentEvent {
+    pub(crate) fn on_header(&mut self, offset: u64, header: &Header) -> FragmentEvent {
         let is_item = header.tag == Tag::ITEM;
         match self.next {
             Next::Table if is_item => {
                 let length = u64::from(header.length);
                 self.next = Next::Fragment(
-                    place.saturating_add(ITEM_HEADER).saturating_add(length),
+                    offset.saturating_add(ITEM_HEADER).saturating_add(length),
                 );
                 FragmentEvent::Table
             }
-            Next::Fragment(first) if is_item => FragmentEvent::Fragment(place.saturating_sub(
+            Next::Fragment(first) if is_item => FragmentEvent::Fragment(offset.saturating_sub(
                 first,
             )),
             Next::Element if opens_fragments(header) => {

@@ -76,7 +76,7 @@ impl FrameTables {
 
     /// Applies a header outside Pixel Data. An extended table precedes Pixel Data in the same level
     /// and group.
-    fn on_element(&mut self, place: u64, level: usize, header: &Header) {
+    fn on_element(&mut self, offset: u64, level: usize, header: &Header) {
         let Header { tag, length, vr } = *header;
         if tag.0 != OFFSETS.0 || level != self.level {
             self.forget();
@@ -86,10 +86,10 @@ impl FrameTables {
             return;
         }
         if tag == OFFSETS {
-            self.offsets.begin(place, length);
+            self.offsets.begin(offset, length);
             self.value = TableValue::Offsets;
         } else if tag == LENGTHS {
-            self.lengths.begin(place, length);
+            self.lengths.begin(offset, length);
             self.value = TableValue::Lengths;
         }
     }
@@ -106,22 +106,22 @@ impl FrameTables {
             return None;
         }
         self.lengths.close();
-        let (place, tag) = if lengths > 0 {
-            (self.lengths.place(), LENGTHS)
+        let (offset, tag) = if lengths > 0 {
+            (self.lengths.offset(), LENGTHS)
         } else {
-            (self.offsets.place(), OFFSETS)
+            (self.offsets.offset(), OFFSETS)
         };
         let fault = TableFault::WrongCount;
-        Some(Judgement::TableNote(place, tag, Some(Vr::OV), fault))
+        Some(Judgement::TableNote(offset, tag, Some(Vr::OV), fault))
     }
 
     /// Starts the Basic Offset Table. Returns a note if there is an extended table as well.
-    fn begin_basic(&mut self, place: u64, length: u32) -> Option<Judgement> {
+    fn begin_basic(&mut self, offset: u64, length: u32) -> Option<Judgement> {
         if length > 0 && self.offsets.length() > 0 {
             let fault = TableFault::SecondTable;
-            return Some(Judgement::TableNote(place, Tag::ITEM, None, fault));
+            return Some(Judgement::TableNote(offset, Tag::ITEM, None, fault));
         }
-        self.basic.begin(place, length);
+        self.basic.begin(offset, length);
         self.value = TableValue::Basic;
         None
     }
@@ -129,9 +129,9 @@ impl FrameTables {
     /// Returns the note of this fault for the table of offsets in use.
     fn note(&self, fault: TableFault) -> Judgement {
         if self.offsets.length() > 0 {
-            Judgement::TableNote(self.offsets.place(), OFFSETS, Some(Vr::OV), fault)
+            Judgement::TableNote(self.offsets.offset(), OFFSETS, Some(Vr::OV), fault)
         } else {
-            Judgement::TableNote(self.basic.place(), Tag::ITEM, None, fault)
+            Judgement::TableNote(self.basic.offset(), Tag::ITEM, None, fault)
         }
     }
 
@@ -142,8 +142,8 @@ impl FrameTables {
         }
         self.lengths.close();
         let fault = TableFault::WrongLength;
-        let place = self.lengths.place();
-        Some(Judgement::TableNote(place, LENGTHS, Some(Vr::OV), fault))
+        let offset = self.lengths.offset();
+        Some(Judgement::TableNote(offset, LENGTHS, Some(Vr::OV), fault))
     }
 
     /// Compares a fragment, at offset `at` from the first fragment, with the table of offsets.
@@ -196,18 +196,18 @@ impl FrameTables {
     /// Applies a header. Returns the note of a wrong table, if any.
     pub(crate) fn on_header(
         &mut self,
-        place: u64,
+        offset: u64,
         level: usize,
         header: &Header,
     ) -> Option<Judgement> {
         self.value = TableValue::Other;
-        match self.fragments.on_header(place, header) {
+        match self.fragments.on_header(offset, header) {
             FragmentEvent::Outside => {
-                self.on_element(place, level, header);
+                self.on_element(offset, level, header);
                 None
             }
             FragmentEvent::Opens => self.open(level),
-            FragmentEvent::Table => self.begin_basic(place, header.length),
+            FragmentEvent::Table => self.begin_basic(offset, header.length),
             FragmentEvent::Fragment(at) => self.meet(at, header.length),
             FragmentEvent::Ends => self.end(),
         }

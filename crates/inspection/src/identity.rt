@@ -75,9 +75,9 @@ impl Identity {
         if header.length == 0 {
             return;
         }
-        for place in 0..MOST_DUE {
-            if self.due[place] == Some(header.tag) {
-                self.due[place] = None;
+        for offset in 0..MOST_DUE {
+            if self.due[offset] == Some(header.tag) {
+                self.due[offset] = None;
             }
         }
     }
@@ -85,10 +85,10 @@ impl Identity {
     /// Returns the tag of a required UID that is absent before an element with this tag number.
     /// Returns each tag once.
     pub(crate) fn take_missing(&mut self, number: u32) -> Option<Tag> {
-        for place in 0..MOST_DUE {
-            if let Some(tag) = self.due[place] {
+        for offset in 0..MOST_DUE {
+            if let Some(tag) = self.due[offset] {
                 if tag.number() < number {
-                    self.due[place] = None;
+                    self.due[offset] = None;
                     return Some(tag);
                 }
             }

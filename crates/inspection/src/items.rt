@@ -36,10 +36,10 @@ impl Default for OpenLevel {
 }
 
 /// Returns whether an element of this length at an offset extends past the end of its level.
-fn passes(place: u64, length: u32, end: u64) -> bool
-    ensures { result ≡ spelling.passes place length end }
+fn passes(offset: u64, length: u32, end: u64) -> bool
+    ensures { result ≡ spelling.passes offset length end }
 {
-    length != UNDEFINED && end.saturating_sub(place) < u64::from(length)
+    length != UNDEFINED && end.saturating_sub(offset) < u64::from(length)
 }
 
 /// What a step read.
@@ -63,7 +63,7 @@ pub(crate) struct ItemReader {
     /// How many bytes of the current value remain.
     remaining: u32,
     /// The offset of the next byte in the file.
-    place: u64,
+    offset: u64,
     /// Whether the rest can't be read: the bytes are not items that end where the value ends.
     is_broken: bool,
     /// Whether a tag does not rise or a length is odd.
@@ -78,23 +78,23 @@ impl ItemReader {
             levels: ArrayVec::new(),
             header: ArrayVec::new(),
             remaining: 0,
-            place: 0,
+            offset: 0,
             is_broken: false,
             is_irregular: false,
         }
     }
 
-    /// Starts a sequence of this length, whose header ends at offset `place` inside `levels` open
+    /// Starts a sequence of this length, whose header ends at offset `offset` inside `levels` open
     /// levels.
-    pub(crate) fn begin(&mut self, place: u64, levels: usize, length: u32) {
+    pub(crate) fn begin(&mut self, offset: u64, levels: usize, length: u32) {
         self.around = levels;
         self.levels.clear();
         self.header.clear();
         self.remaining = 0;
-        self.place = place;
+        self.offset = offset;
         self.is_broken = false;
         self.is_irregular = false;
-        self.open(true, length, place);
+        self.open(true, length, offset);
     }
 
     /// Returns whether the rest of the sequence can't be read.
@@ -125,14 +125,14 @@ impl ItemReader {
     fn arrive(&mut self) {
         for _ in 0..DEPTH {
             match self.top() {
-                Some(top) if !top.is_endless && top.end == self.place => {
+                Some(top) if !top.is_endless && top.end == self.offset => {
                     self.levels.pop();
                 }
                 _ => break,
             }
         }
         if let Some(top) = self.top() {
-            if top.end.saturating_sub(self.place) < HEADER as u64 {
+            if top.end.saturating_sub(self.offset) < HEADER as u64 {
                 self.is_broken = true;
             }
         }
@@ -148,7 +148,7 @@ impl ItemReader {
                 end: if is_endless {
                     end
                 } else {
-                    self.place.saturating_add(u64::from(length))
+                    self.offset.saturating_add(u64::from(length))
                 },
                 last: 0,
             };
@@ -197,7 +197,7 @@ impl ItemReader {
     /// Applies a header in this level.
     fn on_header(&mut self, header: &Header, top: OpenLevel) {
         let Header { tag, length, .. } = *header;
-        if passes(self.place, length, top.end) {
+        if passes(self.offset, length, top.end) {
             self.is_broken = true;
             return;
         }
@@ -224,7 +224,7 @@ impl ItemReader {
     fn take_value<'p>(&mut self, bytes: &'p [u8]) -> (usize, ItemStep<'p>) {
         let count = bytes.len().min(self.remaining as usize);
         self.remaining = self.remaining.saturating_sub(count as u32);
-        self.place = self.place.saturating_add(count as u64);
+        self.offset = self.offset.saturating_add(count as u64);
         if self.remaining == 0 {
             self.arrive();
         }
@@ -252,7 +252,7 @@ impl ItemReader {
         if self.is_broken {
             return ItemStep::More;
         }
-        ItemStep::Header(self.place.saturating_sub(HEADER as u64), level, header)
+        ItemStep::Header(self.offset.saturating_sub(HEADER as u64), level, header)
     }
 
     /// Reads bytes up to the end of a header or of a value. Returns how many bytes were read and
@@ -268,7 +268,7 @@ impl ItemReader {
         for byte in bytes.get(..count).unwrap_or(&[]) {
             let _ = self.header.try_push(*byte);
         }
-        self.place = self.place.saturating_add(count as u64);
+        self.offset = self.offset.saturating_add(count as u64);
         (count, self.take_whole(vrs))
     }
 }

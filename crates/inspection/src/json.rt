@@ -1,6 +1,6 @@
 //! Judgements as members of a JSON object.
 use crate::identity::{MISSING_UID, OTHER_INSTANCE, SOP_INSTANCE_UID};
-use crate::judgement::{Judgement, WRONG_ITEMS, place_of};
+use crate::judgement::{Judgement, WRONG_ITEMS, offset_of};
 use crate::keyword::known_keyword;
 use crate::texts::{TagText, VrText};
 use element::{Tag, Vr};
@@ -44,12 +44,12 @@ impl fmt::Display for VrJson {
 /// Prints the members of a note.
 fn write_note<W: fmt::Write>(
     f: &mut fmt::Formatter<W>,
-    place: u64,
+    offset: u64,
     (tag, vr): (Tag, Option<Vr>),
     (number, name): (u8, &str),
 ) -> fmt::Result {
     let (keyword, tag, vr) = (KeywordJson(tag), TagText(tag), VrJson(vr));
-    write!(f, "\"place\":{place},\"tag\":\"{tag}\",\"vr\":{vr},")?;
+    write!(f, "\"place\":{offset},\"tag\":\"{tag}\",\"vr\":{vr},")?;
     write!(
         f,
         "\"number\":{number},\"name\":\"{name}\",\"keyword\":{keyword}"
@@ -58,10 +58,10 @@ fn write_note<W: fmt::Write>(
 
 /// Prints the fault of a file header.
 fn write_bad_header<W: fmt::Write>(f: &mut fmt::Formatter<W>, fault: MetaFault) -> fmt::Result {
-    let (number, name, place) = (fault.number(), fault.name(), place_of(fault));
+    let (number, name, offset) = (fault.number(), fault.name(), offset_of(fault));
     write!(
         f,
-        "\"result\":\"fault\",\"number\":{number},\"name\":\"{name}\",\"place\":{place}"
+        "\"result\":\"fault\",\"number\":{number},\"name\":\"{name}\",\"place\":{offset}"
     )
 }
 
@@ -73,37 +73,37 @@ fn write_bad_data<W: fmt::Write>(
 ) -> fmt::Result {
     let (number, name) = (fault.number, fault.name());
     let (keyword, tag) = (KeywordJson(fault.tag), TagText(fault.tag));
-    let place = start.saturating_add(fault.place);
+    let offset = start.saturating_add(fault.offset);
     write!(
         f,
         "\"result\":\"fault\",\"number\":{number},\"name\":\"{name}\","
     )?;
     write!(
         f,
-        "\"place\":{place},\"tag\":\"{tag}\",\"keyword\":{keyword}"
+        "\"place\":{offset},\"tag\":\"{tag}\",\"keyword\":{keyword}"
     )
 }
 
 impl fmt::Display for JudgementJson<'_> {
     fn fmt<W: fmt::Write>(&self, f: &mut fmt::Formatter<W>) -> fmt::Result {
         match *self.0 {
-            Judgement::Note(place, tag, vr, fault) => {
-                write_note(f, place, (tag, Some(vr)), (fault.number(), fault.name()))
+            Judgement::Note(offset, tag, vr, fault) => {
+                write_note(f, offset, (tag, Some(vr)), (fault.number(), fault.name()))
             }
-            Judgement::FormNote(place, tag, vr, fault) => {
-                write_note(f, place, (tag, Some(vr)), (fault.number(), fault.name()))
+            Judgement::FormNote(offset, tag, vr, fault) => {
+                write_note(f, offset, (tag, Some(vr)), (fault.number(), fault.name()))
             }
-            Judgement::TableNote(place, tag, vr, fault) => {
-                write_note(f, place, (tag, vr), (fault.number(), fault.name()))
+            Judgement::TableNote(offset, tag, vr, fault) => {
+                write_note(f, offset, (tag, vr), (fault.number(), fault.name()))
             }
-            Judgement::ItemsNote(place, tag) => {
-                write_note(f, place, (tag, Some(Vr::SQ)), WRONG_ITEMS)
+            Judgement::ItemsNote(offset, tag) => {
+                write_note(f, offset, (tag, Some(Vr::SQ)), WRONG_ITEMS)
             }
-            Judgement::InstanceNote(place) => {
-                write_note(f, place, (SOP_INSTANCE_UID, Some(Vr::UI)), OTHER_INSTANCE)
+            Judgement::InstanceNote(offset) => {
+                write_note(f, offset, (SOP_INSTANCE_UID, Some(Vr::UI)), OTHER_INSTANCE)
             }
-            Judgement::MissingNote(place, tag) => {
-                write_note(f, place, (tag, Some(Vr::UI)), MISSING_UID)
+            Judgement::MissingNote(offset, tag) => {
+                write_note(f, offset, (tag, Some(Vr::UI)), MISSING_UID)
             }
             Judgement::BadHeader(fault) => write_bad_header(f, fault),
             Judgement::BadData(start, fault) => write_bad_data(f, start, fault),

@@ -56,7 +56,7 @@ impl Judgement {
 pub(crate) const WRONG_ITEMS: (u8, &str) = (19, "WrongItems");
 
 /// Returns the offset where a file's header breaks a rule: at the letters `DICM`, or after them.
-pub(crate) fn place_of(fault: MetaFault) -> u64 {
+pub(crate) fn offset_of(fault: MetaFault) -> u64 {
     match fault {
         MetaFault::NotPart10 => 128,
         _ => 132,
@@ -66,58 +66,58 @@ pub(crate) fn place_of(fault: MetaFault) -> u64 {
 /// Prints a note.
 fn write_note<W: fmt::Write>(
     f: &mut fmt::Formatter<W>,
-    place: u64,
+    offset: u64,
     (tag, vr): (TagText, VrText),
     (number, name): (u8, &str),
 ) -> fmt::Result {
-    write!(f, "note {place:010} {tag} {vr} {number} {name}")
+    write!(f, "note {offset:010} {tag} {vr} {number} {name}")
 }
 
 /// Prints a note about a UID.
 fn write_uid_note<W: fmt::Write>(
     f: &mut fmt::Formatter<W>,
-    place: u64,
+    offset: u64,
     tag: Tag,
     rule: (u8, &str),
 ) -> fmt::Result {
-    write_note(f, place, (TagText(tag), VrText(Some(Vr::UI))), rule)
+    write_note(f, offset, (TagText(tag), VrText(Some(Vr::UI))), rule)
 }
 
 /// Prints the fault of a data set that begins at offset `start` of its file.
 fn write_fault<W: fmt::Write>(f: &mut fmt::Formatter<W>, start: u64, fault: Fault) -> fmt::Result {
     let (number, name, tag) = (fault.number, fault.name(), TagText(fault.tag));
-    let place = start.saturating_add(fault.place);
-    write!(f, "fault {number} {name} at {place} tag {tag}")
+    let offset = start.saturating_add(fault.offset);
+    write!(f, "fault {number} {name} at {offset} tag {tag}")
 }
 
 impl fmt::Display for Judgement {
     fn fmt<W: fmt::Write>(&self, f: &mut fmt::Formatter<W>) -> fmt::Result {
         match *self {
-            Judgement::Note(place, tag, vr, fault) => {
+            Judgement::Note(offset, tag, vr, fault) => {
                 let rule = (fault.number(), fault.name());
-                write_note(f, place, (TagText(tag), VrText(Some(vr))), rule)
+                write_note(f, offset, (TagText(tag), VrText(Some(vr))), rule)
             }
-            Judgement::FormNote(place, tag, vr, fault) => {
+            Judgement::FormNote(offset, tag, vr, fault) => {
                 let rule = (fault.number(), fault.name());
-                write_note(f, place, (TagText(tag), VrText(Some(vr))), rule)
+                write_note(f, offset, (TagText(tag), VrText(Some(vr))), rule)
             }
-            Judgement::TableNote(place, tag, vr, fault) => {
+            Judgement::TableNote(offset, tag, vr, fault) => {
                 let rule = (fault.number(), fault.name());
-                write_note(f, place, (TagText(tag), VrText(vr)), rule)
+                write_note(f, offset, (TagText(tag), VrText(vr)), rule)
             }
-            Judgement::ItemsNote(place, tag) => {
-                write_note(f, place, (TagText(tag), VrText(Some(Vr::SQ))), WRONG_ITEMS)
+            Judgement::ItemsNote(offset, tag) => {
+                write_note(f, offset, (TagText(tag), VrText(Some(Vr::SQ))), WRONG_ITEMS)
             }
-            Judgement::InstanceNote(place) => write_uid_note(
+            Judgement::InstanceNote(offset) => write_uid_note(
                 f,
-                place,
+                offset,
                 SOP_INSTANCE_UID,
                 OTHER_INSTANCE,
             ),
-            Judgement::MissingNote(place, tag) => write_uid_note(f, place, tag, MISSING_UID),
+            Judgement::MissingNote(offset, tag) => write_uid_note(f, offset, tag, MISSING_UID),
             Judgement::BadHeader(fault) => {
-                let place = place_of(fault);
-                write!(f, "fault {fault} at {place}")
+                let offset = offset_of(fault);
+                write!(f, "fault {fault} at {offset}")
             }
             Judgement::BadData(start, fault) => write_fault(f, start, fault),
             Judgement::Good(length) => write!(f, "good {length}"),

@@ -151,12 +151,12 @@ impl Notes {
     /// file's header.
     pub(crate) fn add_instance<O: Write>(
         &mut self,
-        place: u64,
+        offset: u64,
         value: &[u8],
         header: &Uid,
         out: &mut O,
     ) -> io::Result<()> {
-        let note = Judgement::InstanceNote(place);
+        let note = Judgement::InstanceNote(offset);
         let value = self.shown(Vr::UI, value, Repertoire::Ascii);
         let header = Printable(header.as_bytes());
         match self.form {

@@ -53,7 +53,7 @@ pub(crate) struct NumberTable {
     /// Whether the table is still checked.
     is_held: bool,
     /// The offset of the table's header.
-    place: u64,
+    offset: u64,
     /// The length of the table in bytes; 0 without a table.
     length: u32,
     bytes: ArrayVec<u8, LONGEST>,
@@ -66,7 +66,7 @@ impl NumberTable {
         NumberTable {
             size,
             is_held: false,
-            place: 0,
+            offset: 0,
             length: 0,
             bytes: ArrayVec::new(),
             met: 0,
@@ -74,9 +74,9 @@ impl NumberTable {
     }
 
     /// Starts a table. A table that is empty or longer than `LONGEST` is not checked.
-    pub(crate) fn begin(&mut self, place: u64, length: u32) {
+    pub(crate) fn begin(&mut self, offset: u64, length: u32) {
         self.is_held = 0 < length && length as usize <= LONGEST;
-        self.place = place;
+        self.offset = offset;
         self.length = length;
         self.bytes.clear();
         self.met = 0;
@@ -97,8 +97,8 @@ impl NumberTable {
         self.is_held
     }
 
-    pub(crate) fn place(&self) -> u64 {
-        self.place
+    pub(crate) fn offset(&self) -> u64 {
+        self.offset
     }
 
     /// Returns the length of the table in bytes; 0 without a table.

@@ -33,22 +33,22 @@ pub(crate) fn first_header(bytes: &[u8]) -> Option<(Header, usize)> {
 
 /// Returns the header at an offset of a file and the offset of its value, or `None` if the file has
 /// no whole header there.
-pub(crate) fn header_at(file: &[u8], place: usize) -> Option<(Header, usize)> {
-    let (header, size) = first_header(file.get(place..)?)?;
-    Some((header, place.checked_add(size)?))
+pub(crate) fn header_at(file: &[u8], offset: usize) -> Option<(Header, usize)> {
+    let (header, size) = first_header(file.get(offset..)?)?;
+    Some((header, offset.checked_add(size)?))
 }
 
 /// Returns the value of the first element with this tag among the elements in Explicit VR from
 /// offset `first` of a file, or `None` if the bytes end before it.
 pub fn value_from(file: &[u8], first: usize, tag: Tag) -> Option<&[u8]> {
-    let mut place = first;
+    let mut offset = first;
     for _ in 0..file.len() {
-        let (header, start) = header_at(file, place)?;
+        let (header, start) = header_at(file, offset)?;
         let end = start.checked_add(header.length as usize)?;
         if header.tag == tag {
             return file.get(start..end);
         }
-        place = end;
+        offset = end;
     }
     None
 }

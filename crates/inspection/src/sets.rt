@@ -64,8 +64,8 @@ impl Sets {
 
     /// Sets the character set of a level.
     fn put(&mut self, level: usize, set: LevelSet) {
-        if let Some(place) = self.sets.get_mut(level) {
-            *place = set;
+        if let Some(offset) = self.sets.get_mut(level) {
+            *offset = set;
         }
     }
 

@@ -62,7 +62,7 @@ impl Elements<'_> {
     /// Writes the line of a header.
     fn write_line<O: Write>(
         &self,
-        place: u64,
+        offset: u64,
         levels: usize,
         header: &Header,
         out: &mut O,
@@ -73,7 +73,7 @@ impl Elements<'_> {
         let vr = VrText(vr.or(vr_of(tag)));
         let (indent, length) = (Indent(levels), LengthText(length));
         let tag = TagText(tag);
-        writeln!(out, "{place:010} {indent}{tag} {vr} {length} {keyword}")
+        writeln!(out, "{offset:010} {indent}{tag} {vr} {length} {keyword}")
     }
 }
 
@@ -98,7 +98,7 @@ impl<O: Write> Listing<O> for Elements<'_> {
 
     fn on_header(
         &mut self,
-        place: u64,
+        offset: u64,
         levels: usize,
         header: &Header,
         out: &mut O,
@@ -115,7 +115,7 @@ impl<O: Write> Listing<O> for Elements<'_> {
             let repertoire = self.repertoire_of(levels, header);
             self.value.expect(levels, header, repertoire);
         }
-        self.write_line(place, levels, header, out)
+        self.write_line(offset, levels, header, out)
     }
 
     fn on_bytes(&mut self, bytes: &[u8], out: &mut O) -> io::Result<()> {
@@ -132,7 +132,7 @@ impl<O: Write> Listing<O> for Elements<'_> {
         Ok(())
     }
 
-    fn on_items_fault(&mut self, _place: u64, _tag: Tag, _out: &mut O) -> io::Result<()> {
+    fn on_items_fault(&mut self, _offset: u64, _tag: Tag, _out: &mut O) -> io::Result<()> {
         Ok(())
     }
 
@@ -152,11 +152,11 @@ fn list_elements<R: Read, L: Listing<O>, O: Write>(
     listing: &mut L,
     out: &mut O,
 ) -> Result<Outcome, InspectionError> {
-    let taken = (options.syntaxes, options.vocabulary());
+    let accepted = (options.syntaxes, options.vocabulary());
     if options.has_meta() {
-        list_with_meta(input, taken, listing, out)
+        list_with_meta(input, accepted, listing, out)
     } else {
-        list(input, taken, listing, out)
+        list(input, accepted, listing, out)
     }
 }
 

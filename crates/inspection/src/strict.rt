@@ -27,7 +27,7 @@ const UNDEFINED: u32 = 0xffff_ffff;
 #[derive(Clone, Copy)]
 struct DueText {
     /// The offset of the value's header.
-    place: u64,
+    offset: u64,
     level: usize,
     tag: Tag,
     vr: Vr,
@@ -85,33 +85,38 @@ impl StrictValues {
     fn note_of(&mut self, due: DueText) -> Option<Judgement> {
         let value = self.value.as_slice();
         if let Err(fault) = check_value(due.vr, value) {
-            return Some(Judgement::Note(due.place, due.tag, due.vr, fault));
+            return Some(Judgement::Note(due.offset, due.tag, due.vr, fault));
         }
         self.text.clear();
         Reading::new(self.sets.of(due.level, due.vr)).read(value, &mut self.text);
         match check_form(due.vr, self.text.as_slice()) {
             Ok(()) => None,
-            Err(fault) => Some(Judgement::FormNote(due.place, due.tag, due.vr, fault)),
+            Err(fault) => Some(Judgement::FormNote(due.offset, due.tag, due.vr, fault)),
         }
     }
 
     /// Writes a note for each required UID that is absent before an element with this tag number.
-    fn report_missing<O: Write>(&mut self, place: u64, number: u32, out: &mut O) -> io::Result<()> {
+    fn report_missing<O: Write>(
+        &mut self,
+        offset: u64,
+        number: u32,
+        out: &mut O,
+    ) -> io::Result<()> {
         for _ in 0..MOST_DUE {
             match self.identity.take_missing(number) {
-                Some(tag) => self.notes.add(&Judgement::MissingNote(place, tag), out)?,
+                Some(tag) => self.notes.add(&Judgement::MissingNote(offset, tag), out)?,
                 None => break,
             }
         }
         Ok(())
     }
 
-    /// Writes a note if the data set's SOP Instance UID, whose header is at offset `place`, differs
+    /// Writes a note if the data set's SOP Instance UID, whose header is at offset `offset`, differs
     /// from that in the file's header.
-    fn compare<O: Write>(&mut self, place: u64, out: &mut O) -> io::Result<()> {
+    fn compare<O: Write>(&mut self, offset: u64, out: &mut O) -> io::Result<()> {
         let value = self.value.as_slice();
         match self.identity.other_than(value) {
-            Some(header) => self.notes.add_instance(place, value, header, out),
+            Some(header) => self.notes.add_instance(offset, value, header, out),
             None => Ok(()),
         }
     }
@@ -125,7 +130,7 @@ impl StrictValues {
             self.tables.set_frames(self.value.as_slice());
         }
         if due.tag == SOP_INSTANCE_UID && due.level == 0 {
-            self.compare(due.place, out)?;
+            self.compare(due.offset, out)?;
         }
         let Some(note) = self.note_of(due) else {
             return Ok(());
@@ -142,7 +147,7 @@ impl StrictValues {
             return Ok(());
         }
         let fault = ValueFault::WrongSize;
-        let note = Judgement::Note(due.place, due.tag, due.vr, fault);
+        let note = Judgement::Note(due.offset, due.tag, due.vr, fault);
         let shown = ShownText::Long(due.length);
         self.notes.add_value(&note, &shown, out)
     }
@@ -161,7 +166,7 @@ impl<O: Write> Listing<O> for StrictValues {
 
     fn on_header(
         &mut self,
-        place: u64,
+        offset: u64,
         levels: usize,
         header: &Header,
         out: &mut O,
@@ -171,10 +176,10 @@ impl<O: Write> Listing<O> for StrictValues {
         self.due = None;
         self.sets.hand_down(levels);
         if levels == 0 {
-            self.report_missing(place, tag.number(), out)?;
+            self.report_missing(offset, tag.number(), out)?;
             self.identity.meet(header);
         }
-        if let Some(note) = self.tables.on_header(place, levels, header) {
+        if let Some(note) = self.tables.on_header(offset, levels, header) {
             self.notes.add(&note, out)?;
         }
         if is_opaque(header) {
@@ -184,7 +189,7 @@ impl<O: Write> Listing<O> for StrictValues {
             return Ok(());
         };
         let due = DueText {
-            place,
+            offset,
             level: levels,
             tag,
             vr,
@@ -210,8 +215,8 @@ impl<O: Write> Listing<O> for StrictValues {
         self.check(due, out)
     }
 
-    fn on_items_fault(&mut self, place: u64, tag: Tag, out: &mut O) -> io::Result<()> {
-        self.notes.add(&Judgement::ItemsNote(place, tag), out)
+    fn on_items_fault(&mut self, offset: u64, tag: Tag, out: &mut O) -> io::Result<()> {
+        self.notes.add(&Judgement::ItemsNote(offset, tag), out)
     }
 
     fn on_end(&mut self, judgement: &Judgement, out: &mut O) -> io::Result<()> {

@@ -28,7 +28,7 @@ pub trait Listing<O: Write> {
     /// and the number of levels open before it.
     fn on_header(
         &mut self,
-        place: u64,
+        offset: u64,
         levels: usize,
         header: &Header,
         out: &mut O,
@@ -39,7 +39,7 @@ pub trait Listing<O: Write> {
 
     /// Called at the first fault in the items of a sequence that the walker reads as a value, with
     /// the offset of the sequence's header and its tag.
-    fn on_items_fault(&mut self, place: u64, tag: Tag, out: &mut O) -> io::Result<()>;
+    fn on_items_fault(&mut self, offset: u64, tag: Tag, out: &mut O) -> io::Result<()>;
 
     /// Called at the file's fault, or at the end of a file without a fault.
     fn on_end(&mut self, judgement: &Judgement, out: &mut O) -> io::Result<()>;
@@ -63,9 +63,9 @@ fn report_header<L: Listing<O>, O: Write>(
     listing: &mut L,
     out: &mut O,
 ) -> io::Result<()> {
-    let place = end.saturating_sub(size_of_header(header));
-    let header = entering.on_header((place, end), levels, header);
-    listing.on_header(place, levels, &header, out)
+    let offset = end.saturating_sub(size_of_header(header));
+    let header = entering.on_header((offset, end), levels, header);
+    listing.on_header(offset, levels, &header, out)
 }
 
 /// Reports the items in bytes of a sequence.
@@ -85,17 +85,17 @@ fn report_items<L: Listing<O>, O: Write>(
         rest = rest.get(count..).unwrap_or(&[]);
         match step {
             ItemStep::More => {}
-            ItemStep::Header(place, levels, header) => {
+            ItemStep::Header(offset, levels, header) => {
                 entering.on_inner_header(levels, &header);
-                listing.on_header(place, levels, &header, out)?;
+                listing.on_header(offset, levels, &header, out)?;
             }
             ItemStep::Run(bytes) => {
                 entering.on_inner_bytes(bytes);
                 listing.on_bytes(bytes, out)?;
             }
         }
-        if let Some((place, tag)) = entering.take_fault() {
-            listing.on_items_fault(place, tag, out)?;
+        if let Some((offset, tag)) = entering.take_fault() {
+            listing.on_items_fault(offset, tag, out)?;
         }
     }
     Ok(())
@@ -132,7 +132,7 @@ fn walk_piece<L: Listing<O>, O: Write>(
         let levels = walker.levels();
         let (count, step) = walker.step(rest);
         rest = &rest[count..];
-        let end = start.saturating_add(walker.place());
+        let end = start.saturating_add(walker.offset());
         match step {
             Step::More => {}
             Step::Element(header) | Step::Opened(header) | Step::Closed(header) => {
@@ -219,18 +219,18 @@ fn list_bare<R: Read, L: Listing<O>, O: Write>(
 
 /// Lists the elements of the File Meta Information in `file`, the beginning of a file.
 fn list_meta<L: Listing<O>, O: Write>(file: &[u8], listing: &mut L, out: &mut O) -> io::Result<()> {
-    let mut place = PREFIX;
+    let mut offset = PREFIX;
     for _ in 0..file.len() {
-        let Some((header, start)) = header_at(file, place) else {
+        let Some((header, start)) = header_at(file, offset) else {
             break;
         };
         let end = start.saturating_add(header.length as usize);
         let Some(value) = file.get(start..end) else {
             break;
         };
-        listing.on_header(place as u64, 0, &header, out)?;
+        listing.on_header(offset as u64, 0, &header, out)?;
         listing.on_bytes(value, out)?;
-        place = end;
+        offset = end;
     }
     Ok(())
 }

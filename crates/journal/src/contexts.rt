@@ -11,7 +11,7 @@ use folder_filing::StoredFile;
 use log::{Level, Log};
 use negotiate::{Answer, Config, ContextRow, compact};
 use pdu::{Proposal, Request, read_request};
-use service::Taken;
+use service::Consumed;
 use std::rt::Files;
 use std::time::Clock;
 
@@ -69,8 +69,8 @@ where
 {
     /// Records the answer to the request, and its contexts. If it was accepted, counts the contexts
     /// that were not, and logs the classes of which none was.
-    pub(crate) fn judge(&self, state: &mut State, answer: Answer, taken: &Taken<'_>) {
-        let contexts = self.contexts(taken, answer);
+    pub(crate) fn judge(&self, state: &mut State, answer: Answer, consumed: &Consumed<'_>) {
+        let contexts = self.contexts(consumed, answer);
         let is_accepted = answer == Answer::Accept;
         if is_accepted {
             state.phase = Phase::Established;
@@ -123,8 +123,8 @@ where
 
     /// Returns the contexts of the judged request, the first PDU received, or `None` if it cannot
     /// be read. Logs the refused ones at level trace.
-    fn contexts(&self, taken: &Taken<'_>, answer: Answer) -> Option<AskedContexts> {
-        let request = read_request(taken.whole.get(HEAD..)?).ok()?;
+    fn contexts(&self, consumed: &Consumed<'_>, answer: Answer) -> Option<AskedContexts> {
+        let request = read_request(consumed.whole.get(HEAD..)?).ok()?;
         let results = Results::of(self.config, &request);
         if answer == Answer::Accept && self.logger.reports(Level::Trace) {
             self.report_refused(&request, &results);

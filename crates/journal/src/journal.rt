@@ -21,7 +21,7 @@ use element::history::History;
 use folder_filing::{DraftNotes, Location, StoredFile};
 use log::{Level, Log};
 use negotiate::Config;
-use service::{Observer, ReadEnd, Taken};
+use service::{Consumed, Observer, ReadEnd};
 use std::alloc::{AllocError, Global};
 use std::cell::RefCell;
 use std::io;
@@ -152,10 +152,10 @@ where
         }
         let class = state.asked.class();
         let calling = &state.calling;
-        if let Some(place) = state.unconfirmed {
+        if let Some(location) = state.unconfirmed {
             self.logger.report(&NotConfirmed {
                 end: state.end,
-                place,
+                location,
                 class: &class,
                 instance: &state.asked.instance,
                 calling,
@@ -188,25 +188,25 @@ where
     }
 
     /// Records input that the association consumed, and logs its effect.
-    fn note(&self, taken: &Taken<'_>) {
+    fn note(&self, consumed: &Consumed<'_>) {
         let Ok(mut state) = self.state.try_borrow_mut() else {
             return;
         };
         self.report_minute(&mut state);
-        let decision = state.take(taken);
+        let decision = state.take(consumed);
         self.report_filing(&mut state);
-        self.report(&mut state, decision, taken);
+        self.report(&mut state, decision, consumed);
     }
 
     /// Records what the association decided, and logs it.
-    fn report(&self, state: &mut State, decision: Decision, taken: &Taken<'_>) {
+    fn report(&self, state: &mut State, decision: Decision, consumed: &Consumed<'_>) {
         if let Decision::RequestJudged(answer) = decision {
-            self.judge(state, answer, taken);
+            self.judge(state, answer, consumed);
         }
         match decision.value_end() {
             ValueEnd::Replied(status, detail) if state.message.is_store => {
                 let reply = Reply { status, detail };
-                if taken.is_held {
+                if consumed.is_held {
                     state.held = Some(reply);
                 } else {
                     self.report_reply(state, reply);
@@ -219,7 +219,7 @@ where
         }
         if let Some(end) = state.end_by(decision, self.limits()) {
             state.end(end);
-            self.report_end(state, end, taken);
+            self.report_end(state, end, consumed);
         }
     }
 
@@ -235,10 +235,10 @@ where
     }
 
     /// Logs that the association was rejected or aborted by its last decision.
-    fn report_end(&self, state: &mut State, end: End, taken: &Taken<'_>) {
+    fn report_end(&self, state: &mut State, end: End, consumed: &Consumed<'_>) {
         match end {
             End::Rejected(rejection) => {
-                state.take_titles(taken.ahead);
+                state.take_titles(consumed.ahead);
                 if self.has_lines(state, Level::Warn) {
                     self.logger.report(&Rejected {
                         rejection,
@@ -248,7 +248,7 @@ where
                 }
             }
             End::Aborted(_, Cause::Command(DimseFault::BadCommand, _)) => {
-                self.report_abort(state, BadElement::of(taken.bytes));
+                self.report_abort(state, BadElement::of(consumed.bytes));
             }
             End::Aborted(..) => self.report_abort(state, None),
             _ => {}
@@ -273,16 +273,16 @@ where
             metrics.count_answer(counted);
         }
         self.settle_aside(state, reply);
-        let place = self.notes.take_place();
+        let location = self.notes.take_location();
         let is_stored = Outcome::counted(counted) == Outcome::Stored;
         if is_stored {
-            state.unconfirmed = Some(place);
+            state.unconfirmed = Some(location);
         }
         if !is_stored || self.logger.reports(Level::Debug) {
-            self.report_store(state, reply, place);
+            self.report_store(state, reply, location);
         }
-        if let Some(place) = self.notes.take_low() {
-            self.logger.report(&NumbersLow(place));
+        if let Some(location) = self.notes.take_low() {
+            self.logger.report(&NumbersLow(location));
         }
     }
 
@@ -296,7 +296,7 @@ where
     }
 
     /// Logs the reply to a store, unless it was logged why its file could not be written.
-    fn report_store(&self, state: &mut State, reply: Reply, place: Option<Location>) {
+    fn report_store(&self, state: &mut State, reply: Reply, location: Option<Location>) {
         let class = state.asked.class();
         let syntax = state.syntax();
         let is_reported = state.has_filing_failed && reply.status == status::OUT_OF_RESOURCES;
@@ -318,7 +318,7 @@ where
             instance: &state.asked.instance,
             syntax: &syntax,
             bytes: state.message.data_size,
-            place,
+            location,
         });
     }
 }
@@ -329,11 +329,11 @@ where
 {
     ghost heard = { λ journal. journal.heard };
 
-    fn took(&mut self, taken: &Taken<'_>) {
+    fn consumed(&mut self, consumed: &Consumed<'_>) {
         let mut bytes = History::new();
-        bytes.append(taken.bytes);
+        bytes.append(consumed.bytes);
         self.heard.push(&bytes);
-        self.note(taken);
+        self.note(consumed);
     }
 
     fn settled(&self, is_kept: bool) {

@@ -46,8 +46,8 @@ pub(crate) fn shown_class(uid: &[u8]) -> Value {
 
 /// Returns whether the class is in the standard's table of storage classes.
 fn is_registered(uid: &[u8]) -> bool {
-    for place in 0..MOST_CLASSES {
-        match storage_class(place) {
+    for index in 0..MOST_CLASSES {
+        match storage_class(index) {
             Some(class) if class.uid == uid => return true,
             Some(_) => {}
             None => return false,

@@ -13,11 +13,11 @@ const TITLES: usize = 36;
 
 /// Returns the title at this offset of a request's body, without leading and trailing spaces.
 /// Quotation marks enclose it in a line, so each of its own is shown as `?`.
-fn title_at(body: &[u8], place: usize) -> Title
-    requires { place + 16 ≤ length body.now }
+fn title_at(body: &[u8], offset: usize) -> Title
+    requires { offset + 16 ≤ length body.now }
 {
     let mut bytes = [b' '; 16];
-    bytes.copy_from_slice(&body[place..place + 16]);
+    bytes.copy_from_slice(&body[offset..offset + 16]);
     let mut title = Title::new();
     for byte in AeTitle(bytes).trimmed() {
         let shown = if *byte == b'"' { b'?' } else { *byte };

@@ -94,7 +94,7 @@ impl Entry for Started<'_> {
         out.number(Name::new("max-data", " max-data "), config.max_data);
         out.number(Name::new("at-once", " at-once "), self.at_once);
         out.number(Name::new("drafts", " removed drafts "), self.drafts);
-        give_taken(config, out);
+        give_accepted(config, out);
         if let Some(path) = self.quarantine {
             let mut quarantine = Words::new();
             quarantine.add(path.as_bytes());
@@ -105,7 +105,7 @@ impl Entry for Started<'_> {
 
 /// Writes how many called titles are accepted, unless only one is, how many calling titles, and how
 /// many storage classes and transfer syntaxes.
-fn give_taken<F: Fields>(config: &Config, out: &mut F) {
+fn give_accepted<F: Fields>(config: &Config, out: &mut F) {
     let titles = Name::new("titles", " titles ");
     if config.any_called {
         out.text(titles, "any");

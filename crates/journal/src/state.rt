@@ -15,7 +15,7 @@ use decisions::{Decision, ValueEnd};
 use folder_filing::Location;
 use metrics::{CountedEnd, CountedStatus};
 use negotiate::{Answer, ContextRow, rejection};
-use service::Taken;
+use service::Consumed;
 use std::time::Instant;
 
 /// The phase of an association.
@@ -109,13 +109,13 @@ impl State {
 
     /// Records what the association consumed and is to send. Returns its decision, or `Nothing` if
     /// no section of a PDU is complete or the association is over.
-    pub(crate) fn take(&mut self, taken: &Taken<'_>) -> Decision
-        ensures reported { result ≡ reported_by taken.now.is_complete self.old.phase taken.now.decision }
+    pub(crate) fn take(&mut self, consumed: &Consumed<'_>) -> Decision
+        ensures reported { result ≡ reported_by consumed.now.is_complete self.old.phase consumed.now.decision }
         ensures asked { self.new.counts ≡ asked_by result self.old.counts }
     {
-        self.answer(taken.answered);
-        self.keep(taken.bytes);
-        if !taken.is_complete {
+        self.answer(consumed.answered);
+        self.keep(consumed.bytes);
+        if !consumed.is_complete {
             return Decision::Nothing;
         }
         match self.phase {
@@ -124,11 +124,11 @@ impl State {
             Phase::Established => {}
             Phase::Over => return Decision::Nothing,
         }
-        self.message.hear(taken.decision);
-        if let ValueEnd::DataDue = taken.decision.value_end() {
-            self.ask(taken.command);
+        self.message.hear(consumed.decision);
+        if let ValueEnd::DataDue = consumed.decision.value_end() {
+            self.ask(consumed.command);
         }
-        taken.decision
+        consumed.decision
     }
 
     /// Keeps the last two bytes, and those of the request that have its titles.

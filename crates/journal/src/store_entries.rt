@@ -73,10 +73,10 @@ fn give_syntax<F: Fields>(syntax: &Value, out: &mut F) {
 }
 
 /// Writes the location of a file, if there is one.
-fn give_place<F: Fields>(place: Option<Location>, out: &mut F) {
-    if let Some(place) = place {
+fn give_location<F: Fields>(location: Option<Location>, out: &mut F) {
+    if let Some(location) = location {
         let mut file = Text::<32>::new();
-        let _ = write!(file, "{place}");
+        let _ = write!(file, "{location}");
         out.text(FILE, file.as_str());
     }
 }
@@ -90,7 +90,7 @@ pub(crate) struct Answered<'a> {
     pub syntax: &'a Value,
     /// The size of the data set in bytes.
     pub bytes: u64,
-    pub place: Option<Location>,
+    pub location: Option<Location>,
 }
 
 impl Entry for Answered<'_> {
@@ -111,7 +111,7 @@ impl Entry for Answered<'_> {
         give_syntax(self.syntax, out);
         out.number(BYTES, self.bytes);
         give_status(self.reply, out);
-        give_place(self.place, out);
+        give_location(self.location, out);
     }
 }
 
@@ -219,7 +219,7 @@ impl Entry for Unanswered<'_> {
 #[derive(Clone, Copy)]
 pub(crate) struct NotConfirmed<'a> {
     pub end: Option<End>,
-    pub place: Option<Location>,
+    pub location: Option<Location>,
     pub class: &'a Value,
     pub instance: &'a Value,
     pub calling: &'a Title,
@@ -239,7 +239,7 @@ impl Entry for NotConfirmed<'_> {
 
     fn fields<F: Fields>(&self, out: &mut F) {
         out.text(END, end_words(self.end).as_str());
-        give_place(self.place, out);
+        give_location(self.location, out);
         out.text(CLASS, self.class.as_str());
         out.text(INSTANCE, self.instance.as_str());
         give_calling(self.calling, out);

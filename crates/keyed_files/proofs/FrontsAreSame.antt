@@ -16,16 +16,16 @@ same_text (x ∷ xs) (y ∷ ys) h = by (nat_eq x y) refl h (λ k. same_text xs y
   by false e k later = absurd cc
 
 pub before : (one one_remaining other other_remaining : Option (List ℕ)) (front front_other : List ℕ) → Consumes one one_remaining front → Consumes other other_remaining front_other → front ≡ front_other → GiveTheSame one_remaining other_remaining → GiveTheSame one other
-before None one_remaining other other_remaining front front_other took took_other fronts same = _
-before (Some one) one_remaining None other_remaining front front_other took took_other fronts same = _
-before (Some one) None (Some other) other_remaining front front_other took took_other fronts same = absurd took
-before (Some one) (Some one_remaining) (Some other) None front front_other took took_other fronts same = absurd took_other
-before (Some one) (Some one_remaining) (Some other) (Some other_remaining) front front_other took took_other fronts same =
-    took ∙ ap (λ (rest : List ℕ). front ++ rest) same ∙ ap (λ (bytes : List ℕ). bytes ++ other_remaining) fronts ∙ sym took_other
+before None one_remaining other other_remaining front front_other consumed consumed_other fronts same = _
+before (Some one) one_remaining None other_remaining front front_other consumed consumed_other fronts same = _
+before (Some one) None (Some other) other_remaining front front_other consumed consumed_other fronts same = absurd consumed
+before (Some one) (Some one_remaining) (Some other) None front front_other consumed consumed_other fronts same = absurd consumed_other
+before (Some one) (Some one_remaining) (Some other) (Some other_remaining) front front_other consumed consumed_other fronts same =
+    consumed ∙ ap (λ (rest : List ℕ). front ++ rest) same ∙ ap (λ (bytes : List ℕ). bytes ++ other_remaining) fronts ∙ sym consumed_other
 
 pub at_end : (one one_remaining other other_remaining : Option (List ℕ)) → Consumes one one_remaining [] → IsAtEnd one_remaining → Consumes other other_remaining [] → IsAtEnd other_remaining → GiveTheSame one other
-at_end None one_remaining other other_remaining took ended took_other ended_other = _
-at_end (Some one) one_remaining None other_remaining took ended took_other ended_other = _
-at_end (Some one) None (Some other) other_remaining took ended took_other ended_other = absurd took
-at_end (Some one) (Some one_remaining) (Some other) None took ended took_other ended_other = absurd took_other
-at_end (Some one) (Some one_remaining) (Some other) (Some other_remaining) took ended took_other ended_other = took ∙ ended ∙ sym ended_other ∙ sym took_other
+at_end None one_remaining other other_remaining consumed ended consumed_other ended_other = _
+at_end (Some one) one_remaining None other_remaining consumed ended consumed_other ended_other = _
+at_end (Some one) None (Some other) other_remaining consumed ended consumed_other ended_other = absurd consumed
+at_end (Some one) (Some one_remaining) (Some other) None consumed ended consumed_other ended_other = absurd consumed_other
+at_end (Some one) (Some one_remaining) (Some other) (Some other_remaining) consumed ended consumed_other ended_other = consumed ∙ ended ∙ sym ended_other ∙ sym consumed_other

@@ -7,65 +7,65 @@ use Rattle.keyed_files.specs.declared.keys.FileKeys.{FileKeys}
 use Rattle.keyed_files.specs.declared.reading.NoKeys.{NoKeys}
 use Rattle.keyed_files.specs.declared.reading.NoKeys.TheVariants.{Directory, Faulty, Unread}
 use Rattle.keyed_files.specs.Counting.{is_over}
-use Rattle.keyed_files.specs.Visiting.{VisitState, Visited, Stops, FailsUncounted, IsDone, CountsUnread, after, with_read, none, done, counted, unopened, unread, untaken}
+use Rattle.keyed_files.specs.Visiting.{VisitState, Visited, Stops, FailsUncounted, IsDone, CountsUnread, after, with_read, none, done, counted, unopened, unread, unconsumed}
 
-module _ {S : Type 0} (took : S → List ℕ → FileKeys → S → Type 0) where
-  pub visited_same : {s : S} {old new : VisitState} → new ≡ old → Visited took s s old new
-  visited_same {s} {old} {new} same = subst (λ (state : VisitState). Visited took s s old state) (sym same) none
+module _ {S : Type 0} (consumed : S → List ℕ → FileKeys → S → Type 0) where
+  pub visited_same : {s : S} {old new : VisitState} → new ≡ old → Visited consumed s s old new
+  visited_same {s} {old} {new} same = subst (λ (state : VisitState). Visited consumed s s old state) (sym same) none
 
-  pub fails_same : {s : S} {old new : VisitState} → new ≡ old → FailsUncounted took s s old new
-  fails_same {s} {old} {new} same = subst (λ (state : VisitState). FailsUncounted took s s old state) (sym same) unopened
+  pub fails_same : {s : S} {old new : VisitState} → new ≡ old → FailsUncounted consumed s s old new
+  fails_same {s} {old} {new} same = subst (λ (state : VisitState). FailsUncounted consumed s s old state) (sym same) unopened
 
-  pub fails_nothing : {A E : Type 0} (s : S) (old new : VisitState) (r : Result A E) → new ≡ old → OnErr r (FailsUncounted took s s old new)
+  pub fails_nothing : {A E : Type 0} (s : S) (old new : VisitState) (r : Result A E) → new ≡ old → OnErr r (FailsUncounted consumed s s old new)
   fails_nothing s old new (Ok a) same = _
   fails_nothing s old new (Err e) same = fails_same same
 
   -- nothing more is done with what failed where it is not counted either
-  pub fails_still : {A E : Type 0} (s t : S) (old later new : VisitState) (r : Result A E) → FailsUncounted took s t old later → OnErr r (new ≡ later) → OnErr r (FailsUncounted took s t old new)
+  pub fails_still : {A E : Type 0} (s t : S) (old later new : VisitState) (r : Result A E) → FailsUncounted consumed s t old later → OnErr r (new ≡ later) → OnErr r (FailsUncounted consumed s t old new)
   fails_still s t old later new (Ok a) fails same = _
-  fails_still s t old later new (Err e) fails same = subst (λ (state : VisitState). FailsUncounted took s t old state) (sym same) fails
+  fails_still s t old later new (Err e) fails same = subst (λ (state : VisitState). FailsUncounted consumed s t old state) (sym same) fails
 
-  pub fails_handled : {A E : Type 0} (s t : S) (old middle new : VisitState) (read : Result FileKeys NoKeys) (r : Result A E) → middle ≡ with_read read old → OnErr read (t ≡ s) → new ≡ after read middle → IfErr read (λ why. is_ok r ≡ is_over why) → OnErr r (FailsUncounted took s t old new)
+  pub fails_handled : {A E : Type 0} (s t : S) (old middle new : VisitState) (read : Result FileKeys NoKeys) (r : Result A E) → middle ≡ with_read read old → OnErr read (t ≡ s) → new ≡ after read middle → IfErr read (λ why. is_ok r ≡ is_over why) → OnErr r (FailsUncounted consumed s t old new)
   fails_handled s t old middle new read (Ok u) at same counts over = _
   fails_handled s t old middle new (Ok keys) (Err e) at same counts over =
       let is : new ≡ with_read (Ok keys) old = counts ∙ ap (after (Ok keys)) at in
-      subst (λ (state : VisitState). FailsUncounted took s t old state) (sym is) (untaken keys)
+      subst (λ (state : VisitState). FailsUncounted consumed s t old state) (sym is) (unconsumed keys)
   fails_handled s t old middle new (Err Directory) (Err e) at same counts over = absurd cc
   fails_handled s t old middle new (Err (Faulty fault)) (Err e) at same counts over = absurd cc
   fails_handled s t old middle new (Err (Unread error)) (Err e) at same counts over =
       let is : new ≡ with_read (Err (Unread error)) old = counts ∙ ap (after (Err (Unread error))) at in
-      subst (λ (u : S). FailsUncounted took s u old new) (sym same) (subst (λ (state : VisitState). FailsUncounted took s s old state) (sym is) (unread (Unread error) refl))
+      subst (λ (u : S). FailsUncounted consumed s u old new) (sym same) (subst (λ (state : VisitState). FailsUncounted consumed s s old state) (sym is) (unread (Unread error) refl))
 
-  pub visited_file : {A E : Type 0} (s t : S) (old new : VisitState) (path : List ℕ) (r : Result A E) → OnOk r ((read : Result FileKeys NoKeys) × IsDone took path read s t old new) → OnOk r (Visited took s t old new)
+  pub visited_file : {A E : Type 0} (s t : S) (old new : VisitState) (path : List ℕ) (r : Result A E) → OnOk r ((read : Result FileKeys NoKeys) × IsDone consumed path read s t old new) → OnOk r (Visited consumed s t old new)
   visited_file s t old new path (Ok u) one = done path one.0 none one.1
   visited_file s t old new path (Err e) one = _
 
-  pub visited_then : {s t u : S} {old middle new : VisitState} → Visited took s t old middle → Visited took t u middle new → Visited took s u old new
+  pub visited_then : {s t u : S} {old middle new : VisitState} → Visited consumed s t old middle → Visited consumed t u middle new → Visited consumed s u old new
   visited_then first none = first
   visited_then first (done path read before is_done) = done path read (visited_then first before) is_done
   visited_then first (counted before fails counts) = counted (visited_then first before) fails counts
 
-  pub visited_counted : {A E : Type 0} {s t u : S} {old middle later : VisitState} (new : VisitState) (r : Result A E) → Visited took s t old middle → FailsUncounted took t u middle later → OnOk r (CountsUnread later new) → OnOk r (Visited took s u old new)
+  pub visited_counted : {A E : Type 0} {s t u : S} {old middle later : VisitState} (new : VisitState) (r : Result A E) → Visited consumed s t old middle → FailsUncounted consumed t u middle later → OnOk r (CountsUnread later new) → OnOk r (Visited consumed s u old new)
   visited_counted new (Ok a) first fails counts = counted first fails counts
   visited_counted new (Err e) first fails counts = _
 
-  pub stops_at : {A E : Type 0} {s t u : S} {old middle new : VisitState} (r : Result A E) → Visited took s t old middle → FailsUncounted took t u middle new → OnErr r (Stops took s u old new)
+  pub stops_at : {A E : Type 0} {s t u : S} {old middle new : VisitState} (r : Result A E) → Visited consumed s t old middle → FailsUncounted consumed t u middle new → OnErr r (Stops consumed s u old new)
   stops_at (Ok a) visited fails = _
-  stops_at {t = t} {middle = middle} (Err e) visited fails = record { taking = t; state = middle; visited = visited; fails = fails }
+  stops_at {t = t} {middle = middle} (Err e) visited fails = record { consumer = t; state = middle; visited = visited; fails = fails }
 
-  pub stops_still : {A E : Type 0} {s t u : S} {old middle later : VisitState} (new : VisitState) (r : Result A E) → Visited took s t old middle → FailsUncounted took t u middle later → OnErr r (new ≡ later) → OnErr r (Stops took s u old new)
+  pub stops_still : {A E : Type 0} {s t u : S} {old middle later : VisitState} (new : VisitState) (r : Result A E) → Visited consumed s t old middle → FailsUncounted consumed t u middle later → OnErr r (new ≡ later) → OnErr r (Stops consumed s u old new)
   stops_still new (Ok a) visited fails same = _
   stops_still {t = t} {u = u} {middle = middle} new (Err e) visited fails same =
-      record { taking = t; state = middle; visited = visited; fails = subst (λ (state : VisitState). FailsUncounted took t u middle state) (sym same) fails }
+      record { consumer = t; state = middle; visited = visited; fails = subst (λ (state : VisitState). FailsUncounted consumed t u middle state) (sym same) fails }
 
-  pub stops_after : {A E : Type 0} {s t u : S} {old middle later new : VisitState} (r : Result A E) → Visited took s t old middle → Stops took t u middle later → new ≡ later → OnErr r (Stops took s u old new)
+  pub stops_after : {A E : Type 0} {s t u : S} {old middle later new : VisitState} (r : Result A E) → Visited consumed s t old middle → Stops consumed t u middle later → new ≡ later → OnErr r (Stops consumed s u old new)
   stops_after (Ok a) first stops same = _
   stops_after {u = u} (Err e) first stops same = record {
-    taking = stops.taking;
+    consumer = stops.consumer;
     state = stops.state;
     visited = visited_then first stops.visited;
-    fails = subst (λ (state : VisitState). FailsUncounted took stops.taking u stops.state state) (sym same) stops.fails;
+    fails = subst (λ (state : VisitState). FailsUncounted consumed stops.consumer u stops.state state) (sym same) stops.fails;
   }
 
-  pub counted_after : {s t u : S} {old middle later new : VisitState} → Visited took s t old middle → Stops took t u middle later → CountsUnread later new → Visited took s u old new
+  pub counted_after : {s t u : S} {old middle later new : VisitState} → Visited consumed s t old middle → Stops consumed t u middle later → CountsUnread later new → Visited consumed s u old new
   counted_after first stops counts = counted (visited_then first stops.visited) stops.fails counts

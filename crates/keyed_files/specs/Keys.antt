@@ -15,14 +15,14 @@ bytes_between bytes from to = if nat_le from to && nat_le to (length bytes) then
 -- a value ends where the next one begins, or at the end of all bytes
 abbrev pub end_before : List Start → List ℕ → ℕ
 end_before [] bytes = length bytes
-end_before (next ∷ starts) bytes = next.place
+end_before (next ∷ starts) bytes = next.offset
 
 -- the first value with this tag
 abbrev pub value_among : List Start → List ℕ → Tag → Option (List ℕ)
 value_among [] bytes tag = None
 value_among (start ∷ starts) bytes tag =
     if same_tag start.tag tag
-    then bytes_between bytes start.place (end_before starts bytes)
+    then bytes_between bytes start.offset (end_before starts bytes)
     else value_among starts bytes tag
 
 -- the value with this tag, including padding, if the file has one

@@ -33,26 +33,26 @@ after read state = record state { tally = after_read state.ignores_others read s
 
 -- a file was read and is finished: its values were handled, or its fault is counted, or it is a DICOMDIR
 abbrev pub IsDone : {S : Type 0} → (S → List ℕ → FileKeys → S → Type 0) → List ℕ → Result FileKeys NoKeys → S → S → VisitState → VisitState → Type 0
-IsDone took path (Ok keys) before later old new = took before path keys later × (new ≡ with_read (Ok keys) old)
-IsDone took path (Err why) before later old new = (later ≡ before) × (is_over why ≡ true) × (new ≡ after (Err why) (with_read (Err why) old))
+IsDone consumed path (Ok keys) before later old new = consumed before path keys later × (new ≡ with_read (Ok keys) old)
+IsDone consumed path (Err why) before later old new = (later ≡ before) × (is_over why ≡ true) × (new ≡ after (Err why) (with_read (Err why) old))
 
 -- a file that failed is not counted: it could not be opened or read, or the handling of its values failed
-pub data FailsUncounted {S : Type 0} (took : S → List ℕ → FileKeys → S → Type 0) : S → S → VisitState → VisitState → Type 0 where
-  unopened : {s : S} {state : VisitState} → FailsUncounted took s s state state
-  unread : {s : S} {state : VisitState} (why : NoKeys) → is_over why ≡ false → FailsUncounted took s s state (with_read (Err why) state)
-  untaken : {s t : S} {state : VisitState} (keys : FileKeys) → FailsUncounted took s t state (with_read (Ok keys) state)
+pub data FailsUncounted {S : Type 0} (consumed : S → List ℕ → FileKeys → S → Type 0) : S → S → VisitState → VisitState → Type 0 where
+  unopened : {s : S} {state : VisitState} → FailsUncounted consumed s s state state
+  unread : {s : S} {state : VisitState} (why : NoKeys) → is_over why ≡ false → FailsUncounted consumed s s state (with_read (Err why) state)
+  unconsumed : {s t : S} {state : VisitState} (keys : FileKeys) → FailsUncounted consumed s t state (with_read (Ok keys) state)
 
 -- The effect of a visit, file by file: each file is finished, or failed and is counted once.
-pub data Visited {S : Type 0} (took : S → List ℕ → FileKeys → S → Type 0) : S → S → VisitState → VisitState → Type 0 where
-  none : {s : S} {state : VisitState} → Visited took s s state state
+pub data Visited {S : Type 0} (consumed : S → List ℕ → FileKeys → S → Type 0) : S → S → VisitState → VisitState → Type 0 where
+  none : {s : S} {state : VisitState} → Visited consumed s s state state
   done : {s t u : S} {old state new : VisitState} (path : List ℕ) (read : Result FileKeys NoKeys)
-      → Visited took s t old state → IsDone took path read t u state new → Visited took s u old new
+      → Visited consumed s t old state → IsDone consumed path read t u state new → Visited consumed s u old new
   counted : {s t u : S} {old state later new : VisitState}
-      → Visited took s t old state → FailsUncounted took t u state later → CountsUnread later new → Visited took s u old new
+      → Visited consumed s t old state → FailsUncounted consumed t u state later → CountsUnread later new → Visited consumed s u old new
 
 -- a visit that stops at a file that failed
-pub record Stops {S : Type 0} (took : S → List ℕ → FileKeys → S → Type 0) (before later : S) (old new : VisitState) : Type 0 where
-  pub taking : S
+pub record Stops {S : Type 0} (consumed : S → List ℕ → FileKeys → S → Type 0) (before later : S) (old new : VisitState) : Type 0 where
+  pub consumer : S
   pub state : VisitState
-  pub visited : Visited took before taking old state
-  pub fails : FailsUncounted took taking later state new
+  pub visited : Visited consumed before consumer old state
+  pub fails : FailsUncounted consumed consumer later state new

@@ -18,14 +18,14 @@ const ROOM: usize = 6912;
 #[derive(Clone, Copy)]
 struct Start {
     tag: Tag,
-    place: usize,
+    offset: usize,
 }
 
 impl Default for Start {
     fn default() -> Start {
         Start {
             tag: Tag(0, 0),
-            place: 0,
+            offset: 0,
         }
     }
 }
@@ -51,8 +51,8 @@ impl FileKeys {
 
     /// Starts the value with this tag.
     pub(crate) fn begin(&mut self, tag: Tag) {
-        let place = self.bytes.len();
-        self.is_open = self.starts.try_push(Start { tag, place }).is_ok();
+        let offset = self.bytes.len();
+        self.is_open = self.starts.try_push(Start { tag, offset }).is_ok();
     }
 
     /// Ends the current value, if any.
@@ -63,7 +63,7 @@ impl FileKeys {
     /// Returns the number of bytes of the last value.
     fn last_length(&self) -> usize {
         match self.starts.as_slice().last() {
-            Some(start) => self.bytes.len().saturating_sub(start.place),
+            Some(start) => self.bytes.len().saturating_sub(start.offset),
             None => 0,
         }
     }
@@ -87,10 +87,10 @@ impl FileKeys {
         for number in 0..starts.len() {
             if starts[number].tag == tag {
                 let end = match starts.get(number + 1) {
-                    Some(next) => next.place,
+                    Some(next) => next.offset,
                     None => self.bytes.len(),
                 };
-                return self.bytes.as_slice().get(starts[number].place..end);
+                return self.bytes.as_slice().get(starts[number].offset..end);
             }
         }
         None

@@ -24,5 +24,5 @@ pub use reading::{NoKeys, read_keys};
 pub use same_bytes::have_the_same;
 pub use tally::{Tally, report_passed_by};
 pub use text_elements::is_text_element;
-pub use visiting::{FoundFile, Taking, Visitor};
+pub use visiting::{Consumer, FoundFile, Visitor};
 pub use visits::Visits;

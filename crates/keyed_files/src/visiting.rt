@@ -33,16 +33,16 @@ pub struct FoundFile<'a> {
 }
 
 /// The action for each file that is found.
-pub trait Taking {
+pub trait Consumer {
     ghost use Rattle.keyed_files.specs.declared.keys.FileKeys.{FileKeys};
 
     /// For contracts: relates the states before and after this file was handled.
-    ghost took: { Self → List ℕ → FileKeys → Self → Type 0 };
+    ghost consumed: { Self → List ℕ → FileKeys → Self → Type 0 };
 
     /// Handles a file. An error because the file cannot be read is reported, and the visit
     /// continues; any other error ends it.
     fn take(&mut self, file: FoundFile<'_>) -> Result<(), ProgramError>
-        ensures took { OnOk result (took self.old file.entry.path.now file.entry.keys.now self.new) };
+        ensures consumed { OnOk result (consumed self.old file.entry.path.now file.entry.keys.now self.new) };
 }
 
 /// Visits the DICOM files in a folder and its subfolders, in the order in which the system lists
@@ -175,20 +175,20 @@ where
 
     /// Handles a file by the result of reading it: a file with a fault is counted, a DICOMDIR is
     /// skipped.
-    fn handle<T: Taking>(
+    fn handle<T: Consumer>(
         &mut self,
         path: &str,
         metadata: &Metadata,
         read: Result<FileKeys, NoKeys>,
-        taking: &mut T,
+        consumer: &mut T,
     ) -> Result<(), ProgramError>
-        ensures taken { IfOk read (λ keys. OnOk result (T.took taking.old path.now keys taking.new)) }
-        ensures same { OnErr read (taking.new ≡ taking.old) }
+        ensures consumed { IfOk read (λ keys. OnOk result (T.consumed consumer.old path.now keys consumer.new)) }
+        ensures same { OnErr read (consumer.new ≡ consumer.old) }
         ensures counted { state_of_visit self.new ≡ record (state_of_visit self.old) { tally = after_read self.old.ignores_others read self.old.tally } }
         ensures over { IfErr read (λ why. is_ok result ≡ is_over why) }
     {
         match read {
-            Ok(keys) => taking.take(FoundFile {
+            Ok(keys) => consumer.take(FoundFile {
                 path,
                 metadata,
                 keys: &keys,
@@ -203,31 +203,31 @@ where
     }
 
     /// Reads and handles a file.
-    fn take<T: Taking>(
+    fn take<T: Consumer>(
         &mut self,
         path: &str,
         metadata: &Metadata,
-        taking: &mut T,
+        consumer: &mut T,
     ) -> Result<(), ProgramError>
-        ensures done { OnOk result ((read : Result FileKeys NoKeys) × IsDone T.took path.now read taking.old taking.new (state_of_visit self.old) (state_of_visit self.new)) }
-        ensures fails { OnErr result (FailsUncounted T.took taking.old taking.new (state_of_visit self.old) (state_of_visit self.new)) }
+        ensures done { OnOk result ((read : Result FileKeys NoKeys) × IsDone T.consumed path.now read consumer.old consumer.new (state_of_visit self.old) (state_of_visit self.new)) }
+        ensures fails { OnErr result (FailsUncounted T.consumed consumer.old consumer.new (state_of_visit self.old) (state_of_visit self.new)) }
     {
         self.counter.show(&mut self.err);
         let read = self.keys_of(path)?;
-        self.handle(path, metadata, read, taking)
+        self.handle(path, metadata, read, consumer)
     }
 
     /// Visits a path that was found in a folder: handles a file unless it is a draft, and appends a
     /// folder to those still to be visited. Symbolic links are not followed.
-    fn visit<T: Taking>(
+    fn visit<T: Consumer>(
         &mut self,
         path: &str,
         is_draft: bool,
         folders: &mut Vec<String<R::A>, R::A>,
-        taking: &mut T,
+        consumer: &mut T,
     ) -> Result<(), ProgramError>
-        ensures visited { OnOk result (Visited T.took taking.old taking.new (state_of_visit self.old) (state_of_visit self.new)) }
-        ensures fails { OnErr result (FailsUncounted T.took taking.old taking.new (state_of_visit self.old) (state_of_visit self.new)) }
+        ensures visited { OnOk result (Visited T.consumed consumer.old consumer.new (state_of_visit self.old) (state_of_visit self.new)) }
+        ensures fails { OnErr result (FailsUncounted T.consumed consumer.old consumer.new (state_of_visit self.old) (state_of_visit self.new)) }
     {
         match fs::symlink_metadata(self.rt, path) {
             Ok(found) if found.is_dir() => {
@@ -237,7 +237,7 @@ where
                 Ok(())
             }
             Ok(found) if found.is_symlink() || is_draft => Ok(()),
-            Ok(found) if found.is_file() => self.take(path, &found, taking),
+            Ok(found) if found.is_file() => self.take(path, &found, consumer),
             Ok(_) => {
                 self.report(path, &NO_FILE);
                 Ok(())
@@ -248,15 +248,15 @@ where
 
     /// Visits a name that was found in a folder. A name that is not UTF-8 is reported as
     /// unreadable.
-    fn visit_name<T: Taking>(
+    fn visit_name<T: Consumer>(
         &mut self,
         dir: &str,
         name: FolderName<'_>,
         folders: &mut Vec<String<R::A>, R::A>,
-        taking: &mut T,
+        consumer: &mut T,
     ) -> Result<(), ProgramError>
-        ensures visited { OnOk result (Visited T.took taking.old taking.new (state_of_visit self.old) (state_of_visit self.new)) }
-        ensures fails { OnErr result (FailsUncounted T.took taking.old taking.new (state_of_visit self.old) (state_of_visit self.new)) }
+        ensures visited { OnOk result (Visited T.consumed consumer.old consumer.new (state_of_visit self.old) (state_of_visit self.new)) }
+        ensures fails { OnErr result (FailsUncounted T.consumed consumer.old consumer.new (state_of_visit self.old) (state_of_visit self.new)) }
     {
         let text = match name {
             FolderName::Text(text) => text,
@@ -270,22 +270,22 @@ where
             }
         };
         let path = path_in(self.rt.alloc(), dir, text)?;
-        match self.visit(path.as_str(), is_draft(text), folders, taking) {
+        match self.visit(path.as_str(), is_draft(text), folders, consumer) {
             Ok(()) => Ok(()),
             Err(error) => self.report_unread(path.as_str(), error),
         }
     }
 
     /// Visits zero-terminated names in a folder.
-    fn visit_names<T: Taking>(
+    fn visit_names<T: Consumer>(
         &mut self,
         dir: &str,
         names: &[u8],
         folders: &mut Vec<String<R::A>, R::A>,
-        taking: &mut T,
+        consumer: &mut T,
     ) -> Result<(), ProgramError>
-        ensures visited { OnOk result (Visited T.took taking.old taking.new (state_of_visit self.old) (state_of_visit self.new)) }
-        ensures stops { OnErr result (Stops T.took taking.old taking.new (state_of_visit self.old) (state_of_visit self.new)) }
+        ensures visited { OnOk result (Visited T.consumed consumer.old consumer.new (state_of_visit self.old) (state_of_visit self.new)) }
+        ensures stops { OnErr result (Stops T.consumed consumer.old consumer.new (state_of_visit self.old) (state_of_visit self.new)) }
     {
         let mut rest = names;
         for _ in 0..names.len() {
@@ -295,27 +295,27 @@ where
             let (name, others) = split_name(rest);
             rest = others;
             if let Some(name) = name {
-                self.visit_name(dir, name, folders, taking)?;
+                self.visit_name(dir, name, folders, consumer)?;
             }
         }
         Ok(())
     }
 
     /// Visits the entries of a folder, but not of its subfolders.
-    fn visit_folder<T: Taking>(
+    fn visit_folder<T: Consumer>(
         &mut self,
         dir: &str,
         folders: &mut Vec<String<R::A>, R::A>,
-        taking: &mut T,
+        consumer: &mut T,
     ) -> Result<(), ProgramError>
-        ensures visited { OnOk result (Visited T.took taking.old taking.new (state_of_visit self.old) (state_of_visit self.new)) }
-        ensures stops { OnErr result (Stops T.took taking.old taking.new (state_of_visit self.old) (state_of_visit self.new)) }
+        ensures visited { OnOk result (Visited T.consumed consumer.old consumer.new (state_of_visit self.old) (state_of_visit self.new)) }
+        ensures stops { OnErr result (Stops T.consumed consumer.old consumer.new (state_of_visit self.old) (state_of_visit self.new)) }
     {
         let mut listing = NameListing::open(self.rt, dir).map_err(ProgramError::of_folder)?;
         for _ in 0..u64::MAX {
             match listing.read() {
                 Ok([]) => break,
-                Ok(names) => self.visit_names(dir, names, folders, taking)?,
+                Ok(names) => self.visit_names(dir, names, folders, consumer)?,
                 Err(error) => return self.report_unread(dir, ProgramError::of_folder(error)),
             }
         }
@@ -323,17 +323,21 @@ where
     }
 
     /// Visits a folder and its subfolders. Fails if the folder itself can't be listed.
-    fn visit_folders<T: Taking>(&mut self, dir: &str, taking: &mut T) -> Result<(), ProgramError>
-        ensures visited { OnOk result (Visited T.took taking.old taking.new (state_of_visit self.old) (state_of_visit self.new)) }
-        ensures stops { OnErr result (Stops T.took taking.old taking.new (state_of_visit self.old) (state_of_visit self.new)) }
+    fn visit_folders<T: Consumer>(
+        &mut self,
+        dir: &str,
+        consumer: &mut T,
+    ) -> Result<(), ProgramError>
+        ensures visited { OnOk result (Visited T.consumed consumer.old consumer.new (state_of_visit self.old) (state_of_visit self.new)) }
+        ensures stops { OnErr result (Stops T.consumed consumer.old consumer.new (state_of_visit self.old) (state_of_visit self.new)) }
     {
         let mut folders = Vec::new(self.rt.alloc());
-        self.visit_folder(dir, &mut folders, taking)?;
+        self.visit_folder(dir, &mut folders, consumer)?;
         for _ in 0..u64::MAX {
             let Some(dir) = folders.pop() else {
                 break;
             };
-            match self.visit_folder(dir.as_str(), &mut folders, taking) {
+            match self.visit_folder(dir.as_str(), &mut folders, consumer) {
                 Ok(()) => {}
                 Err(error) => self.report_unread(dir.as_str(), error)?,
             }
@@ -343,11 +347,15 @@ where
 
     /// Visits folders and their subfolders. With several folders, a folder that cannot be listed is
     /// counted and reported.
-    fn visit_each<T: Taking>(&mut self, dirs: &[&str], taking: &mut T) -> Result<(), ProgramError>
-        ensures visited { OnOk result (Visited T.took taking.old taking.new (state_of_visit self.old) (state_of_visit self.new)) }
+    fn visit_each<T: Consumer>(
+        &mut self,
+        dirs: &[&str],
+        consumer: &mut T,
+    ) -> Result<(), ProgramError>
+        ensures visited { OnOk result (Visited T.consumed consumer.old consumer.new (state_of_visit self.old) (state_of_visit self.new)) }
     {
         for dir in dirs {
-            match self.visit_folders(*dir, taking) {
+            match self.visit_folders(*dir, consumer) {
                 Ok(()) => {}
                 Err(error) if dirs.len() > 1 => self.report_failure(*dir, error)?,
                 Err(error) => return Err(error),
@@ -361,16 +369,16 @@ where
     /// reported, and the others are visited.
     ///
     /// Fails if the only folder cannot be listed, if memory runs out, or with any error of
-    /// [`Taking::take`] other than that the file cannot be read.
-    pub fn visit_all<T: Taking>(
+    /// [`Consumer::take`] other than that the file cannot be read.
+    pub fn visit_all<T: Consumer>(
         &mut self,
         dirs: &[&str],
-        taking: &mut T,
+        consumer: &mut T,
     ) -> Result<Tally, ProgramError>
-        ensures visited { OnOk result (Visited T.took taking.old taking.new (state_of_visit self.old) (state_of_visit self.new)) }
+        ensures visited { OnOk result (Visited T.consumed consumer.old consumer.new (state_of_visit self.old) (state_of_visit self.new)) }
         ensures tally { IfOk result (λ tally. tally ≡ (state_of_visit self.new).tally) }
     {
-        let visited = self.visit_each(dirs, taking);
+        let visited = self.visit_each(dirs, consumer);
         self.counter.clear(&mut self.err);
         report_passed_by(self.tally.ignored, self.tally.vanished, &mut self.err);
         visited?;

@@ -1,4 +1,4 @@
--- Where the part at one place has one file more, all parts have one file more (`one_more`): a series that counts one more
+-- Where the part at one index has one file more, all parts have one file more (`one_more`): a series that counts one more
 -- (`one_image`), or lists one more (`one_listed`); a new part without files adds none (`nothing_more`). What is found by a
 -- UID has it (`found_or_none`, `within`), and so has what is added (`added`). The count of some series and of the next one
 -- is the count of both (`images_more`). Stands on the definitions alone.
@@ -47,16 +47,16 @@ added_uid uid (e ∷ es) key new named none =
     let other = (absent_from_lookup (is_uid uid) (e ∷ es) none).0 in
     (other, added_uid uid es key new named (rw other at none))
 
-pub found_or_none : {A T : Type 0} (uid : List ℕ) (es : List (Vec ℕ A × T)) (found : Option ℕ) → found ≡ position (is_uid uid) (keys_of es) → IfSome found (λ place. HasUid uid place es)
+pub found_or_none : {A T : Type 0} (uid : List ℕ) (es : List (Vec ℕ A × T)) (found : Option ℕ) → found ≡ position (is_uid uid) (keys_of es) → IfSome found (λ index. HasUid uid index es)
 found_or_none uid es None is = _
 found_or_none uid es (Some i) is = found_uid uid es i (sym is)
 
-pub added : {A T : Type 0} (uid : List ℕ) (key : Vec ℕ A) (new : T) (old entries : List (Vec ℕ A × T)) (place : ℕ) → key.items ≡ uid → lookup (is_uid uid) old ≡ None → place ≡ position_or_len (is_uid key.items) (keys_of old) → entries ≡ insert_entry (λ (one other : Vec ℕ A). is_uid one.items other) old key new → HasUid uid place entries × IsAdded uid new old entries
-added {A} {T} uid key new old entries place named none at made =
+pub added : {A T : Type 0} (uid : List ℕ) (key : Vec ℕ A) (new : T) (old entries : List (Vec ℕ A × T)) (index : ℕ) → key.items ≡ uid → lookup (is_uid uid) old ≡ None → index ≡ position_or_len (is_uid key.items) (keys_of old) → entries ≡ insert_entry (λ (one other : Vec ℕ A). is_uid one.items other) old key new → HasUid uid index entries × IsAdded uid new old entries
+added {A} {T} uid key new old entries index named none at made =
     let lacks : lookup (is_uid key.items) old ≡ None = subst (λ (text : List ℕ). lookup (is_uid text) old ≡ None) (sym named) none in
     let absent = absent_from_lookup (is_uid key.items) old lacks in
     let end : entries ≡ old ++ (key, new) ∷ [] = made ∙ insert_entry-absent (λ (one other : Vec ℕ A). is_uid one.items other) key new old absent in
-    let last : place ≡ length old = at ∙ or_len-absent (is_uid key.items) old absent in
+    let last : index ≡ length old = at ∙ or_len-absent (is_uid key.items) old absent in
     (rw (end, last) (added_uid uid old key new named none), record { key = key; named = named; at_end = end })
 
 pub one_image : (study uid key : List ℕ) (n m : ℕ) → key ≡ uid → m ≡ n + 1 → IsPermutation {X = List ℕ × List ℕ} ((study, uid) ∷ replicate n (study, key)) (replicate m (study, key))

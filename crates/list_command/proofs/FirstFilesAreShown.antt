@@ -43,9 +43,9 @@ pub added_at_end : {A T S : Type 0} (show : T → S) (uid : List ℕ) (new : T) 
 added_at_end show uid new value old es is none more =
     rw more.at_end (last show uid new more.key old more.named none ∙ ap (λ one. or_new uid one (each_shown show old)) is)
 
-pub changed : {A T S : Type 0} (show : T → S) (uid : List ℕ) (new : S) (change : S → S) (all : List (List ℕ × S)) (es : List (Vec ℕ A × T)) (place : ℕ) (v w : T) → HasUid uid place es → slice_get (values_of es) place ≡ Some v → show w ≡ change (show v) → each_shown show es ≡ or_new uid new all → each_shown show (set_value_at es place w) ≡ at_uid uid new change all
-changed show uid new change all es place v w has at is shown =
-    set show uid new change es place v w has at is ∙ ap (at_uid uid new change) shown ∙ new_once uid new change all
+pub changed : {A T S : Type 0} (show : T → S) (uid : List ℕ) (new : S) (change : S → S) (all : List (List ℕ × S)) (es : List (Vec ℕ A × T)) (index : ℕ) (v w : T) → HasUid uid index es → slice_get (values_of es) index ≡ Some v → show w ≡ change (show v) → each_shown show es ≡ or_new uid new all → each_shown show (set_value_at es index w) ≡ at_uid uid new change all
+changed show uid new change all es index v w has at is shown =
+    set show uid new change es index v w has at is ∙ ap (at_uid uid new change) shown ∙ new_once uid new change all
 
 pub more_shown : (uid : List ℕ) (new : ShownSeries) (patient : List ℕ) (old between : ShownStudy) (series : List (List ℕ × ShownSeries)) (is_other : Bool) → between ≡ with_series uid new old → series ≡ or_new uid new old.series → is_other ≡ not (pointwise nat_eq between.patient_id patient)
     → record between { has_several_patients = between.has_several_patients || is_other; series = series } ≡ record (with_series uid new old) { has_several_patients = old.has_several_patients || not (pointwise nat_eq old.patient_id patient) }

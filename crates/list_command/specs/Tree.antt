@@ -151,9 +151,9 @@ is_uid uid key = pointwise nat_eq uid key.items
 
 -- the first study or series with this UID is at this index
 abbrev pub HasUid : {A T : Type 0} → List ℕ → ℕ → List (Vec ℕ A × T) → Type 0
-HasUid uid place [] = ⊥
+HasUid uid index [] = ⊥
 HasUid uid zero (entry ∷ entries) = is_uid uid entry.0 ≡ true
-HasUid uid (suc place) (entry ∷ entries) = (is_uid uid entry.0 ≡ false) × HasUid uid place entries
+HasUid uid (suc index) (entry ∷ entries) = (is_uid uid entry.0 ≡ false) × HasUid uid index entries
 
 -- the studies or series have a new one at their end, with this UID
 pub record IsAdded {A T : Type 0} (uid : List ℕ) (new : T) (old entries : List (Vec ℕ A × T)) : Type 0 where

@@ -8,7 +8,7 @@ use crate::columns::Column;
 use crate::grouping::Grouping;
 use element::{Tag, unpadded};
 use failures::ProgramError;
-use keyed_files::{FileKeys, FoundFile, LONGEST_KEPT, Taking, is_text_element};
+use keyed_files::{Consumer, FileKeys, FoundFile, LONGEST_KEPT, is_text_element};
 use std::alloc::Allocator;
 
 /// The greatest number of conditions.
@@ -91,8 +91,8 @@ pub(crate) struct Selection<'a, A: Allocator> {
     pub grouping: Grouping<'a, A>,
 }
 
-impl<A: Allocator + Copy> Taking for Selection<'_, A> {
-    ghost took = { λ old path keys new. (new.conditions.now ≡ old.conditions.now)
+impl<A: Allocator + Copy> Consumer for Selection<'_, A> {
+    ghost consumed = { λ old path keys new. (new.conditions.now ≡ old.conditions.now)
         × Selects (list_all (meets keys) old.conditions.now) (IsFiled path keys old.grouping new.grouping) (new ≡ old) };
 
     fn take(&mut self, file: FoundFile<'_>) -> Result<(), ProgramError> {

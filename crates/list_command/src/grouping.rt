@@ -10,7 +10,7 @@ use crate::studies::{ByUid, Instance, Series, Study};
 use element::Tag;
 use failures::ProgramError;
 use indexmap::IndexMap;
-use keyed_files::{FileKeys, FoundFile, Taking};
+use keyed_files::{Consumer, FileKeys, FoundFile};
 use std::alloc::{AllocError, Allocator};
 use values::Repertoire;
 
@@ -106,8 +106,8 @@ fn new_series<A: Allocator + Copy>(
 }
 
 /// Returns the index of the study or series with this UID, if there is one.
-fn place_of<T, A: Allocator>(all: &ByUid<T, A>, uid: &[u8]) -> Option<usize>
-    ensures at { IfSome result (λ place. HasUid uid.now place all.now.entries) }
+fn index_of<T, A: Allocator>(all: &ByUid<T, A>, uid: &[u8]) -> Option<usize>
+    ensures at { IfSome result (λ index. HasUid uid.now index all.now.entries) }
     ensures absent { IfNone result (get_by (is_uid uid.now) all.now ≡ None) }
 {
     all.get_index_of(uid)
@@ -122,11 +122,11 @@ fn add_new<T: Drop, A: Allocator + Copy>(
     new: T,
 ) -> Result<usize, AllocError>
     requires absent { get_by (is_uid uid.now) all.old ≡ None }
-    ensures at { IfOk result (λ place. HasUid uid.now place all.new.entries) }
+    ensures at { IfOk result (λ index. HasUid uid.now index all.new.entries) }
     ensures added { OnOk result (IsAdded uid.now new all.old.entries all.new.entries) }
 {
-    let (place, _) = all.insert_full(Vec::from_slice(alloc, uid)?, new)?;
-    Ok(place)
+    let (index, _) = all.insert_full(Vec::from_slice(alloc, uid)?, new)?;
+    Ok(index)
 }
 
 impl<A: Allocator + Copy> Study<A> {
@@ -139,13 +139,13 @@ impl<A: Allocator + Copy> Study<A> {
         keys: &FileKeys,
         columns: &[Column<'_>],
     ) -> Result<usize, AllocError>
-        ensures at { IfOk result (λ place. HasUid uid.now place self.new.series.entries) }
+        ensures at { IfOk result (λ index. HasUid uid.now index self.new.series.entries) }
         ensures same { OnOk result ((study : List ℕ) → files_in study self.new.series.entries ≡ files_in study self.old.series.entries) }
         ensures listed { OnOk result ((study : List ℕ) → listed_in study self.new.series.entries ≡ listed_in study self.old.series.entries) }
         ensures shown { OnOk result (shown_study self.new ≡ with_series uid.now (first_of_series keys.now columns.now) (shown_study self.old)) }
     {
-        if let Some(place) = place_of(&self.series, uid) {
-            return Ok(place);
+        if let Some(index) = index_of(&self.series, uid) {
+            return Ok(index);
         }
         let series = new_series(alloc, keys, columns)?;
         add_new(alloc, &mut self.series, uid, series)
@@ -165,8 +165,8 @@ impl<A: Allocator + Copy> Study<A> {
             → IsPermutation ((study, (uid.now, listed)) ∷ listed_in study self.old.series.entries) (listed_in study self.new.series.entries)) }
         ensures shown { OnOk result (shown_study self.new ≡ with_file uid.now file.entry.keys.now columns.now (shown_study self.old)) }
     {
-        let place = self.series_of(alloc, uid, file.keys, columns)?;
-        self.series[place].add(instance)?;
+        let index = self.series_of(alloc, uid, file.keys, columns)?;
+        self.series[index].add(instance)?;
         self.has_several_patients |= self.patient_id.as_slice() != file.keys.text(PATIENT_ID);
         Ok(())
     }
@@ -195,15 +195,15 @@ impl<'a, A: Allocator + Copy> Grouping<'a, A> {
     /// Returns the index of the study with this UID, adding it if it is new. Fails if memory runs
     /// out.
     fn study_of(&mut self, uid: &[u8], keys: &FileKeys) -> Result<usize, AllocError>
-        ensures at { IfOk result (λ place. HasUid uid.now place self.new.studies.entries) }
+        ensures at { IfOk result (λ index. HasUid uid.now index self.new.studies.entries) }
         ensures same { OnOk result (files_of self.new.studies.entries ≡ files_of self.old.studies.entries) }
         ensures listed { OnOk result (listed_of self.new.studies.entries ≡ listed_of self.old.studies.entries) }
         ensures shown { OnOk result (shown_studies self.new.studies.entries
             ≡ or_new uid.now (first_of_study keys.now self.old.columns.now) (shown_studies self.old.studies.entries)) }
         ensures options { SameOptions self.old self.new }
     {
-        if let Some(place) = place_of(&self.studies, uid) {
-            return Ok(place);
+        if let Some(index) = index_of(&self.studies, uid) {
+            return Ok(index);
         }
         let study = new_study(self.alloc, keys, self.columns)?;
         add_new(self.alloc, &mut self.studies, uid, study)
@@ -239,14 +239,14 @@ impl<'a, A: Allocator + Copy> Grouping<'a, A> {
         ensures options { SameOptions self.old self.new }
     {
         let instance = self.instance_of(file)?;
-        let place = self.study_of(study, file.keys)?;
-        self.studies[place].add(self.alloc, series, file, self.columns, instance)?;
+        let index = self.study_of(study, file.keys)?;
+        self.studies[index].add(self.alloc, series, file, self.columns, instance)?;
         Ok(())
     }
 }
 
-impl<A: Allocator + Copy> Taking for Grouping<'_, A> {
-    ghost took = { λ old path keys new. IsFiled path keys old new };
+impl<A: Allocator + Copy> Consumer for Grouping<'_, A> {
+    ghost consumed = { λ old path keys new. IsFiled path keys old new };
 
     fn take(&mut self, file: FoundFile<'_>) -> Result<(), ProgramError> {
         self.add(file.keys.text(STUDY_UID), file.keys.text(SERIES_UID), file)?;

@@ -124,8 +124,8 @@ fn write_instances<A: Allocator + Copy, O: Write>(
     let instances = series.instances.as_slice();
     let mut is_first = true;
     write!(out, ",\"instances\":[").map_err(ProgramError::of_output)?;
-    for place in order_of_instances(alloc, instances)? {
-        if let Some(instance) = instances.get(place) {
+    for index in order_of_instances(alloc, instances)? {
+        if let Some(instance) = instances.get(index) {
             separate(is_first, out).map_err(ProgramError::of_output)?;
             write_instance(instance, columns, out).map_err(ProgramError::of_output)?;
             is_first = false;
@@ -143,8 +143,8 @@ fn write_all_series<A: Allocator + Copy, O: Write>(
 ) -> Result<(), ProgramError> {
     let mut is_first = true;
     write!(out, ",\"series\":[").map_err(ProgramError::of_output)?;
-    for place in order_of_series(alloc, &study.series)? {
-        if let Some((uid, series)) = study.series.get_index(place) {
+    for index in order_of_series(alloc, &study.series)? {
+        if let Some((uid, series)) = study.series.get_index(index) {
             separate(is_first, out).map_err(ProgramError::of_output)?;
             write_series(uid.as_slice(), series, options.columns, out).map_err(
                 ProgramError::of_output,
@@ -167,8 +167,8 @@ fn write_studies<A: Allocator + Copy, O: Write>(
     out: &mut O,
 ) -> Result<(), ProgramError> {
     let mut is_first = true;
-    for place in order_of_studies(alloc, &grouping.studies)? {
-        if let Some((uid, study)) = grouping.studies.get_index(place) {
+    for index in order_of_studies(alloc, &grouping.studies)? {
+        if let Some((uid, study)) = grouping.studies.get_index(index) {
             let modalities = modalities_of(alloc, study)?;
             separate(is_first, out).map_err(ProgramError::of_output)?;
             let modalities = modalities.as_slice();

@@ -67,8 +67,8 @@ fn write_instances<A: Allocator + Copy, O: Write>(
     out: &mut O,
 ) -> Result<(), ProgramError> {
     let instances = series.instances.as_slice();
-    for place in order_of_instances(alloc, instances)? {
-        if let Some(instance) = instances.get(place) {
+    for index in order_of_instances(alloc, instances)? {
+        if let Some(instance) = instances.get(index) {
             let number = LineText::ascii(instance.number.as_slice());
             let uid = LineText::ascii(instance.uid.as_slice());
             let path = PathText {
@@ -93,8 +93,8 @@ fn write_all_series<A: Allocator + Copy, O: Write>(
     options: ListOptions<'_>,
     out: &mut O,
 ) -> Result<(), ProgramError> {
-    for place in order_of_series(alloc, &study.series)? {
-        if let Some((uid, series)) = study.series.get_index(place) {
+    for index in order_of_series(alloc, &study.series)? {
+        if let Some((uid, series)) = study.series.get_index(index) {
             write_series(uid.as_slice(), series, options, out).map_err(ProgramError::of_output)?;
             write_instances(alloc, series, options, out)?;
         }
@@ -109,8 +109,8 @@ pub(crate) fn write_lines<A: Allocator + Copy, O: Write>(
     options: ListOptions<'_>,
     out: &mut O,
 ) -> Result<(), ProgramError> {
-    for place in order_of_studies(alloc, &grouping.studies)? {
-        if let Some((uid, study)) = grouping.studies.get_index(place) {
+    for index in order_of_studies(alloc, &grouping.studies)? {
+        if let Some((uid, study)) = grouping.studies.get_index(index) {
             let modalities = modalities_of(alloc, study)?;
             let modalities = modalities.as_slice();
             write_study(uid.as_slice(), study, modalities, options, out).map_err(

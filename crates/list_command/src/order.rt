@@ -7,15 +7,15 @@ use std::str;
 type Rank<'a, K> = (K, &'a [u8], usize);
 
 /// Returns the indices of the items, in order. Fails if memory runs out.
-fn places_of<'a, A: Allocator + Copy, K: Ord + Drop>(
+fn indices_of<'a, A: Allocator + Copy, K: Ord + Drop>(
     alloc: A,
     ranks: Vec<Rank<'a, K>, A>,
 ) -> Result<Vec<usize, A>, AllocError> {
     let mut ranks = ranks;
     ranks.sort()?;
     let mut order = Vec::new(alloc);
-    for (_, _, place) in ranks {
-        order.push(place)?;
+    for (_, _, index) in ranks {
+        order.push(index)?;
     }
     Ok(order)
 }
@@ -34,12 +34,12 @@ pub(crate) fn order_of_studies<A: Allocator + Copy>(
     studies: &ByUid<Study<A>, A>,
 ) -> Result<Vec<usize, A>, AllocError> {
     let mut ranks = Vec::new(alloc);
-    for place in 0..studies.len() {
-        if let Some((uid, study)) = studies.get_index(place) {
-            ranks.push((study.date.as_slice(), uid.as_slice(), place))?;
+    for index in 0..studies.len() {
+        if let Some((uid, study)) = studies.get_index(index) {
+            ranks.push((study.date.as_slice(), uid.as_slice(), index))?;
         }
     }
-    places_of(alloc, ranks)
+    indices_of(alloc, ranks)
 }
 
 /// Returns the indices of the series of a study, ordered by number and then by UID. Fails if memory
@@ -49,13 +49,13 @@ pub(crate) fn order_of_series<A: Allocator + Copy>(
     series: &ByUid<Series<A>, A>,
 ) -> Result<Vec<usize, A>, AllocError> {
     let mut ranks = Vec::new(alloc);
-    for place in 0..series.len() {
-        if let Some((uid, series)) = series.get_index(place) {
+    for index in 0..series.len() {
+        if let Some((uid, series)) = series.get_index(index) {
             let number = number_in(series.number.as_slice());
-            ranks.push((number, uid.as_slice(), place))?;
+            ranks.push((number, uid.as_slice(), index))?;
         }
     }
-    places_of(alloc, ranks)
+    indices_of(alloc, ranks)
 }
 
 /// Returns the indices of the files of a series, ordered by number and then by UID. Fails if memory
@@ -65,12 +65,12 @@ pub(crate) fn order_of_instances<A: Allocator + Copy>(
     instances: &[Instance<A>],
 ) -> Result<Vec<usize, A>, AllocError> {
     let mut ranks = Vec::new(alloc);
-    for place in 0..instances.len() {
-        let instance = &instances[place];
+    for index in 0..instances.len() {
+        let instance = &instances[index];
         let number = number_in(instance.number.as_slice());
-        ranks.push((number, instance.uid.as_slice(), place))?;
+        ranks.push((number, instance.uid.as_slice(), index))?;
     }
-    places_of(alloc, ranks)
+    indices_of(alloc, ranks)
 }
 
 /// Returns the modalities of the series of a study in ascending order, each once. Fails if memory

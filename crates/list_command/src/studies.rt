@@ -77,8 +77,8 @@ impl<A: Allocator> Study<A> {
         ensures { (study : List ℕ) → result ≡ min (length (files_in study self.now.series.entries)) (2 ^ 64 - 1) }
     {
         let mut images = 0u64;
-        for place in 0..self.series.len() {
-            if let Some((_, series)) = self.series.get_index(place) {
+        for index in 0..self.series.len() {
+            if let Some((_, series)) = self.series.get_index(index) {
                 images = images.saturating_add(series.images);
             }
         }

@@ -17,10 +17,10 @@ use Rattle.negotiate.specs.declared.proposals.Context.{Context}
 use Rattle.negotiate.specs.declared.proposals.Service.{Service}
 use Rattle.negotiate.specs.declared.proposals.Service.TheVariants.{Known, Additional}
 use Rattle.negotiate.specs.ContextLaws.{accepted_by_default}
-use Rattle.negotiate.specs.Contexts.{accepted, accepted_by, agreed, chosen, context_of, additional_by, is_among_additional, is_text, offered, result_by, result_of, seen, service_by, service_of, taken_by, taken_syntax}
-use Rattle.negotiate.specs.Taken.{Taken, nothing_additional}
+use Rattle.negotiate.specs.Contexts.{accepted, accepted_by, agreed, chosen, context_of, additional_by, is_among_additional, is_text, offered, result_by, result_of, seen, service_by, service_of, allowed_by, allowed_syntax}
+use Rattle.negotiate.specs.Allowed.{Allowed, nothing_additional}
 use Rattle.negotiate.proofs.NativeSyntaxesArePreferred.{default_transfer}
-use Rattle.negotiate.specs.ContextRows.{class_in_row, context_by, or_first, place_of, row_with, service_at, service_in}
+use Rattle.negotiate.specs.ContextRows.{class_in_row, context_by, or_first, index_of, row_with, service_at, service_in}
 
 -- ---- an identifier is read as itself
 
@@ -74,10 +74,10 @@ past_end (x ∷ xs) zero h = absurd (omega (arith, h))
 past_end (x ∷ xs) (suc n) h = past_end xs n (omega (arith, h))
 
 pub record IsAt {A : Type 0} (t : A → Bool) (xs : List A) (k : ℕ) : Type 0 where
-  pub place : ℕ
+  pub index : ℕ
   pub item : A
-  pub found : position_from t k xs ≡ Some (k + place)
-  pub there : slice_get xs place ≡ Some item
+  pub found : position_from t k xs ≡ Some (k + index)
+  pub there : slice_get xs index ≡ Some item
   pub passes : t item ≡ true
 
 pub is_at : {A : Type 0} (t : A → Bool) (xs : List A) (k : ℕ) → list_any t xs ≡ true → IsAt t xs k
@@ -86,11 +86,11 @@ is_at {A} t (x ∷ xs) k h = by (t x) refl (λ any. is_at t xs (k + 1) any) wher
   by : (b : Bool) → t x ≡ b → (list_any t xs ≡ true → IsAt t xs (k + 1)) → IsAt t (x ∷ xs) k
   by true e rest =
       let here : k ≡ k + 0 = omega arith in
-      record { place = 0; item = x; found = ap (λ b. cond b (Some k) (position_from t (k + 1) xs)) e ∙ ap (λ n. Some n) here; there = refl; passes = e }
+      record { index = 0; item = x; found = ap (λ b. cond b (Some k) (position_from t (k + 1) xs)) e ∙ ap (λ n. Some n) here; there = refl; passes = e }
   by false e rest =
       let later = rest (sym (ap (λ b. b || list_any t xs) e) ∙ h) in
-      let next : k + 1 + later.place ≡ k + suc later.place = omega arith in
-      record { place = suc later.place; item = later.item; found = ap (λ b. cond b (Some k) (position_from t (k + 1) xs)) e ∙ later.found ∙ ap (λ n. Some n) next; there = later.there; passes = later.passes }
+      let next : k + 1 + later.index ≡ k + suc later.index = omega arith in
+      record { index = suc later.index; item = later.item; found = ap (λ b. cond b (Some k) (position_from t (k + 1) xs)) e ∙ later.found ∙ ap (λ n. Some n) next; there = later.there; passes = later.passes }
 
 pub any_found : {A : Type 0} (t : A → Bool) (xs : List A) (k n : ℕ) → position_from t k xs ≡ Some n → list_any t xs ≡ true
 any_found t [] k n e = absurd cc
@@ -106,7 +106,7 @@ none_found t (x ∷ xs) k e = by (t x) refl (λ later. none_found t xs (k + 1) l
   by true is rest = let wrong : ◌≡◌ {A = Option ℕ} (Some k) None = sym (ap (λ b. cond b (Some k) (position_from t (k + 1) xs)) is) ∙ e in absurd cc
   by false is rest = rw is (rest (sym (ap (λ b. cond b (Some k) (position_from t (k + 1) xs)) is) ∙ e))
 
--- ---- what is taken
+-- ---- what is accepted
 
 no_service : service_of [] ≡ None
 unfolding class_named
@@ -114,35 +114,35 @@ no_service = refl
 
 -- the service of an abstract syntax that the dictionary does not have
 other_service : (additional : List (List ℕ)) (bytes : List ℕ) (uid : Option (List ℕ)) (t : Bool) → class_of bytes ≡ None → uid_of bytes ≡ uid → is_among_additional additional uid ≡ t →
-    service_of (taken_syntax additional bytes) ≡ (if t then additional_by uid else None)
+    service_of (allowed_syntax additional bytes) ≡ (if t then additional_by uid else None)
 other_service additional bytes uid t none read among =
-    ap (λ c. service_of (taken_by c additional bytes)) none ∙ by t (ap (is_among_additional additional) read ∙ among) where
+    ap (λ c. service_of (allowed_by c additional bytes)) none ∙ by t (ap (is_among_additional additional) read ∙ among) where
       by : (b : Bool) → is_among_additional additional (uid_of bytes) ≡ b → service_of (if is_among_additional additional (uid_of bytes) then bytes else []) ≡ (if b then additional_by uid else None)
       by true e = rw e (ap (λ c. service_by c bytes) none ∙ ap additional_by read)
       by false e = rw e no_service
 
-pub known_service : (additional : List (List ℕ)) (bytes : List ℕ) (class : Class) → class_of bytes ≡ Some class → service_of (taken_syntax additional bytes) ≡ Some (Known class)
-known_service additional bytes class e = ap (λ c. service_of (taken_by c additional bytes)) e ∙ ap (λ c. service_by c bytes) e
+pub known_service : (additional : List (List ℕ)) (bytes : List ℕ) (class : Class) → class_of bytes ≡ Some class → service_of (allowed_syntax additional bytes) ≡ Some (Known class)
+known_service additional bytes class e = ap (λ c. service_of (allowed_by c additional bytes)) e ∙ ap (λ c. service_by c bytes) e
 
-pub unread_service : (additional : List (List ℕ)) (bytes : List ℕ) → class_of bytes ≡ None → uid_of bytes ≡ None → service_of (taken_syntax additional bytes) ≡ None
+pub unread_service : (additional : List (List ℕ)) (bytes : List ℕ) → class_of bytes ≡ None → uid_of bytes ≡ None → service_of (allowed_syntax additional bytes) ≡ None
 unread_service additional bytes none unread = other_service additional bytes None false none unread refl
 
-pub placed_service : (additional : List (List ℕ)) (bytes uid : List ℕ) (place : ℕ) → class_of bytes ≡ None → uid_of bytes ≡ Some uid → place_of additional uid ≡ Some place →
-    service_of (taken_syntax additional bytes) ≡ Some (Additional uid)
-placed_service additional bytes uid place none read found = other_service additional bytes (Some uid) true none read (any_found (is_text uid) additional 0 place found)
+pub placed_service : (additional : List (List ℕ)) (bytes uid : List ℕ) (index : ℕ) → class_of bytes ≡ None → uid_of bytes ≡ Some uid → index_of additional uid ≡ Some index →
+    service_of (allowed_syntax additional bytes) ≡ Some (Additional uid)
+placed_service additional bytes uid index none read found = other_service additional bytes (Some uid) true none read (any_found (is_text uid) additional 0 index found)
 
-pub unplaced_service : (additional : List (List ℕ)) (bytes uid : List ℕ) → class_of bytes ≡ None → uid_of bytes ≡ Some uid → place_of additional uid ≡ None →
-    service_of (taken_syntax additional bytes) ≡ None
+pub unplaced_service : (additional : List (List ℕ)) (bytes uid : List ℕ) → class_of bytes ≡ None → uid_of bytes ≡ Some uid → index_of additional uid ≡ None →
+    service_of (allowed_syntax additional bytes) ≡ None
 unplaced_service additional bytes uid none read found = other_service additional bytes (Some uid) false none read (none_found (is_text uid) additional 0 found)
 
--- by default the dictionary's classes are taken, and nothing else
-default_service : (bytes : List ℕ) → service_of (taken_syntax [] bytes) ≡ option_map Known (class_of bytes)
+-- by default the dictionary's classes are accepted, and nothing else
+default_service : (bytes : List ℕ) → service_of (allowed_syntax [] bytes) ≡ option_map Known (class_of bytes)
 default_service bytes = by (class_of bytes) refl where
   among : (o : Option (List ℕ)) → is_among_additional [] o ≡ false
   among None = refl
   among (Some uid) = refl
 
-  by : (o : Option Class) → class_of bytes ≡ o → service_of (taken_syntax [] bytes) ≡ option_map Known o
+  by : (o : Option Class) → class_of bytes ≡ o → service_of (allowed_syntax [] bytes) ≡ option_map Known o
   by (Some class) e = known_service [] bytes class e
   by None e = other_service [] bytes (uid_of bytes) false e refl (among (uid_of bytes))
 
@@ -170,14 +170,14 @@ default_context r id = go r.contexts where
 
 -- ---- what stands in a row
 
-further_kept : (additional : Taken) (uid : List ℕ) → uid_of uid ≡ Some uid → list_any (is_text uid) additional.classes ≡ true → service_in additional (class_in_row additional (Additional uid)) ≡ Some (Additional uid)
+further_kept : (additional : Allowed) (uid : List ℕ) → uid_of uid ≡ Some uid → list_any (is_text uid) additional.classes ≡ true → service_in additional (class_in_row additional (Additional uid)) ≡ Some (Additional uid)
 further_kept additional uid read any =
     let at = is_at (is_text uid) additional.classes 0 any in
     let same : at.item ≡ uid = same_text at.item uid at.passes in
-    let plain : 0 + at.place ≡ at.place = omega arith in
+    let plain : 0 + at.index ≡ at.index = omega arith in
     ap (λ o. service_at (slice_get additional.classes (or_first o))) at.found ∙ ap (λ n. service_at (slice_get additional.classes n)) plain ∙ ap service_at (at.there ∙ ap (λ u. Some u) same) ∙ ap additional_by read
 
-service_kept : (additional : Taken) (bytes : List ℕ) (service : Service) → service_of (taken_syntax additional.classes bytes) ≡ Some service → service_in additional (class_in_row additional service) ≡ Some service
+service_kept : (additional : Allowed) (bytes : List ℕ) (service : Service) → service_of (allowed_syntax additional.classes bytes) ≡ Some service → service_in additional (class_in_row additional service) ≡ Some service
 service_kept additional bytes service is = by (class_of bytes) refl (uid_of bytes) refl where
   by : (o : Option Class) → class_of bytes ≡ o → (u : Option (List ℕ)) → uid_of bytes ≡ u → service_in additional (class_in_row additional service) ≡ Some service
   by (Some class) e u read =
@@ -185,15 +185,15 @@ service_kept additional bytes service is = by (class_of bytes) refl (uid_of byte
       let same : service ≡ Known class = cc in
       subst (λ s. service_in additional (class_in_row additional s) ≡ Some s) (sym same) refl
   by None e None read = let both : ◌≡◌ {A = Option Service} (Some service) None = sym is ∙ unread_service additional.classes bytes e read in absurd cc
-  by None e (Some uid) read = taken (list_any (is_text uid) additional.classes) refl where
-    taken : (t : Bool) → list_any (is_text uid) additional.classes ≡ t → service_in additional (class_in_row additional service) ≡ Some service
-    taken true any =
+  by None e (Some uid) read = allowed (list_any (is_text uid) additional.classes) refl where
+    allowed : (t : Bool) → list_any (is_text uid) additional.classes ≡ t → service_in additional (class_in_row additional service) ≡ Some service
+    allowed true any =
         let both : ◌≡◌ {A = Option Service} (Some service) (Some (Additional uid)) = sym is ∙ other_service additional.classes bytes (Some uid) true e read any in
         let same : service ≡ Additional uid = cc in
         subst (λ s. service_in additional (class_in_row additional s) ≡ Some s) (sym same) (further_kept additional uid (uid_again bytes uid read) any)
-    taken false any = let both : ◌≡◌ {A = Option Service} (Some service) None = sym is ∙ other_service additional.classes bytes (Some uid) false e read any in absurd cc
+    allowed false any = let both : ◌≡◌ {A = Option Service} (Some service) None = sym is ∙ other_service additional.classes bytes (Some uid) false e read any in absurd cc
 
-kept_by : (additional : Taken) (id : ℕ) (service : Option Service) (syntax : Option Transfer) (c : Context) → ((s : Service) → service ≡ Some s → service_in additional (class_in_row additional s) ≡ Some s) →
+kept_by : (additional : Allowed) (id : ℕ) (service : Option Service) (syntax : Option Transfer) (c : Context) → ((s : Service) → service ≡ Some s → service_in additional (class_in_row additional s) ≡ Some s) →
     accepted_by service syntax ≡ Some c → context_by additional (row_with additional id c) ≡ Some c
 kept_by additional id None syntax c kept e = absurd cc
 kept_by additional id (Some s) None c kept e = absurd cc
@@ -202,6 +202,6 @@ kept_by additional id (Some s) (Some syntax) c kept e =
     subst (λ (x : Context). context_by additional (row_with additional id x) ≡ Some x) same (rw (kept s refl) refl)
 
 -- an accepted context is what its row says
-pub context_kept : (additional : Taken) (p : Proposal) (id : ℕ) (c : Context) → accepted (seen additional p) ≡ Some c → context_by additional (row_with additional id c) ≡ Some c
+pub context_kept : (additional : Allowed) (p : Proposal) (id : ℕ) (c : Context) → accepted (seen additional p) ≡ Some c → context_by additional (row_with additional id c) ≡ Some c
 context_kept additional p id c e =
-    kept_by additional id (service_of (taken_syntax additional.classes p.abstract_syntax)) (agreed (seen additional p).transfer_syntaxes) c (service_kept additional p.abstract_syntax) e
+    kept_by additional id (service_of (allowed_syntax additional.classes p.abstract_syntax)) (agreed (seen additional p).transfer_syntaxes) c (service_kept additional p.abstract_syntax) e

@@ -1,4 +1,4 @@
--- A search for the place of a further storage class finds it (`is_here`), continues (`not_here`) or ends (`none_here`,
+-- A search for the index of a further storage class finds it (`is_here`), continues (`not_here`) or ends (`none_here`,
 -- `none_remaining`). Stands on DictionaryDecidesByDefault and the laws of `dictionary`.
 use Rattle.std.proofs.Common.{◌≡◌, ℕ, suc, ◌+◌, ◌≤◌, Bool, true, false, cond, List, [], ◌∷◌, ◌++◌, length, map, drop, Some, None, slice_get, refl, ap, sym, subst, ◌∙◌, arith}
 use Rattle.std.specs.List.{position_from}

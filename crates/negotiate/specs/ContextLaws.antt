@@ -6,17 +6,17 @@ use Rattle.pdu.specs.Record.{RequestRecord, Proposal}
 use Rattle.negotiate.specs.declared.proposals.Context.{Context}
 use Rattle.negotiate.specs.declared.proposals.Service.{Service}
 use Rattle.negotiate.specs.declared.proposals.Service.TheVariants.{Known}
-use Rattle.negotiate.specs.Contexts.{accepted_by, chosen, context_of, offered, service_of, taken_syntax}
+use Rattle.negotiate.specs.Contexts.{accepted_by, chosen, context_of, offered, service_of, allowed_syntax}
 use Rattle.negotiate.specs.ContextRows.{context_in, context_rows}
-use Rattle.negotiate.specs.Taken.{Taken}
+use Rattle.negotiate.specs.Allowed.{Allowed}
 
 -- under each presentation context ID the table has the context that the request has there, and none where that has none
-abbrev pub TableIsOffered : Taken → RequestRecord → Type 0
+abbrev pub TableIsOffered : Allowed → RequestRecord → Type 0
 TableIsOffered additional r = (id : ℕ) → context_in additional (context_rows additional (offered additional r)) id ≡ context_of (offered additional r) id
 
 -- the service that a proposed context names, if it is accepted
-abbrev pub service_taken : Taken → Proposal → Option Service
-service_taken additional p = service_of (taken_syntax additional.classes p.abstract_syntax)
+abbrev pub service_allowed : Allowed → Proposal → Option Service
+service_allowed additional p = service_of (allowed_syntax additional.classes p.abstract_syntax)
 
 -- the context as which a proposal is accepted by the dictionary's classes and the native transfer syntaxes alone
 abbrev pub accepted_by_default : Proposal → Option Context

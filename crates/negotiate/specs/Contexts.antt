@@ -14,7 +14,7 @@ use Rattle.pdu.specs.Record.{RequestRecord, Proposal}
 use Rattle.negotiate.specs.declared.proposals.Context.{Context}
 use Rattle.negotiate.specs.declared.proposals.Service.{Service}
 use Rattle.negotiate.specs.declared.proposals.Service.TheVariants.{Known, Additional}
-use Rattle.negotiate.specs.Taken.{Taken}
+use Rattle.negotiate.specs.Allowed.{Allowed}
 
 -- whether the syntax is Explicit VR Little Endian
 -- e.g. is_explicit (Some Explicit) ≡ true
@@ -46,13 +46,13 @@ abbrev pub chosen : List (List ℕ) → Option Syntax
 chosen uids = if proposes_explicit uids then Some Explicit else (if proposes_implicit uids then Some Implicit else None)
 
 -- whether a known transfer syntax is accepted: Pixel Data is native in it, or it is one of the additional ones
-abbrev pub is_taken : List Transfer → Option Transfer → Bool
-is_taken transfers None = false
-is_taken transfers (Some transfer) = not (is_encapsulated transfer) || list_any (is_text_of (transfer_uid transfer)) transfers
+abbrev pub is_allowed : List Transfer → Option Transfer → Bool
+is_allowed transfers None = false
+is_allowed transfers (Some transfer) = not (is_encapsulated transfer) || list_any (is_text_of (transfer_uid transfer)) transfers
 
 -- the proposed transfer syntaxes, of which one that is not accepted counts as none
-abbrev pub taken_transfers : List Transfer → List (List ℕ) → List (List ℕ)
-taken_transfers transfers uids = filter (λ uid. is_taken transfers (transfer_of uid)) uids
+abbrev pub allowed_transfers : List Transfer → List (List ℕ) → List (List ℕ)
+allowed_transfers transfers uids = filter (λ uid. is_allowed transfers (transfer_of uid)) uids
 
 -- the first of two values that is present
 abbrev pub or_later : Option Transfer → Option Transfer → Option Transfer
@@ -106,26 +106,26 @@ is_among_additional additional None = false
 is_among_additional additional (Some uid) = list_any (is_text uid) additional
 
 -- an abstract syntax, or none if it is not accepted, by its class of the dictionary
-abbrev pub taken_by : Option Class → List (List ℕ) → List ℕ → List ℕ
-taken_by (Some class) additional bytes = bytes
-taken_by None additional bytes = if is_among_additional additional (uid_of bytes) then bytes else []
+abbrev pub allowed_by : Option Class → List (List ℕ) → List ℕ → List ℕ
+allowed_by (Some class) additional bytes = bytes
+allowed_by None additional bytes = if is_among_additional additional (uid_of bytes) then bytes else []
 
 -- an abstract syntax, or none if it is not accepted: it is accepted if the dictionary has its class, or if it is one of
 -- the additional storage classes
--- e.g. taken_syntax [] (codes "1.2.3") ≡ []; taken_syntax (codes "1.2.3" ∷ []) (codes "1.2.3") ≡ codes "1.2.3"
-abbrev pub taken_syntax : List (List ℕ) → List ℕ → List ℕ
-taken_syntax additional bytes = taken_by (class_of bytes) additional bytes
+-- e.g. allowed_syntax [] (codes "1.2.3") ≡ []; allowed_syntax (codes "1.2.3" ∷ []) (codes "1.2.3") ≡ codes "1.2.3"
+abbrev pub allowed_syntax : List (List ℕ) → List ℕ → List ℕ
+allowed_syntax additional bytes = allowed_by (class_of bytes) additional bytes
 
 -- a proposed context as the receiver reads it, with these additional storage classes and transfer syntaxes
-abbrev pub seen : Taken → Proposal → Proposal
+abbrev pub seen : Allowed → Proposal → Proposal
 seen additional p = record {
   id = p.id;
-  abstract_syntax = taken_syntax additional.classes p.abstract_syntax;
-  transfer_syntaxes = taken_transfers additional.transfers p.transfer_syntaxes;
+  abstract_syntax = allowed_syntax additional.classes p.abstract_syntax;
+  transfer_syntaxes = allowed_transfers additional.transfers p.transfer_syntaxes;
 }
 
 -- what a request offers to a receiver that accepts these additional storage classes and transfer syntaxes
-abbrev pub offered : Taken → RequestRecord → RequestRecord
+abbrev pub offered : Allowed → RequestRecord → RequestRecord
 offered additional r = record {
   version = r.version;
   called = r.called;

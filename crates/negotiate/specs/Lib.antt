@@ -1,5 +1,5 @@
 pub mod Settings
-pub mod Taken
+pub mod Allowed
 pub mod Rejections
 pub mod Answer
 pub mod Contexts

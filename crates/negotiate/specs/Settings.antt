@@ -2,7 +2,7 @@
 use Rattle.std.specs.Prelude.{ℕ, ◌^◌, Bool, true, false, List, [], ◌∷◌, ◌++◌, map, option_map, unwrap_or}
 use Rattle.dictionary.specs.StorageClasses.{storage_classes}
 use Rattle.negotiate.specs.declared.config.Config.{Config}
-use Rattle.negotiate.specs.Taken.{Taken, nothing_additional}
+use Rattle.negotiate.specs.Allowed.{Allowed, nothing_additional}
 
 -- the called titles, the receiver's own first, and whether any other is accepted, too; the titles that may call; each
 -- of 16 bytes; the greatest P-DATA length that it announces; the greatest data set that it accepts; and what it accepts
@@ -13,7 +13,7 @@ pub record Settings : Type 0 where
   pub callers : List (List ℕ)
   pub max_pdu : ℕ
   pub max_data : ℕ
-  pub additional : Taken
+  pub additional : Allowed
 
 -- all storage classes of the standard, or none of them
 abbrev pub registered : Bool → List (List ℕ)

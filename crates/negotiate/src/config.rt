@@ -101,8 +101,8 @@ fn is_among(transfers: &[Transfer], transfer: Transfer) -> bool
 
 impl Config {
     ghost use Rattle.std.specs.Prelude.{◌++◌, ◌∷◌, Some};
-    ghost use Rattle.negotiate.specs.Contexts.{is_taken};
-    ghost use Rattle.negotiate.specs.ContextRows.{place_of};
+    ghost use Rattle.negotiate.specs.Contexts.{is_allowed};
+    ghost use Rattle.negotiate.specs.ContextRows.{index_of};
     ghost use Rattle.negotiate.specs.Settings.{registered, settings_by_default, settings_of};
 
     /// The default of `max_pdu`.
@@ -181,39 +181,39 @@ impl Config {
     }
 
     /// Returns whether a transfer syntax is accepted.
-    pub(crate) fn takes(&self, transfer: Transfer) -> bool
-        ensures { result ≡ is_taken (settings_of self.now).additional.transfers (Some transfer) }
+    pub(crate) fn accepts(&self, transfer: Transfer) -> bool
+        ensures { result ≡ is_allowed (settings_of self.now).additional.transfers (Some transfer) }
     {
         !transfer.is_encapsulated() || is_among(self.transfers.as_slice(), transfer)
     }
 
     /// Returns the text of the additional storage class with this index, named ones first, or
     /// `None`.
-    pub(crate) fn additional(&self, place: usize) -> Option<&[u8]>
-        ensures { option_map (λ u. u.now) result ≡ slice_get (settings_of self.now).additional.classes place }
+    pub(crate) fn additional(&self, index: usize) -> Option<&[u8]>
+        ensures { option_map (λ u. u.now) result ≡ slice_get (settings_of self.now).additional.classes index }
     {
         let named = self.named.as_slice();
-        if place < named.len() {
-            return Some(named[place].as_slice());
+        if index < named.len() {
+            return Some(named[index].as_slice());
         }
         if !self.all_storage {
             return None;
         }
-        match storage_class(place - named.len()) {
+        match storage_class(index - named.len()) {
             Some(class) => Some(class.uid),
             None => None,
         }
     }
 
     /// Returns the index of an additional storage class, or `None` if it is not accepted.
-    pub(crate) fn place(&self, uid: &Uid) -> Option<u8>
-        ensures { result ≡ place_of (settings_of self.now).additional.classes uid.now }
+    pub(crate) fn class_index(&self, uid: &Uid) -> Option<u8>
+        ensures { result ≡ index_of (settings_of self.now).additional.classes uid.now }
     {
-        for place in 0..MOST_FURTHER {
-            match self.additional(place) {
+        for index in 0..MOST_FURTHER {
+            match self.additional(index) {
                 Some(text) => {
                     if text == uid.as_bytes() {
-                        return Some(place as u8);
+                        return Some(index as u8);
                     }
                 }
                 None => return None,

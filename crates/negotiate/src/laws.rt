@@ -9,11 +9,11 @@ ghost use Rattle.pdu.specs.Items.{request_record};
 ghost use Rattle.pdu.specs.Record.{Proposal, RequestRecord, ids};
 ghost use Rattle.pdu.specs.Refusal.{request_fault};
 ghost use Rattle.negotiate.specs.Accept.{accept_text, longest_accept};
-ghost use Rattle.negotiate.specs.ContextLaws.{TableIsOffered, accepted_by_default, service_taken};
+ghost use Rattle.negotiate.specs.ContextLaws.{TableIsOffered, accepted_by_default, service_allowed};
 ghost use Rattle.negotiate.specs.ContextRows.{accepted_count, context_rows};
 ghost use Rattle.negotiate.specs.Contexts.{accepted, accepted_by, agreed, carried, carried_by, chosen, context_of, offered, result_by, result_of, seen};
 ghost use Rattle.negotiate.specs.Rejections as spelling;
-ghost use Rattle.negotiate.specs.Taken.{Taken, nothing_additional};
+ghost use Rattle.negotiate.specs.Allowed.{Allowed, nothing_additional};
 ghost use Rattle.negotiate.specs.Settings.{Settings, default_max_data, default_max_pdu};
 ghost use Rattle.negotiate.specs.Answer.{judged};
 ghost use Rattle.negotiate.specs.declared.answer.Answer.TheVariants.{Accept};
@@ -29,8 +29,8 @@ use crate::rejection::{
 /// The table of a request has one row for each accepted context and no other. Looking up a
 /// presentation context ID gives the same in the table as in the request.
 pub fn table_has_the_accepted_contexts()
-    ensures contexts { (additional : Taken) (r : RequestRecord) → IsDistinct eqb (ids r.contexts) → TableIsOffered additional r }
-    ensures count { (additional : Taken) (r : RequestRecord) → length (context_rows additional r) ≡ accepted_count r }
+    ensures contexts { (additional : Allowed) (r : RequestRecord) → IsDistinct eqb (ids r.contexts) → TableIsOffered additional r }
+    ensures count { (additional : Allowed) (r : RequestRecord) → length (context_rows additional r) ≡ accepted_count r }
 {}
 
 /// Without additional classes or transfer syntaxes, the dictionary's classes alone determine the
@@ -44,17 +44,17 @@ pub fn by_default_the_dictionary_decides()
 /// Without additional transfer syntaxes, the two native ones alone determine the result of each
 /// proposed context, the context that is accepted and the transfer syntax that the answer carries.
 pub fn by_default_the_native_syntaxes_decide()
-    ensures result { (additional : Taken) (p : Proposal) → additional.transfers ≡ [] → result_of (seen additional p) ≡ result_by (service_taken additional p) (chosen p.transfer_syntaxes) }
-    ensures context { (additional : Taken) (p : Proposal) → additional.transfers ≡ [] →
-        accepted (seen additional p) ≡ accepted_by (service_taken additional p) (option_map native (chosen p.transfer_syntaxes)) }
-    ensures carried { (additional : Taken) (p : Proposal) → additional.transfers ≡ [] →
-        carried (seen additional p) ≡ carried_by (service_taken additional p) (option_map native (chosen p.transfer_syntaxes)) }
+    ensures result { (additional : Allowed) (p : Proposal) → additional.transfers ≡ [] → result_of (seen additional p) ≡ result_by (service_allowed additional p) (chosen p.transfer_syntaxes) }
+    ensures context { (additional : Allowed) (p : Proposal) → additional.transfers ≡ [] →
+        accepted (seen additional p) ≡ accepted_by (service_allowed additional p) (option_map native (chosen p.transfer_syntaxes)) }
+    ensures carried { (additional : Allowed) (p : Proposal) → additional.transfers ≡ [] →
+        carried (seen additional p) ≡ carried_by (service_allowed additional p) (option_map native (chosen p.transfer_syntaxes)) }
 {}
 
 /// If a context proposes a native transfer syntax, no additional one is chosen, whatever the
 /// settings accept.
 pub fn native_syntaxes_are_preferred()
-    ensures { (additional : Taken) (p : Proposal) (s : Syntax) → chosen p.transfer_syntaxes ≡ Some s → agreed (seen additional p).transfer_syntaxes ≡ Some (native s) }
+    ensures { (additional : Allowed) (p : Proposal) (s : Syntax) → chosen p.transfer_syntaxes ≡ Some s → agreed (seen additional p).transfer_syntaxes ≡ Some (native s) }
 {}
 
 /// The maximum length of a peer whose request is accepted allows fragments: it is 0 (no limit) or

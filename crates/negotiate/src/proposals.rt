@@ -56,12 +56,12 @@ fn chosen_syntax(proposal: &Proposal) -> Option<Syntax>
 }
 
 /// Returns the first proposed transfer syntax of a context that the settings accept.
-fn first_taken(config: &Config, proposal: &Proposal) -> Option<Transfer>
-    ensures { result ≡ spelling.first_known (spelling.taken_transfers (settings_of config.now).additional.transfers proposal.now.transfer_syntaxes) }
+fn first_allowed(config: &Config, proposal: &Proposal) -> Option<Transfer>
+    ensures { result ≡ spelling.first_known (spelling.allowed_transfers (settings_of config.now).additional.transfers proposal.now.transfer_syntaxes) }
 {
     for uid in proposal.transfer_syntaxes() {
         if let Some(transfer) = Transfer::of(uid) {
-            if config.takes(transfer) {
+            if config.accepts(transfer) {
                 return Some(transfer);
             }
         }
@@ -72,22 +72,22 @@ fn first_taken(config: &Config, proposal: &Proposal) -> Option<Transfer>
 /// Returns the transfer syntax to choose from those that a context proposes: a native one if there
 /// is one, else the first that the settings accept.
 fn agreed_transfer(config: &Config, proposal: &Proposal) -> Option<Transfer>
-    ensures { result ≡ spelling.agreed (spelling.taken_transfers (settings_of config.now).additional.transfers proposal.now.transfer_syntaxes) }
+    ensures { result ≡ spelling.agreed (spelling.allowed_transfers (settings_of config.now).additional.transfers proposal.now.transfer_syntaxes) }
 {
     match chosen_syntax(proposal) {
         Some(syntax) => Some(Transfer::native(syntax)),
-        None => first_taken(config, proposal),
+        None => first_allowed(config, proposal),
     }
 }
 
 /// Returns the service that an abstract syntax names, if it is accepted.
-fn taken_service(config: &Config, bytes: &[u8]) -> Option<Service>
-    ensures { result ≡ spelling.service_of (spelling.taken_syntax (settings_of config.now).additional.classes bytes.now) }
+fn allowed_service(config: &Config, bytes: &[u8]) -> Option<Service>
+    ensures { result ≡ spelling.service_of (spelling.allowed_syntax (settings_of config.now).additional.classes bytes.now) }
 {
     match class_of(bytes) {
         Some(class) => Some(Service::Known(class)),
         None => match Uid::read(bytes) {
-            Some(uid) => match config.place(&uid) {
+            Some(uid) => match config.class_index(&uid) {
                 Some(_) => Some(Service::Additional(uid)),
                 None => None,
             },
@@ -101,7 +101,7 @@ pub(crate) fn accepted(config: &Config, proposal: &Proposal) -> Option<Context>
     ensures { result ≡ spelling.accepted (spelling.seen (settings_of config.now).additional proposal.now) }
 {
     match (
-        taken_service(config, proposal.abstract_syntax()),
+        allowed_service(config, proposal.abstract_syntax()),
         agreed_transfer(config, proposal),
     ) {
         (Some(class), Some(syntax)) => Some(Context { class, syntax }),
@@ -114,7 +114,7 @@ pub fn result_of(config: &Config, proposal: &Proposal) -> u8
     ensures { result ≡ spelling.result_of (spelling.seen (settings_of config.now).additional proposal.now) }
 {
     match (
-        taken_service(config, proposal.abstract_syntax()),
+        allowed_service(config, proposal.abstract_syntax()),
         agreed_transfer(config, proposal),
     ) {
         (None, _) => ABSTRACT_SYNTAX_NOT_SUPPORTED,

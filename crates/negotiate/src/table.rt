@@ -49,11 +49,11 @@ impl Default for ContextRow {
 }
 
 /// Returns the index, or 0 without one.
-fn first(place: Option<u8>) -> u8
-    ensures { result ≡ rows.or_first place }
+fn first(index: Option<u8>) -> u8
+    ensures { result ≡ rows.or_first index }
 {
-    match place {
-        Some(place) => place,
+    match index {
+        Some(index) => index,
         None => 0,
     }
 }
@@ -64,7 +64,7 @@ fn class_in_row(config: &Config, class: &Service) -> RowClass
 {
     match class {
         Service::Known(class) => RowClass::Known(*class),
-        Service::Additional(uid) => RowClass::Additional(first(config.place(uid))),
+        Service::Additional(uid) => RowClass::Additional(first(config.class_index(uid))),
     }
 }
 
@@ -94,7 +94,7 @@ fn service_in(config: &Config, class: RowClass) -> Option<Service>
 {
     match class {
         RowClass::Known(class) => Some(Service::Known(class)),
-        RowClass::Additional(place) => match config.additional(place as usize) {
+        RowClass::Additional(index) => match config.additional(index as usize) {
             Some(text) => match Uid::read(text) {
                 Some(uid) => Some(Service::Additional(uid)),
                 None => None,

@@ -1,4 +1,4 @@
--- Where only the native transfer syntaxes are taken, a header fails that fails where all are (`still_fails`,
+-- Where only the native transfer syntaxes are accepted, a header fails that fails where all are (`still_fails`,
 -- `still_names`), and so does one in an encapsulated transfer syntax (`compressed_fails`). Stands on PartFailsTheWhole
 -- and the laws of `dictionary`.
 use Rattle.std.proofs.Common.{◌≡◌, ◌≢◌, ℕ, true, false, List, Option, Some, None, refl, ap, sym, ◌∙◌}
@@ -12,7 +12,7 @@ use Rattle.dictionary.proofs.Public.{native_uid, transfer_back}
 use Rattle.part10.specs.declared.meta.Meta.{Meta}
 use Rattle.part10.specs.declared.meta_fault.MetaFault.{MetaFault}
 use Rattle.part10.specs.declared.meta_fault.MetaFault.TheVariants.{NotPart10, BadMeta, OtherSyntax, ReadFailed}
-use Rattle.part10.specs.MetaText.{meta_values_of, MetaFaultOf, TakesMeta, NamesOther, NamesUnknown, FailsToRead, FailsToReadAny}
+use Rattle.part10.specs.MetaText.{meta_values_of, MetaFaultOf, ConsumesMeta, NamesOther, NamesUnknown, FailsToRead, FailsToReadAny}
 use Rattle.part10.proofs.PartFailsTheWhole.{bad_after}
 
 pub native_is : (t : Transfer) → is_encapsulated t ≡ false → t ≡ native (syntax_in t)
@@ -41,12 +41,12 @@ still_fails OtherSyntax None h = tt
 still_fails OtherSyntax (Some file) (said, has, none) = (said, has, unknown_other said.syntax none)
 
 pub still_names : (old new : Option (List ℕ)) → NamesUnknown old new → NamesOther old new
-still_names old new (said, takes, none) = (said, takes, unknown_other said.syntax none)
+still_names old new (said, accepts, none) = (said, accepts, unknown_other said.syntax none)
 
-pub compressed_names : (meta : Meta) (old new : Option (List ℕ)) → TakesMeta (meta_values_of meta) old new → is_encapsulated meta.syntax ≡ true → NamesOther old new
-compressed_names meta old new takes e = (meta_values_of meta, takes, other_than meta.syntax e)
+pub compressed_names : (meta : Meta) (old new : Option (List ℕ)) → ConsumesMeta (meta_values_of meta) old new → is_encapsulated meta.syntax ≡ true → NamesOther old new
+compressed_names meta old new accepts e = (meta_values_of meta, accepts, other_than meta.syntax e)
 
-pub compressed_fails : (meta : Meta) (old new : Option (List ℕ)) → TakesMeta (meta_values_of meta) old new → is_encapsulated meta.syntax ≡ true → FailsToRead OtherSyntax old
+pub compressed_fails : (meta : Meta) (old new : Option (List ℕ)) → ConsumesMeta (meta_values_of meta) old new → is_encapsulated meta.syntax ≡ true → FailsToRead OtherSyntax old
 compressed_fails meta old new (header, spelled, consumes) e =
     bad_after old new header (λ file. MetaFaultOf file OtherSyntax) consumes (λ rest.
     (meta_values_of meta, record { front = header; back = rest; whole = refl; spelled = spelled }, other_than meta.syntax e))

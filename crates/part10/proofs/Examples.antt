@@ -80,9 +80,9 @@ jpeg_is : SpellsMeta (least_said (codes "1.2.840.10008.1.2.4.50")) (least_header
 unfolding is_short
 jpeg_is = least_read (codes "1.2.840.10008.1.2.4.50") refl (omega arith)
 
-not_taken : (s : Syntax) → codes "1.2.840.10008.1.2.4.50" ≢ syntax_uid s
-not_taken Implicit same = absurd (omega (arith, ap length same))
-not_taken Explicit same = absurd (omega (arith, ap length same))
+not_consumed : (s : Syntax) → codes "1.2.840.10008.1.2.4.50" ≢ syntax_uid s
+not_consumed Implicit same = absurd (omega (arith, ap length same))
+not_consumed Explicit same = absurd (omega (arith, ap length same))
 
 pub other_syntax_is_a_fault : SyntaxIsSaid
 other_syntax_is_a_fault = (
@@ -90,6 +90,6 @@ other_syntax_is_a_fault = (
   (
     least_said (codes "1.2.840.10008.1.2.4.50"),
     record { front = least_header (codes "1.2.840.10008.1.2.4.50"); back = replicate 20 0; whole = refl; spelled = jpeg_is },
-    not_taken,
+    not_consumed,
   ),
 )

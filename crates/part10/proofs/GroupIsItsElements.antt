@@ -23,7 +23,7 @@ last_of last (e ∷ es) = last_of e.number es
 pub record Grouped (size remaining last : ℕ) (found : Found) (old now : Option (List ℕ)) : Type 0 where
   pub text : List ℕ
   pub elements : List MetaElement
-  pub taken : Consumes old now text
+  pub consumed : Consumes old now text
   pub counted : length text + remaining ≡ size
   pub spelled : MetaElements 0 elements text
   pub ends : last_of 0 elements ≡ last
@@ -82,7 +82,7 @@ grouped_then size remaining last found e old mid new so_far more =
     record {
       text = so_far.text ++ (more.bytes ++ more.value);
       elements = so_far.elements ++ x ∷ [];
-      taken = Consumes-trans old mid new so_far.text (more.bytes ++ more.value) so_far.taken more.taken;
+      consumed = Consumes-trans old mid new so_far.text (more.bytes ++ more.value) so_far.consumed more.consumed;
       counted = rw (length-append, length-append) (omega (arith, so_far.counted, more.counted, more.within));
       spelled = then_elements 0 so_far.elements (x ∷ []) so_far.text (more.bytes ++ more.value) so_far.spelled one;
       ends = last_then 0 so_far.elements x ∙ sym more.number;

@@ -10,6 +10,6 @@ pub mod UidIsInFront
 pub mod PrefixIsSpelled
 pub mod NoElementFollows
 pub mod GroupIsItsElements
-pub mod HeaderTakenOrRefused
+pub mod HeaderConsumedOrRefused
 pub mod EncapsulatedSyntaxesFail
 pub mod Verdicts

@@ -10,7 +10,7 @@ use Rattle.element.specs.Uid.{is_uid, is_uid_character, uid_of, if_uid}
 -- the part of a value that was read, and what is left of it
 pub record Padded (size remaining : ℕ) (padding : Bool) (old now : Option (List ℕ)) : Type 0 where
   pub text : List ℕ
-  pub taken : Consumes old now text
+  pub consumed : Consumes old now text
   pub counted : length text + remaining ≡ size
   pub is : padding ≡ is_empty (without_trailing is_padding text)
 

@@ -1,5 +1,5 @@
--- Every file has a file header that is taken, or a fault (`taken_or_faulty`), and one of these alone (`one_verdict`).
--- Stands on EightBytesGiveSize, GroupIsItsElements, HeaderTakenOrRefused, NoElementFollows, OneHeader, PrefixIsSpelled
+-- Every file has a file header that is accepted, or a fault (`consumed_or_faulty`), and one of these alone (`one_verdict`).
+-- Stands on EightBytesGiveSize, GroupIsItsElements, HeaderConsumedOrRefused, NoElementFollows, OneHeader, PrefixIsSpelled
 -- and the laws of `element`.
 use Rattle.std.proofs.Common.{◌≡◌, ◌≢◌, ℕ, zero, suc, ◌+◌, ◌%◌, ◌^◌, ◌<◌, ◌≤◌, Bool, true, false, ◌&&◌, List, [], ◌∷◌, ◌++◌, length, take, drop, Option, Some, None, Err, inl, inr, ◌⊎◌, refl, sym, ap, subst, ◌∙◌, arith, append_assoc, append-nil, length-append, length-take, length-drop, take-append-drop, eqb-true, ltb-true, nat_eq, nat_lt, lit<, codes}
 use Rattle.std.proofs.lemmas.Bool.{and_parts, cases_lt}
@@ -20,13 +20,13 @@ use Rattle.part10.specs.declared.meta_fault.MetaFault.{MetaFault}
 use Rattle.part10.specs.declared.meta_fault.MetaFault.TheVariants.{NotPart10, BadMeta, OtherSyntax, ReadFailed}
 use Rattle.part10.specs.declared.reading.Found.{Found}
 use Rattle.part10.specs.File.{length_element}
-use Rattle.part10.specs.MetaText.{MetaValues, HasMeta, HasLetters, MetaFaultOf, IsTaken, MetaElement, meta_element_of, MetaElements, no_more, element_then, uid_at, TakenOrFaulty, OneVerdict}
+use Rattle.part10.specs.MetaText.{MetaValues, HasMeta, HasLetters, MetaFaultOf, IsConsumed, MetaElement, meta_element_of, MetaElements, no_more, element_then, uid_at, ConsumedOrFaulty, OneVerdict}
 use Rattle.part10.specs.machine.Reading.{NoSize, NoHeader, NoElement, is_next}
 use Rattle.part10.proofs.EightBytesGiveSize.{whole_at, need_bounds}
 use Rattle.part10.proofs.PrefixIsSpelled.{short_file, other_size, short_size, number_back, size_is}
 use Rattle.part10.proofs.NoElementFollows.{not_next, short_value, no_header}
 use Rattle.part10.proofs.GroupIsItsElements.{one_element, rest_elements, no_first}
-use Rattle.part10.proofs.HeaderTakenOrRefused.{Whole, no_size, no_group_at, spells_whole, meta_refused}
+use Rattle.part10.proofs.HeaderConsumedOrRefused.{Whole, no_size, no_group_at, spells_whole, meta_refused}
 use Rattle.part10.proofs.OneHeader.{same_front, parted, one_header}
 
 bytes_after : (n : ℕ) (b : List ℕ) → IsBytes b → IsBytes (drop n b)
@@ -104,15 +104,15 @@ decide (suc fuel) last (x ∷ xs) bytes few = by (need Explicit (x ∷ xs)) refl
 -- the whole file
 
 Verdict : List ℕ → Type 0
-Verdict file = IsTaken file ⊎ ((fault : MetaFault) × MetaFaultOf file fault)
+Verdict file = IsConsumed file ⊎ ((fault : MetaFault) × MetaFaultOf file fault)
 
 bad : (file : List ℕ) → MetaFaultOf file BadMeta → Verdict file
 unfolding Verdict
 bad file fault = inr (BadMeta, fault)
 
-taken_text : (file : List ℕ) (said : MetaValues) → HasMeta said file → Verdict file
+consumed_text : (file : List ℕ) (said : MetaValues) → HasMeta said file → Verdict file
 unfolding Verdict
-taken_text file said has = by (bytes_eq said.syntax (syntax_uid Implicit)) refl (bytes_eq said.syntax (syntax_uid Explicit)) refl
+consumed_text file said has = by (bytes_eq said.syntax (syntax_uid Implicit)) refl (bytes_eq said.syntax (syntax_uid Explicit)) refl
   where
     neither : bytes_eq said.syntax (syntax_uid Implicit) ≡ false → bytes_eq said.syntax (syntax_uid Explicit) ≡ false → (s : Syntax) → said.syntax ≢ syntax_uid s
     neither e f Implicit same = absurd (let both : false ≡ true = sym e ∙ (bytes_eq-Decides said.syntax (syntax_uid Implicit)).1 same in cc)
@@ -127,7 +127,7 @@ taken_text file said has = by (bytes_eq said.syntax (syntax_uid Implicit)) refl 
 grouped : (n : ℕ) (found : Found) (back file : List ℕ) → Whole n found (Some file) (Some back) → (class instance syntax : Option (List ℕ)) → found.class ≡ class → found.instance ≡ instance → found.syntax ≡ syntax → Verdict file
 grouped n found back file whole (Some class) (Some instance) (Some syntax) c i s =
     let said : MetaValues = record { class = class; instance = instance; syntax = syntax } in
-    taken_text file said (record { front = _; back = back; whole = whole.taken; spelled = spells_whole n found (Some file) (Some back) whole said c i s })
+    consumed_text file said (record { front = _; back = back; whole = whole.consumed; spelled = spells_whole n found (Some file) (Some back) whole said c i s })
 grouped n found back file whole None instance syntax c i s = bad file (meta_refused n found (Some file) (Some back) whole (Err BadMeta) (λ all. absurd (let both = sym c ∙ all.3 in cc)))
 grouped n found back file whole (Some class) None syntax c i s = bad file (meta_refused n found (Some file) (Some back) whole (Err BadMeta) (λ all. absurd (let both = sym i ∙ all.4 in cc)))
 grouped n found back file whole (Some class) (Some instance) None c i s = bad file (meta_refused n found (Some file) (Some back) whole (Err BadMeta) (λ all. absurd (let both = sym s ∙ all.5 in cc)))
@@ -157,7 +157,7 @@ decided preamble rest n size small count d = elim d [
         preamble_size = size;
         small = small;
         count = count;
-        taken = parts;
+        consumed = parts;
         spelled = found.1;
         is = record { class = refl; instance = refl; syntax = refl };
       } in
@@ -214,11 +214,11 @@ some_letters file has bytes =
     append_assoc (take 128 file) (codes "DICM") (drop 4 (drop 128 file)) ∙ (ap (λ z. take 128 file ++ z) (sym after) ∙ take-append-drop 128 file) in
     subst Verdict whole (after_letters_of (take 128 file) (drop 4 (drop 128 file)) (omega (arith, long, length-take 128 file)) (bytes_after 4 (drop 128 file) (bytes_after 128 file bytes)))
 
-pub taken_or_faulty : TakenOrFaulty
+pub consumed_or_faulty : ConsumedOrFaulty
 unfolding Verdict
-taken_or_faulty file bytes = by (bytes_eq (take 4 (drop 128 file)) (codes "DICM")) refl
+consumed_or_faulty file bytes = by (bytes_eq (take 4 (drop 128 file)) (codes "DICM")) refl
   where
-    by : (b : Bool) → bytes_eq (take 4 (drop 128 file)) (codes "DICM") ≡ b → IsTaken file ⊎ ((fault : MetaFault) × MetaFaultOf file fault)
+    by : (b : Bool) → bytes_eq (take 4 (drop 128 file)) (codes "DICM") ≡ b → IsConsumed file ⊎ ((fault : MetaFault) × MetaFaultOf file fault)
     by true e = some_letters file ((bytes_eq-Decides (take 4 (drop 128 file)) (codes "DICM")).0 e) bytes
     by false e = inr (NotPart10, λ has. absurd (let both : false ≡ true = sym e ∙ (bytes_eq-Decides (take 4 (drop 128 file)) (codes "DICM")).1 has in cc))
 
@@ -230,13 +230,13 @@ letters_of said file has =
     ap (drop 128) (parted said file has) ∙ drop_at has.spelled.preamble _ 128 has.spelled.preamble_size in
     ap (take 4) after
 
-never_both : (file : List ℕ) (fault : MetaFault) → IsTaken file → ¬ MetaFaultOf file fault
-never_both file NotPart10 taken fault = fault (letters_of taken.0 file taken.1)
-never_both file BadMeta taken fault = fault.1 taken.0 taken.1
-never_both file OtherSyntax taken fault =
-    let same : taken.0 ≡ fault.0 = (one_header file taken.0 fault.0 taken.1 fault.1).0 in
-    fault.2 taken.2.0 (ap (λ z. z.syntax) (sym same) ∙ taken.2.1)
-never_both file ReadFailed taken fault = fault
+never_both : (file : List ℕ) (fault : MetaFault) → IsConsumed file → ¬ MetaFaultOf file fault
+never_both file NotPart10 consumed fault = fault (letters_of consumed.0 file consumed.1)
+never_both file BadMeta consumed fault = fault.1 consumed.0 consumed.1
+never_both file OtherSyntax consumed fault =
+    let same : consumed.0 ≡ fault.0 = (one_header file consumed.0 fault.0 consumed.1 fault.1).0 in
+    fault.2 consumed.2.0 (ap (λ z. z.syntax) (sym same) ∙ consumed.2.1)
+never_both file ReadFailed consumed fault = fault
 
 one_fault : (file : List ℕ) (fault other : MetaFault) → MetaFaultOf file fault → MetaFaultOf file other → fault ≡ other
 one_fault file NotPart10 NotPart10 a b = refl

@@ -98,12 +98,12 @@ MetaFaultOf file OtherSyntax = (said : MetaValues) × HasMeta said file × ((s :
 MetaFaultOf file ReadFailed = ⊥
 
 -- reading consumed exactly a file header that says this
-abbrev pub TakesMeta : MetaValues → Option (List ℕ) → Option (List ℕ) → Type 0
-TakesMeta said old new = (header : List ℕ) × SpellsMeta said header × Consumes old new header
+abbrev pub ConsumesMeta : MetaValues → Option (List ℕ) → Option (List ℕ) → Type 0
+ConsumesMeta said old new = (header : List ℕ) × SpellsMeta said header × Consumes old new header
 
 -- reading consumed exactly a file header with a transfer syntax other than the two native ones
 abbrev pub NamesOther : Option (List ℕ) → Option (List ℕ) → Type 0
-NamesOther old new = (said : MetaValues) × TakesMeta said old new × ((s : Syntax) → said.syntax ≢ syntax_uid s)
+NamesOther old new = (said : MetaValues) × ConsumesMeta said old new × ((s : Syntax) → said.syntax ≢ syntax_uid s)
 
 -- reading fails with this fault: a read failed, or it is the fault of the bytes that the reader had, if they are
 -- known
@@ -120,7 +120,7 @@ abbrev pub NamesNone : List ℕ → Type 0
 NamesNone file = (said : MetaValues) × HasMeta said file × ((t : Transfer) → said.syntax ≢ transfer_uid t)
 
 abbrev pub NamesUnknown : Option (List ℕ) → Option (List ℕ) → Type 0
-NamesUnknown old new = (said : MetaValues) × TakesMeta said old new × ((t : Transfer) → said.syntax ≢ transfer_uid t)
+NamesUnknown old new = (said : MetaValues) × ConsumesMeta said old new × ((t : Transfer) → said.syntax ≢ transfer_uid t)
 
 abbrev pub FailsToReadAny : MetaFault → Option (List ℕ) → Type 0
 FailsToReadAny ReadFailed old = ⊤
@@ -129,19 +129,19 @@ FailsToReadAny BadMeta old = IfSome old (λ file. MetaFaultOf file BadMeta)
 FailsToReadAny OtherSyntax old = IfSome old NamesNone
 
 -- the file has a file header with one of the two native transfer syntaxes
-abbrev pub IsTaken : List ℕ → Type 0
-IsTaken file = (said : MetaValues) × HasMeta said file × ((s : Syntax) × (said.syntax ≡ syntax_uid s))
+abbrev pub IsConsumed : List ℕ → Type 0
+IsConsumed file = (said : MetaValues) × HasMeta said file × ((s : Syntax) × (said.syntax ≡ syntax_uid s))
 
 -- a file determines its file header: what it says and where it ends
 abbrev pub OneHeader : Type 0
 OneHeader = (file : List ℕ) (said reported : MetaValues) (has : HasMeta said file) (also : HasMeta reported file) → (said ≡ reported) × (has.front ≡ also.front)
 
 -- every file is accepted or has a fault
-abbrev pub TakenOrFaulty : Type 0
-TakenOrFaulty = (file : List ℕ) → IsBytes file → IsTaken file ⊎ ((fault : MetaFault) × MetaFaultOf file fault)
+abbrev pub ConsumedOrFaulty : Type 0
+ConsumedOrFaulty = (file : List ℕ) → IsBytes file → IsConsumed file ⊎ ((fault : MetaFault) × MetaFaultOf file fault)
 
 -- no file with a fault is accepted, and no file has two faults
 abbrev pub OneVerdict : Type 0
 OneVerdict =
-    ((file : List ℕ) (fault : MetaFault) → IsTaken file → ¬ MetaFaultOf file fault)
+    ((file : List ℕ) (fault : MetaFault) → IsConsumed file → ¬ MetaFaultOf file fault)
     × ((file : List ℕ) (fault other : MetaFault) → MetaFaultOf file fault → MetaFaultOf file other → fault ≡ other)

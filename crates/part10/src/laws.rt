@@ -4,7 +4,7 @@ ghost use Rattle.std.specs.Prelude.{◌≡◌, ◌^◌, ◌<◌, ◌≤◌, ℕ,
 ghost use Rattle.element.specs.Uid.{is_uid};
 ghost use Rattle.part10.specs.declared.meta.Meta as meta;
 ghost use Rattle.part10.specs.File.{head, meta_group};
-ghost use Rattle.part10.specs.MetaText.{OneHeader, OneVerdict, SpellsMeta, TakenOrFaulty, meta_values_of};
+ghost use Rattle.part10.specs.MetaText.{OneHeader, OneVerdict, SpellsMeta, ConsumedOrFaulty, meta_values_of};
 ghost use Rattle.part10.specs.Examples.{OneCtStore, NoHeaders, SyntaxIsSaid, least_group, least_header, least_said};
 
 /// Example: the file of a CT image has the lengths that PS3.10 section 7.1 gives its parts.
@@ -43,8 +43,8 @@ pub fn one_header()
 {}
 
 /// The File Meta Information of every file is accepted or has a fault.
-pub fn taken_or_faulty()
-    ensures { TakenOrFaulty }
+pub fn consumed_or_faulty()
+    ensures { ConsumedOrFaulty }
 {}
 
 /// No file with a fault is accepted, and no file has two faults.

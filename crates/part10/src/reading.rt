@@ -5,7 +5,7 @@ ghost use Rattle.std.specs.Str.{bytes_eq};
 ghost use Rattle.element.specs.Padding as padding;
 ghost use Rattle.element.specs.Numbers.{le};
 ghost use Rattle.dictionary.specs.Transfers.{native, syntax_in};
-ghost use Rattle.part10.specs.MetaText.{meta_values_of, TakesMeta, NamesOther, NamesUnknown, FailsToRead, FailsToReadAny};
+ghost use Rattle.part10.specs.MetaText.{meta_values_of, ConsumesMeta, NamesOther, NamesUnknown, FailsToRead, FailsToReadAny};
 ghost use Rattle.part10.specs.File.{length_element};
 ghost use Rattle.part10.specs.declared.meta_fault.MetaFault.TheVariants.{ReadFailed, OtherSyntax};
 ghost use Rattle.part10.specs.machine.Reading as part;
@@ -24,7 +24,7 @@ use std::io::Read;
 fn fill<R: Read>(input: &mut R, room: &mut [u8]) -> Result<usize, MetaFault>
     ensures size { length room.new ≡ length room.old }
     ensures within { IfOk result (λ n. n ≤ length room.new) }
-    ensures took { IfOk result (λ n. Consumes (R.remaining input.old) (R.remaining input.new) (take n room.new)) }
+    ensures consumes { IfOk result (λ n. Consumes (R.remaining input.old) (R.remaining input.new) (take n room.new)) }
     ensures end { IfOk result (λ n. n < length room.new → IsAtEnd (R.remaining input.new)) }
     ensures failed { IfErr result (λ fault. fault ≡ ReadFailed) }
 {
@@ -45,7 +45,7 @@ fn fill<R: Read>(input: &mut R, room: &mut [u8]) -> Result<usize, MetaFault>
 /// `ReadFailed`.
 fn read_whole<R: Read>(input: &mut R, room: &mut [u8]) -> Result<(), MetaFault>
     ensures size { length room.new ≡ length room.old }
-    ensures took { OnOk result (Consumes (R.remaining input.old) (R.remaining input.new) room.new) }
+    ensures consumes { OnOk result (Consumes (R.remaining input.old) (R.remaining input.new) room.new) }
     ensures short { IfErr result (λ fault. part.Breaks fault (R.remaining input.old) (λ rest. length rest < length room.new)) }
 {
     if fill(input, room)? < room.len() {
@@ -299,7 +299,7 @@ fn read_group<R: Read>(input: &mut R, size: u32) -> Result<Found, MetaFault>
 /// Fails with a [`MetaFault`]. After `OtherSyntax` exactly the File Meta Information was read;
 /// after any other error the position of the reader is unspecified.
 pub fn read_any_meta<R: Read>(input: &mut R) -> Result<Meta, MetaFault>
-    ensures header { IfOk result (λ meta. TakesMeta (meta_values_of meta) (R.remaining input.old) (R.remaining input.new)) }
+    ensures header { IfOk result (λ meta. ConsumesMeta (meta_values_of meta) (R.remaining input.old) (R.remaining input.new)) }
     ensures calling { IfOk result (λ meta. meta.calling.0 ≡ replicate 16 32) }
     ensures fault { IfErr result (λ fault. FailsToReadAny fault (R.remaining input.old)) }
     ensures other_syntax { IfErr result (λ fault. fault ≡ OtherSyntax → NamesUnknown (R.remaining input.old) (R.remaining input.new)) }
@@ -313,7 +313,7 @@ pub fn read_any_meta<R: Read>(input: &mut R) -> Result<Meta, MetaFault>
 /// only the two native transfer syntaxes, Implicit and Explicit VR Little Endian. Any other fails
 /// with `OtherSyntax`, after exactly the File Meta Information was read.
 pub fn read_meta<R: Read>(input: &mut R) -> Result<Meta, MetaFault>
-    ensures header { IfOk result (λ meta. TakesMeta (meta_values_of meta) (R.remaining input.old) (R.remaining input.new)) }
+    ensures header { IfOk result (λ meta. ConsumesMeta (meta_values_of meta) (R.remaining input.old) (R.remaining input.new)) }
     ensures native { IfOk result (λ meta. meta.syntax ≡ native (syntax_in meta.syntax)) }
     ensures calling { IfOk result (λ meta. meta.calling.0 ≡ replicate 16 32) }
     ensures fault { IfErr result (λ fault. FailsToRead fault (R.remaining input.old)) }

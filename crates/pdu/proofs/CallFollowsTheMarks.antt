@@ -1,5 +1,5 @@
--- What a call of a deframer reports is what the stream marks there (`took_mark`, `took_part`, `took_none`,
--- `took_due`), at each position; a PDU that is skipped there is skipped (`skip_at`). Stands on
+-- What a call of a deframer reports is what the stream marks there (`consumed_mark`, `consumed_part`, `consumed_none`,
+-- `consumed_due`), at each position; a PDU that is skipped there is skipped (`skip_at`). Stands on
 -- DeframerFollowsTheStream and FramesAreUnique.
 use Rattle.std.proofs.Common.{◌⊎◌, ◌≡◌, ℕ, ◌+◌, ◌-◌, ◌<◌, ◌≤◌, true, false, nat_eq, List, [], ◌∷◌, ◌++◌, length, map, take, Some, None, refl, sym, ap, subst, ◌∙◌, arith, inl, inr}
 use Rattle.std.proofs.lemmas.Bool.{cases_lt, cases_Bool, eqb-true}
@@ -16,14 +16,14 @@ use Rattle.pdu.specs.Frames.{rest_of}
 use Rattle.pdu.specs.Marks.{Mark, Head, Pdv, BadPdv, Leftover, End, new_marks, head_mark, is_leftover, frame_kind, frame_length}
 use Rattle.pdu.specs.Spot.{Spot, Plain}
 use Rattle.pdu.specs.Events.{Token, OfBody, OfFragment, Completes, tokens, Reports}
-use Rattle.pdu.specs.Deframing.{Inside, IsOver, AtHead, AtBody, in_body, after_body, AtPdvHead, AtLeftover, AfterPdv, over, leftover, another, AtFragment, in_fragment, after_fragment, At, Took, AreInner, Skip, no_frame, end_alone, skipped}
+use Rattle.pdu.specs.Deframing.{Inside, IsOver, AtHead, AtBody, in_body, after_body, AtPdvHead, AtLeftover, AfterPdv, over, leftover, another, AtFragment, in_fragment, after_fragment, At, Consumed, AreInner, Skip, no_frame, end_alone, skipped}
 use Rattle.pdu.specs.Steps.{skip_of}
 use Rattle.pdu.proofs.FramesAreUnique.{new_nothing, rest_alone}
 use Rattle.pdu.proofs.DeframerFollowsTheStream.{Now, Silent, head_arrives, body_arrives, end_due, over_rest, none_at, pdv_head_over, pdv_head_tokens_are, pdv_bad, pdv_good, fragment_arrives, value_due, after_rest}
 
 -- a mark that was due
-pub took_due : (new : Position) (r : List ℕ) (due later : List Mark) (m : Mark) (e : Event) → due ≡ m ∷ later → Reports [] (Some e) (Completes m ∷ []) → rest_of r ≡ r → At new r later → Took new r due [] (Some e)
-took_due new r due later m e is reports rest at = record {
+pub consumed_due : (new : Position) (r : List ℕ) (due later : List Mark) (m : Mark) (e : Event) → due ≡ m ∷ later → Reports [] (Some e) (Completes m ∷ []) → rest_of r ≡ r → At new r later → Consumed new r due [] (Some e)
+consumed_due new r due later m e is reports rest at = record {
   reported = Completes m ∷ [];
   later = later;
   all = append-nil (map Completes due) ∙ ap (map Completes) is;
@@ -34,9 +34,9 @@ took_due new r due later m e is reports rest at = record {
 }
 
 -- a mark that the bytes complete
-pub took_mark : (new : Position) (r : List ℕ) (due : List Mark) (c : List ℕ) (m : Mark) (e : Event) → due ≡ [] → tokens r c ≡ map Completes (new_marks r c) → Now (At new) r c (m ∷ [])
-    → Reports c (Some e) (Completes m ∷ []) → Took new r due c (Some e)
-took_mark new r due c m e none ts now reports = record {
+pub consumed_mark : (new : Position) (r : List ℕ) (due : List Mark) (c : List ℕ) (m : Mark) (e : Event) → due ≡ [] → tokens r c ≡ map Completes (new_marks r c) → Now (At new) r c (m ∷ [])
+    → Reports c (Some e) (Completes m ∷ []) → Consumed new r due c (Some e)
+consumed_mark new r due c m e none ts now reports = record {
   reported = Completes m ∷ [];
   later = now.later;
   all = rw none (ts ∙ ap (map Completes) now.marks);
@@ -47,9 +47,9 @@ took_mark new r due c m e none ts now reports = record {
 }
 
 -- a part that is lent
-pub took_part : (new : Position) (r : List ℕ) (due : List Mark) (c : List ℕ) (e : Event) (given : List Token) → due ≡ [] → tokens r c ≡ given ++ map Completes (new_marks r c) → Now (At new) r c []
-    → Reports c (Some e) given → Took new r due c (Some e)
-took_part new r due c e given none ts now reports = record {
+pub consumed_part : (new : Position) (r : List ℕ) (due : List Mark) (c : List ℕ) (e : Event) (given : List Token) → due ≡ [] → tokens r c ≡ given ++ map Completes (new_marks r c) → Now (At new) r c []
+    → Reports c (Some e) given → Consumed new r due c (Some e)
+consumed_part new r due c e given none ts now reports = record {
   reported = given;
   later = now.later;
   all = rw none (ts ∙ ap (λ (ms : List Mark). given ++ map Completes ms) now.marks);
@@ -60,8 +60,8 @@ took_part new r due c e given none ts now reports = record {
 }
 
 -- nothing yet
-pub took_none : (new : Position) (r : List ℕ) (due : List Mark) (c : List ℕ) → due ≡ [] → tokens r c ≡ map Completes (new_marks r c) → new_marks r c ≡ [] → At new (rest_of (r ++ c)) [] → Took new r due c None
-took_none new r due c none ts ms at = record {
+pub consumed_none : (new : Position) (r : List ℕ) (due : List Mark) (c : List ℕ) → due ≡ [] → tokens r c ≡ map Completes (new_marks r c) → new_marks r c ≡ [] → At new (rest_of (r ++ c)) [] → Consumed new r due c None
+consumed_none new r due c none ts ms at = record {
   reported = [];
   later = [];
   all = rw none (ts ∙ ap (map Completes) ms);
@@ -79,12 +79,12 @@ now_as P Q r c ms f now = record { later = now.later; marks = now.marks; at = f 
 head_reported : (new : Position) (bytes r c : List ℕ) (due : List Mark) → AtHead bytes r due → length (bytes ++ c) ≡ 6
     → (frame_kind (bytes ++ c) ≡ 4 → 0 < frame_length (bytes ++ c) → (t : List ℕ) (later : List Mark) → AtPdvHead (frame_length (bytes ++ c)) [] t later → At new t later)
     → ((frame_kind (bytes ++ c) ≡ 4 → frame_length (bytes ++ c) ≡ 0) → new ≡ position.Body (frame_kind (bytes ++ c)) (frame_length (bytes ++ c)))
-    → Took new r due c (Some (event.PduHead (pdu_head_of (bytes ++ c))))
+    → Consumed new r due c (Some (event.PduHead (pdu_head_of (bytes ++ c))))
 head_reported new bytes r c due a six values other =
     let k = frame_kind (bytes ++ c) in
     let n = frame_length (bytes ++ c) in
     let h = head_arrives bytes r c due a six in
-    let report = λ (now : Now (At new) r c (Head k n ∷ [])). took_mark new r due c (Head k n) (event.PduHead (pdu_head_of (bytes ++ c))) a.none_due h.tokens_are now (record { mark = Head k n; one = refl; same = refl }) in
+    let report = λ (now : Now (At new) r c (Head k n ∷ [])). consumed_mark new r due c (Head k n) (event.PduHead (pdu_head_of (bytes ++ c))) a.none_due h.tokens_are now (record { mark = Head k n; one = refl; same = refl }) in
     let in_body_then = λ (none : k ≡ 4 → n ≡ 0). report (now_as (AtBody k n) (At new) r c (Head k n ∷ []) (λ t later b. subst (λ (p : Position). At p t later) (sym (other none)) b) (h.body none)) in
     elim (cases_Bool (nat_eq k 4)) [
       | inl is ↦ elim (cases_lt 0 n) [
@@ -96,49 +96,49 @@ head_reported new bytes r c due a six values other =
 
 pub head_is_reported : (new : Position) (head : PduHead) (v bytes r c : List ℕ) (due : List Mark) → AtHead bytes r due → v ≡ bytes ++ c → length v ≡ 6 → head ≡ pdu_head_of v
     → (head.kind ≡ 4 → 0 < head.length → (t : List ℕ) (later : List Mark) → AtPdvHead head.length [] t later → At new t later)
-    → ((head.kind ≡ 4 → head.length ≡ 0) → new ≡ position.Body head.kind head.length) → Took new r due c (Some (event.PduHead head))
+    → ((head.kind ≡ 4 → head.length ≡ 0) → new ≡ position.Body head.kind head.length) → Consumed new r due c (Some (event.PduHead head))
 head_is_reported new head v bytes r c due a v_is six is values other =
     let e : pdu_head_of (bytes ++ c) ≡ head = ap pdu_head_of (sym v_is) ∙ sym is in
     subst (λ (h : PduHead). (h.kind ≡ 4 → 0 < h.length → (t : List ℕ) (later : List Mark) → AtPdvHead h.length [] t later → At new t later)
-    → ((h.kind ≡ 4 → h.length ≡ 0) → new ≡ position.Body h.kind h.length) → Took new r due c (Some (event.PduHead h))) e
+    → ((h.kind ≡ 4 → h.length ≡ 0) → new ≡ position.Body h.kind h.length) → Consumed new r due c (Some (event.PduHead h))) e
     (head_reported new bytes r c due a (ap length (sym v_is) ∙ six)) values other
 
-pub took_silent : (new : Position) (P : List ℕ → List Mark → Type 0) (r : List ℕ) (due : List Mark) (c : List ℕ) → due ≡ [] → Silent P r c → ((t : List ℕ) (later : List Mark) → P t later → At new t later) → Took new r due c None
-took_silent new P r due c none s f = took_none new r due c none s.tokens_are s.marks (f (rest_of (r ++ c)) [] s.at)
+pub consumed_silent : (new : Position) (P : List ℕ → List Mark → Type 0) (r : List ℕ) (due : List Mark) (c : List ℕ) → due ≡ [] → Silent P r c → ((t : List ℕ) (later : List Mark) → P t later → At new t later) → Consumed new r due c None
+consumed_silent new P r due c none s f = consumed_none new r due c none s.tokens_are s.marks (f (rest_of (r ++ c)) [] s.at)
 
 -- ---- in a body
 
-pub body_ended : (new : Position) (kind remaining : ℕ) (r : List ℕ) (due : List Mark) → remaining ≡ 0 → AtBody kind remaining r due → ((t : List ℕ) → t ≡ [] → At new t []) → Took new r due [] (Some (event.PduEnd kind))
+pub body_ended : (new : Position) (kind remaining : ℕ) (r : List ℕ) (due : List Mark) → remaining ≡ 0 → AtBody kind remaining r due → ((t : List ℕ) → t ≡ [] → At new t []) → Consumed new r due [] (Some (event.PduEnd kind))
 body_ended new kind remaining r due none a at =
     let o = end_due kind remaining r due none a in
-    took_due new r due [] (End kind o.body) (event.PduEnd kind) o.due_is (record { mark = End kind o.body; one = refl; same = refl }) (over_rest kind remaining r due o) (at r o.rest)
+    consumed_due new r due [] (End kind o.body) (event.PduEnd kind) o.due_is (record { mark = End kind o.body; one = refl; same = refl }) (over_rest kind remaining r due o) (at r o.rest)
 
 -- where no byte comes
-still : (new : Position) (r : List ℕ) (due : List Mark) → due ≡ [] → rest_of r ≡ r → At new r due → Took new r due [] None
+still : (new : Position) (r : List ℕ) (due : List Mark) → due ≡ [] → rest_of r ≡ r → At new r due → Consumed new r due [] None
 still new r due none rest at =
-    took_none new r due [] none (sym (ap (map Completes) (new_nothing r))) (new_nothing r)
+    consumed_none new r due [] none (sym (ap (map Completes) (new_nothing r))) (new_nothing r)
     (subst (λ (t : List ℕ). At new t []) (sym (ap rest_of (append-nil r) ∙ rest)) (subst (λ (d : List Mark). At new r d) none at))
 
-pub body_still : (kind remaining : ℕ) (r : List ℕ) (due : List Mark) → 0 < remaining → AtBody kind remaining r due → Took (position.Body kind remaining) r due [] None
+pub body_still : (kind remaining : ℕ) (r : List ℕ) (due : List Mark) → 0 < remaining → AtBody kind remaining r due → Consumed (position.Body kind remaining) r due [] None
 body_still kind remaining r due some (in_body lt i none) = still (position.Body kind remaining) r due none (rest_alone r i.rest) (in_body lt i none)
 body_still kind remaining r due some (after_body o) = absurd (omega (arith, o.none_remaining))
 
-pub body_part : (e : Event) (kind remaining n : ℕ) (r c : List ℕ) (due : List Mark) → 0 < remaining → AtBody kind remaining r due → length c ≤ remaining → n ≡ remaining - length c → Reports c (Some e) (map OfBody c) → Took (position.Body kind n) r due c (Some e)
+pub body_part : (e : Event) (kind remaining n : ℕ) (r c : List ℕ) (due : List Mark) → 0 < remaining → AtBody kind remaining r due → length c ≤ remaining → n ≡ remaining - length c → Reports c (Some e) (map OfBody c) → Consumed (position.Body kind n) r due c (Some e)
 body_part e kind remaining n r c due some a le is reports =
     let p = body_arrives kind remaining r c due some a le in
-    took_part (position.Body kind n) r due c e (map OfBody c) p.none_due p.tokens_are (subst (λ (m : ℕ). Now (AtBody kind m) r c []) (sym is) p.now) reports
+    consumed_part (position.Body kind n) r due c e (map OfBody c) p.none_due p.tokens_are (subst (λ (m : ℕ). Now (AtBody kind m) r c []) (sym is) p.now) reports
 
 -- ---- in the head of a presentation data value
 
-pub pdv_head_ended : (new : Position) (remaining : ℕ) (bytes r c : List ℕ) (due : List Mark) → AtPdvHead remaining bytes r due → length (bytes ++ c) < 6 → length c ≡ remaining → ((t : List ℕ) → t ≡ [] → At new t []) → Took new r due c (Some (event.PduEnd 4))
+pub pdv_head_ended : (new : Position) (remaining : ℕ) (bytes r c : List ℕ) (due : List Mark) → AtPdvHead remaining bytes r due → length (bytes ++ c) < 6 → length c ≡ remaining → ((t : List ℕ) → t ≡ [] → At new t []) → Consumed new r due c (Some (event.PduEnd 4))
 pdv_head_ended new remaining bytes r c due a lt all at =
     let o = pdv_head_over remaining bytes r c due a lt all in
-    took_mark new r due c (End 4 o.body) (event.PduEnd 4) a.none_due o.tokens_are (record { later = []; marks = o.marks; at = at (rest_of (r ++ c)) o.rest }) (record { mark = End 4 o.body; one = refl; same = refl })
+    consumed_mark new r due c (End 4 o.body) (event.PduEnd 4) a.none_due o.tokens_are (record { later = []; marks = o.marks; at = at (rest_of (r ++ c)) o.rest }) (record { mark = End 4 o.body; one = refl; same = refl })
 
 pdv_reported : (found : Position × Event) (remaining l : ℕ) (bytes r c : List ℕ) (due : List Mark) → AtPdvHead remaining bytes r due → length (bytes ++ c) ≡ 6 → length c ≤ remaining → l ≡ remaining - length c
     → ((big_number 4 (bytes ++ c) < 2) ⊎ (l + 2 < big_number 4 (bytes ++ c)) → found ≡ (position.Body 4 l, event.BadPdv))
     → (2 ≤ big_number 4 (bytes ++ c) → big_number 4 (bytes ++ c) ≤ l + 2 → found ≡ (position.Fragment l (big_number 4 (bytes ++ c) - 2), event.PdvHead (pdv_head_of (bytes ++ c))))
-    → Took found.0 r due c (Some found.1)
+    → Consumed found.0 r due c (Some found.1)
 pdv_reported found remaining l bytes r c due a six le is bad good =
     let b = bytes ++ c in
     let n = big_number 4 b in
@@ -146,26 +146,26 @@ pdv_reported found remaining l bytes r c due a six le is bad good =
     let report_bad = λ (why : (n < 2) ⊎ (l + 2 < n)).
     (let why_too : (n < 2) ⊎ ((remaining - length c) + 2 < n) = elim why [ inl x ↦ inl x | inr x ↦ inr (omega arith) ] in
     let now = subst (λ (m : ℕ). Now (AtBody 4 m) r c (BadPdv ∷ [])) (sym is) (pdv_bad remaining bytes r c due a six le why_too) in
-    subst (λ (f : Position × Event). Took f.0 r due c (Some f.1)) (sym (bad why))
-    (took_mark (position.Body 4 l) r due c BadPdv event.BadPdv a.none_due ts now (record { mark = BadPdv; one = refl; same = refl }))) in
+    subst (λ (f : Position × Event). Consumed f.0 r due c (Some f.1)) (sym (bad why))
+    (consumed_mark (position.Body 4 l) r due c BadPdv event.BadPdv a.none_due ts now (record { mark = BadPdv; one = refl; same = refl }))) in
     elim (cases_lt n 2) [
       | inl x ↦ report_bad (inl x)
       | inr two ↦ elim (cases_lt (l + 2) n) [
         | inl x ↦ report_bad (inr x)
         | inr fits ↦
             let now = subst (λ (m : ℕ). Now (AtFragment m (n - 2)) r c (head_mark b ∷ [])) (sym is) (pdv_good remaining bytes r c due a six le two (omega arith)) in
-            subst (λ (f : Position × Event). Took f.0 r due c (Some f.1)) (sym (good two fits))
-            (took_mark (position.Fragment l (n - 2)) r due c (head_mark b) (event.PdvHead (pdv_head_of b)) a.none_due ts now (record { mark = head_mark b; one = refl; same = refl }))
+            subst (λ (f : Position × Event). Consumed f.0 r due c (Some f.1)) (sym (good two fits))
+            (consumed_mark (position.Fragment l (n - 2)) r due c (head_mark b) (event.PdvHead (pdv_head_of b)) a.none_due ts now (record { mark = head_mark b; one = refl; same = refl }))
       ]
     ]
 
 pub pdv_is_reported : (found : Position × Event) (head : PdvHead) (remaining l : ℕ) (v bytes r c : List ℕ) (due : List Mark) → AtPdvHead remaining bytes r due → v ≡ bytes ++ c → length v ≡ 6 → head ≡ pdv_head_of v → length c ≤ remaining → l ≡ remaining - length c
     → ((head.length < 2) ⊎ (l + 2 < head.length) → found ≡ (position.Body 4 l, event.BadPdv))
-    → (2 ≤ head.length → head.length ≤ l + 2 → found ≡ (position.Fragment l (head.length - 2), event.PdvHead head)) → Took found.0 r due c (Some found.1)
+    → (2 ≤ head.length → head.length ≤ l + 2 → found ≡ (position.Fragment l (head.length - 2), event.PdvHead head)) → Consumed found.0 r due c (Some found.1)
 pdv_is_reported found head remaining l v bytes r c due a v_is six is le l_is bad good =
     let e : pdv_head_of (bytes ++ c) ≡ head = ap pdv_head_of (sym v_is) ∙ sym is in
     subst (λ (h : PdvHead). ((h.length < 2) ⊎ (l + 2 < h.length) → found ≡ (position.Body 4 l, event.BadPdv))
-    → (2 ≤ h.length → h.length ≤ l + 2 → found ≡ (position.Fragment l (h.length - 2), event.PdvHead h)) → Took found.0 r due c (Some found.1)) e
+    → (2 ≤ h.length → h.length ≤ l + 2 → found ≡ (position.Fragment l (h.length - 2), event.PdvHead h)) → Consumed found.0 r due c (Some found.1)) e
     (pdv_reported found remaining l bytes r c due a (ap length (sym v_is) ∙ six) le l_is) bad good
 
 -- ---- in a fragment
@@ -177,28 +177,28 @@ after_at new remaining r due (leftover t a) none some more = subst (λ (p : Posi
 after_at new remaining r due (another lt t a) none some more = more lt t r due a
 
 pub value_ended : (new : Position) (remaining more : ℕ) (r : List ℕ) (due : List Mark) → more ≡ 0 → AtFragment remaining more r due → (remaining ≡ 0 → new ≡ position.Body 4 0) → (is_leftover remaining ≡ true → new ≡ position.Leftover remaining)
-    → (0 < remaining → is_leftover remaining ≡ false → (t : List ℕ) (later : List Mark) → AtPdvHead remaining [] t later → At new t later) → Took new r due [] (Some event.PdvEnd)
+    → (0 < remaining → is_leftover remaining ≡ false → (t : List ℕ) (later : List Mark) → AtPdvHead remaining [] t later → At new t later) → Consumed new r due [] (Some event.PdvEnd)
 value_ended new remaining more r due zero a none some again =
     let v = value_due remaining more r due zero a in
-    took_due new r due v.later (Pdv v.context v.control v.fragment) event.PdvEnd v.due_is (record { mark = Pdv v.context v.control v.fragment; one = refl; same = refl }) (after_rest remaining r v.later v.next) (after_at new remaining r v.later v.next none some again)
+    consumed_due new r due v.later (Pdv v.context v.control v.fragment) event.PdvEnd v.due_is (record { mark = Pdv v.context v.control v.fragment; one = refl; same = refl }) (after_rest remaining r v.later v.next) (after_at new remaining r v.later v.next none some again)
 
-pub fragment_still : (remaining more : ℕ) (r : List ℕ) (due : List Mark) → 0 < more → AtFragment remaining more r due → Took (position.Fragment remaining more) r due [] None
+pub fragment_still : (remaining more : ℕ) (r : List ℕ) (due : List Mark) → 0 < more → AtFragment remaining more r due → Consumed (position.Fragment remaining more) r due [] None
 fragment_still remaining more r due some (in_fragment lt f) = still (position.Fragment remaining more) r due f.none_due (rest_alone r f.inside.rest) (in_fragment lt f)
 fragment_still remaining more r due some (after_fragment zero a) = absurd (omega arith)
 
-pub fragment_part_reported : (e : Event) (remaining more l m : ℕ) (r c : List ℕ) (due : List Mark) → 0 < more → more ≤ remaining → AtFragment remaining more r due → length c ≤ more → l ≡ remaining - length c → m ≡ more - length c → Reports c (Some e) (map OfFragment c) → Took (position.Fragment l m) r due c (Some e)
+pub fragment_part_reported : (e : Event) (remaining more l m : ℕ) (r c : List ℕ) (due : List Mark) → 0 < more → more ≤ remaining → AtFragment remaining more r due → length c ≤ more → l ≡ remaining - length c → m ≡ more - length c → Reports c (Some e) (map OfFragment c) → Consumed (position.Fragment l m) r due c (Some e)
 fragment_part_reported e remaining more l m r c due some fits a le l_is m_is reports =
     let p = fragment_arrives remaining more r c due some fits a le in
     let now = subst (λ (x : ℕ). Now (AtFragment x m) r c []) (sym l_is) (subst (λ (x : ℕ). Now (AtFragment (remaining - length c) x) r c []) (sym m_is) p.now) in
-    took_part (position.Fragment l m) r due c e (map OfFragment c) p.none_due p.tokens_are now reports
+    consumed_part (position.Fragment l m) r due c e (map OfFragment c) p.none_due p.tokens_are now reports
 
-pub leftover_reported : (remaining : ℕ) (r : List ℕ) (due : List Mark) → AtLeftover remaining r due → Took (position.Body 4 remaining) r due [] (Some event.Leftover)
+pub leftover_reported : (remaining : ℕ) (r : List ℕ) (due : List Mark) → AtLeftover remaining r due → Consumed (position.Body 4 remaining) r due [] (Some event.Leftover)
 leftover_reported remaining r due a =
-    took_due (position.Body 4 remaining) r due [] Leftover event.Leftover a.due_is (record { mark = Leftover; one = refl; same = refl }) (rest_alone r a.inside.rest) (in_body a.some a.inside refl)
+    consumed_due (position.Body 4 remaining) r due [] Leftover event.Leftover a.due_is (record { mark = Leftover; one = refl; same = refl }) (rest_alone r a.inside.rest) (in_body a.some a.inside refl)
 
-pub over_reported : (new : Position) (kind remaining n : ℕ) (piece r : List ℕ) (due : List Mark) → IsOver kind remaining r due → n ≡ 0 → ((t : List ℕ) → t ≡ [] → At new t []) → Took new r due (take n piece) (Some (event.PduEnd kind))
+pub over_reported : (new : Position) (kind remaining n : ℕ) (piece r : List ℕ) (due : List Mark) → IsOver kind remaining r due → n ≡ 0 → ((t : List ℕ) → t ≡ [] → At new t []) → Consumed new r due (take n piece) (Some (event.PduEnd kind))
 over_reported new kind remaining n piece r due o zero at =
-    subst (λ (k : ℕ). Took new r due (take k piece) (Some (event.PduEnd kind))) (sym zero) (body_ended new kind remaining r due o.none_remaining (after_body o) at)
+    subst (λ (k : ℕ). Consumed new r due (take k piece) (Some (event.PduEnd kind))) (sym zero) (body_ended new kind remaining r due o.none_remaining (after_body o) at)
 
 pub empty_at : (bytes : List ℕ) → bytes ≡ [] → (t : List ℕ) → t ≡ [] → AtHead bytes t []
 empty_at bytes e t f = subst (λ (b : List ℕ). AtHead b t []) (sym e) (none_at t f)

@@ -18,11 +18,11 @@ tokens_on r p q = tokens_then r p q ∙ ap (λ (ts : List Token). tokens r p ++ 
 
 pub all_reported : {r : List ℕ} {due : List Mark} {piece : List ℕ} {reported : List Token} {later : List Mark} → Calls r due piece reported later → map Completes due ++ tokens r piece ≡ reported ++ map Completes later
 all_reported {due = due} none = append-nil (map Completes due)
-all_reported {r} {due} (one_more {taken = taken} {bytes = bytes} {reported = reported} {later = later} t more) =
+all_reported {r} {due} (one_more {consumed = consumed} {bytes = bytes} {reported = reported} {later = later} t more) =
     let next = all_reported more in
-    let rest = tokens (rest_of (r ++ taken)) bytes in
-    ap (λ (ts : List Token). map Completes due ++ ts) (tokens_on r taken bytes)
-    ∙ sym (append_assoc (map Completes due) (tokens r taken) rest)
+    let rest = tokens (rest_of (r ++ consumed)) bytes in
+    ap (λ (ts : List Token). map Completes due ++ ts) (tokens_on r consumed bytes)
+    ∙ sym (append_assoc (map Completes due) (tokens r consumed) rest)
     ∙ ap (λ (ts : List Token). ts ++ rest) t.all
     ∙ append_assoc t.reported (map Completes t.later) rest
     ∙ ap (λ (ts : List Token). t.reported ++ ts) next

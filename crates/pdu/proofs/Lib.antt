@@ -21,5 +21,5 @@ pub mod TokensIgnoreTheCut
 pub mod DeframerFollowsTheStream
 pub mod CallFollowsTheMarks
 pub mod CallReportsNewMarks
-pub mod CallTakesTheLongest
+pub mod CallConsumesTheLongest
 pub mod CallsReportTheStream

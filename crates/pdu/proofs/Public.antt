@@ -15,7 +15,7 @@ use Rattle.pdu.specs.Frames.{IsRest, rest_of}
 use Rattle.pdu.specs.declared.position.Position.{Position}
 use Rattle.pdu.specs.declared.event.Event.{Event}
 use Rattle.pdu.specs.Events.{OfBody, OfFragment, marks_among, ReportsMark}
-use Rattle.pdu.specs.Deframing.{At, Took, Skip, MarksWithin}
+use Rattle.pdu.specs.Deframing.{At, Consumed, Skip, MarksWithin}
 use Rattle.pdu.specs.Steps.{skip_of}
 use Rattle.pdu.specs.Marks.{Mark, Head, BadPdv, pdv_size, head_mark, pdv_mark, frame_kind, frame_length, new_marks}
 use Rattle.pdu.specs.Spot.{Opening, Plain, InPdv, spot, room_remaining}
@@ -137,11 +137,11 @@ fragment_done = parts.fragment_done
 
 -- ---- what a deframer's call reports, as marks
 
-pub marks_taken : (new : Position) (r : List ℕ) (due : List Mark) (c : List ℕ) (e : Option Event) → (t : Took new r due c e) → due ++ new_marks r c ≡ marks_among t.reported ++ t.later
-marks_taken = steps.marks_taken
+pub marks_consumed : (new : Position) (r : List ℕ) (due : List Mark) (c : List ℕ) (e : Option Event) → (t : Consumed new r due c e) → due ++ new_marks r c ≡ marks_among t.reported ++ t.later
+marks_consumed = steps.marks_consumed
 
-pub mark_taken : (new : Position) (r : List ℕ) (due : List Mark) (c : List ℕ) (e : Event) → (t : Took new r due c (Some e)) → (m : ReportsMark e t.reported) → due ++ new_marks r c ≡ m.mark ∷ t.later
-mark_taken = steps.mark_taken
+pub mark_consumed : (new : Position) (r : List ℕ) (due : List Mark) (c : List ℕ) (e : Event) → (t : Consumed new r due c (Some e)) → (m : ReportsMark e t.reported) → due ++ new_marks r c ≡ m.mark ∷ t.later
+mark_consumed = steps.mark_consumed
 
 pub among_body : (bytes : List ℕ) → marks_among (map OfBody bytes) ≡ []
 among_body = steps.among_body

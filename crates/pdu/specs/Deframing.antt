@@ -85,19 +85,19 @@ At (position.Skipped kind remaining) r due = IsOver kind remaining r due
 
 -- A call consumed some bytes and returned an event or none: the marks that were due and the tokens of the bytes are
 -- what the event reports and the marks that are due then. No byte is consumed while a mark is due.
-pub record Took (new : Position) (r : List ℕ) (due : List Mark) (taken : List ℕ) (e : Option Event) : Type 0 where
+pub record Consumed (new : Position) (r : List ℕ) (due : List Mark) (consumed : List ℕ) (e : Option Event) : Type 0 where
   pub reported : List Token
   pub later : List Mark
-  pub all : map Completes due ++ tokens r taken ≡ reported ++ map Completes later
-  pub reports : Reports taken e reported
-  pub is_at : At new (rest_of (r ++ taken)) later
-  pub prompt : 0 < length taken → due ≡ []
+  pub all : map Completes due ++ tokens r consumed ≡ reported ++ map Completes later
+  pub reports : Reports consumed e reported
+  pub is_at : At new (rest_of (r ++ consumed)) later
+  pub prompt : 0 < length consumed → due ≡ []
   pub at_once : e ≡ None → later ≡ []
 
 -- Of a body or a fragment, a call consumes all bytes that the piece has of it.
-pub record Longest (r : List ℕ) (there taken : ℕ) : Type 0 where
-  pub body : spot r ≡ Plain → taken ≡ min there (room_remaining r)
-  pub fragment : (part : List ℕ) → spot r ≡ InPdv part → pdv_head_size ≤ length part → taken ≡ min there (pdv_size part - length part)
+pub record Longest (r : List ℕ) (there consumed : ℕ) : Type 0 where
+  pub body : spot r ≡ Plain → consumed ≡ min there (room_remaining r)
+  pub fragment : (part : List ℕ) → spot r ≡ InPdv part → pdv_head_size ≤ length part → consumed ≡ min there (pdv_size part - length part)
 
 -- ---- a PDU that is skipped
 
@@ -108,9 +108,9 @@ SkipsAt other r = ⊥
 
 -- what a call does that consumes these bytes of a PDU that is skipped: the PDU is still unfinished, or its end is
 -- reported
-pub data Skipped (new : Position) (r taken : List ℕ) (e : Option Event) : Type 0 where
-  continues : e ≡ None → SkipsAt new (r ++ taken) → Skipped new r taken e
-  ends : e ≡ Some (event.PduEnd (frame_kind r)) → IsFrame (r ++ taken) → At new [] [] → Skipped new r taken e
+pub data Skipped (new : Position) (r consumed : List ℕ) (e : Option Event) : Type 0 where
+  continues : e ≡ None → SkipsAt new (r ++ consumed) → Skipped new r consumed e
+  ends : e ≡ Some (event.PduEnd (frame_kind r)) → IsFrame (r ++ consumed) → At new [] [] → Skipped new r consumed e
 
 -- a mark inside a PDU: neither its head nor its end
 abbrev pub IsInner : Mark → Type 0

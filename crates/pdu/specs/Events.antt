@@ -58,12 +58,12 @@ pub record Lends (part bytes : List ℕ) (all ts : List Token) : Type 0 where
 
 -- of these bytes, the ones that were consumed, the event reports these tokens: one mark, or the bytes themselves
 abbrev pub Reports : List ℕ → Option Event → List Token → Type 0
-Reports taken None ts = ts ≡ []
-Reports taken (Some (event.Body part)) ts = Lends part.now taken (map OfBody taken) ts
-Reports taken (Some (event.Fragment part)) ts = Lends part.now taken (map OfFragment taken) ts
-Reports taken (Some (event.PduHead head)) ts = ReportsMark (event.PduHead head) ts
-Reports taken (Some (event.PdvHead head)) ts = ReportsMark (event.PdvHead head) ts
-Reports taken (Some event.PdvEnd) ts = ReportsMark event.PdvEnd ts
-Reports taken (Some event.BadPdv) ts = ReportsMark event.BadPdv ts
-Reports taken (Some event.Leftover) ts = ReportsMark event.Leftover ts
-Reports taken (Some (event.PduEnd kind)) ts = ReportsMark (event.PduEnd kind) ts
+Reports consumed None ts = ts ≡ []
+Reports consumed (Some (event.Body part)) ts = Lends part.now consumed (map OfBody consumed) ts
+Reports consumed (Some (event.Fragment part)) ts = Lends part.now consumed (map OfFragment consumed) ts
+Reports consumed (Some (event.PduHead head)) ts = ReportsMark (event.PduHead head) ts
+Reports consumed (Some (event.PdvHead head)) ts = ReportsMark (event.PdvHead head) ts
+Reports consumed (Some event.PdvEnd) ts = ReportsMark event.PdvEnd ts
+Reports consumed (Some event.BadPdv) ts = ReportsMark event.BadPdv ts
+Reports consumed (Some event.Leftover) ts = ReportsMark event.Leftover ts
+Reports consumed (Some (event.PduEnd kind)) ts = ReportsMark (event.PduEnd kind) ts

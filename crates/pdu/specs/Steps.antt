@@ -100,25 +100,25 @@ pub record PdvHeadIsWhole (remaining n : ℕ) (six : List ℕ) (e : Event) (new 
   pub follows : FollowsPdvHead (pdv_head_of six) (remaining - n) e new
 
 -- the slice in the event is the n consumed bytes, of at most `most` that remained
-pub record IsLent (part taken : List ℕ) (n most : ℕ) (new next : Position) : Type 0 where
-  pub part_is : part ≡ taken
+pub record IsLent (part consumed : List ℕ) (n most : ℕ) (new next : Position) : Type 0 where
+  pub part_is : part ≡ consumed
   pub within : n ≤ most
   pub new_is : new ≡ next
 
 abbrev pub Steps : Position → ℕ → List ℕ → Option Event → Position → Type 0
-Steps (position.Head bytes) n taken None new = IsInHead new
-Steps (position.Head bytes) n taken (Some (event.PduHead head)) new = HeadIsWhole (bytes.items ++ taken) head new
-Steps (position.Body kind remaining) n taken None new = (n ≡ 0) × (new ≡ position.Body kind remaining)
-Steps (position.Body kind remaining) n taken (Some (event.Body part)) new = IsLent part.now taken n remaining new (position.Body kind (remaining - n))
-Steps (position.Body kind remaining) n taken (Some (event.PduEnd reported)) new = (reported ≡ kind) × (remaining ≡ 0) × IsInHead new
-Steps (position.PdvHead remaining bytes) n taken None new = IsInPdvHead new
-Steps (position.PdvHead remaining bytes) n taken (Some (event.PduEnd reported)) new = (reported ≡ p_data_tf) × (n ≡ remaining) × IsInHead new
-Steps (position.PdvHead remaining bytes) n taken (Some (event.PdvHead head)) new = PdvHeadIsWhole remaining n (bytes.items ++ taken) (event.PdvHead head) new
-Steps (position.PdvHead remaining bytes) n taken (Some event.BadPdv) new = PdvHeadIsWhole remaining n (bytes.items ++ taken) event.BadPdv new
-Steps (position.Fragment remaining more) n taken None new = (n ≡ 0) × (new ≡ position.Fragment remaining more)
-Steps (position.Fragment remaining more) n taken (Some (event.Fragment part)) new = IsLent part.now taken n more new (position.Fragment (remaining - n) (more - n))
-Steps (position.Fragment remaining more) n taken (Some event.PdvEnd) new = (more ≡ 0) × FollowsPdv new
-Steps (position.Leftover remaining) n taken (Some event.Leftover) new = new ≡ position.Body p_data_tf remaining
-Steps (position.Skipped kind remaining) n taken None new = IsSkipped new
-Steps (position.Skipped kind remaining) n taken (Some (event.PduEnd reported)) new = (reported ≡ kind) × IsInHead new
-Steps old n taken other new = ⊥
+Steps (position.Head bytes) n consumed None new = IsInHead new
+Steps (position.Head bytes) n consumed (Some (event.PduHead head)) new = HeadIsWhole (bytes.items ++ consumed) head new
+Steps (position.Body kind remaining) n consumed None new = (n ≡ 0) × (new ≡ position.Body kind remaining)
+Steps (position.Body kind remaining) n consumed (Some (event.Body part)) new = IsLent part.now consumed n remaining new (position.Body kind (remaining - n))
+Steps (position.Body kind remaining) n consumed (Some (event.PduEnd reported)) new = (reported ≡ kind) × (remaining ≡ 0) × IsInHead new
+Steps (position.PdvHead remaining bytes) n consumed None new = IsInPdvHead new
+Steps (position.PdvHead remaining bytes) n consumed (Some (event.PduEnd reported)) new = (reported ≡ p_data_tf) × (n ≡ remaining) × IsInHead new
+Steps (position.PdvHead remaining bytes) n consumed (Some (event.PdvHead head)) new = PdvHeadIsWhole remaining n (bytes.items ++ consumed) (event.PdvHead head) new
+Steps (position.PdvHead remaining bytes) n consumed (Some event.BadPdv) new = PdvHeadIsWhole remaining n (bytes.items ++ consumed) event.BadPdv new
+Steps (position.Fragment remaining more) n consumed None new = (n ≡ 0) × (new ≡ position.Fragment remaining more)
+Steps (position.Fragment remaining more) n consumed (Some (event.Fragment part)) new = IsLent part.now consumed n more new (position.Fragment (remaining - n) (more - n))
+Steps (position.Fragment remaining more) n consumed (Some event.PdvEnd) new = (more ≡ 0) × FollowsPdv new
+Steps (position.Leftover remaining) n consumed (Some event.Leftover) new = new ≡ position.Body p_data_tf remaining
+Steps (position.Skipped kind remaining) n consumed None new = IsSkipped new
+Steps (position.Skipped kind remaining) n consumed (Some (event.PduEnd reported)) new = (reported ≡ kind) × IsInHead new
+Steps old n consumed other new = ⊥

@@ -24,7 +24,7 @@ pub struct Deframer {
 impl Deframer {
     ghost use Rattle.pdu.specs.Marks.{Mark};
     ghost use Rattle.pdu.specs.Frames.{IsRest};
-    ghost use Rattle.pdu.specs.Deframing.{Took, Longest, Skipped, Skip, unfinished_heads};
+    ghost use Rattle.pdu.specs.Deframing.{Consumed, Longest, Skipped, Skip, unfinished_heads};
     ghost use Rattle.pdu.specs.Deframed.{IsAt, Skips, position_of};
     ghost use Rattle.pdu.specs.Steps.{Steps, body_kind, bytes_due, events_due, skip_of};
 
@@ -43,7 +43,7 @@ impl Deframer {
     pub fn next<'p>(&mut self, piece: &'p [u8]) -> (usize, Option<Event<'p>>)
         ensures within { result.0 ≤ length piece.now }
         ensures used_up { result.1 ≡ None → result.0 ≡ length piece.now }
-        ensures took { (r : List ℕ) (due : List Mark) → IsAt self.old r due → Took (position_of self.new) r due (take result.0 piece.now) result.1 }
+        ensures consumes { (r : List ℕ) (due : List Mark) → IsAt self.old r due → Consumed (position_of self.new) r due (take result.0 piece.now) result.1 }
         ensures longest { (r : List ℕ) → IsAt self.old r [] → Longest r (length piece.now) result.0 }
         ensures skipped { (r : List ℕ) → Skips self.old r → Skipped (position_of self.new) r (take result.0 piece.now) result.1 }
         ensures steps { Steps (position_of self.old) result.0 (take result.0 piece.now) result.1 (position_of self.new) }

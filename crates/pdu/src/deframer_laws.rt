@@ -10,7 +10,7 @@ ghost use Rattle.pdu.specs.declared.event.Event.{Event};
 ghost use Rattle.pdu.specs.Frames.{rest_of};
 ghost use Rattle.pdu.specs.Marks.{Mark, new_marks};
 ghost use Rattle.pdu.specs.Events.{Token, OfBody, OfFragment, ReportsMark, tokens, marks_among};
-ghost use Rattle.pdu.specs.Deframing.{At, Took, Skip};
+ghost use Rattle.pdu.specs.Deframing.{At, Consumed, Skip};
 ghost use Rattle.pdu.specs.Steps.{skip_of};
 ghost use Rattle.pdu.specs.Calls.{Calls, CallsReportAll};
 ghost use Rattle.pdu.specs.Examples.{release_twice, release_twice_tokens, one_value, one_value_tokens};
@@ -47,8 +47,8 @@ pub fn calls_report_the_stream()
 /// reports and those due after it. A call reports one mark, or none if its event has bytes of a
 /// body or a fragment.
 pub fn a_call_reports_marks()
-    ensures taken { (new : Position) (r : List ℕ) (due : List Mark) (c : List ℕ) (e : Option Event) → (t : Took new r due c e) → due ++ new_marks r c ≡ marks_among t.reported ++ t.later }
-    ensures one { (new : Position) (r : List ℕ) (due : List Mark) (c : List ℕ) (e : Event) → (t : Took new r due c (Some e)) → (m : ReportsMark e t.reported) → due ++ new_marks r c ≡ m.mark ∷ t.later }
+    ensures consumed { (new : Position) (r : List ℕ) (due : List Mark) (c : List ℕ) (e : Option Event) → (t : Consumed new r due c e) → due ++ new_marks r c ≡ marks_among t.reported ++ t.later }
+    ensures one { (new : Position) (r : List ℕ) (due : List Mark) (c : List ℕ) (e : Event) → (t : Consumed new r due c (Some e)) → (m : ReportsMark e t.reported) → due ++ new_marks r c ≡ m.mark ∷ t.later }
     ensures bodies { (bytes : List ℕ) → marks_among (map OfBody bytes) ≡ [] }
     ensures fragments { (bytes : List ℕ) → marks_among (map OfFragment bytes) ≡ [] }
 {}

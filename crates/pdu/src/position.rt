@@ -298,24 +298,24 @@ fn take_skipped<'p>(
 }
 
 /// Reads the first bytes of `piece`. Returns their number, and the next event with the position
-/// after it. Without an event, `place` is updated to the new position instead.
-#[tactic(auto, using(crate::proofs::CallFollowsTheMarks::leftover_reported, crate::proofs::CallTakesTheLongest::longest_head, crate::proofs::CallTakesTheLongest::longest_body, crate::proofs::CallTakesTheLongest::longest_pdv_head, crate::proofs::CallTakesTheLongest::longest_fragment, crate::proofs::CallTakesTheLongest::longest_leftover, crate::proofs::CallTakesTheLongest::longest_over))]
+/// after it. Without an event, `cursor` is updated to the new position instead.
+#[tactic(auto, using(crate::proofs::CallFollowsTheMarks::leftover_reported, crate::proofs::CallConsumesTheLongest::longest_head, crate::proofs::CallConsumesTheLongest::longest_body, crate::proofs::CallConsumesTheLongest::longest_pdv_head, crate::proofs::CallConsumesTheLongest::longest_fragment, crate::proofs::CallConsumesTheLongest::longest_leftover, crate::proofs::CallConsumesTheLongest::longest_over))]
 pub(crate) fn find<'p>(
-    place: &mut Position,
+    cursor: &mut Position,
     piece: &'p [u8],
 ) -> (usize, Option<(Position, Event<'p>)>)
-    requires sound { IsSound place.old }
+    requires sound { IsSound cursor.old }
     ensures within { result.0 ≤ length piece.now }
     ensures used_up { result.1 ≡ None → result.0 ≡ length piece.now }
     ensures sound { IfSome result.1 (λ found. IsSound found.0) }
-    ensures still_sound { result.1 ≡ None → IsSound place.new }
-    ensures finds { (r : List ℕ) (due : List Mark) → At place.old r due → Finds place.new r due (take result.0 piece.now) result.1 }
-    ensures longest { (r : List ℕ) → At place.old r [] → Longest r (length piece.now) result.0 }
-    ensures skipped { (r : List ℕ) → SkipsAt place.old r → FindsEnd place.new r (take result.0 piece.now) result.1 }
-    ensures steps { StepsTo place.old place.new result.0 (take result.0 piece.now) result.1 }
-    ensures fewer { IfSome result.1 (λ found. events_due found.0 < events_due place.old + 4 * result.0) }
+    ensures still_sound { result.1 ≡ None → IsSound cursor.new }
+    ensures finds { (r : List ℕ) (due : List Mark) → At cursor.old r due → Finds cursor.new r due (take result.0 piece.now) result.1 }
+    ensures longest { (r : List ℕ) → At cursor.old r [] → Longest r (length piece.now) result.0 }
+    ensures skipped { (r : List ℕ) → SkipsAt cursor.old r → FindsEnd cursor.new r (take result.0 piece.now) result.1 }
+    ensures steps { StepsTo cursor.old cursor.new result.0 (take result.0 piece.now) result.1 }
+    ensures fewer { IfSome result.1 (λ found. events_due found.0 < events_due cursor.old + 4 * result.0) }
 {
-    match place {
+    match cursor {
         Position::Head(bytes) => take_head(bytes, piece),
         Position::Body { kind, remaining } => take_body(*kind, *remaining, piece),
         Position::PdvHead { remaining, bytes } => take_pdv_head(remaining, bytes, piece),

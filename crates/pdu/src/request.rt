@@ -144,13 +144,13 @@ fn view<'a>(body: &'a [u8]) -> Request<'a>
     }
 }
 
-/// Returns the AE title in the 16 bytes at the offset `place`.
-fn title_at(body: &[u8], place: usize) -> AeTitle
-    requires { place + 16 ≤ length body.now }
-    ensures { result.0 ≡ take 16 (drop place body.now) }
+/// Returns the AE title in the 16 bytes at the offset `offset`.
+fn title_at(body: &[u8], offset: usize) -> AeTitle
+    requires { offset + 16 ≤ length body.now }
+    ensures { result.0 ≡ take 16 (drop offset body.now) }
 {
     let mut title = [0; 16];
-    title.copy_from_slice(&body[place..place + 16]);
+    title.copy_from_slice(&body[offset..offset + 16]);
     AeTitle(title)
 }
 

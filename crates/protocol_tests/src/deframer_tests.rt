@@ -11,7 +11,7 @@ use std::test::Fail;
 struct EventList {
     alloc: Global,
     text: String,
-    taken: usize,
+    consumed: usize,
     /// What is being lent, and the number of bytes received by its last part.
     lent: Option<(&'static str, usize)>,
     parts: Vec<u8>,
@@ -22,7 +22,7 @@ impl EventList {
         EventList {
             alloc,
             text: String::new(alloc),
-            taken: 0,
+            consumed: 0,
             lent: None,
             parts: Vec::new(alloc),
         }
@@ -38,8 +38,8 @@ impl EventList {
 
     /// Adds what was lent so far.
     fn end(&mut self) -> Result<(), AllocError> {
-        if let Some((what, place)) = self.lent {
-            let lent = format!(in self.alloc; "{place} {what} {:?}", self.parts)?;
+        if let Some((what, index)) = self.lent {
+            let lent = format!(in self.alloc; "{index} {what} {:?}", self.parts)?;
             self.add(lent.as_str())?;
         }
         self.lent = None;
@@ -57,7 +57,7 @@ impl EventList {
         {
             self.end()?;
         }
-        self.lent = Some((what, self.taken));
+        self.lent = Some((what, self.consumed));
         self.parts.extend_from_slice(part)
     }
 
@@ -73,7 +73,7 @@ impl EventList {
     /// Adds an event that lends nothing, after what was lent.
     fn report(&mut self, event: Event) -> Result<(), AllocError> {
         self.end()?;
-        let event = format!(in self.alloc; "{} {event:?}", self.taken)?;
+        let event = format!(in self.alloc; "{} {event:?}", self.consumed)?;
         self.add(event.as_str())
     }
 
@@ -91,7 +91,7 @@ impl EventList {
         for _ in 0..100 {
             let (count, event) = deframer.next(rest);
             rest = &rest[count..];
-            self.taken = self.taken.saturating_add(count);
+            self.consumed = self.consumed.saturating_add(count);
             let Some(event) = event else {
                 return self.leave(rest);
             };
@@ -260,14 +260,14 @@ fn heads_are_held(rt: HostRuntime) {
     }
 }
 
-/// Returns the events of a stream after a PDU is skipped, after this many calls on `place` bytes.
-fn skipped(alloc: Global, stream: &[u8], place: usize, calls: usize) -> Result<String, AllocError> {
+/// Returns the events of a stream after a PDU is skipped, after this many calls on `index` bytes.
+fn skipped(alloc: Global, stream: &[u8], index: usize, calls: usize) -> Result<String, AllocError> {
     let mut deframer = Deframer::new();
     let mut events = EventList::new(alloc);
-    let remaining = call(&mut deframer, stream.get(..place).unwrap_or(&[]), calls).len();
+    let remaining = call(&mut deframer, stream.get(..index).unwrap_or(&[]), calls).len();
     deframer.skip_frame();
-    events.taken = place.saturating_sub(remaining);
-    let rest = stream.get(events.taken..).unwrap_or(&[]);
+    events.consumed = index.saturating_sub(remaining);
+    let rest = stream.get(events.consumed..).unwrap_or(&[]);
     events.hand(&mut deframer, rest)?;
     if deframer.held() > 0 {
         events.add("held")?;
@@ -281,8 +281,8 @@ static SKIPPED: &str = "27 PduEnd(4), 33 PduHead(PduHead { kind: 5, length: 4 })
 #[test]
 fn a_skipped_pdu_has_its_end_alone(rt: HostRuntime) -> Result<(), Fail> {
     let stream = DATA.get(..33).unwrap_or(&[]);
-    for place in 6..27 {
-        assert!(rt; skipped(rt.alloc(), stream, place, 100)?.as_str() == SKIPPED);
+    for index in 6..27 {
+        assert!(rt; skipped(rt.alloc(), stream, index, 100)?.as_str() == SKIPPED);
     }
     for calls in 1..10 {
         assert!(rt; skipped(rt.alloc(), stream, 33, calls)?.as_str() == SKIPPED);
@@ -294,9 +294,9 @@ fn a_skipped_pdu_has_its_end_alone(rt: HostRuntime) -> Result<(), Fail> {
 #[test]
 fn no_pdu_is_skipped_before_its_head(rt: HostRuntime) -> Result<(), Fail> {
     let head = DATA.get(..6).unwrap_or(&[]);
-    for place in 0..6 {
-        assert!(rt; Deframer::new().next(head.get(..place).unwrap_or(&[])) == (place, None));
-        let found = skipped(rt.alloc(), head, place, 1)?;
+    for index in 0..6 {
+        assert!(rt; Deframer::new().next(head.get(..index).unwrap_or(&[])) == (index, None));
+        let found = skipped(rt.alloc(), head, index, 1)?;
         assert!(rt; found.as_str() == "6 PduHead(PduHead { kind: 4, length: 21 })");
     }
     Ok(())

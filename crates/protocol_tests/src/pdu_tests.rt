@@ -142,7 +142,7 @@ fn pdus_are_written(rt: HostRuntime) {
 }
 
 #[test]
-fn a_wire_over_memory_takes_long_sends(rt: HostRuntime) {
+fn a_wire_over_memory_accepts_long_sends(rt: HostRuntime) {
     let mut wire = MemoryWire::new(rt.alloc());
     assert!(rt; wire.send(&[1; 5000]).is_ok() && wire.send(&[2; 5000]).is_ok());
     assert!(rt; wire.sent().len() == 10000);

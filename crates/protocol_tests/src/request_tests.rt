@@ -164,7 +164,7 @@ accepted of anyone, in a later version | any 1024 | 00 03 00 00 \
 ";
 
 /// Returns the configuration with these storage classes besides the eleven.
-fn taking(config: Config, all_storage: bool, named: &[Uid]) -> Config {
+fn accepting(config: Config, all_storage: bool, named: &[Uid]) -> Config {
     if named.len() > MOST_NAMED {
         return config;
     }
@@ -204,11 +204,11 @@ fn config_of(alloc: Global, settings: &str) -> Result<Config, Fail> {
     )?;
     let all = settings.contains(" all");
     Ok(if settings.contains(" private private") {
-        taking(known, all, &twice)
+        accepting(known, all, &twice)
     } else if settings.contains(" private") {
-        taking(known, all, &twice[..1])
+        accepting(known, all, &twice[..1])
     } else if all || settings.contains(" none") {
-        taking(known, all, &[])
+        accepting(known, all, &[])
     } else if settings.contains(" also") {
         let mut also = ArrayVec::new();
         also.push(AeTitle(*b"ARCHIVE         "));
@@ -268,11 +268,11 @@ fn contexts_of(
 }
 
 /// Fails with the name of the test case unless the field at this index is `found` or empty.
-fn expect(case: &Case, place: usize, found: &str) -> Result<(), Fail> {
-    if case.field(place)?.is_empty() {
+fn expect(case: &Case, index: usize, found: &str) -> Result<(), Fail> {
+    if case.field(index)?.is_empty() {
         return Ok(());
     }
-    case.expect(place, found)
+    case.expect(index, found)
 }
 
 /// Fails with the name of the test case unless a request is judged, and its contexts are accepted,
@@ -329,11 +329,11 @@ fn numbered(alloc: Global, head: &[u8], tail: &[u8]) -> Result<Vec<u8>, AllocErr
 /// Returns a context for each of the first 128 rows of the standard's table.
 fn first_classes(alloc: Global) -> Result<Vec<u8>, Fail> {
     let mut items = Vec::new(alloc);
-    for place in 0..128u8 {
-        let uid = storage_class(place as usize).ok_or("class")?.uid;
+    for index in 0..128u8 {
+        let uid = storage_class(index as usize).ok_or("class")?.uid;
         let size = u8::try_from(uid.len()).unwrap_or(0);
         let whole = size.saturating_add(31);
-        items.extend_from_slice(&[0x20, 0, 0, whole, 2 * place + 1, 0, 0, 0, 0x30, 0, 0, size])?;
+        items.extend_from_slice(&[0x20, 0, 0, whole, 2 * index + 1, 0, 0, 0, 0x30, 0, 0, size])?;
         items.extend_from_slice(uid)?;
         items.extend_from_slice(b"\x40\0\0\x131.2.840.10008.1.2.1")?;
     }

@@ -18,7 +18,7 @@ use Rattle.sequence.specs.machine.Keeping.{keeps, with_value}
 use Rattle.sequence.specs.machine.Reported.{header_in, reported_in}
 use Rattle.sequence.specs.machine.Standing.{Reaches, at_root, into_sequence, into_item, IsFit, BeginsIn, an_element, a_fragment, IsReading, StandsIn}
 use Rattle.sequence.proofs.MachineStands.HeaderParts.{part_short}
-use Rattle.sequence.proofs.MachineStands.HeaderTaken.{inside_kept}
+use Rattle.sequence.proofs.MachineStands.HeaderConsumed.{inside_kept}
 use Rattle.sequence.proofs.MachineReports.AnyText.{stands, reports}
 use Rattle.sequence.proofs.OneReading.OneReport.{one_telling}
 
@@ -111,11 +111,11 @@ reading_small s lim values f fs n b r = by r.begins
 mode_small : (s : Coding) (lim : Limits) (values : Values) (f : Scope) (fs : List Scope) (p : ℕ) (m : Mode) (b : List ℕ) → StandsIn s lim values f fs p m b → header_in m + size_of_values values + 16 * length fs ≤ 12 + rooms lim.wanted + 16 * lim.depth
 mode_small s lim values f fs p (Heading begin t) b h = omega (arith, part_short f.syntax t h.1.tail, reached_small h.1.due.reaches, h.1.due.levels.deep)
 mode_small s lim values f fs p (Reading t n) b h = omega (arith, reading_small s lim values f fs n b h.1, h.1.levels.deep)
-mode_small s lim values f fs p (Stopped rule place t) b h = omega (arith, reached_small h.due.reaches, h.due.levels.deep)
+mode_small s lim values f fs p (Stopped rule offset t) b h = omega (arith, reached_small h.due.reaches, h.due.levels.deep)
 
 pub held_has_a_bound : HeldHasABound
 held_has_a_bound s lim b reported bytes h =
     let st = run lim (start s) b in
     let values = keeps lim (start s) [] b in
     let same : reported ≡ reported_in lim st values = one_telling s lim b reported (reported_in lim st values) h (reports s lim b bytes) in
-    omega (arith, ap (λ (x : Report). x.held) same, mode_small s lim values st.top st.below st.place st.mode b (stands s lim b bytes))
+    omega (arith, ap (λ (x : Report). x.held) same, mode_small s lim values st.top st.below st.offset st.mode b (stands s lim b bytes))

@@ -1,6 +1,6 @@
 -- The theorem of this crate, and which folder proves which step of it; each folder's file says what its files prove.
 --
--- A walker that consumed the bytes b, in whatever pieces, stands at b (`StandsAt`, specs/Taken): it has refused with the first fault
+-- A walker that consumed the bytes b, in whatever pieces, stands at b (`StandsAt`, specs/Consumed): it has refused with the first fault
 -- of b, or b has none and the walker reports and holds what the definitions say of b. `Walker::new` stands at no bytes, `step`
 -- goes from b to b and what it consumed (clause `stands`), and `finish` is `Ok` exactly where b is a whole data set within its
 -- limits.

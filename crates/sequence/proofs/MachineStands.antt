@@ -4,7 +4,7 @@
 -- HeaderParts                    a header that is not whole, and the byte that makes it whole
 -- ReachedLevels, NestedLevels    what more text does to the levels; that they end in each other, within their limits
 -- HeaderDue                      levels that end here are left, and a header is due
--- HeaderTaken                    a header was made whole: a value, a sequence, an item or a delimitation
+-- HeaderConsumed                    a header was made whole: a value, a sequence, an item or a delimitation
 -- OneMoreByte                    each of these cases
 pub mod SoundHeader
 pub mod UnbrokenHeader
@@ -12,5 +12,5 @@ pub mod HeaderParts
 pub mod ReachedLevels
 pub mod NestedLevels
 pub mod HeaderDue
-pub mod HeaderTaken
+pub mod HeaderConsumed
 pub mod OneMoreByte

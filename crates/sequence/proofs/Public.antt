@@ -13,7 +13,7 @@ use Rattle.sequence.proofs.OneReading.OneTree as once
 use Rattle.sequence.proofs.CodeIsMachine.WhereRulesBreak as quiet
 use Rattle.sequence.proofs.StepsStand.RefusedStands as refused
 use Rattle.sequence.proofs.StepsStand.FaultStays as staying
-use Rattle.sequence.proofs.StepsStand.StepTakes as stepping
+use Rattle.sequence.proofs.StepsStand.StepConsumes as stepping
 use Rattle.sequence.proofs.MachineReports.AnyText as tales
 use Rattle.sequence.proofs.OneReading.OneReport as tellings
 use Rattle.sequence.proofs.WholeDataSet.WholeHasNoFault as whole

@@ -26,8 +26,8 @@ use Rattle.sequence.proofs.MachineReports.FrontAtText.{open_due, due_open}
 use Rattle.sequence.proofs.MachineReports.AnyText.{stands, spot_is, reading_front, goes_unbroken}
 use Rattle.sequence.proofs.WorkedTexts.{bytes_by}
 
-header_along : (s : Coding) (lim : Limits) (b taken : List ℕ) (f : Scope) (fs : List Scope) (p begin : ℕ) → IsBytes b → IsBytes taken → run lim (start s) b ≡ at f fs p (Heading begin []) → need (layout f.syntax) taken ≡ Size (length taken) → EndsHeader s (b ++ taken) taken (header_at (layout f.syntax) taken)
-header_along s lim b taken f fs p begin bytes more state size =
+header_along : (s : Coding) (lim : Limits) (b consumed : List ℕ) (f : Scope) (fs : List Scope) (p begin : ℕ) → IsBytes b → IsBytes consumed → run lim (start s) b ≡ at f fs p (Heading begin []) → need (layout f.syntax) consumed ≡ Size (length consumed) → EndsHeader s (b ++ consumed) consumed (header_at (layout f.syntax) consumed)
+header_along s lim b consumed f fs p begin bytes more state size =
     let values = keeps lim (start s) [] b in
     let k : (p ≡ length b) × IsHeading s lim (keeps lim (start s) [] b) f fs begin [] b = subst (λ z. Stands s lim z (keeps lim (start s) [] b) b) state (stands s lim b bytes) in
     let h = k.1 in
@@ -35,23 +35,23 @@ header_along s lim b taken f fs p begin bytes more state size =
     let same : h.before ≡ b = sym (h.text ∙ append-nil h.before) in
     let o : Open s b x.elements x.path x.last (in_header []) = subst (λ z. Open s z x.elements x.path x.last (in_header [])) same (due_open s lim values f fs h.before h.due) in
     let syntax-is : f.syntax ≡ (spot_behind s x.path x.last (length b)).syntax = ap (λ (z : Spot). z.syntax) (spot_is x) ∙ ap (λ z. (spot_behind s x.path x.last (length z)).syntax) same in
-    let spelled : SpellsHeader (layout f.syntax) (header_at (layout f.syntax) taken) taken = exact_spells (layout f.syntax) taken (subst (NeedIs (layout f.syntax) taken) size (need_is (layout f.syntax) taken)) refl more in
-    let least = need_least f.syntax taken (length taken) size in
+    let spelled : SpellsHeader (layout f.syntax) (header_at (layout f.syntax) consumed) consumed = exact_spells (layout f.syntax) consumed (subst (NeedIs (layout f.syntax) consumed) size (need_is (layout f.syntax) consumed)) refl more in
+    let least = need_least f.syntax consumed (length consumed) size in
     record {
       before = b;
-      bytes = taken;
+      bytes = consumed;
       text = refl;
       elements = x.elements;
       path = x.path;
       last = x.last;
       due = o;
-      spelled = subst (λ z. SpellsHeader (layout z) (header_at (layout f.syntax) taken) taken) syntax-is spelled;
+      spelled = subst (λ z. SpellsHeader (layout z) (header_at (layout f.syntax) consumed) consumed) syntax-is spelled;
       some = omega (arith, least);
       own = omega arith;
     }
 
-value_along : (s : Coding) (lim : Limits) (b taken : List ℕ) (f : Scope) (fs : List Scope) (p : ℕ) (t : Tag) (n : ℕ) → IsBytes b → run lim (start s) b ≡ at f fs p (Reading t n) → 0 < length taken → length taken ≤ n → EndsRun s (b ++ taken) taken
-value_along s lim b taken f fs p t n bytes state some le =
+value_along : (s : Coding) (lim : Limits) (b consumed : List ℕ) (f : Scope) (fs : List Scope) (p : ℕ) (t : Tag) (n : ℕ) → IsBytes b → run lim (start s) b ≡ at f fs p (Reading t n) → 0 < length consumed → length consumed ≤ n → EndsRun s (b ++ consumed) consumed
+value_along s lim b consumed f fs p t n bytes state some le =
     let k : (p ≡ length b) × IsReading s lim (keeps lim (start s) [] b) f fs t n b = subst (λ z. Stands s lim z (keeps lim (start s) [] b) b) state (stands s lim b bytes) in
     let r = k.1 in
     let x = reading_front s lim (keeps lim (start s) [] b) f fs t n b r in

@@ -17,8 +17,8 @@ pub record IsWholeDataSet (s : Coding) (lim : Limits) (b : List ℕ) : Type 0 wh
 
 -- the fault of b: the first rule that it breaks, or that it ends before the data set is whole
 pub data Fails (s : Coding) (lim : Limits) (b : List ℕ) : Fault → Type 0 where
-  breaks_rule : {p u : List ℕ} {rule : ℕ} {tag : Tag} → FirstFault s lim b p u rule tag → Fails s lim b (record { number = rule; place = length p; tag = tag })
-  ends_early : {tag : Tag} → EndFault s lim b tag → Fails s lim b (record { number = truncated; place = length b; tag = tag })
+  breaks_rule : {p u : List ℕ} {rule : ℕ} {tag : Tag} → FirstFault s lim b p u rule tag → Fails s lim b (record { number = rule; offset = length p; tag = tag })
+  ends_early : {tag : Tag} → EndFault s lim b tag → Fails s lim b (record { number = truncated; offset = length b; tag = tag })
 
 -- a whole data set within the limits breaks no rule
 abbrev pub WholeBreaksNoRule : Type 0

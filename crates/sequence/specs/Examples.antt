@@ -21,12 +21,12 @@ levels_of depth = wanting [] depth
 
 -- a walker's report without a fault: the number of open levels, of bytes read and of bytes held
 abbrev pub going_on : ℕ → ℕ → ℕ → Report
-going_on levels place held = record { fault = None; levels = levels; place = place; held = held; kept = [] }
+going_on levels offset held = record { fault = None; levels = levels; offset = offset; held = held; kept = [] }
 
 -- a walker's report of a fault: the number of the rule, the position and the tag of the header; then the number of
 -- open levels, of bytes read and of bytes held
 abbrev pub faulty : ℕ → ℕ → Tag → ℕ → ℕ → ℕ → Report
-faulty number at tag levels place held = record { fault = Some (record { number = number; place = at; tag = tag }); levels = levels; place = place; held = held; kept = [] }
+faulty number at tag levels offset held = record { fault = Some (record { number = number; offset = at; tag = tag }); levels = levels; offset = offset; held = held; kept = [] }
 
 abbrev pub two_levels : List ℕ
 two_levels =
@@ -114,7 +114,7 @@ OneStore =
     Reports Explicit (wanting identifiers 64) one_store (record {
       fault = None;
       levels = 0;
-      place = 48;
+      offset = 48;
       held = 32;
       kept = (0x00080016, take 26 (drop 8 one_store)) ∷ (0x00080018, drop 42 one_store) ∷ [];
     })

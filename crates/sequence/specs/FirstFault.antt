@@ -15,17 +15,17 @@ abbrev pub near_of : List PathEntry → Option ℕ
 near_of [] = None
 near_of (e ∷ path) = if is_some e.remaining then e.remaining else near_of path
 
--- the context of a header that follows a text of `place` bytes with these open levels and last tag
+-- the context of a header that follows a text of `offset` bytes with these open levels and last tag
 abbrev pub spot_behind : Coding → List PathEntry → ℕ → ℕ → Spot
-spot_behind s [] last place = record { syntax = s; in_sequence = false; open_ended = false; near = None; last = last; depth = 0; place = place }
-spot_behind s (e ∷ path) last place = record {
+spot_behind s [] last offset = record { syntax = s; in_sequence = false; open_ended = false; near = None; last = last; depth = 0; offset = offset }
+spot_behind s (e ∷ path) last offset = record {
   syntax = e.syntax;
   in_sequence = e.in_sequence;
   open_ended = is_none e.remaining;
   near = near_of (e ∷ path);
   last = e.last;
   depth = length (e ∷ path);
-  place = place;
+  offset = offset;
 }
 
 -- a header follows the text p, and its first bytes u break this rule
@@ -44,7 +44,7 @@ IsUnbroken s lim b = (q v more : List ℕ) (n : ℕ) (t : Tag) → b ≡ (q ++ v
 
 -- p is no longer than q, and p ++ u no longer than q ++ v
 pub record IsNoLater (p u q v : List ℕ) : Type 0 where
-  pub place : length p ≤ length q
+  pub offset : length p ≤ length q
   pub end : length (p ++ u) ≤ length (q ++ v)
 
 -- of the fronts of b that break a rule, p ++ u is the shortest; u are the bytes of the header that breaks it

@@ -18,7 +18,7 @@ use Rattle.sequence.specs.Rules.{Limits}
 use Rattle.sequence.specs.Wanted.{rooms, level_size}
 use Rattle.sequence.specs.FirstFault.{IsUnbroken, FirstFault}
 use Rattle.sequence.specs.declared.walker.Walker.{Walker}
-use Rattle.sequence.specs.Taken.{StandsAt, fault_of}
+use Rattle.sequence.specs.Consumed.{StandsAt, fault_of}
 use Rattle.sequence.specs.Walk.{Report, Reports}
 use Rattle.sequence.specs.Holding.{Holding, Holds}
 

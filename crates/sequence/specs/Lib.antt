@@ -14,7 +14,7 @@ pub mod Walk
 pub mod Holding
 pub mod Fields
 pub mod Stored
-pub mod Taken
+pub mod Consumed
 pub mod Examples
 pub mod Laws
 pub mod machine

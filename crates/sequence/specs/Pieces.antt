@@ -11,7 +11,7 @@ use Rattle.sequence.specs.Rules.{Limits}
 use Rattle.sequence.specs.FirstFault.{spot_behind, IsUnbroken, FirstFault}
 
 -- after the text b, no front of which breaks a rule, a step consumes n bytes of the piece: as many as possible
-pub record TakesMost (s : Coding) (lim : Limits) (b piece : List ℕ) (n : ℕ) : Type 0 where
+pub record ConsumesMost (s : Coding) (lim : Limits) (b piece : List ℕ) (n : ℕ) : Type 0 where
   -- of a header that ends in the piece and breaks no rule, all bytes
   pub header : (es : Elements) (path : List PathEntry) (last : ℕ) (started bytes more : List ℕ) (h : Header)
       → Open s b es path last (in_header started) → piece ≡ bytes ++ more → SpellsHeader (layout (spot_behind s path last (length b)).syntax) h (started ++ bytes)

@@ -94,14 +94,14 @@ passes (Some remaining) n = nat_lt remaining n
 
 -- before the first byte of a header: fewer than 8 bytes remain in a level of defined length (17)
 -- e.g. broken_due (record { syntax = Explicit; in_sequence = false; open_ended = false; near = Some 7; last = 0; depth
--- = 1; place = 0 }) ≡ Some (17, no_tag)
+-- = 1; offset = 0 }) ≡ Some (17, no_tag)
 abbrev pub broken_due : Spot → Broken
 broken_due spot = if passes spot.near 8 then Some (overrun, no_tag) else None
 
 -- at the fourth byte: an item or a delimitation out of place (15), a group that no data set has (13), a tag not above
 -- the one before (12)
 -- e.g. broken_tag (record { syntax = Explicit; in_sequence = false; open_ended = false; near = Some 7; last = 0; depth
--- = 1; place = 0 }) (record { 0 = 0; 1 = 2 }) ≡ Some (13, record { 0 = 0; 1 = 2 })
+-- = 1; offset = 0 }) (record { 0 = 0; 1 = 2 }) ≡ Some (13, record { 0 = 0; 1 = 2 })
 unfoldable pub broken_tag : Spot → Tag → Broken
 broken_tag spot t =
     if spot.in_sequence
@@ -113,9 +113,9 @@ broken_tag spot t =
 
 -- at the sixth byte of a header with a VR: no two capital letters (10), or the header passes the end of a level (17)
 -- e.g. broken_need (record { syntax = Explicit; in_sequence = false; open_ended = false; near = Some 7; last = 0; depth
--- = 1; place = 0 }) BadVr no_tag ≡ Some (10, no_tag)
+-- = 1; offset = 0 }) BadVr no_tag ≡ Some (10, no_tag)
 -- e.g. broken_need (record { syntax = Explicit; in_sequence = false; open_ended = false; near = Some 7; last = 0; depth
--- = 1; place = 0 }) (Size 8) no_tag ≡ Some (17, no_tag)
+-- = 1; offset = 0 }) (Size 8) no_tag ≡ Some (17, no_tag)
 abbrev pub broken_need : Spot → Need → Tag → Broken
 broken_need spot More t = None
 broken_need spot BadVr t = Some (bad_vr, t)
@@ -163,9 +163,9 @@ is_endless spot h = (is_marker h.tag && has_fragments spot.syntax) && is_undefin
 
 -- the header opens a level: it is that of a sequence or an item whose length is not 0, and not of a fragment
 -- e.g. opens (record { syntax = Explicit; in_sequence = false; open_ended = false; near = Some 7; last = 0; depth = 1;
--- place = 0 }) (record { tag = item_tag; vr = None; length = 8 }) ≡ true
+-- offset = 0 }) (record { tag = item_tag; vr = None; length = 8 }) ≡ true
 -- e.g. opens (record { syntax = Explicit; in_sequence = false; open_ended = false; near = Some 7; last = 0; depth = 1;
--- place = 0 }) (record { tag = item_tag; vr = None; length = 0 }) ≡ false
+-- offset = 0 }) (record { tag = item_tag; vr = None; length = 0 }) ≡ false
 abbrev pub opens : Spot → Header → Bool
 opens spot h = ((is_marker h.tag && not (has_fragments spot.syntax)) || is_sequence (shape spot.syntax h)) && not (nat_eq h.length 0)
 
@@ -173,7 +173,7 @@ opens spot h = ((is_marker h.tag && not (has_fragments spot.syntax)) || is_seque
 -- (14), an odd length (11), a value or level that passes the end of a level around it (17) or the greatest size of a
 -- data set (19), a wanted value longer than its limit (21), a level more than the limit (18)
 -- e.g. broken_header (record { wanted = []; depth = 64; bytes = 1024 }) (record { syntax = Explicit; in_sequence =
--- false; open_ended = false; near = Some 7; last = 0; depth = 1; place = 0 }) 8 (record { tag = record { 0 = 8; 1 = 0
+-- false; open_ended = false; near = Some 7; last = 0; depth = 1; offset = 0 }) 8 (record { tag = record { 0 = 8; 1 = 0
 -- }; vr = Some (codes "UL"); length = 3 }) ≡ Some (11, record { 0 = 8; 1 = 0 })
 unfoldable pub broken_header : Limits → Spot → ℕ → Header → Broken
 broken_header lim spot size h =
@@ -182,7 +182,7 @@ broken_header lim spot size h =
     else (if is_endless spot h then Some (undefined_not_allowed, h.tag)
     else (if not (is_undefined h.length) && nat_eq (h.length % 2) 1 then Some (odd_length, h.tag)
     else (if not (is_undefined h.length) && passes spot.near (size + h.length) then Some (overrun, h.tag)
-    else (if nat_lt lim.bytes (spot.place + size + counted_length h.length) then Some (too_long, h.tag)
+    else (if nat_lt lim.bytes (spot.offset + size + counted_length h.length) then Some (too_long, h.tag)
     else (if is_too_long lim spot h then Some (kept_too_long, h.tag)
     else (if opens spot h && nat_le lim.depth spot.depth then Some (too_deep, h.tag)
     else None)))))))

@@ -15,7 +15,7 @@ pub record Report : Type 0 where
   -- the number of open levels: sequences and items
   pub levels : ℕ
   -- how many bytes were read; after a fault, how many up to the byte that showed it
-  pub place : ℕ
+  pub offset : ℕ
   -- how many bytes the walker holds
   pub held : ℕ
   -- the wanted values that are whole
@@ -26,14 +26,14 @@ pub data Reports (s : Coding) (lim : Limits) (b : List ℕ) : Report → Type 0 
   -- b breaks no rule: the report describes b
   going : {es : Elements} {path : List PathEntry} {last : ℕ} {tail : Tail}
       → IsUnbroken s lim b → Open s b es path last tail
-      → Reports s lim b (record { fault = None; levels = length path; place = length b; held = held_of lim.wanted es path tail; kept = kept_of lim.wanted es })
+      → Reports s lim b (record { fault = None; levels = length path; offset = length b; held = held_of lim.wanted es path tail; kept = kept_of lim.wanted es })
   -- p ++ u is the shortest front of b that breaks a rule: the report has this fault, and else describes p
   refused : {p u : List ℕ} {rule : ℕ} {tag : Tag} {es : Elements} {path : List PathEntry} {last : ℕ}
       → FirstFault s lim b p u rule tag → Open s p es path last (in_header [])
       → Reports s lim b (record {
-        fault = Some (record { number = rule; place = length p; tag = tag });
+        fault = Some (record { number = rule; offset = length p; tag = tag });
         levels = length path;
-        place = length (p ++ u);
+        offset = length (p ++ u);
         held = held_of lim.wanted es path (in_header []);
         kept = kept_of lim.wanted es;
       })

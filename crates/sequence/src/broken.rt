@@ -175,11 +175,11 @@ fn counted_length(length: u32) -> u64
 /// Returns whether the header of `size` bytes, with the bytes that its length counts, passes the
 /// greatest size of a data set.
 fn is_beyond(bounds: &Bounds, spot: &Spot, size: usize, header: &Header) -> bool
-    requires place { spot.now.place < 2 ^ 49 }
+    requires offset { spot.now.offset < 2 ^ 49 }
     requires size { size ≤ 12 }
-    ensures { result ≡ nat_lt bounds.now.bytes (spot.now.place + size + rules.counted_length header.now.length) }
+    ensures { result ≡ nat_lt bounds.now.bytes (spot.now.offset + size + rules.counted_length header.now.length) }
 {
-    bounds.bytes < spot.place + size as u64 + counted_length(header.length)
+    bounds.bytes < spot.offset + size as u64 + counted_length(header.length)
 }
 
 /// Returns whether the header opens a level: that of a sequence or an item whose length is not 0.
@@ -209,7 +209,7 @@ pub fn broken_header(
     size: usize,
     header: &Header,
 ) -> Option<(Rule, Tag)>
-    requires place { spot.now.place < 2 ^ 49 }
+    requires offset { spot.now.offset < 2 ^ 49 }
     requires size { size ≤ 12 }
     ensures { numbered result ≡ rules.broken_header (limits_by wanted.now.list.items bounds.now) spot.now size header.now }
 {
@@ -257,7 +257,7 @@ fn at_vr(spot: &Spot, bytes: &[u8]) -> Option<(Rule, Tag)>
 }
 
 fn at_end(wanted: &Wanted, bounds: &Bounds, spot: &Spot, bytes: &[u8]) -> Option<(Rule, Tag)>
-    requires place { spot.now.place < 2 ^ 49 }
+    requires offset { spot.now.offset < 2 ^ 49 }
     requires size { length bytes.now ≤ 12 }
     ensures { numbered result ≡ broken_at_end (limits_by wanted.now.list.items bounds.now) spot.now bytes.now }
 {
@@ -278,7 +278,7 @@ fn at_end(wanted: &Wanted, bounds: &Bounds, spot: &Spot, bytes: &[u8]) -> Option
 /// header, or its first bytes.
 #[tactic(auto, unfolding(crate::specs::Rules::broken))]
 pub fn broken(wanted: &Wanted, bounds: &Bounds, spot: &Spot, bytes: &[u8]) -> Option<(Rule, Tag)>
-    requires place { spot.now.place < 2 ^ 49 }
+    requires offset { spot.now.offset < 2 ^ 49 }
     requires size { length bytes.now ≤ 12 }
     ensures { numbered result ≡ rules.broken (limits_by wanted.now.list.items bounds.now) spot.now bytes.now }
 {
@@ -299,7 +299,7 @@ pub fn broken(wanted: &Wanted, bounds: &Bounds, spot: &Spot, bytes: &[u8]) -> Op
 /// checks all three.
 #[tactic(auto, using(crate::proofs::CodeIsMachine::FittingHeader::is_fitting))]
 pub fn is_unbroken(wanted: &Wanted, bounds: &Bounds, spot: &Spot, front: &Front) -> bool
-    requires place { spot.now.place < 2 ^ 49 }
+    requires offset { spot.now.offset < 2 ^ 49 }
     requires least { 8 ≤ front.now.size }
     requires size { front.now.size ≤ 12 }
     requires shape { front.now.shape ≡ shapes.shape spot.now.syntax front.now.header }
@@ -309,7 +309,7 @@ pub fn is_unbroken(wanted: &Wanted, bounds: &Bounds, spot: &Spot, front: &Front)
     let end = front.size as u64 + counted_length(header.length);
     broken_tag(spot, header.tag).is_none()
         && !passes(spot.near, end)
-        && spot.place + end <= bounds.bytes
+        && spot.offset + end <= bounds.bytes
         && !is_long_mark(header)
         && !is_forbidden(header, front.shape)
         && !is_endless(spot, header)

@@ -13,7 +13,7 @@ pub struct Fault {
     pub number: u8,
     /// The offset of the header that breaks the rule, in bytes from the start of the data set. For
     /// `Truncated` (20), the number of bytes of the unfinished data set.
-    pub place: u64,
+    pub offset: u64,
     /// The tag of that header, or of the unfinished header or value; (0000,0000) if fewer than the
     /// four bytes of a tag were read.
     pub tag: Tag,
@@ -56,13 +56,13 @@ impl Fault {
     /// The number of `Rule::KeptTooLong`.
     pub const KEPT_TOO_LONG: u8 = Rule::KeptTooLong as u8;
 
-    /// Returns the fault of a header at the offset `place` with this tag.
-    pub(crate) fn new(rule: Rule, place: u64, tag: Tag) -> Fault
-        ensures { result ≡ record { number = rule_number rule; place = place; tag = tag } }
+    /// Returns the fault of a header at the offset `offset` with this tag.
+    pub(crate) fn new(rule: Rule, offset: u64, tag: Tag) -> Fault
+        ensures { result ≡ record { number = rule_number rule; offset = offset; tag = tag } }
     {
         Fault {
             number: rule.number(),
-            place,
+            offset,
             tag,
         }
     }
@@ -95,7 +95,7 @@ impl fmt::Display for Fault {
             "{} {} at {} tag {group:04x},{element:04x}",
             self.number,
             self.name(),
-            self.place
+            self.offset
         )
     }
 }

@@ -46,7 +46,7 @@ fn examine(
     started: usize,
     count: usize,
 ) -> End
-    requires place { spot.now.place < 2 ^ 49 }
+    requires offset { spot.now.offset < 2 ^ 49 }
     requires size { count ≤ 12 }
     ensures { IsExamined (limits_by wanted.now.list.items bounds.now) spot.now bytes.now started count result }
 {
@@ -71,7 +71,7 @@ fn examine(
 /// Finds the end of a header whose first `started` bytes, at least one, break no rule. After the
 /// first byte only the fourth (tag), the sixth (VR) and the last (length) can break a rule.
 fn end_after(wanted: &Wanted, bounds: &Bounds, spot: &Spot, bytes: &[u8], started: usize) -> End
-    requires place { spot.now.place < 2 ^ 49 }
+    requires offset { spot.now.offset < 2 ^ 49 }
     requires started { started ≤ length bytes.now }
     requires quiet { IsQuiet (limits_by wanted.now.list.items bounds.now) spot.now (take started bytes.now) }
     ensures { IsEnd (limits_by wanted.now.list.items bounds.now) spot.now bytes.now started result }
@@ -101,7 +101,7 @@ fn end_from_front(
     bytes: &[u8],
     started: usize,
 ) -> End
-    requires place { spot.now.place < 2 ^ 49 }
+    requires offset { spot.now.offset < 2 ^ 49 }
     requires more { started < length bytes.now }
     requires quiet { 0 < started → IsQuiet (limits_by wanted.now.list.items bounds.now) spot.now (take started bytes.now) }
     ensures { IsEnd (limits_by wanted.now.list.items bounds.now) spot.now bytes.now started result }
@@ -120,7 +120,7 @@ fn end_from_front(
 /// Finds the end of a header of which the first `started` bytes were checked before. Checks a whole
 /// header at once. Only if it breaks a rule, or is unfinished, are its bytes checked in order.
 fn end_in(wanted: &Wanted, bounds: &Bounds, spot: &Spot, bytes: &[u8], started: usize) -> End
-    requires place { spot.now.place < 2 ^ 49 }
+    requires offset { spot.now.offset < 2 ^ 49 }
     requires more { started < length bytes.now }
     requires quiet { 0 < started → IsQuiet (limits_by wanted.now.list.items bounds.now) spot.now (take started bytes.now) }
     ensures { IsEnd (limits_by wanted.now.list.items bounds.now) spot.now bytes.now started result }
@@ -157,7 +157,7 @@ fn gathered_end(
     header: &mut ArrayVec<u8, 12>,
     piece: &[u8],
 ) -> End
-    requires place { spot.place < 2 ^ 49 }
+    requires offset { spot.offset < 2 ^ 49 }
     requires started { array_vec_len header.old ≤ 11 }
     requires more { 0 < length piece.now }
     requires quiet { 0 < array_vec_len header.old → IsQuiet (limits_by wanted.now.list.items bounds) spot header.old.items }
@@ -175,7 +175,7 @@ fn gathered_end(
 
 /// Reads the header at the front of `piece`. Returns `None` if it is unfinished or breaks a rule.
 fn whole_header(wanted: &Wanted, bounds: &Bounds, spot: &Spot, piece: &[u8]) -> Option<Front>
-    requires place { spot.now.place < 2 ^ 49 }
+    requires offset { spot.now.offset < 2 ^ 49 }
     requires more { 0 < length piece.now }
     ensures { IfSome result (λ front. IsEnd (limits_by wanted.now.list.items bounds.now) spot.now piece.now 0 (End.Whole front.size front.header front.shape)) }
 {
@@ -197,7 +197,7 @@ pub fn header_end(
     header: &mut ArrayVec<u8, 12>,
     piece: &[u8],
 ) -> End
-    requires place { spot.now.place < 2 ^ 49 }
+    requires offset { spot.now.offset < 2 ^ 49 }
     requires started { array_vec_len header.old ≤ 11 }
     requires more { 0 < length piece.now }
     requires quiet { 0 < array_vec_len header.old → IsQuiet (limits_by wanted.now.list.items bounds.now) spot.now header.old.items }

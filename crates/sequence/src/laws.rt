@@ -210,7 +210,7 @@ pub fn no_header()
 {}
 
 /// A header has at least eight bytes.
-pub fn a_header_takes_eight_bytes()
+pub fn a_header_consumes_eight_bytes()
     ensures { LeastHeader }
 {}
 

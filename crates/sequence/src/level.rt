@@ -84,12 +84,12 @@ impl Level {
         }
     }
 
-    /// Returns whether the level has defined length and ends at the offset `place`.
-    pub(crate) fn ends_at(&self, place: u64) -> bool
-        requires { place < 2 ^ 64 - 1 }
-        ensures { result ≡ stops_at (scope_of self.now).stop place }
+    /// Returns whether the level has defined length and ends at the offset `offset`.
+    pub(crate) fn ends_at(&self, offset: u64) -> bool
+        requires { offset < 2 ^ 64 - 1 }
+        ensures { result ≡ stops_at (scope_of self.now).stop offset }
     {
-        self.end == place
+        self.end == offset
     }
 
     /// Sets the tag, as a number, of the last element in the level.

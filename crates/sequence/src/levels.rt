@@ -14,24 +14,24 @@ use crate::spot::Spot;
 use arrayvec::ArrayVec;
 use element::Tag;
 
-/// Returns whether the innermost level has defined length and ends at the offset `place`.
-pub fn ends_here<const D: usize>(levels: &ArrayVec<Level, D>, place: u64) -> bool
-    requires { place < 2 ^ 64 - 1 }
+/// Returns whether the innermost level has defined length and ends at the offset `offset`.
+pub fn ends_here<const D: usize>(levels: &ArrayVec<Level, D>, offset: u64) -> bool
+    requires { offset < 2 ^ 64 - 1 }
     ensures some { IsTrue result → 0 < array_vec_len levels.now }
-    ensures ends { (root : Scope) → root.stop ≡ None → result ≡ stops_at (top_of root levels.now.items).stop place }
+    ensures ends { (root : Scope) → root.stop ≡ None → result ≡ stops_at (top_of root levels.now.items).stop offset }
 {
     match levels.as_slice() {
         [] => false,
-        [.., level] => level.ends_at(place),
+        [.., level] => level.ends_at(offset),
     }
 }
 
-/// Removes the levels that end at the offset `place`, from the innermost outwards.
-pub fn leave_ended<const D: usize>(levels: &mut ArrayVec<Level, D>, place: u64)
-    requires { place < 2 ^ 64 - 1 }
-    ensures { LeavesEnded place levels.old.items levels.new.items }
+/// Removes the levels that end at the offset `offset`, from the innermost outwards.
+pub fn leave_ended<const D: usize>(levels: &mut ArrayVec<Level, D>, offset: u64)
+    requires { offset < 2 ^ 64 - 1 }
+    ensures { LeavesEnded offset levels.old.items levels.new.items }
 {
-    while ends_here(levels, place) {
+    while ends_here(levels, offset) {
         levels.pop();
     }
 }
@@ -51,14 +51,14 @@ pub fn nearest(levels: &[Level]) -> Option<u64>
     None
 }
 
-/// Returns the number of bytes from the offset `place` to the end `near`, or `None` if there is no
+/// Returns the number of bytes from the offset `offset` to the end `near`, or `None` if there is no
 /// end.
-pub fn remaining_before(near: Option<u64>, place: u64) -> Option<u64>
-    ensures { result ≡ less near place }
+pub fn remaining_before(near: Option<u64>, offset: u64) -> Option<u64>
+    ensures { result ≡ less near offset }
 {
     match near {
         None => None,
-        Some(stop) => Some(stop.saturating_sub(place)),
+        Some(stop) => Some(stop.saturating_sub(offset)),
     }
 }
 
@@ -79,12 +79,12 @@ pub fn is_open_ended(top: Scope, levels: &[Level]) -> bool
     top.stop.is_none() && !levels.is_empty()
 }
 
-/// Returns the context of a header at the offset `place`.
-pub fn spot_at(root: Scope, levels: &[Level], place: u64) -> Spot
+/// Returns the context of a header at the offset `offset`.
+pub fn spot_at(root: Scope, levels: &[Level], offset: u64) -> Spot
     requires { root.stop ≡ None }
-    ensures { result ≡ spot_of (top_of root levels.now) (below_of root [] levels.now) place }
+    ensures { result ≡ spot_of (top_of root levels.now) (below_of root [] levels.now) offset }
 {
-    let near = remaining_before(nearest(levels), place);
+    let near = remaining_before(nearest(levels), offset);
     let top = top_scope(root, levels);
     let open_ended = is_open_ended(top, levels);
     Spot {
@@ -94,7 +94,7 @@ pub fn spot_at(root: Scope, levels: &[Level], place: u64) -> Spot
         near,
         last: top.last,
         depth: levels.len(),
-        place,
+        offset,
     }
 }
 
@@ -115,44 +115,44 @@ pub fn set_last<const D: usize>(root: &mut Scope, levels: &mut ArrayVec<Level, D
     }
 }
 
-/// Returns the end of a level of this length whose header ends at the offset `place`, or `None` if
+/// Returns the end of a level of this length whose header ends at the offset `offset`, or `None` if
 /// the length is undefined.
-fn stop_at(place: u64, length: u32) -> Option<u64>
-    requires { place < 2 ^ 49 }
-    ensures stop { result ≡ stop_of place length }
+fn stop_at(offset: u64, length: u32) -> Option<u64>
+    requires { offset < 2 ^ 49 }
+    ensures stop { result ≡ stop_of offset length }
     ensures small { IfSome result (λ end. end < 2 ^ 64 - 1) }
 {
     if length == UNDEFINED {
         None
     } else {
-        Some(place + length as u64)
+        Some(offset + length as u64)
     }
 }
 
-/// Returns the scope of an item of this length whose header ends at the offset `place`.
-pub fn item_scope(syntax: Coding, place: u64, length: u32) -> Scope
-    requires { place < 2 ^ 49 }
-    ensures scope { result ≡ set_scope syntax (stop_of place length) 0 }
+/// Returns the scope of an item of this length whose header ends at the offset `offset`.
+pub fn item_scope(syntax: Coding, offset: u64, length: u32) -> Scope
+    requires { offset < 2 ^ 49 }
+    ensures scope { result ≡ set_scope syntax (stop_of offset length) 0 }
     ensures small { IfSome result.stop (λ end. end < 2 ^ 64 - 1) }
 {
     Scope {
         in_sequence: false,
         syntax,
-        stop: stop_at(place, length),
+        stop: stop_at(offset, length),
         last: 0,
     }
 }
 
-/// Returns the scope of a sequence of this length whose header ends at the offset `place`.
-pub fn sequence_scope(syntax: Coding, place: u64, length: u32) -> Scope
-    requires { place < 2 ^ 49 }
-    ensures scope { result ≡ sequence_scope syntax (stop_of place length) }
+/// Returns the scope of a sequence of this length whose header ends at the offset `offset`.
+pub fn sequence_scope(syntax: Coding, offset: u64, length: u32) -> Scope
+    requires { offset < 2 ^ 49 }
+    ensures scope { result ≡ sequence_scope syntax (stop_of offset length) }
     ensures small { IfSome result.stop (λ end. end < 2 ^ 64 - 1) }
 {
     Scope {
         in_sequence: true,
         syntax,
-        stop: stop_at(place, length),
+        stop: stop_at(offset, length),
         last: 0,
     }
 }

@@ -19,7 +19,7 @@ pub struct Spot {
     /// The number of open levels.
     pub depth: usize,
     /// The offset of the header in the data set, in bytes.
-    pub place: u64,
+    pub offset: u64,
 }
 
 /// The limits of a data set: the greatest number of open levels, and the greatest size in bytes.

@@ -22,13 +22,13 @@ pub enum Stage {
     Stopped(Fault),
 }
 
-/// Returns the stage at the offset `place`, where a header may start: `Heading`, or the fault if a
+/// Returns the stage at the offset `offset`, where a header may start: `Heading`, or the fault if a
 /// rule is `broken` there.
-pub fn stage_at(broken: Option<(Rule, Tag)>, place: u64) -> Stage
-    ensures { result ≡ stage_by (numbered broken) place }
+pub fn stage_at(broken: Option<(Rule, Tag)>, offset: u64) -> Stage
+    ensures { result ≡ stage_by (numbered broken) offset }
 {
     match broken {
         None => Stage::Heading,
-        Some((rule, tag)) => Stage::Stopped(Fault::new(rule, place, tag)),
+        Some((rule, tag)) => Stage::Stopped(Fault::new(rule, offset, tag)),
     }
 }

@@ -22,7 +22,7 @@ impl Coding {
 
 impl<const V: usize, const D: usize> Walker<V, D> {
     ghost use Rattle.sequence.specs.Stored.{wanted_tags};
-    ghost use Rattle.sequence.specs.Taken.{StandsAt, limits_of, walker_syntax};
+    ghost use Rattle.sequence.specs.Consumed.{StandsAt, limits_of, walker_syntax};
     ghost use Rattle.sequence.specs.Wanted.{rooms};
 
     /// Creates a walker for a data set of at most `limit` bytes in this transfer syntax, which

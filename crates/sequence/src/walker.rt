@@ -83,7 +83,7 @@ fn front(piece: &[u8], most: u32) -> &[u8]
 pub struct Walker<const V: usize, const D: usize> {
     root: Scope,
     limit: u64,
-    place: u64,
+    offset: u64,
     header: ArrayVec<u8, 12>,
     kept: Keep<V>,
     levels: ArrayVec<Level, D>,
@@ -94,11 +94,11 @@ pub struct Walker<const V: usize, const D: usize> {
     ghost elements: { has_fragments root.syntax ≡ false },
     ghost few: { array_vec_len header ≤ head_room stage },
     ghost together: { array_vec_len header + array_vec_len kept.bytes ≤ V },
-    ghost started: { is_started (record { wanted = wants_of kept; depth = D; bytes = limit }) (top_of root levels.items) (below_of root [] levels.items) place header.items ≡ true },
-    ghost behind: { array_vec_len header ≤ place },
+    ghost started: { is_started (record { wanted = wants_of kept; depth = D; bytes = limit }) (top_of root levels.items) (below_of root [] levels.items) offset header.items ≡ true },
+    ghost behind: { array_vec_len header ≤ offset },
     ghost due: { 0 < due_of stage },
     ghost small: { limit ≤ 2 ^ 48 },
-    ghost within: { place + owed stage ≤ limit + spare stage (array_vec_len header) },
+    ghost within: { offset + owed stage ≤ limit + spare stage (array_vec_len header) },
     ghost flag: { is_kept stage ≡ is_wanted_in (wants_of kept) levels.items stage },
     ghost room: { due_kept stage ≤ remaining_of_keep kept },
     ghost order: { kept.last ≤ root.last },
@@ -117,34 +117,34 @@ impl<const V: usize, const D: usize> Walker<V, D> {
     ghost use Rattle.sequence.specs.declared.coding.Coding.TheVariants as codings;
     ghost use Rattle.sequence.specs.declared.fault.Fault.{Fault};
     ghost use Rattle.sequence.specs.machine.State.{state_of, kept_values, top, below, IsSameWalk, has_room, fits_wanted};
-    ghost use Rattle.sequence.specs.Taken.{limits_of, walker_syntax, fault_of, StandsAt};
+    ghost use Rattle.sequence.specs.Consumed.{limits_of, walker_syntax, fault_of, StandsAt};
     ghost use Rattle.sequence.specs.Ending.{IsWholeDataSet, Fails};
     ghost use Rattle.sequence.specs.Answering.{Answers};
-    ghost use Rattle.sequence.specs.Pieces.{TakesMost};
-    ghost use Rattle.sequence.specs.machine.Steps.{IsTaken};
+    ghost use Rattle.sequence.specs.Pieces.{ConsumesMost};
+    ghost use Rattle.sequence.specs.machine.Steps.{IsConsumed};
 
     /// Removes the levels that end here, and checks that a header fits before the nearest end.
     fn arrive(&mut self)
-        requires place { self.old.place ≤ self.old.limit }
+        requires offset { self.old.offset ≤ self.old.limit }
         requires header { self.old.header.items ≡ [] }
         requires stage { self.old.stage ≡ Stage.Heading }
-        ensures state { state_of self.new ≡ arrive self.old.place (top self.old) (below self.old) }
+        ensures state { state_of self.new ≡ arrive self.old.offset (top self.old) (below self.old) }
         ensures same { IsSameWalk self.old self.new }
         ensures values { kept_values self.new ≡ kept_values self.old }
     {
-        leave_ended(&mut self.levels, self.place);
-        let spot = spot_at(self.root, self.levels.as_slice(), self.place);
-        self.stage = stage_at(broken_due(&spot), self.place);
+        leave_ended(&mut self.levels, self.offset);
+        let spot = spot_at(self.root, self.levels.as_slice(), self.offset);
+        self.stage = stage_at(broken_due(&spot), self.offset);
     }
 
     /// Opens the level of a sequence or an item after its header, unless its length is 0.
     fn begin_level(&mut self, scope: Scope, length: u32)
-        requires place { self.old.place ≤ self.old.limit }
+        requires offset { self.old.offset ≤ self.old.limit }
         requires header { self.old.header.items ≡ [] }
         requires stage { self.old.stage ≡ Stage.Heading }
         requires room { 0 < length → array_vec_len self.old.levels < D }
         requires stop { IfSome scope.stop (λ end. end < 2 ^ 64 - 1) }
-        ensures state { state_of self.new ≡ begin_level self.old.place scope (top self.old) (below self.old) length }
+        ensures state { state_of self.new ≡ begin_level self.old.offset scope (top self.old) (below self.old) length }
         ensures same { IsSameWalk self.old self.new }
         ensures values { kept_values self.new ≡ kept_values self.old }
     {
@@ -158,13 +158,13 @@ impl<const V: usize, const D: usize> Walker<V, D> {
 
     /// Starts a value after its header. A value of length 0 is complete at once.
     fn begin_value(&mut self, tag: Tag, length: u32)
-        requires place { self.old.place + length ≤ self.old.limit }
+        requires offset { self.old.offset + length ≤ self.old.limit }
         requires header { self.old.header.items ≡ [] }
         requires stage { self.old.stage ≡ Stage.Heading }
         requires order { array_vec_len self.old.levels ≡ 0 → self.old.kept.last < number tag }
         requires last { array_vec_len self.old.levels ≡ 0 → number tag ≤ self.old.root.last }
         requires fit { (room : ℕ) → array_vec_len self.old.levels ≡ 0 → room_of (wants_of self.old.kept) (number tag) ≡ Some room → length ≤ room }
-        ensures state { state_of self.new ≡ begin_value self.old.place (top self.old) (below self.old) tag length }
+        ensures state { state_of self.new ≡ begin_value self.old.offset (top self.old) (below self.old) tag length }
         ensures same { IsSameWalk self.old self.new }
         ensures values { kept_values self.new ≡ with_value (limits_of self.old) (below self.old) (number tag) [] (kept_values self.old) }
     {
@@ -182,10 +182,10 @@ impl<const V: usize, const D: usize> Walker<V, D> {
 
     /// Closes the innermost level after its delimitation.
     fn leave(&mut self)
-        requires place { self.old.place ≤ self.old.limit }
+        requires offset { self.old.offset ≤ self.old.limit }
         requires header { self.old.header.items ≡ [] }
         requires stage { self.old.stage ≡ Stage.Heading }
-        ensures state { state_of self.new ≡ leave self.old.place (top self.old) (below self.old) }
+        ensures state { state_of self.new ≡ leave self.old.offset (top self.old) (below self.old) }
         ensures same { IsSameWalk self.old self.new }
         ensures values { kept_values self.new ≡ kept_values self.old }
     {
@@ -198,18 +198,21 @@ impl<const V: usize, const D: usize> Walker<V, D> {
         requires coding { coding ≡ (top self.old).syntax }
         requires header { self.old.header.items ≡ [] }
         requires stage { self.old.stage ≡ Stage.Heading }
-        requires place { self.old.place + counted_length header.now.length ≤ self.old.limit }
+        requires offset { self.old.offset + counted_length header.now.length ≤ self.old.limit }
         requires marker { is_marker header.now.tag ≡ true }
         requires defined { has_fragments coding ≡ true → shapes.is_undefined header.now.length ≡ false }
         requires room { IsTrue (has_room D (array_vec_len self.old.levels) coding header.now) }
-        ensures state { state_of self.new ≡ take_item self.old.place (top self.old) (below self.old) header.now }
+        ensures state { state_of self.new ≡ take_item self.old.offset (top self.old) (below self.old) header.now }
         ensures same { IsSameWalk self.old self.new }
         ensures values { kept_values self.new ≡ kept_values self.old }
     {
         if coding.has_fragments() {
             self.begin_value(header.tag, header.length);
         } else {
-            self.begin_level(item_scope(coding, self.place, header.length), header.length);
+            self.begin_level(
+                item_scope(coding, self.offset, header.length),
+                header.length,
+            );
         }
     }
 
@@ -218,12 +221,12 @@ impl<const V: usize, const D: usize> Walker<V, D> {
         requires shape { shape ≡ shapes.shape (top self.old).syntax header.now }
         requires header { self.old.header.items ≡ [] }
         requires stage { self.old.stage ≡ Stage.Heading }
-        requires place { self.old.place + counted_length header.now.length ≤ self.old.limit }
+        requires offset { self.old.offset + counted_length header.now.length ≤ self.old.limit }
         requires room { IsTrue (has_room D (array_vec_len self.old.levels) (top self.old).syntax header.now) }
         requires fit { IsTrue (fits_wanted (wants_of self.old.kept) (array_vec_len self.old.levels) (top self.old).syntax header.now) }
         requires rising { is_marker header.now.tag ≡ false → (top self.old).last < number header.now.tag }
         requires defined { is_marker header.now.tag ≡ true → has_fragments (top self.old).syntax ≡ true → shapes.is_undefined header.now.length ≡ false }
-        ensures state { state_of self.new ≡ take_header self.old.place (top self.old) (below self.old) header.now }
+        ensures state { state_of self.new ≡ take_header self.old.offset (top self.old) (below self.old) header.now }
         ensures same { IsSameWalk self.old self.new }
         ensures values { kept_values self.new ≡ keep_header (limits_of self.old) (top self.old) (below self.old) header.now (kept_values self.old) }
     {
@@ -243,7 +246,7 @@ impl<const V: usize, const D: usize> Walker<V, D> {
                 Shape::Sequence(inner) => {
                     set_last(&mut self.root, &mut self.levels, header.tag);
                     self.begin_level(
-                        sequence_scope(inner, self.place, header.length),
+                        sequence_scope(inner, self.offset, header.length),
                         header.length,
                     );
                 }
@@ -256,19 +259,19 @@ impl<const V: usize, const D: usize> Walker<V, D> {
     /// is whole.
     fn advance_heading(&mut self, piece: &[u8]) -> (usize, Option<Header>)
         requires { self.old.stage ≡ Stage.Heading }
-        ensures taken { result.0 ≤ length piece.now }
+        ensures consumed { result.0 ≤ length piece.now }
         ensures some { 0 < length piece.now → 0 < result.0 }
         ensures state { state_of self.new ≡ run (limits_of self.old) (state_of self.old) (take result.0 piece.now) }
         ensures same { IsSameWalk self.old self.new }
         ensures values { kept_values self.new ≡ keeps (limits_of self.old) (state_of self.old) (kept_values self.old) (take result.0 piece.now) }
-        ensures place { self.new.place ≡ self.old.place + result.0 }
-        ensures reported { IsTaken (top self.old).syntax self.old.header.items piece.now self.old.place result.0 self.new.stage self.new.header.items result.1 }
+        ensures offset { self.new.offset ≡ self.old.offset + result.0 }
+        ensures reported { IsConsumed (top self.old).syntax self.old.header.items piece.now self.old.offset result.0 self.new.stage self.new.header.items result.1 }
     {
         if piece.is_empty() {
             return (0, None);
         }
         let started = self.header.len();
-        let start = self.place - started as u64;
+        let start = self.offset - started as u64;
         let spot = spot_at(self.root, self.levels.as_slice(), start);
         let bounds = Bounds {
             depth: D,
@@ -276,17 +279,17 @@ impl<const V: usize, const D: usize> Walker<V, D> {
         };
         match header_end(self.kept.wanted(), &bounds, &spot, &mut self.header, piece) {
             End::Refused(count, rule, tag) => {
-                self.place = start + count as u64;
+                self.offset = start + count as u64;
                 self.stage = Stage::Stopped(Fault::new(rule, start, tag));
                 (count - started, None)
             }
             End::Whole(count, header, shape) => {
-                self.place = start + count as u64;
+                self.offset = start + count as u64;
                 self.take_header(&header, shape);
                 (count - started, Some(header))
             }
             End::Part => {
-                self.place += piece.len() as u64;
+                self.offset += piece.len() as u64;
                 (piece.len(), None)
             }
         }
@@ -300,10 +303,10 @@ impl<const V: usize, const D: usize> Walker<V, D> {
         ensures state { state_of self.new ≡ run (limits_of self.old) (state_of self.old) bytes.now }
         ensures same { IsSameWalk self.old self.new }
         ensures values { kept_values self.new ≡ keeps (limits_of self.old) (state_of self.old) (kept_values self.old) bytes.now }
-        ensures place { self.new.place ≡ self.old.place + length bytes.now }
+        ensures offset { self.new.offset ≡ self.old.offset + length bytes.now }
     {
         let rest = remaining - bytes.len() as u32;
-        self.place += bytes.len() as u64;
+        self.offset += bytes.len() as u64;
         // Both branches start alike, as the proof treats each by itself.
         if rest == 0 {
             self.stage = Stage::Heading;
@@ -341,7 +344,7 @@ impl<const V: usize, const D: usize> Walker<V, D> {
                 last: 0,
             },
             limit,
-            place: 0,
+            offset: 0,
             header: ArrayVec::new(),
             kept: Keep::new(wanted),
             levels: ArrayVec::new(),
@@ -385,11 +388,11 @@ impl<const V: usize, const D: usize> Walker<V, D> {
     /// rule. Returns the number of bytes read and what they are. Reads at least one byte, unless
     /// `piece` is empty or a rule was broken before.
     pub fn step<'p>(&mut self, piece: &'p [u8]) -> (usize, Step<'p>)
-        ensures taken { result.0 ≤ length piece.now }
+        ensures consumed { result.0 ≤ length piece.now }
         ensures some { fault_of self.old ≡ None → 0 < length piece.now → 0 < result.0 }
         ensures stands { (b : List ℕ) → StandsAt self.old b → StandsAt self.new (b ++ take result.0 piece.now) }
         ensures answers { (b : List ℕ) → StandsAt self.old b → Answers (walker_syntax self.old) (limits_of self.old) b piece.now (take result.0 piece.now) result.1 }
-        ensures longest { (b : List ℕ) → StandsAt self.old b → fault_of self.old ≡ None → TakesMost (walker_syntax self.old) (limits_of self.old) b piece.now result.0 }
+        ensures longest { (b : List ℕ) → StandsAt self.old b → fault_of self.old ≡ None → ConsumesMost (walker_syntax self.old) (limits_of self.old) b piece.now result.0 }
         ensures syntax { walker_syntax self.new ≡ walker_syntax self.old }
         ensures limits { limits_of self.new ≡ limits_of self.old }
         ensures refused { (fault : Fault) → fault_of self.old ≡ Some fault → (result ≡ (0, Step.Refused fault)) × (self.new ≡ self.old) }
@@ -432,13 +435,13 @@ impl<const V: usize, const D: usize> Walker<V, D> {
     {
         match self.stage {
             Stage::Stopped(fault) => Err(fault),
-            Stage::Value { tag, .. } => Err(Fault::new(Rule::Truncated, self.place, tag)),
+            Stage::Value { tag, .. } => Err(Fault::new(Rule::Truncated, self.offset, tag)),
             Stage::Heading => {
                 if self.is_between() {
                     Ok(())
                 } else {
                     let tag = started_tag(self.header.as_slice());
-                    Err(Fault::new(Rule::Truncated, self.place, tag))
+                    Err(Fault::new(Rule::Truncated, self.offset, tag))
                 }
             }
         }

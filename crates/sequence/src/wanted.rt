@@ -2,7 +2,7 @@
 ghost use Rattle.std.specs.Prelude.{◌≡◌, ◌≤◌, ◌<◌, get_or, ◌∷◌, [], ◌↔◌, IsTrue, IsSome, IsNone, IfSome, ◌⊎◌, false, length};
 ghost use Rattle.sequence.specs.Wanted as spelling;
 ghost use Rattle.element.specs.Header.{number};
-ghost use Rattle.sequence.specs.machine.Keeping.{place_from};
+ghost use Rattle.sequence.specs.machine.Keeping.{offset_from};
 
 use arrayvec::ArrayVec;
 use element::Tag;
@@ -81,7 +81,7 @@ impl Wanted {
 
     /// Returns the index in the list of the tag with this number, or `None` if it is not wanted.
     pub(crate) fn find(&self, number: u32) -> Option<usize>
-        ensures { result ≡ place_from 0 self.now.list.items number }
+        ensures { result ≡ offset_from 0 self.now.list.items number }
     {
         let list = self.as_slice();
         let mut at = 0;

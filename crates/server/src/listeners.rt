@@ -47,13 +47,13 @@ impl Listeners {
     /// Fails with `WouldBlock` if none has, or if a listener fails.
     pub(crate) fn accept(&mut self) -> io::Result<(TcpStream, SocketAddr)> {
         for _ in 0..self.all.len() {
-            let place = if self.next < self.all.len() {
+            let index = if self.next < self.all.len() {
                 self.next
             } else {
                 0
             };
-            self.next = place.saturating_add(1);
-            match self.all[place].accept() {
+            self.next = index.saturating_add(1);
+            match self.all[index].accept() {
                 Err(failure) if failure.kind() == ErrorKind::WouldBlock => {}
                 accepted => return accepted,
             }

@@ -228,10 +228,10 @@ impl<
             return true;
         }
         let peer = self.peer(index);
-        for (place, other) in self.slots.iter().enumerate() {
-            if self.peer(place) == peer {
+        for (other_index, other) in self.slots.iter().enumerate() {
+            if self.peer(other_index) == peer {
                 let is_earlier = other.turned < slot.turned
-                    || (other.turned == slot.turned && place < index);
+                    || (other.turned == slot.turned && other_index < index);
                 if other.turned == self.round || (is_earlier && other.is_ready()) {
                     return false;
                 }

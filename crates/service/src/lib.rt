@@ -10,6 +10,6 @@ mod timeouts;
 
 pub use acknowledge::acknowledge_at_once;
 pub use limits::{COMMAND, DEPTH, REQUEST, VALUES};
-pub use observer::{Observer, ReadEnd, Taken};
+pub use observer::{Consumed, Observer, ReadEnd};
 pub use service::Service;
 pub use timeouts::Timeouts;

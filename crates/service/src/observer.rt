@@ -25,7 +25,7 @@ pub enum ReadEnd {
 /// Input that an association consumed, and its effect. The input is part of one section of a PDU:
 /// of the PDU's header, of its body, of the header of a presentation data value, or of a fragment.
 #[derive(Clone, Copy, Debug)]
-pub struct Taken<'a> {
+pub struct Consumed<'a> {
     /// The input.
     pub bytes: &'a [u8],
     /// The input, preceded by the earlier bytes that are still buffered: until something is sent,
@@ -53,8 +53,8 @@ pub trait Observer {
 
     /// Called after each portion of input that the association consumed: a section of a PDU, or a
     /// part of one.
-    fn took(&mut self, taken: &Taken<'_>)
-        ensures heard { heard self.new ≡ heard self.old ++ taken.now.bytes.now ∷ [] };
+    fn consumed(&mut self, consumed: &Consumed<'_>)
+        ensures heard { heard self.new ≡ heard self.old ++ consumed.now.bytes.now ∷ [] };
 
     /// Called after the file of a store whose reply is held was settled. `is_kept` is whether the
     /// file is durable; if not, nothing more is sent.

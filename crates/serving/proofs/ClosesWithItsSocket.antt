@@ -1,4 +1,4 @@
--- The transport's close is taken only where the socket has closed (`one_more_closes`, `still_closes`), and the association has
+-- The transport's close is consumed only where the socket has closed (`one_more_closes`, `still_closes`), and the association has
 -- ended then (`open_unclosed`). Stands on InputsAddTheirPieces.
 use Rattle.std.proofs.Common.{◌≡◌, ◌≢◌, ℕ, ◌<◌, true, false, List, [], ◌∷◌, ◌++◌, map, Option, Some, None, refl, sym, ap, subst, ◌∙◌, append_assoc, inl, inr}
 use Rattle.std.proofs.Math.Logic.{∥∥₁_map}
@@ -26,7 +26,7 @@ use Rattle.engine.specs.Timeline.{Entry, At, Shut, TimedOut, Aborted, Happened, 
 use Rattle.serving.proofs.InputsAddTheirPieces.{inputs_more}
 use Rattle.serving.specs.Closes.{HasClosed, ClosesWithSocket}
 use Rattle.serving.specs.Rooms.{served_rooms}
-use Rattle.serving.specs.Taken.{HasTaken}
+use Rattle.serving.specs.Consumed.{HasConsumed}
 
 -- ---- an association that was given the close has ended
 
@@ -75,11 +75,11 @@ shut_entry received (UserAbort ∷ before) = ap (λ (es : List Entry). Aborted �
 some_same : (xs ys : List Received) → Some xs ≡ Some ys → xs ≡ ys
 some_same xs ys e = cc
 
-taken_leaves : (s : Settings) (named : List (Input × List ℕ)) (seen : Fields) (sent : List ℕ) (old new : Store) (before : List Received) → HasTaken s named seen sent old new → inputs_of named ≡ before ++ Close ∷ [] → IsRemaining seen.kept.state
-taken_leaves s named seen sent old new before h e =
-    let t = h.took in
+consumed_leaves : (s : Settings) (named : List (Input × List ℕ)) (seen : Fields) (sent : List ℕ) (old new : Store) (before : List Received) → HasConsumed s named seen sent old new → inputs_of named ≡ before ++ Close ∷ [] → IsRemaining seen.kept.state
+consumed_leaves s named seen sent old new before h e =
+    let t = h.consumes in
     let b = t.stood in
-    let same : inputs_of named ≡ t.taken = some_same (inputs_of named) t.taken t.follows.given in
+    let same : inputs_of named ≡ t.consumed = some_same (inputs_of named) t.consumed t.follows.given in
     let reported : entries_of b.story ≡ entries [] before ++ Shut ∷ [] = b.stands.story_is.reported ∙ ap (λ (xs : List Received). entries [] xs) (sym same ∙ e) ∙ shut_entry [] before in
     subst IsRemaining (sym b.stands.shows.frame.pends.state_is) (shut_last served_rooms s at_start (entries [] before) b.story reported)
 
@@ -90,15 +90,15 @@ remaining_ended AwaitingClose h = absurd h
 remaining_ended Ended h = refl
 
 -- so one that has not ended was not given the close, however its socket stands
-pub open_unclosed : {A C V D : ℕ} (a : Association A C V D) (s : Settings) (named : List (Input × List ℕ)) (sent : List ℕ) (old new : Store) (untaken : List ℕ) (ends : ℕ) (unsent : List ℕ) (refusals : ℕ)
-    → ∥ HasTaken s named (fields_of a) sent old new ∥₁ → is_ended (state_of a) ≡ false → ∥ ClosesWithSocket (inputs_of named) untaken ends unsent refusals ∥₁
-open_unclosed a s named sent old new untaken ends unsent refusals taken open_still =
-    ∥∥₁_map taken (λ h before e. absurd (let wrong : true ≡ false = sym (remaining_ended a.provider.phase (taken_leaves s named (fields_of a) sent old new before h e)) ∙ open_still in cc))
+pub open_unclosed : {A C V D : ℕ} (a : Association A C V D) (s : Settings) (named : List (Input × List ℕ)) (sent : List ℕ) (old new : Store) (unconsumed : List ℕ) (ends : ℕ) (unsent : List ℕ) (refusals : ℕ)
+    → ∥ HasConsumed s named (fields_of a) sent old new ∥₁ → is_ended (state_of a) ≡ false → ∥ ClosesWithSocket (inputs_of named) unconsumed ends unsent refusals ∥₁
+open_unclosed a s named sent old new unconsumed ends unsent refusals consumed open_still =
+    ∥∥₁_map consumed (λ h before e. absurd (let wrong : true ≡ false = sym (remaining_ended a.provider.phase (consumed_leaves s named (fields_of a) sent old new before h e)) ∙ open_still in cc))
 
 -- ---- with one input more
 
-pub none_closes : (inputs : List Received) (untaken : List ℕ) (ends : ℕ) (unsent : List ℕ) (refusals : ℕ) → inputs ≡ [] → ClosesWithSocket inputs untaken ends unsent refusals
-none_closes inputs untaken ends unsent refusals none before e = absurd (no_last before Close (sym none ∙ e))
+pub none_closes : (inputs : List Received) (unconsumed : List ℕ) (ends : ℕ) (unsent : List ℕ) (refusals : ℕ) → inputs ≡ [] → ClosesWithSocket inputs unconsumed ends unsent refusals
+none_closes inputs unconsumed ends unsent refusals none before e = absurd (no_last before Close (sym none ∙ e))
 
 close_is : (kind : Input) (bytes : List ℕ) → input_of kind bytes ≡ Close → kind ≡ Closed
 close_is Piece bytes e = absurd cc
@@ -106,12 +106,12 @@ close_is Closed bytes e = refl
 close_is Expired bytes e = absurd cc
 close_is LocalAbort bytes e = absurd cc
 
-module _ (named named_new : List (Input × List ℕ)) (bytes untaken : List ℕ) (ends : ℕ) (unsent : List ℕ) (refusals : ℕ) where
-  last_closes : (kind : Input) → named_new ≡ named ++ (kind, bytes) ∷ [] → (kind ≡ Closed → HasClosed untaken ends unsent refusals) → ClosesWithSocket (inputs_of named_new) untaken ends unsent refusals
+module _ (named named_new : List (Input × List ℕ)) (bytes unconsumed : List ℕ) (ends : ℕ) (unsent : List ℕ) (refusals : ℕ) where
+  last_closes : (kind : Input) → named_new ≡ named ++ (kind, bytes) ∷ [] → (kind ≡ Closed → HasClosed unconsumed ends unsent refusals) → ClosesWithSocket (inputs_of named_new) unconsumed ends unsent refusals
   last_closes kind pushed closed before e =
       closed (close_is kind bytes (same_from_push (inputs_of named) before (input_of kind bytes) Close (sym (inputs_more named kind bytes) ∙ ap inputs_of (sym pushed) ∙ e)).1)
 
-  pub one_more_closes : (kind : Input) → named_new ≡ named ++ (kind, bytes) ∷ [] → (kind ≡ Closed → ∥ HasClosed untaken ends unsent refusals ∥₁) → ∥ ClosesWithSocket (inputs_of named_new) untaken ends unsent refusals ∥₁
+  pub one_more_closes : (kind : Input) → named_new ≡ named ++ (kind, bytes) ∷ [] → (kind ≡ Closed → ∥ HasClosed unconsumed ends unsent refusals ∥₁) → ∥ ClosesWithSocket (inputs_of named_new) unconsumed ends unsent refusals ∥₁
   one_more_closes Piece pushed closed = ∣ last_closes Piece pushed (λ e. absurd cc) ∣₁
   one_more_closes Closed pushed closed = ∥∥₁_map (closed refl) (λ h. last_closes Closed pushed (λ e. h))
   one_more_closes Expired pushed closed = ∣ last_closes Expired pushed (λ e. absurd cc) ∣₁
@@ -120,12 +120,12 @@ module _ (named named_new : List (Input × List ℕ)) (bytes untaken : List ℕ)
 -- ---- over a socket that continues
 
 -- as more waits
-pub still_closed : (untaken : List ℕ) (ends : ℕ) (unsent unsent_new : List ℕ) (refusals : ℕ) → (unsent ≢ [] → unsent_new ≢ []) → HasClosed untaken ends unsent refusals → HasClosed untaken ends unsent_new refusals
-still_closed untaken ends unsent unsent_new refusals more (inl end) = inl end
-still_closed untaken ends unsent unsent_new refusals more (inr refused) = inr (more refused.0, refused.1)
+pub still_closed : (unconsumed : List ℕ) (ends : ℕ) (unsent unsent_new : List ℕ) (refusals : ℕ) → (unsent ≢ [] → unsent_new ≢ []) → HasClosed unconsumed ends unsent refusals → HasClosed unconsumed ends unsent_new refusals
+still_closed unconsumed ends unsent unsent_new refusals more (inl end) = inl end
+still_closed unconsumed ends unsent unsent_new refusals more (inr refused) = inr (more refused.0, refused.1)
 
 -- as no more was read
-pub still_closes : (inputs : List Received) (untaken untaken_new : List ℕ) (ends ends_new : ℕ) (unsent unsent_new : List ℕ) (refusals refusals_new : ℕ) → untaken_new ≡ [] → (0 < ends → 0 < ends_new) → unsent_new ≡ unsent → refusals_new ≡ refusals
-    → ∥ ClosesWithSocket inputs untaken ends unsent refusals ∥₁ → ∥ ClosesWithSocket inputs untaken_new ends_new unsent_new refusals_new ∥₁
-still_closes inputs untaken untaken_new ends ends_new unsent unsent_new refusals refusals_new none more e f closes =
+pub still_closes : (inputs : List Received) (unconsumed unconsumed_new : List ℕ) (ends ends_new : ℕ) (unsent unsent_new : List ℕ) (refusals refusals_new : ℕ) → unconsumed_new ≡ [] → (0 < ends → 0 < ends_new) → unsent_new ≡ unsent → refusals_new ≡ refusals
+    → ∥ ClosesWithSocket inputs unconsumed ends unsent refusals ∥₁ → ∥ ClosesWithSocket inputs unconsumed_new ends_new unsent_new refusals_new ∥₁
+still_closes inputs unconsumed unconsumed_new ends ends_new unsent unsent_new refusals refusals_new none more e f closes =
     ∥∥₁_map closes (λ h before last. rw (e, f) (elim (h before last) [ inl end ↦ inl (none, more end.1) | inr refused ↦ inr refused ]))

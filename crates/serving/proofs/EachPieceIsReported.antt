@@ -1,4 +1,4 @@
--- What an observer was notified of, put together, are the bytes that were taken (`all_reported`): an input more adds its piece, if it is
+-- What an observer was notified of, put together, are the bytes that were consumed (`all_reported`): an input more adds its piece, if it is
 -- one (`reported_with_piece`, `reported_without`). Stands on InputsAddTheirPieces.
 use Rattle.std.proofs.Common.{◌≡◌, ◌≢◌, ℕ, List, [], ◌∷◌, ◌++◌, take, refl, sym, ap, ◌∙◌, append-nil}
 use Rattle.pdu.specs.Pieces.{joined}
@@ -31,7 +31,7 @@ no_piece LocalAbort bytes h = refl
 pieces_more : (named : List (Input × List ℕ)) (kind : Input) (bytes : List ℕ) → pieces_of (inputs_of (named ++ (kind, bytes) ∷ [])) ≡ pieces_of (inputs_of named) ++ pieces_of (input_of kind bytes ∷ [])
 pieces_more named kind bytes = ap pieces_of (inputs_more named kind bytes) ∙ pieces_then (inputs_of named) (input_of kind bytes ∷ [])
 
--- nothing was taken yet
+-- nothing was consumed yet
 pub none_reported : (reported : List (List ℕ)) (named : List (Input × List ℕ)) → reported ≡ [] → named ≡ [] → reported ≡ pieces_of (inputs_of named)
 none_reported reported named e f = e ∙ ap (λ (xs : List (Input × List ℕ)). pieces_of (inputs_of xs)) (sym f)
 
@@ -49,6 +49,6 @@ reported_with_piece reported reported_new named named_new n lent has_pending mor
     more ∙ ap (λ (xs : List ℕ). reported ++ take n xs ∷ []) (sym same) ∙ ap (λ (ps : List (List ℕ)). ps ++ take n lent ∷ []) was ∙ sym (pieces_more named Piece (take n lent))
     ∙ ap (λ (xs : List (Input × List ℕ)). pieces_of (inputs_of xs)) (sym pushed)
 
--- what was notified of, put together and followed by what was not taken, is what was read
-pub all_reported : (reported : List (List ℕ)) (inputs : List Received) (untaken read : List ℕ) → reported ≡ pieces_of inputs → stream_of inputs ++ untaken ≡ read → joined reported ++ untaken ≡ read
-all_reported reported inputs untaken read heard whole = ap (λ (ps : List (List ℕ)). joined ps ++ untaken) heard ∙ ap (λ (xs : List ℕ). xs ++ untaken) (pieces_joined inputs) ∙ whole
+-- what was notified of, put together and followed by what was not consumed, is what was read
+pub all_reported : (reported : List (List ℕ)) (inputs : List Received) (unconsumed read : List ℕ) → reported ≡ pieces_of inputs → stream_of inputs ++ unconsumed ≡ read → joined reported ++ unconsumed ≡ read
+all_reported reported inputs unconsumed read heard whole = ap (λ (ps : List (List ℕ)). joined ps ++ unconsumed) heard ∙ ap (λ (xs : List ℕ). xs ++ unconsumed) (pieces_joined inputs) ∙ whole

@@ -126,14 +126,14 @@ follows_state input old new state now stays is anew lasting hears = record {
 }
 
 -- an input that has no bytes is due
-pub due_now : (kind : Input) (old remaining : TimeLimits) (moment : Moment) → kind ≢ Piece → moment.remaining.value ≡ remaining → remaining.idle ≡ old.idle → (remaining.heard ≡ old.heard) × (remaining.taken ≡ old.taken)
+pub due_now : (kind : Input) (old remaining : TimeLimits) (moment : Moment) → kind ≢ Piece → moment.remaining.value ≡ remaining → remaining.idle ≡ old.idle → (remaining.heard ≡ old.heard) × (remaining.consumed ≡ old.consumed)
     → (kind ≡ Expired → HasExpired old (instant_nanos moment.now) old.started) → (kind ≡ LocalAbort → moment.is_asked ≡ false → IsSilent old (instant_nanos moment.now) old.started) → IsDue (input_of kind []) old moment
 due_now Piece old remaining moment no_piece is idle same expired silent = tt
 due_now Closed old remaining moment no_piece is idle same expired silent = tt
 due_now Expired old remaining moment no_piece is idle same expired silent = expired refl
 due_now LocalAbort old remaining moment no_piece is idle same expired silent = λ unasked. subst (λ (w : TimeLimits). IsSilent w (instant_nanos moment.now) old.started) (sym is) (silent_as old remaining _ old.started idle same.0 same.1 (silent refl unasked))
   where
-    silent_as : (old new : TimeLimits) (now : ℕ) (x : Option ℕ) → new.idle ≡ old.idle → new.heard ≡ old.heard → new.taken ≡ old.taken → IsSilent old now x → IsSilent new now x
+    silent_as : (old new : TimeLimits) (now : ℕ) (x : Option ℕ) → new.idle ≡ old.idle → new.heard ≡ old.heard → new.consumed ≡ old.consumed → IsSilent old now x → IsSilent new now x
     silent_as old new now (Some started) e f k h = h
     silent_as old new now None e f k h = rw (e, f, k) h
 
@@ -142,8 +142,8 @@ pub nothing_timed : (has_pending initial : TimeLimits) (inputs : List Received) 
 nothing_timed has_pending initial inputs moments e f g = rw (e, f, g) (same_times has_pending)
 
 -- the peer consumed something
-pub only_taken : (old new : TimeLimits) (now : ℕ) → new ≡ record old { taken = Some now } → SameTimes old new
-only_taken old new now e = rw e (record { artim = refl; idle = refl; state = refl; started = refl; heard = refl })
+pub only_consumed : (old new : TimeLimits) (now : ℕ) → new ≡ record old { consumed = Some now } → SameTimes old new
+only_consumed old new now e = rw e (record { artim = refl; idle = refl; state = refl; started = refl; heard = refl })
 
 -- an input that has no bytes is not heard
 pub hears_none : (kind : Input) (old new : TimeLimits) (now : ℕ) → kind ≢ Piece → new.heard ≡ old.heard → Hears (input_of kind []) old new now
@@ -152,12 +152,12 @@ hears_none Closed old new now no_piece same = same
 hears_none Expired old new now no_piece same = same
 hears_none LocalAbort old new now no_piece same = same
 
--- a piece was heard, then taken
-pub heard_then : (piece : List ℕ) (old mid new : TimeLimits) (state : State) (now : ℕ) → mid ≡ record old { heard = now; taken = None }
-    → (state ≡ mid.state → new ≡ mid) → new.state ≡ state → (state ≢ mid.state → new ≡ record mid { state = state; started = started_anew (timer_runs state) now }) → (new.artim ≡ mid.artim) × (new.idle ≡ mid.idle) → (new.heard ≡ mid.heard) × (new.taken ≡ mid.taken)
+-- a piece was heard, then consumed
+pub heard_then : (piece : List ℕ) (old mid new : TimeLimits) (state : State) (now : ℕ) → mid ≡ record old { heard = now; consumed = None }
+    → (state ≡ mid.state → new ≡ mid) → new.state ≡ state → (state ≢ mid.state → new ≡ record mid { state = state; started = started_anew (timer_runs state) now }) → (new.artim ≡ mid.artim) × (new.idle ≡ mid.idle) → (new.heard ≡ mid.heard) × (new.consumed ≡ mid.consumed)
     → Follows (Bytes piece) old new now
 heard_then piece old mid new state now e stays is anew lasting same =
-    let h = follows_state (Bytes piece) mid new state now stays is anew lasting (same.0 ∙ ap (λ (w : TimeLimits). w.heard) e, same.1 ∙ ap (λ (w : TimeLimits). w.taken) e) in
+    let h = follows_state (Bytes piece) mid new state now stays is anew lasting (same.0 ∙ ap (λ (w : TimeLimits). w.heard) e, same.1 ∙ ap (λ (w : TimeLimits). w.consumed) e) in
     let state_is : mid.state ≡ old.state = ap (λ (w : TimeLimits). w.state) e in
     record {
       artim = h.artim ∙ ap (λ (w : TimeLimits). w.artim) e;

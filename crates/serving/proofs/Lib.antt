@@ -1,7 +1,7 @@
-pub mod SocketTakesTheFront
+pub mod SocketAcceptsTheFront
 pub mod InputsAddTheirPieces
 pub mod ClosesWithItsSocket
-pub mod TakenInputsAreARun
+pub mod ConsumedInputsAreARun
 pub mod InboxLosesNothing
 pub mod SentIsSettledFirst
 pub mod GivenAreTimed

@@ -7,8 +7,8 @@ use Rattle.engine.specs.Inputs.{Received, Close}
 -- that was read; or a write accepted nothing, at least once since the socket last accepted a byte, and bytes wait for
 -- it.
 abbrev pub HasClosed : List ℕ → ℕ → List ℕ → ℕ → Type 0
-HasClosed untaken ends unsent refusals = ((untaken ≡ []) × (0 < ends)) ⊎ ((unsent ≢ []) × (0 < refusals))
+HasClosed unconsumed ends unsent refusals = ((unconsumed ≡ []) × (0 < ends)) ⊎ ((unsent ≢ []) × (0 < refusals))
 
 -- if the last of the inputs is the transport's close, the socket has closed
 abbrev pub ClosesWithSocket : List Received → List ℕ → ℕ → List ℕ → ℕ → Type 0
-ClosesWithSocket inputs untaken ends unsent refusals = (before : List Received) → inputs ≡ before ++ Close ∷ [] → HasClosed untaken ends unsent refusals
+ClosesWithSocket inputs unconsumed ends unsent refusals = (before : List Received) → inputs ≡ before ++ Close ∷ [] → HasClosed unconsumed ends unsent refusals

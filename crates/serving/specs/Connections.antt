@@ -12,7 +12,7 @@ use Rattle.element.specs.declared.traced_stream.TracedStream.{TracedStream}
 use Rattle.serving.specs.declared.moment.Moment.{Moment}
 use Rattle.serving.specs.declared.open_connection.Connection.{Connection}
 use Rattle.serving.specs.TimeLimits.{TimeLimits}
-use Rattle.serving.specs.Wires.{IsClosed, pending_in, untaken_in}
+use Rattle.serving.specs.Wires.{IsClosed, pending_in, unconsumed_in}
 
 -- the settings of a connection's association
 abbrev pub settings_at : {S F B Y : Type 0} {G : Settling.Ghosts F Y} {H : Filing.Ghosts F} {O : Observer.Ghosts B} → Connection S F B Y G H O → Settings
@@ -44,8 +44,8 @@ abbrev pub waiting_at : {S F B Y : Type 0} {G : Settling.Ghosts F Y} {H : Filing
 waiting_at c = pending_in c.socket.outbox
 
 -- the bytes that were read and wait until the association accepts them
-abbrev pub untaken_at : {S F B Y : Type 0} {G : Settling.Ghosts F Y} {H : Filing.Ghosts F} {O : Observer.Ghosts B} → Connection S F B Y G H O → List ℕ
-untaken_at c = untaken_in c.socket.inbox
+abbrev pub unconsumed_at : {S F B Y : Type 0} {G : Settling.Ghosts F Y} {H : Filing.Ghosts F} {O : Observer.Ghosts B} → Connection S F B Y G H O → List ℕ
+unconsumed_at c = unconsumed_in c.socket.inbox
 
 -- the socket of a connection has closed
 abbrev pub IsClosedAt : {S F B Y : Type 0} {G : Settling.Ghosts F Y} {H : Filing.Ghosts F} {O : Observer.Ghosts B} → Connection S F B Y G H O → Type 0

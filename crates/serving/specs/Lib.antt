@@ -3,7 +3,7 @@ pub mod Closes
 pub mod Wires
 pub mod Rooms
 pub mod Capacities
-pub mod Taken
+pub mod Consumed
 pub mod Reported
 pub mod Own
 pub mod Connections

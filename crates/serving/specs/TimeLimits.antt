@@ -20,15 +20,15 @@ pub record TimeLimits : Type 0 where
   pub state : State
   pub started : Option ℕ
   pub heard : ℕ
-  pub taken : Option ℕ
+  pub consumed : Option ℕ
 
 -- the times of a connection that is opened at this time, which starts the timer
 abbrev pub opened_at : ℕ → ℕ → Option ℕ → ℕ → TimeLimits
-opened_at artim idle longest now = record { artim = artim; idle = idle; longest = longest; opened = now; state = Sta2; started = Some now; heard = now; taken = None }
+opened_at artim idle longest now = record { artim = artim; idle = idle; longest = longest; opened = now; state = Sta2; started = Some now; heard = now; consumed = None }
 
 -- since when the peer has been silent: since it last accepted anything, or else since it was last heard
 abbrev pub silent_since : Option ℕ → ℕ → ℕ
-silent_since (Some taken) heard = taken
+silent_since (Some consumed) heard = consumed
 silent_since None heard = heard
 
 -- the start of the timer after it was started anew at this time, if it runs
@@ -45,7 +45,7 @@ Remaining over remaining wait.Silent = (over ≡ wait.Silent) × (remaining ≡ 
 -- what is waited for at this time
 abbrev pub WaitsUntil : TimeLimits → ℕ → Option ℕ → Wait → Type 0
 WaitsUntil has_pending now (Some started) = Remaining wait.Expired (has_pending.artim - (now - started))
-WaitsUntil has_pending now None = Remaining wait.Silent (has_pending.idle - (now - silent_since has_pending.taken has_pending.heard))
+WaitsUntil has_pending now None = Remaining wait.Silent (has_pending.idle - (now - silent_since has_pending.consumed has_pending.heard))
 
 -- the timer has expired at this time
 abbrev pub HasExpired : TimeLimits → ℕ → Option ℕ → Type 0
@@ -55,7 +55,7 @@ HasExpired has_pending now None = ⊥
 -- the timer does not run, and the peer was silent for the idle time
 abbrev pub IsSilent : TimeLimits → ℕ → Option ℕ → Type 0
 IsSilent has_pending now (Some started) = ⊥
-IsSilent has_pending now None = has_pending.idle ≤ now - silent_since has_pending.taken has_pending.heard
+IsSilent has_pending now None = has_pending.idle ≤ now - silent_since has_pending.consumed has_pending.heard
 
 -- whether a connection that was opened at this time has lasted for the longest time, if that has a bound
 unfoldable pub has_lasted : Option ℕ → ℕ → ℕ → Bool

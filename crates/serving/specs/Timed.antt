@@ -13,7 +13,7 @@ use Rattle.serving.specs.declared.moment.Moment.{Moment}
 
 -- the peer is heard at this time if the input is a piece, and with no other input
 abbrev pub Hears : Received → TimeLimits → TimeLimits → ℕ → Type 0
-Hears (Bytes piece) old new now = (new.heard ≡ now) × (new.taken ≡ None)
+Hears (Bytes piece) old new now = (new.heard ≡ now) × (new.consumed ≡ None)
 Hears Close old new now = new.heard ≡ old.heard
 Hears Expiry old new now = new.heard ≡ old.heard
 Hears UserAbort old new now = new.heard ≡ old.heard

@@ -22,20 +22,20 @@ abbrev pub sent_over : {S : Type 0} → BufferedSocket S → List ℕ
 sent_over socket = socket.traced.written.bytes ++ pending_in socket.outbox
 
 -- the bytes that were read and wait until the association accepts them
-abbrev pub untaken_in : Inbox → List ℕ
-untaken_in inbox = slice_range inbox.bytes.value inbox.taken inbox.read
+abbrev pub unconsumed_in : Inbox → List ℕ
+unconsumed_in inbox = slice_range inbox.bytes.value inbox.consumed inbox.read
 
 -- what was read is these bytes, which were accepted, followed by what waits
-abbrev pub IsTakenOf : {S : Type 0} → List ℕ → BufferedSocket S → Type 0
-IsTakenOf taken socket = taken ++ untaken_in socket.inbox ≡ socket.traced.read.bytes
+abbrev pub IsConsumedOf : {S : Type 0} → List ℕ → BufferedSocket S → Type 0
+IsConsumedOf consumed socket = consumed ++ unconsumed_in socket.inbox ≡ socket.traced.read.bytes
 
 -- the socket of a connection has closed
 abbrev pub IsClosed : {S : Type 0} → BufferedSocket S → Type 0
-IsClosed socket = HasClosed (untaken_in socket.inbox) socket.ends (pending_in socket.outbox) socket.refusals
+IsClosed socket = HasClosed (unconsumed_in socket.inbox) socket.ends (pending_in socket.outbox) socket.refusals
 
 -- if the last of the inputs is the transport's close, the socket has closed
 abbrev pub ClosesWith : {S : Type 0} → List Received → BufferedSocket S → Type 0
-ClosesWith inputs socket = ClosesWithSocket inputs (untaken_in socket.inbox) socket.ends (pending_in socket.outbox) socket.refusals
+ClosesWith inputs socket = ClosesWithSocket inputs (unconsumed_in socket.inbox) socket.ends (pending_in socket.outbox) socket.refusals
 
 -- the bytes that were read grow by those that arrived, and so do those that wait
 abbrev pub ReadsMore : Arrival → List ℕ → List ℕ → List ℕ → List ℕ → Type 0
@@ -51,11 +51,11 @@ CountsEnd (arrival.End end) old new = 0 < new
 
 -- nothing more was read, and all that was read was accepted
 abbrev pub NothingMore : {S : Type 0} → BufferedSocket S → BufferedSocket S → Type 0
-NothingMore old new = (new.traced.read.bytes ≡ old.traced.read.bytes) × (untaken_in old.inbox ≡ []) × (untaken_in new.inbox ≡ [])
+NothingMore old new = (new.traced.read.bytes ≡ old.traced.read.bytes) × (unconsumed_in old.inbox ≡ []) × (unconsumed_in new.inbox ≡ [])
 
 -- so many of the waiting bytes are to be accepted, at most as many as requested; the socket has nothing, or nothing
 -- more, only if all that was read was accepted
 abbrev pub Arrives : {S : Type 0} → ℕ → Arrival → BufferedSocket S → BufferedSocket S → Type 0
-Arrives most (arrival.Bytes n) old new = (n ≤ length (untaken_in new.inbox)) × (n ≤ most) × ((taken : List ℕ) → IsTakenOf taken old → IsTakenOf taken new)
+Arrives most (arrival.Bytes n) old new = (n ≤ length (unconsumed_in new.inbox)) × (n ≤ most) × ((consumed : List ℕ) → IsConsumedOf consumed old → IsConsumedOf consumed new)
 Arrives most arrival.Nothing old new = NothingMore old new
 Arrives most (arrival.End end) old new = NothingMore old new

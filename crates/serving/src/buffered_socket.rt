@@ -7,7 +7,7 @@ use crate::outbox::Outbox;
 use crate::traces::SocketTraces;
 use element::count::Count;
 use element::traced_stream::TracedStream;
-use service::{Observer, Taken};
+use service::{Consumed, Observer};
 use std::io::{Error, ErrorKind, Read, Write};
 
 /// A non-blocking socket whose traffic is traced, with a buffer of input (inbox) and one of output
@@ -44,17 +44,17 @@ pub(crate) struct Portion {
 impl<S> BufferedSocket<S> {
     ghost use Rattle.engine.specs.Fields.{decided_in};
     ghost use Rattle.engine.specs.MovesOn.{HasCommand, HasDecided};
-    ghost use Rattle.serving.specs.Wires.{pending_in, untaken_in};
+    ghost use Rattle.serving.specs.Wires.{pending_in, unconsumed_in};
 
     /// Creates the buffers of a socket, whose traffic is traced from now on. The inbox must be
     /// empty.
     pub(crate) fn new(socket: S, inbox: Inbox) -> BufferedSocket<S>
-        requires empty { untaken_in inbox ≡ [] }
+        requires empty { unconsumed_in inbox ≡ [] }
         ensures nothing_read { result.traced.read.bytes ≡ [] }
         ensures nothing_sent { result.traced.written.bytes ≡ [] }
         ensures no_end { result.ends ≡ 0 }
         ensures no_refusal { result.refusals ≡ 0 }
-        ensures nothing_untaken { untaken_in result.inbox ≡ [] }
+        ensures nothing_unconsumed { unconsumed_in result.inbox ≡ [] }
         ensures nothing_waits { pending_in result.outbox ≡ [] }
         ensures never { result.outbox.failures ≡ 0 }
     {
@@ -70,14 +70,14 @@ impl<S> BufferedSocket<S> {
 
     /// Returns what the association consumed and decided: `portion` of the inbox, and the bytes
     /// after it. The whole outbox is the reply to it.
-    pub(crate) fn taken<'a>(
+    pub(crate) fn consumed<'a>(
         &'a self,
         portion: Portion,
         association: &'a ServedAssociation<'_>,
-    ) -> Taken<'a>
-        requires within { portion.len ≤ length (untaken_in self.now.inbox) }
-        ensures bytes { result.bytes.now ≡ take portion.len (untaken_in self.now.inbox) }
-        ensures ahead { result.ahead.now ≡ drop portion.len (untaken_in self.now.inbox) }
+    ) -> Consumed<'a>
+        requires within { portion.len ≤ length (unconsumed_in self.now.inbox) }
+        ensures bytes { result.bytes.now ≡ take portion.len (unconsumed_in self.now.inbox) }
+        ensures ahead { result.ahead.now ≡ drop portion.len (unconsumed_in self.now.inbox) }
         ensures complete { result.is_complete ≡ portion.is_complete }
         ensures held { result.is_held ≡ portion.is_held }
         ensures kept { result.decision ≡ decided_in association.now }
@@ -86,7 +86,7 @@ impl<S> BufferedSocket<S> {
         ensures answered { result.answered ≡ length (pending_in self.now.outbox) }
     {
         let (bytes, ahead) = self.inbox.pending().split_at(portion.len);
-        Taken {
+        Consumed {
             bytes,
             whole: self.inbox.kept(portion.len),
             ahead,
@@ -134,7 +134,7 @@ impl<S: Write> BufferedSocket<S> {
     /// of the bytes written. Returns whether the outbox is empty.
     ///
     /// Fails if the socket does, or if it accepts no byte.
-    #[tactic(auto, using(crate::proofs::SocketTakesTheFront::took_front, crate::proofs::SocketTakesTheFront::fewer_wait))]
+    #[tactic(auto, using(crate::proofs::SocketAcceptsTheFront::consumed_front, crate::proofs::SocketAcceptsTheFront::fewer_wait))]
     pub(crate) fn flush<B: Observer>(&mut self, observer: &B) -> Result<bool, Error>
         requires never { self.old.outbox.failures ≡ 0 }
         ensures same_sent { sent_over self.new ≡ sent_over self.old }

@@ -40,7 +40,7 @@ pub struct Deadlines {
     /// When the last input was received, or else the association was opened.
     heard: Instant,
     /// When the peer last accepted bytes, if that was after `heard`.
-    taken: Option<Instant>,
+    consumed: Option<Instant>,
 }
 
 impl Model for Deadlines {
@@ -59,7 +59,7 @@ impl Model for Deadlines {
       state = d.state;
       started = option_map (λ t. instant_nanos t) d.started;
       heard = instant_nanos d.heard;
-      taken = option_map (λ t. instant_nanos t) d.taken;
+      consumed = option_map (λ t. instant_nanos t) d.consumed;
     } };
 }
 
@@ -88,23 +88,23 @@ impl Deadlines {
             state: State::Sta2,
             started: Some(now),
             heard: now,
-            taken: None,
+            consumed: None,
         }
     }
 
     /// Records that the peer sent bytes at this instant.
     pub fn hear(&mut self, now: Instant)
-        ensures { self.new ≡ record self.old { heard = instant_nanos now; taken = None } }
+        ensures { self.new ≡ record self.old { heard = instant_nanos now; consumed = None } }
     {
         self.heard = now;
-        self.taken = None;
+        self.consumed = None;
     }
 
     /// Records that the peer accepted bytes at this instant.
-    pub fn note_taken(&mut self, now: Instant)
-        ensures { self.new ≡ record self.old { taken = Some (instant_nanos now) } }
+    pub fn note_consumed(&mut self, now: Instant)
+        ensures { self.new ≡ record self.old { consumed = Some (instant_nanos now) } }
     {
-        self.taken = Some(now);
+        self.consumed = Some(now);
     }
 
     /// Records the state of the association after an input. A new state starts or stops the ARTIM
@@ -117,7 +117,7 @@ impl Deadlines {
         ensures state { self.new.state ≡ state }
         ensures lasting { (self.new.artim ≡ self.old.artim) × (self.new.idle ≡ self.old.idle) }
         ensures bound { (self.new.longest ≡ self.old.longest) × (self.new.opened ≡ self.old.opened) }
-        ensures same_peer { (self.new.heard ≡ self.old.heard) × (self.new.taken ≡ self.old.taken) }
+        ensures same_peer { (self.new.heard ≡ self.old.heard) × (self.new.consumed ≡ self.old.consumed) }
         ensures anew { state ≢ self.old.state → self.new ≡ record self.old { state = state; started = started_anew (timer_runs state) (instant_nanos now) } }
     {
         if state != self.state {
@@ -133,9 +133,9 @@ impl Deadlines {
         ensures expired { (result ≡ Wait.Expired) ↔ HasExpired self.now (instant_nanos now) self.now.started }
         ensures silent { (result ≡ Wait.Silent) ↔ IsSilent self.now (instant_nanos now) self.now.started }
     {
-        match (self.started, self.taken) {
+        match (self.started, self.consumed) {
             (Some(started), _) => remaining(self.artim, started, now, Wait::Expired),
-            (None, Some(taken)) => remaining(self.idle, taken, now, Wait::Silent),
+            (None, Some(consumed)) => remaining(self.idle, consumed, now, Wait::Silent),
             (None, None) => remaining(self.idle, self.heard, now, Wait::Silent),
         }
     }

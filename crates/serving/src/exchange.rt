@@ -16,7 +16,7 @@ pub struct Exchange<S> {
     /// For contracts: the bytes that the socket accepted.
     pub sent: SocketTrace<S>,
     /// The bytes that were read but not consumed by the association.
-    pub untaken: Inbox,
+    pub unconsumed: Inbox,
     /// The bytes that the association sent but the socket did not accept.
     pub unsent: Outbox,
 }

@@ -31,23 +31,23 @@ pub(crate) enum Arrival {
 pub struct Inbox {
     bytes: Box<[u8; INBOX]>,
     /// How many of `bytes` were consumed.
-    taken: usize,
+    consumed: usize,
     /// How many of `bytes` were read.
     read: usize,
-    ghost ordered: { taken ≤ read },
+    ghost ordered: { consumed ≤ read },
     ghost within: { read ≤ inbox_size },
 }
 
 impl Inbox {
-    ghost use Rattle.serving.specs.Wires.{CountsEnd, ReadsMore, untaken_in};
+    ghost use Rattle.serving.specs.Wires.{CountsEnd, ReadsMore, unconsumed_in};
 
     /// Creates an empty inbox in this memory.
     pub(crate) fn new(bytes: Box<[u8; INBOX]>) -> Inbox
-        ensures nothing { untaken_in result ≡ [] }
+        ensures nothing { unconsumed_in result ≡ [] }
     {
         Inbox {
             bytes,
-            taken: 0,
+            consumed: 0,
             read: 0,
         }
     }
@@ -59,40 +59,40 @@ impl Inbox {
 
     /// Returns the bytes that are not yet consumed.
     pub fn pending(&self) -> &[u8]
-        ensures { result.now ≡ untaken_in self.now }
+        ensures { result.now ≡ unconsumed_in self.now }
     {
-        &self.bytes[self.taken..self.read]
+        &self.bytes[self.consumed..self.read]
     }
 
     /// Removes the first `count` bytes, which the association consumed.
     pub(crate) fn drop_front(&mut self, count: usize)
-        requires within { count ≤ length (untaken_in self.old) }
-        ensures { untaken_in self.new ≡ drop count (untaken_in self.old) }
+        requires within { count ≤ length (unconsumed_in self.old) }
+        ensures { unconsumed_in self.new ≡ drop count (unconsumed_in self.old) }
     {
-        self.taken += count;
+        self.consumed += count;
     }
 
     /// Returns whether to read before an association consumes up to `most` bytes: the inbox is
     /// empty, or has fewer and the last read filled it, so that more may be available.
     pub(crate) fn is_short(&self, most: usize) -> bool
-        ensures room { result ≡ true → length (untaken_in self.now) < inbox_size }
+        ensures room { result ≡ true → length (unconsumed_in self.now) < inbox_size }
     {
-        let has_pending = self.read - self.taken;
+        let has_pending = self.read - self.consumed;
         has_pending == 0 || (has_pending < most && has_pending < self.read && self.read == INBOX)
     }
 
     /// Returns the consumed bytes that are still buffered, and the first `count` bytes after them.
     pub(crate) fn kept(&self, count: usize) -> &[u8]
-        requires within { count ≤ length (untaken_in self.now) }
+        requires within { count ≤ length (unconsumed_in self.now) }
     {
-        &self.bytes[..self.taken + count]
+        &self.bytes[..self.consumed + count]
     }
 
     /// Makes room for at least one byte. Consumed bytes stay if `keeps` is set and the buffer is
     /// not full.
     fn make_room(&mut self, keeps: bool)
-        requires room { length (untaken_in self.old) < inbox_size }
-        ensures same { untaken_in self.new ≡ untaken_in self.old }
+        requires room { length (unconsumed_in self.old) < inbox_size }
+        ensures same { unconsumed_in self.new ≡ unconsumed_in self.old }
         ensures room { self.new.read < inbox_size }
     {
         if !keeps || self.read == INBOX {
@@ -102,14 +102,14 @@ impl Inbox {
 
     /// Moves the bytes that are not consumed to the front.
     fn move_to_front(&mut self)
-        ensures same { untaken_in self.new ≡ untaken_in self.old }
-        ensures front { self.new.read ≡ length (untaken_in self.old) }
-        ensures none_taken { self.new.taken ≡ 0 }
+        ensures same { unconsumed_in self.new ≡ unconsumed_in self.old }
+        ensures front { self.new.read ≡ length (unconsumed_in self.old) }
+        ensures none_consumed { self.new.consumed ≡ 0 }
     {
-        let (taken, read) = (self.taken, self.read);
-        self.bytes.copy_within(taken..read, 0);
-        self.taken = 0;
-        self.read = read - taken;
+        let (consumed, read) = (self.consumed, self.read);
+        self.bytes.copy_within(consumed..read, 0);
+        self.consumed = 0;
+        self.read = read - consumed;
     }
 
     /// Reads as many bytes from the socket as there is room for. If `keeps` is set, consumed bytes
@@ -123,8 +123,8 @@ impl Inbox {
         ends: &mut Count,
         keeps: bool,
     ) -> Arrival
-        requires room { length (untaken_in self.old) < inbox_size }
-        ensures reads { ReadsMore result (untaken_in self.old) (untaken_in self.new) socket.old.read.bytes socket.new.read.bytes }
+        requires room { length (unconsumed_in self.old) < inbox_size }
+        ensures reads { ReadsMore result (unconsumed_in self.old) (unconsumed_in self.new) socket.old.read.bytes socket.new.read.bytes }
         ensures ends { CountsEnd result ends.old ends.new }
         ensures same_written { socket.new.written ≡ socket.old.written }
     {

@@ -5,7 +5,7 @@ ghost use Rattle.part10.specs.Store.{Store};
 ghost use Rattle.engine.specs.Fields.{drafting_of, fields_of, settings_in};
 ghost use Rattle.engine.specs.Stands.{Stands};
 ghost use Rattle.serving.specs.Rooms.{served_rooms};
-ghost use Rattle.serving.specs.Wires.{untaken_in};
+ghost use Rattle.serving.specs.Wires.{unconsumed_in};
 
 use crate::inbox::{INBOX, Inbox};
 use engine::Association;
@@ -34,10 +34,10 @@ impl<'c> AssociationMemory<'c> {
         AssociationMemory(association)
     }
 
-    /// Returns the memory of a connection: that of its association, and that of `untaken`.
-    pub(crate) fn with(self, untaken: Inbox) -> ConnectionMemory<'c> {
+    /// Returns the memory of a connection: that of its association, and that of `unconsumed`.
+    pub(crate) fn with(self, unconsumed: Inbox) -> ConnectionMemory<'c> {
         ConnectionMemory {
-            inbox: untaken.into_memory(),
+            inbox: unconsumed.into_memory(),
             association: self.0,
         }
     }
@@ -83,7 +83,7 @@ impl<'c> ConnectionMemory<'c> {
 
     /// Opens an association in this memory. Returns an empty inbox and the association.
     pub(crate) fn open(self, config: &'c Config) -> (Inbox, Box<ServedAssociation<'c>>)
-        ensures nothing { untaken_in result.0 ≡ [] }
+        ensures nothing { unconsumed_in result.0 ≡ [] }
         ensures no_draft { drafting_of result.1.value ≡ false }
         ensures settings { settings_in result.1.value ≡ settings_of config.now }
         ensures stands { (store : Store) → Stands served_rooms (settings_of config.now) [] [] false (fields_of result.1.value) store }

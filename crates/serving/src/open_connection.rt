@@ -10,11 +10,11 @@ ghost use Rattle.part10.specs.Store.{Store};
 ghost use Rattle.serving.specs.Capacities.{outbox_size};
 ghost use Rattle.serving.specs.Rooms.{served_rooms};
 ghost use Rattle.serving.specs.Settled.{SentAfter};
-ghost use Rattle.serving.specs.Taken.{HasTaken};
+ghost use Rattle.serving.specs.Consumed.{HasConsumed};
 ghost use Rattle.serving.specs.Timed.{Timed, asked_at};
 ghost use Rattle.serving.specs.Reported.{pieces_of};
 ghost use Rattle.serving.specs.TimeLimits.{had_reasons, opened_at};
-ghost use Rattle.serving.specs.Wires.{ClosesWith, IsTakenOf};
+ghost use Rattle.serving.specs.Wires.{ClosesWith, IsConsumedOf};
 
 mod ending;
 mod rounds;
@@ -82,12 +82,12 @@ pub struct Connection<'c, S, F: Settling, B: Observer> {
     ghost followed: { deadlines.state ≡ state_of association.value },
     /// The portions that were consumed, followed by the inbox, are what was read: no byte is
     /// dropped or consumed twice.
-    ghost whole: { IsTakenOf (stream_of (inputs_of given.named)) socket },
+    ghost whole: { IsConsumedOf (stream_of (inputs_of given.named)) socket },
     /// The observer was notified of each portion that was consumed, once and in order, and of
     /// nothing else.
     ghost heard: { B.heard observer ≡ pieces_of (inputs_of given.named) },
     /// The bytes that the socket accepted, the outbox, and the files are the result of the inputs.
-    ghost taken: { ∥ HasTaken (settings_in association.value) given.named (fields_of association.value)
+    ghost consumed: { ∥ HasConsumed (settings_in association.value) given.named (fields_of association.value)
         (socket.traced.written.bytes ++ socket.outbox.bytes.items) (F.store opened.value) (F.store filing) ∥₁ },
     /// The bytes that the socket accepted are the result of inputs whose files were all settled.
     ghost sent: { ∥ SentAfter (settings_in association.value) (inputs_of given.named) socket.traced.written.bytes (F.store opened.value) (F.store settled.value) ∥₁ },
@@ -145,7 +145,7 @@ impl<S: Drop, F> ConnectionEnd<S, F> {
     pub fn into_parts(self, memory: AssociationMemory<'_>) -> (F, ConnectionMemory<'_>)
         ensures filing { result.0 ≡ self.filing }
     {
-        (self.filing, memory.with(self.exchange.untaken))
+        (self.filing, memory.with(self.exchange.unconsumed))
     }
 }
 
@@ -254,13 +254,13 @@ impl<'c, S: Drop, F: Settling, B: Observer> Connection<'c, S, F, B> {
     ghost use Rattle.serving.specs.Timed.{GivenInTime};
     ghost use Rattle.pdu.specs.Pieces.{joined};
     ghost use Rattle.serving.specs.Served.{IsServed};
-    ghost use Rattle.serving.specs.Wires.{untaken_in};
+    ghost use Rattle.serving.specs.Wires.{unconsumed_in};
     ghost use Rattle.serving.specs.Settled.{SettlesFirst, sent_by};
 
     /// Closes the connection in any state, and drops its draft, if there is one. Returns what
     /// remains of it, its observer, and the memory of its association.
     ///
-    /// `remaining`: from the bytes that were read and consumed, the definitions give the bytes that the
+    /// `served`: from the bytes that were read and consumed, the definitions give the bytes that the
     /// socket accepted followed by the outbox, the files, and the state of the association.
     /// `opened`: the filing over which the connection was opened is the recorded one.
     ///
@@ -279,9 +279,9 @@ impl<'c, S: Drop, F: Settling, B: Observer> Connection<'c, S, F, B> {
     /// `once`: at most one abort was requested. `reasons`: it was requested because the server was
     /// stopping, or the connection had reached its maximum duration.
     pub fn close(self, now: Instant) -> (ConnectionEnd<S, F>, B, AssociationMemory<'c>)
-        ensures remaining { ∥ IsServed (settings_at self.entry) result.0.exchange (F.store (opening_of self.entry)) (F.store result.0.filing) ∥₁ }
+        ensures served { ∥ IsServed (settings_at self.entry) result.0.exchange (F.store (opening_of self.entry)) (F.store result.0.filing) ∥₁ }
         ensures opened { result.0.opened.value ≡ opening_of self.entry }
-        ensures reported { joined (B.heard result.1) ++ untaken_in result.0.exchange.untaken ≡ result.0.exchange.read.trace.bytes }
+        ensures reported { joined (B.heard result.1) ++ unconsumed_in result.0.exchange.unconsumed ≡ result.0.exchange.read.trace.bytes }
         ensures ended { is_ended (state_at self.entry) ≡ true → result.0.exchange.report.standing ≡ standing.Ended }
         ensures sent { ∥ SettlesFirst (settings_at self.entry) result.0.exchange (F.store (opening_of self.entry)) (F.store result.0.settled.value) (F.store result.0.filing) ∥₁ }
         ensures rested { sent_by result.0.exchange ≢ [] → F.has_pending result.0.settled.value ≡ false }
@@ -297,15 +297,17 @@ impl<'c, S: Drop, F: Settling, B: Observer> Connection<'c, S, F, B> {
         let mut filing = self.filing;
         filing.discard();
         let report = report(&self.association);
-        let (traces, untaken, unsent) = self.socket.end();
-        let received = self.received.saturating_add(untaken.pending().len() as u64);
+        let (traces, unconsumed, unsent) = self.socket.end();
+        let received = self
+            .received
+            .saturating_add(unconsumed.pending().len() as u64);
         let end = ConnectionEnd {
             exchange: Exchange {
                 report,
                 received,
                 read: traces.read,
                 sent: traces.sent,
-                untaken,
+                unconsumed,
                 unsent,
             },
             opened: self.opened,

@@ -21,7 +21,7 @@ type Mixed<'a> = Connection<'a, FickleSocket<'a>, MemoryFiling<Global>, Viewer<'
 #[derive(Drop)]
 struct Side {
     stream: Vec<u8>,
-    taken: RefCell<Vec<u8>>,
+    consumed: RefCell<Vec<u8>>,
 }
 
 fn sides(alloc: Global, count: usize, from: usize) -> Result<Vec<Side>, Fail> {
@@ -29,7 +29,7 @@ fn sides(alloc: Global, count: usize, from: usize) -> Result<Vec<Side>, Fail> {
     for number in 0..count {
         sides.push(Side {
             stream: stream_of(alloc, Traffic::of(from.saturating_add(number)))?,
-            taken: RefCell::new(Vec::new(alloc)),
+            consumed: RefCell::new(Vec::new(alloc)),
         })?;
     }
     Ok(sides)
@@ -54,7 +54,7 @@ fn connections<'a>(
     for (side, audience) in sides.iter().zip(audiences) {
         let most = chance.below(40).saturating_add(1);
         let seed = chance.below(1_000_000) as u64;
-        let peer = FickleSocket::new(side.stream.as_slice(), most, seed, &side.taken);
+        let peer = FickleSocket::new(side.stream.as_slice(), most, seed, &side.consumed);
         let filing = MemoryFiling::new(alloc);
         let one = over(
             alloc,
@@ -73,9 +73,9 @@ fn connections<'a>(
 fn mix(all: &mut [Box<Mixed<'_>>], chance: &mut Chance, now: Instant) -> bool {
     let mut over = 0usize;
     for _ in 0..1_000_000 {
-        let place = chance.below(all.len());
+        let index = chance.below(all.len());
         let most = chance.below(512);
-        let Some(one) = all.get_mut(place) else {
+        let Some(one) = all.get_mut(index) else {
             return false;
         };
         if one.is_over() {
@@ -101,10 +101,10 @@ fn is_as_alone(
 ) -> bool {
     let alone = over_memory(alloc, &[Step::Piece(side.stream.as_slice()), Step::Closed]);
     let (end, _viewer, _memory) = one.close(now);
-    let (Ok(taken), Ok(shown)) = (side.taken.try_borrow(), audience.sent.try_borrow()) else {
+    let (Ok(consumed), Ok(shown)) = (side.consumed.try_borrow(), audience.sent.try_borrow()) else {
         return false;
     };
-    taken.as_slice() == alone.wire.sent()
+    consumed.as_slice() == alone.wire.sent()
         && shown.as_slice() == alone.wire.sent()
         && end.exchange.unsent.pending().is_empty()
         && end.filing.files() == alone.filing.files()

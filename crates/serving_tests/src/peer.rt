@@ -3,7 +3,7 @@ ghost use Rattle.std.specs.Prelude.{◌≡◌, ◌≤◌, [], length};
 
 use crate::chance::Chance;
 use element::history::History;
-use service::{Observer, ReadEnd, Taken};
+use service::{Consumed, Observer, ReadEnd};
 use std::alloc::Global;
 use std::cell::{Cell, RefCell};
 use std::io;
@@ -18,7 +18,7 @@ pub struct FickleSocket<'a> {
     chance: Chance,
     /// The most bytes moved by one call.
     most: usize,
-    taken: &'a RefCell<Vec<u8>>,
+    consumed: &'a RefCell<Vec<u8>>,
     ghost within: { at ≤ length stream.now },
 }
 
@@ -28,14 +28,14 @@ impl<'a> FickleSocket<'a> {
         stream: &'a [u8],
         most: usize,
         seed: u64,
-        taken: &'a RefCell<Vec<u8>>,
+        consumed: &'a RefCell<Vec<u8>>,
     ) -> FickleSocket<'a> {
         FickleSocket {
             stream,
             at: 0,
             chance: Chance::new(seed),
             most,
-            taken,
+            consumed,
         }
     }
 
@@ -62,10 +62,10 @@ impl Read for FickleSocket<'_> {
 impl Write for FickleSocket<'_> {
     fn write(&mut self, bytes: &[u8]) -> io::Result<usize> {
         let count = self.count()?.min(bytes.len());
-        let Ok(mut taken) = self.taken.try_borrow_mut() else {
+        let Ok(mut consumed) = self.consumed.try_borrow_mut() else {
             return Err(io::Error::from(ErrorKind::Other));
         };
-        taken.extend_from_slice(&bytes[..count])?;
+        consumed.extend_from_slice(&bytes[..count])?;
         Ok(count)
     }
 
@@ -144,18 +144,18 @@ impl<'a> Viewer<'a> {
 impl Observer for Viewer<'_> {
     ghost heard = { λ viewer. viewer.heard };
 
-    fn took(&mut self, taken: &Taken<'_>) {
+    fn consumed(&mut self, consumed: &Consumed<'_>) {
         let mut bytes = History::new();
-        bytes.append(taken.bytes);
+        bytes.append(consumed.bytes);
         self.heard.push(&bytes);
         let audience = self.audience;
-        keep(&audience.received, taken.bytes);
-        audience.answer(taken.answered);
-        let ahead = taken.ahead.len();
+        keep(&audience.received, consumed.bytes);
+        audience.answer(consumed.answered);
+        let ahead = consumed.ahead.len();
         audience
             .most_ahead
             .set(audience.most_ahead.get().max(ahead));
-        audience.is_held.set(taken.is_held);
+        audience.is_held.set(consumed.is_held);
     }
 
     fn settled(&self, is_kept: bool) {

@@ -54,10 +54,10 @@ struct Times {
 ///   failed writes, and files kept and lost.
 /// - `over | yes`, `has_pending`, `held`: whether the connection is over, waits, or has its last answer
 ///   held back. `wait | WAIT`, `why | END`: how long the peer is waited for, and why reading ended.
-/// - `took | BYTES`, `shown`, `sent`: the bytes that the peer accepted, and those observed as
+/// - `consumes | BYTES`, `shown`, `sent`: the bytes that the peer accepted, and those observed as
 ///   received and as sent.
 /// - `note`, `no read`, `no byte`: since `note`, the socket was not read, or no byte was received.
-/// - `end`: closes the connection; then checks what remains: `unsent | BYTES`, `untaken`,
+/// - `end`: closes the connection; then checks what remains: `unsent | BYTES`, `unconsumed`,
 ///   `unsent size | NUMBER`, `files`, `standing | STANDING`, and `as alone | BYTES | BYTES`:
 ///   whether an association in memory files the same.
 pub fn play(rt: &HostRuntime, script: &str) -> Result<(), Fail> {
@@ -206,7 +206,7 @@ fn moment(
 /// Returns the recorded bytes with this name.
 fn kept_of<'a>(sides: &'a Sides<'_>, name: &str) -> Option<&'a RefCell<Vec<u8>>> {
     match name {
-        "took" => Some(&sides.script.taken),
+        "took" => Some(&sides.script.consumed),
         "shown" => Some(&sides.shown.received),
         "sent" => Some(&sides.shown.sent),
         _ => None,
@@ -277,7 +277,7 @@ fn shown_differs(
     case: &Case,
 ) -> Result<Option<String>, Fail> {
     let alloc = sides.alloc;
-    let (place, seen) = match case.name {
+    let (index, seen) = match case.name {
         "turn" => {
             let turn = one.turn(now, number(case, 0)?);
             (1, format!(in alloc; "{turn:?}")?)
@@ -298,7 +298,7 @@ fn shown_differs(
         "held" => (0, yes_or_no(alloc, sides.shown.is_held.get())?),
         _ => return Err(case.fails("no such step")),
     };
-    if case.field(place)? == seen.as_str() {
+    if case.field(index)? == seen.as_str() {
         return Ok(None);
     }
     Ok(Some(seen))
@@ -319,7 +319,7 @@ fn look_at_end(
     let exchange = &end.exchange;
     match case.name {
         "unsent" => bytes_differ(alloc, exchange.unsent.pending(), parts, case),
-        "untaken" => bytes_differ(alloc, exchange.untaken.pending(), parts, case),
+        "untaken" => bytes_differ(alloc, exchange.unconsumed.pending(), parts, case),
         "unsent size" => count_differs(alloc, exchange.unsent.pending().len() as u64, case),
         "files" => count_differs(alloc, end.filing.files.files().len() as u64, case),
         "standing" => {
@@ -330,7 +330,7 @@ fn look_at_end(
             Ok(Some(standing))
         }
         "as alone" => alone_differs(alloc, end, parts, case),
-        "took" => kept_differs(alloc, &sides.script.taken, parts, case),
+        "took" => kept_differs(alloc, &sides.script.consumed, parts, case),
         "lost" => count_differs(alloc, u64::from(sides.shown.lost.get()), case),
         _ => Err(case.fails("no such look")),
     }

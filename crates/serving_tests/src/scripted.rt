@@ -19,13 +19,13 @@ pub struct Script {
     /// Whether the peer closes the connection after those bytes.
     pub is_closed: Cell<bool>,
     /// How many more bytes the peer accepts.
-    pub takes: Cell<usize>,
+    pub accepts: Cell<usize>,
     /// Whether each write fails.
     pub fails: Cell<bool>,
     /// How often the socket was read.
     pub reads: Cell<u32>,
     /// The bytes that the peer received.
-    pub taken: RefCell<Vec<u8>>,
+    pub consumed: RefCell<Vec<u8>>,
 }
 
 impl Script {
@@ -34,10 +34,10 @@ impl Script {
         Script {
             arriving: RefCell::new(Vec::new(alloc)),
             is_closed: Cell::new(false),
-            takes: Cell::new(usize::MAX),
+            accepts: Cell::new(usize::MAX),
             fails: Cell::new(false),
             reads: Cell::new(0),
-            taken: RefCell::new(Vec::new(alloc)),
+            consumed: RefCell::new(Vec::new(alloc)),
         }
     }
 
@@ -78,16 +78,16 @@ impl Write for ScriptedSocket<'_> {
         if script.fails.get() {
             return Err(io::Error::from(ErrorKind::BrokenPipe));
         }
-        let takes = script.takes.get();
-        let count = bytes.len().min(takes);
+        let accepts = script.accepts.get();
+        let count = bytes.len().min(accepts);
         if count == 0 {
             return Err(io::Error::from(ErrorKind::WouldBlock));
         }
-        script.takes.set(takes.saturating_sub(count));
-        let Ok(mut taken) = script.taken.try_borrow_mut() else {
+        script.accepts.set(accepts.saturating_sub(count));
+        let Ok(mut consumed) = script.consumed.try_borrow_mut() else {
             return Err(io::Error::from(ErrorKind::Other));
         };
-        taken.extend_from_slice(&bytes[..count])?;
+        consumed.extend_from_slice(&bytes[..count])?;
         Ok(count)
     }
 

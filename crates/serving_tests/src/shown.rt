@@ -287,12 +287,12 @@ fn untimed(rt: &HostRuntime, line: &str) -> Result<String, Fail> {
 
 /// Fails with the first line that differs from the expected lines.
 fn are(rt: &HostRuntime, lines: &[String], wanted: &[&str]) -> Result<(), Fail> {
-    for place in 0..lines.len().max(wanted.len()) {
-        let line = lines.get(place).map_or("nothing", |line| line.as_str());
-        let want = wanted.get(place).map_or("nothing", |want| *want);
+    for index in 0..lines.len().max(wanted.len()) {
+        let line = lines.get(index).map_or("nothing", |line| line.as_str());
+        let want = wanted.get(index).map_or("nothing", |want| *want);
         if line != want {
             let reported = format!(in rt.alloc();
-                "line {place} of the log is {line} and not {want}"
+                "line {index} of the log is {line} and not {want}"
             )?;
             return Err(Fail::from(reported));
         }

@@ -131,7 +131,7 @@ line | [ERROR a file could not be written: No such file or directory (os error 2
     instance 1.2.3 calling \"SCANNER1\"";
 
 #[test]
-fn a_folder_that_takes_no_file_is_why(rt: HostRuntime) -> Result<(), Fail> {
+fn a_folder_that_accepts_no_file_is_why(rt: HostRuntime) -> Result<(), Fail> {
     reports(&rt, "a_lost_folder", NO_FOLDER)
 }
 

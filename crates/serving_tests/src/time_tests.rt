@@ -41,7 +41,7 @@ fn times_run_out(rt: HostRuntime) -> Result<(), Fail> {
     deadlines.hear(after(begin, 29));
     deadlines.follow(after(begin, 50), State::Sta6);
     assert!(rt; deadlines.wait(after(begin, 59)) == remaining(570));
-    deadlines.note_taken(after(begin, 100));
+    deadlines.note_consumed(after(begin, 100));
     assert!(rt; deadlines.wait(after(begin, 699)) == remaining(1));
     assert!(rt; deadlines.wait(after(begin, 700)) == Wait::Silent);
     deadlines.hear(after(begin, 101));

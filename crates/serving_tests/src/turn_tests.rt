@@ -48,7 +48,7 @@ turn | 100 | Socket
 received | 250";
 
 #[test]
-fn a_turn_takes_no_more_than_it_may(rt: HostRuntime) -> Result<(), Fail> {
+fn a_turn_accepts_no_more_than_it_may(rt: HostRuntime) -> Result<(), Fail> {
     play(&rt, NO_MORE)
 }
 
@@ -179,7 +179,7 @@ took | accept[..100]
 unsent size | 69";
 
 #[test]
-fn a_peer_that_takes_nothing_is_closed(rt: HostRuntime) -> Result<(), Fail> {
+fn a_peer_that_accepts_nothing_is_closed(rt: HostRuntime) -> Result<(), Fail> {
     play(&rt, TAKES_NOTHING)
 }
 
@@ -203,7 +203,7 @@ why | Some(Idle)
 failures | 0";
 
 #[test]
-fn a_peer_that_takes_at_last_is_not_closed(rt: HostRuntime) -> Result<(), Fail> {
+fn a_peer_that_accepts_at_last_is_not_closed(rt: HostRuntime) -> Result<(), Fail> {
     play(&rt, TAKES_AT_LAST)
 }
 

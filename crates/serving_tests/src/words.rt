@@ -49,15 +49,15 @@ fn add_stores(alloc: Global, parts: &mut Parts<'_>) -> Result<(), Fail> {
 /// value.
 fn pixels(alloc: Global) -> Result<Vec<u8>, Fail> {
     let mut pixels = Vec::new(alloc);
-    for place in 0..16378usize {
-        pixels.push((place % 251) as u8)?;
+    for index in 0..16378usize {
+        pixels.push((index % 251) as u8)?;
     }
     Ok(pixels)
 }
 
 /// Returns the number of a field, or the greatest number for `all`.
-pub fn number(case: &Case, place: usize) -> Result<usize, Fail> {
-    let text = case.field(place)?;
+pub fn number(case: &Case, index: usize) -> Result<usize, Fail> {
+    let text = case.field(index)?;
     if text == "all" {
         return Ok(usize::MAX);
     }
@@ -98,8 +98,8 @@ fn pdu(alloc: Global, parts: &Parts<'_>, case: &Case<'_>) -> Result<Vec<u8>, Fai
 
 fn replaced(parts: &Parts<'_>, case: &Case<'_>) -> Result<Vec<u8>, Fail> {
     let mut bytes = parts.bytes(case, 2)?;
-    if let [place, byte] = parts.bytes(case, 1)?.as_slice() {
-        if let Some(old) = bytes.get_mut(usize::from(*place)) {
+    if let [offset, byte] = parts.bytes(case, 1)?.as_slice() {
+        if let Some(old) = bytes.get_mut(usize::from(*offset)) {
             *old = *byte;
             return Ok(bytes);
         }
@@ -110,13 +110,13 @@ fn replaced(parts: &Parts<'_>, case: &Case<'_>) -> Result<Vec<u8>, Fail> {
 /// Applies a step of the peer. Returns whether it is such a step.
 ///
 /// - `send | BYTES`: the peer sends these bytes.
-/// - `takes | NUMBER`: the peer accepts this many more bytes, or `all`.
+/// - `accepts | NUMBER`: the peer accepts this many more bytes, or `all`.
 /// - `fails`: each further write to the peer fails.
 /// - `closes`: the peer closes the connection.
 pub fn peer_does(script: &Script, parts: &Parts<'_>, case: &Case<'_>) -> Result<bool, Fail> {
     match case.name {
         "send" => script.send(parts.bytes(case, 0)?.as_slice())?,
-        "takes" => script.takes.set(number(case, 0)?),
+        "takes" => script.accepts.set(number(case, 0)?),
         "fails" => script.fails.set(true),
         "closes" => script.is_closed.set(true),
         _ => return Ok(false),

@@ -7,10 +7,10 @@ use Rattle.element.specs.Padding.{is_space, without_trailing}
 use Rattle.element.specs.Values.{is_backslash, is_digit}
 use Rattle.values.specs.declared.character_set.CharacterSet.{CharacterSet}
 use Rattle.values.specs.declared.character_set.CharacterSet.TheVariants as sets
-use Rattle.values.specs.declared.reading.GbPlace.{GbPlace}
-use Rattle.values.specs.declared.reading.GbPlace.TheVariants as gb
-use Rattle.values.specs.declared.reading.ExtendedPlace.{ExtendedPlace}
-use Rattle.values.specs.declared.reading.ExtendedPlace.TheVariants as extended
+use Rattle.values.specs.declared.reading.GbPosition.{GbPosition}
+use Rattle.values.specs.declared.reading.GbPosition.TheVariants as gb
+use Rattle.values.specs.declared.reading.ExtendedPosition.{ExtendedPosition}
+use Rattle.values.specs.declared.reading.ExtendedPosition.TheVariants as extended
 use Rattle.values.specs.declared.reading.WideSets.{WideSets}
 use Rattle.values.specs.declared.reading.Reading.{Reading}
 use Rattle.values.specs.declared.reading.Reading.TheVariants as readings
@@ -31,13 +31,13 @@ set_of value = if list_any is_backslash value || names_extension value then sets
 
 -- the position after a byte of GB 18030 or GBK: a character that begins with a byte from 81H on has four bytes if the
 -- second is a digit, else two
-abbrev pub gb_place : GbPlace → ℕ → GbPlace
-gb_place gb.First byte = if nat_le 129 byte then gb.Second else gb.First
-gb_place gb.Second byte = if is_digit byte then gb.Third else gb.First
-gb_place gb.Third byte = gb.Fourth
-gb_place gb.Fourth byte = gb.First
+abbrev pub gb_position : GbPosition → ℕ → GbPosition
+gb_position gb.First byte = if nat_le 129 byte then gb.Second else gb.First
+gb_position gb.Second byte = if is_digit byte then gb.Third else gb.First
+gb_position gb.Third byte = gb.Fourth
+gb_position gb.Fourth byte = gb.First
 
-abbrev pub gb_character : GbPlace → ℕ → Option ℕ
+abbrev pub gb_character : GbPosition → ℕ → Option ℕ
 gb_character gb.First byte = Some (if nat_le 129 byte then 128 else byte)
 gb_character _ byte = None
 
@@ -53,33 +53,33 @@ is_intermediate byte = nat_le 32 byte && nat_le byte 47
 abbrev pub names_high : ℕ → Bool
 names_high byte = nat_eq byte 41 || nat_eq byte 45
 
-abbrev pub after_escape : Bool → ℕ → ExtendedPlace
+abbrev pub after_escape : Bool → ℕ → ExtendedPosition
 after_escape is_wide byte =
     if names_high byte then extended.High is_wide else (if is_intermediate byte then extended.Low is_wide else extended.First)
 
-abbrev pub first_place : WideSets → ℕ → ExtendedPlace
-first_place sets byte =
+abbrev pub first_position : WideSets → ℕ → ExtendedPosition
+first_position sets byte =
     if nat_eq byte 27 then extended.Escape else (if begins_pair sets byte then extended.Last else extended.First)
 
-abbrev pub extended_place : WideSets → ExtendedPlace → ℕ → ExtendedPlace
-extended_place sets extended.First byte = first_place sets byte
-extended_place sets extended.Last byte = extended.First
-extended_place sets extended.Escape byte = if nat_eq byte 36 then extended.WideEscape else after_escape false byte
-extended_place sets extended.WideEscape byte = after_escape true byte
-extended_place sets (extended.Low is_wide) byte = if is_intermediate byte then extended.Low is_wide else extended.First
-extended_place sets (extended.High is_wide) byte = if is_intermediate byte then extended.High is_wide else extended.First
+abbrev pub extended_position : WideSets → ExtendedPosition → ℕ → ExtendedPosition
+extended_position sets extended.First byte = first_position sets byte
+extended_position sets extended.Last byte = extended.First
+extended_position sets extended.Escape byte = if nat_eq byte 36 then extended.WideEscape else after_escape false byte
+extended_position sets extended.WideEscape byte = after_escape true byte
+extended_position sets (extended.Low is_wide) byte = if is_intermediate byte then extended.Low is_wide else extended.First
+extended_position sets (extended.High is_wide) byte = if is_intermediate byte then extended.High is_wide else extended.First
 
 -- the selected sets after the last byte of an escape sequence
-abbrev pub named_sets : WideSets → ExtendedPlace → WideSets
+abbrev pub named_sets : WideSets → ExtendedPosition → WideSets
 named_sets sets (extended.Low is_wide) = record { low = is_wide; high = sets.high }
 named_sets sets (extended.High is_wide) = record { low = sets.low; high = is_wide }
 named_sets sets extended.WideEscape = record { low = true; high = sets.high }
 named_sets sets _ = sets
 
-abbrev pub extended_sets : WideSets → ExtendedPlace → ℕ → WideSets
-extended_sets sets place byte = if is_intermediate byte then sets else named_sets sets place
+abbrev pub extended_sets : WideSets → ExtendedPosition → ℕ → WideSets
+extended_sets sets position byte = if is_intermediate byte then sets else named_sets sets position
 
-abbrev pub extended_character : WideSets → ExtendedPlace → ℕ → Option ℕ
+abbrev pub extended_character : WideSets → ExtendedPosition → ℕ → Option ℕ
 extended_character sets extended.First byte =
     if nat_eq byte 27 then None else (if begins_pair sets byte then Some 128 else Some byte)
 extended_character sets _ byte = None
@@ -94,15 +94,15 @@ reading_of sets.CodeExtensions = readings.CodeExtensions (record { low = false; 
 abbrev pub after : Reading → ℕ → Reading
 after readings.SingleByte byte = readings.SingleByte
 after readings.Utf8 byte = readings.Utf8
-after (readings.Gb18030 place) byte = readings.Gb18030 (gb_place place byte)
-after (readings.CodeExtensions sets place) byte = readings.CodeExtensions (extended_sets sets place byte) (extended_place sets place byte)
+after (readings.Gb18030 position) byte = readings.Gb18030 (gb_position position byte)
+after (readings.CodeExtensions sets position) byte = readings.CodeExtensions (extended_sets sets position byte) (extended_position sets position byte)
 
 -- the byte that replaces the character that begins with this byte; none if no character begins here
 abbrev pub character : Reading → ℕ → Option ℕ
 character readings.SingleByte byte = Some byte
 character readings.Utf8 byte = if nat_le 128 byte && nat_le byte 191 then None else Some byte
-character (readings.Gb18030 place) byte = gb_character place byte
-character (readings.CodeExtensions sets place) byte = extended_character sets place byte
+character (readings.Gb18030 position) byte = gb_character position byte
+character (readings.CodeExtensions sets position) byte = extended_character sets position byte
 
 abbrev pub after_all : Reading → List ℕ → Reading
 after_all reading [] = reading

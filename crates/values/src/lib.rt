@@ -23,6 +23,6 @@ pub use fault::FormFault;
 pub use moment::{has_date, has_time, is_offset};
 pub use name::is_name;
 pub use numbers::{fits_32_bits, is_decimal, is_integer};
-pub use reading::{ExtendedPlace, GbPlace, Reading, WideSets};
+pub use reading::{ExtendedPosition, GbPosition, Reading, WideSets};
 pub use repertoire::{Part, Repertoire};
 pub use table::{check_form, number_size};

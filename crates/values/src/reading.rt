@@ -11,7 +11,7 @@ const WIDE: u8 = 128;
 
 /// Which byte of a character of GB 18030 the next byte is.
 #[derive(Clone, Copy, Debug)]
-pub enum GbPlace {
+pub enum GbPosition {
     First,
     Second,
     Third,
@@ -21,7 +21,7 @@ pub enum GbPlace {
 /// What the next byte is part of with code extensions (ISO 2022): a character or an escape
 /// sequence.
 #[derive(Clone, Copy, Debug)]
-pub enum ExtendedPlace {
+pub enum ExtendedPosition {
     First,
     /// The second byte of a character of two bytes.
     Last,
@@ -51,38 +51,38 @@ pub struct WideSets {
 pub enum Reading {
     SingleByte,
     Utf8,
-    Gb18030(GbPlace),
-    CodeExtensions(WideSets, ExtendedPlace),
+    Gb18030(GbPosition),
+    CodeExtensions(WideSets, ExtendedPosition),
 }
 
-fn gb_place(place: GbPlace, byte: u8) -> GbPlace
-    ensures { result ≡ characters.gb_place place byte }
+fn gb_position(position: GbPosition, byte: u8) -> GbPosition
+    ensures { result ≡ characters.gb_position position byte }
 {
-    match place {
-        GbPlace::First => {
+    match position {
+        GbPosition::First => {
             if byte >= 129 {
-                GbPlace::Second
+                GbPosition::Second
             } else {
-                GbPlace::First
+                GbPosition::First
             }
         }
-        GbPlace::Second => {
+        GbPosition::Second => {
             if byte.is_ascii_digit() {
-                GbPlace::Third
+                GbPosition::Third
             } else {
-                GbPlace::First
+                GbPosition::First
             }
         }
-        GbPlace::Third => GbPlace::Fourth,
-        GbPlace::Fourth => GbPlace::First,
+        GbPosition::Third => GbPosition::Fourth,
+        GbPosition::Fourth => GbPosition::First,
     }
 }
 
-fn gb_character(place: GbPlace, byte: u8) -> Option<u8>
-    ensures { result ≡ characters.gb_character place byte }
+fn gb_character(position: GbPosition, byte: u8) -> Option<u8>
+    ensures { result ≡ characters.gb_character position byte }
 {
-    match place {
-        GbPlace::First => Some(if byte >= 129 { WIDE } else { byte }),
+    match position {
+        GbPosition::First => Some(if byte >= 129 { WIDE } else { byte }),
         _ => None,
     }
 }
@@ -110,75 +110,75 @@ fn names_high(byte: u8) -> bool
 }
 
 /// Returns the state after this byte, which follows ESC, or ESC and `$` if `is_wide`.
-fn after_escape(is_wide: bool, byte: u8) -> ExtendedPlace
+fn after_escape(is_wide: bool, byte: u8) -> ExtendedPosition
     ensures { result ≡ characters.after_escape is_wide byte }
 {
     if names_high(byte) {
-        ExtendedPlace::High(is_wide)
+        ExtendedPosition::High(is_wide)
     } else if is_intermediate(byte) {
-        ExtendedPlace::Low(is_wide)
+        ExtendedPosition::Low(is_wide)
     } else {
-        ExtendedPlace::First
+        ExtendedPosition::First
     }
 }
 
-fn first_place(sets: WideSets, byte: u8) -> ExtendedPlace
-    ensures { result ≡ characters.first_place sets byte }
+fn first_position(sets: WideSets, byte: u8) -> ExtendedPosition
+    ensures { result ≡ characters.first_position sets byte }
 {
     if byte == 27 {
-        ExtendedPlace::Escape
+        ExtendedPosition::Escape
     } else if begins_pair(sets, byte) {
-        ExtendedPlace::Last
+        ExtendedPosition::Last
     } else {
-        ExtendedPlace::First
+        ExtendedPosition::First
     }
 }
 
-fn extended_place(sets: WideSets, place: ExtendedPlace, byte: u8) -> ExtendedPlace
-    ensures { result ≡ characters.extended_place sets place byte }
+fn extended_position(sets: WideSets, position: ExtendedPosition, byte: u8) -> ExtendedPosition
+    ensures { result ≡ characters.extended_position sets position byte }
 {
-    match place {
-        ExtendedPlace::First => first_place(sets, byte),
-        ExtendedPlace::Last => ExtendedPlace::First,
-        ExtendedPlace::Escape => {
+    match position {
+        ExtendedPosition::First => first_position(sets, byte),
+        ExtendedPosition::Last => ExtendedPosition::First,
+        ExtendedPosition::Escape => {
             if byte == b'$' {
-                ExtendedPlace::WideEscape
+                ExtendedPosition::WideEscape
             } else {
                 after_escape(false, byte)
             }
         }
-        ExtendedPlace::WideEscape => after_escape(true, byte),
-        ExtendedPlace::Low(_) | ExtendedPlace::High(_) => {
+        ExtendedPosition::WideEscape => after_escape(true, byte),
+        ExtendedPosition::Low(_) | ExtendedPosition::High(_) => {
             if is_intermediate(byte) {
-                place
+                position
             } else {
-                ExtendedPlace::First
+                ExtendedPosition::First
             }
         }
     }
 }
 
 /// Returns the selected sets after a byte. Only the last byte of an escape sequence changes them.
-fn extended_sets(sets: WideSets, place: ExtendedPlace, byte: u8) -> WideSets
-    ensures { result ≡ characters.extended_sets sets place byte }
+fn extended_sets(sets: WideSets, position: ExtendedPosition, byte: u8) -> WideSets
+    ensures { result ≡ characters.extended_sets sets position byte }
 {
     let WideSets { low, high } = sets;
     if is_intermediate(byte) {
         return sets;
     }
-    match place {
-        ExtendedPlace::Low(is_wide) => WideSets { low: is_wide, high },
-        ExtendedPlace::High(is_wide) => WideSets { low, high: is_wide },
-        ExtendedPlace::WideEscape => WideSets { low: true, high },
+    match position {
+        ExtendedPosition::Low(is_wide) => WideSets { low: is_wide, high },
+        ExtendedPosition::High(is_wide) => WideSets { low, high: is_wide },
+        ExtendedPosition::WideEscape => WideSets { low: true, high },
         _ => sets,
     }
 }
 
-fn extended_character(sets: WideSets, place: ExtendedPlace, byte: u8) -> Option<u8>
-    ensures { result ≡ characters.extended_character sets place byte }
+fn extended_character(sets: WideSets, position: ExtendedPosition, byte: u8) -> Option<u8>
+    ensures { result ≡ characters.extended_character sets position byte }
 {
-    match place {
-        ExtendedPlace::First => {
+    match position {
+        ExtendedPosition::First => {
             if byte == 27 {
                 None
             } else if begins_pair(sets, byte) {
@@ -209,10 +209,10 @@ impl Reading {
         match set {
             CharacterSet::SingleByte => Reading::SingleByte,
             CharacterSet::Utf8 => Reading::Utf8,
-            CharacterSet::Gb18030 => Reading::Gb18030(GbPlace::First),
+            CharacterSet::Gb18030 => Reading::Gb18030(GbPosition::First),
             CharacterSet::CodeExtensions => {
                 let (low, high) = (false, false);
-                Reading::CodeExtensions(WideSets { low, high }, ExtendedPlace::First)
+                Reading::CodeExtensions(WideSets { low, high }, ExtendedPosition::First)
             }
         }
     }
@@ -223,10 +223,10 @@ impl Reading {
     {
         match self {
             Reading::SingleByte | Reading::Utf8 => self,
-            Reading::Gb18030(place) => Reading::Gb18030(gb_place(place, byte)),
-            Reading::CodeExtensions(sets, place) => Reading::CodeExtensions(
-                extended_sets(sets, place, byte),
-                extended_place(sets, place, byte),
+            Reading::Gb18030(position) => Reading::Gb18030(gb_position(position, byte)),
+            Reading::CodeExtensions(sets, position) => Reading::CodeExtensions(
+                extended_sets(sets, position, byte),
+                extended_position(sets, position, byte),
             ),
         }
     }
@@ -245,8 +245,8 @@ impl Reading {
                     Some(byte)
                 }
             }
-            Reading::Gb18030(place) => gb_character(place, byte),
-            Reading::CodeExtensions(sets, place) => extended_character(sets, place, byte),
+            Reading::Gb18030(position) => gb_character(position, byte),
+            Reading::CodeExtensions(sets, position) => extended_character(sets, position, byte),
         }
     }
 

@@ -88,8 +88,8 @@ impl Part {
         ensures { result ≡ repertoires.letter_of self byte }
     {
         let letters = self.letters();
-        let place = usize::from(byte.checked_sub(0xa0)?);
-        match letters.get(place) {
+        let position = usize::from(byte.checked_sub(0xa0)?);
+        match letters.get(position) {
             Some('\0') | None => None,
             Some(letter) => Some(*letter),
         }

@@ -15,7 +15,7 @@ refusal_of step = None
 
 -- the fault 67 for a failed read is never reported, since the file is in memory
 abbrev pub header_fault_of : MetaFault → DirFault
-header_fault_of NotPart10 = record { number = 50; place = 128; tag = no_tag }
-header_fault_of BadMeta = record { number = 51; place = 132; tag = no_tag }
-header_fault_of OtherSyntax = record { number = 53; place = 132; tag = no_tag }
-header_fault_of ReadFailed = record { number = 67; place = 0; tag = no_tag }
+header_fault_of NotPart10 = record { number = 50; offset = 128; tag = no_tag }
+header_fault_of BadMeta = record { number = 51; offset = 132; tag = no_tag }
+header_fault_of OtherSyntax = record { number = 53; offset = 132; tag = no_tag }
+header_fault_of ReadFailed = record { number = 67; offset = 0; tag = no_tag }

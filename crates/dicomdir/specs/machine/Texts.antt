@@ -64,10 +64,10 @@ pub record HasItems (s : Coding) (is : Items) (text : List ℕ) : Type 0 where
   pub spelled : ItemsThen s is more text
 
 -- the bytes of an element after its header h, at this position, and the element as it is found
-pub data IsContent (s : Coding) (h : Header) (place : ℕ) : Found → List ℕ → Type 0 where
-  of_value : {v : List ℕ} → shape s h ≡ Value → IsValue h.length v → IsContent s h place (value_at place v) v
+pub data IsContent (s : Coding) (h : Header) (offset : ℕ) : Found → List ℕ → Type 0 where
+  of_value : {v : List ℕ} → shape s h ≡ Value → IsValue h.length v → IsContent s h offset (value_at offset v) v
   of_items : {inner : Coding} {is : Items} {b c : List ℕ} → is_native inner ≡ true → shape s h ≡ Sequence inner → ItemList inner is b → Ended sequence_end_tag h.length b c
-      → IsContent s h place (items_at place h is) c
+      → IsContent s h offset (items_at offset h is) c
 
 -- the bytes of an item with these elements, after its header
 pub data IsItemContent (s : Coding) (h : Header) (es : Elements) : List ℕ → Type 0 where

@@ -16,7 +16,7 @@ use Rattle.sequence.specs.Tree.{Elements, Items}
 use Rattle.dicomdir.specs.declared.fault.DirFault.{DirFault}
 use Rattle.dicomdir.specs.declared.links.Root.{Root}
 use Rattle.dicomdir.specs.declared.tree.TreeRecord.{TreeRecord}
-use Rattle.dicomdir.specs.DirFault.{place_in, links_of, links_fault, path_fault, unreached_fault, Fault, offset_fault, directory_fault}
+use Rattle.dicomdir.specs.DirFault.{offset_in, links_of, links_fault, path_fault, unreached_fault, Fault, offset_fault, directory_fault}
 use Rattle.std.specs.Str.{bytes_eq}
 use Rattle.dicomdir.specs.declared.found.Element.{Element}
 use Rattle.dicomdir.specs.machine.Texts.{got_none, HasItems}
@@ -28,12 +28,12 @@ use Rattle.dicomdir.specs.Level.{kind_of}
 -- the path along the records of these marks, and then along the lower offset of the last one, or along its next one
 abbrev pub path_along : Bool → List Mark → List Turn
 path_along lower [] = []
-path_along lower (m ∷ ms) = record { place = m.place; lower = lower } ∷ path_along m.begins ms
+path_along lower (m ∷ ms) = record { offset = m.offset; lower = lower } ∷ path_along m.begins ms
 
 -- the position at which a fault of the offset at the end of that path is reported
 abbrev pub reported_along : ℕ → List Mark → ℕ
 reported_along root [] = root
-reported_along root (m ∷ ms) = m.place
+reported_along root (m ∷ ms) = m.offset
 
 -- the marks without the last chain of siblings
 abbrev pub remaining_of : List Mark → List Mark
@@ -41,16 +41,16 @@ remaining_of [] = []
 remaining_of (m ∷ ms) = if m.begins then ms else remaining_of ms
 
 abbrev pub mark_of : ReadRecord → Step → Mark
-mark_of e step = record { place = e.place; next = e.next; begins = step.begins; level = step.level; shown = step.shown }
+mark_of e step = record { offset = e.offset; next = e.next; begins = step.begins; level = step.level; shown = step.shown }
 
 -- no record above the one that a path leads to is inactive
 abbrev pub is_shown : Links → List Turn → Bool
 is_shown links [] = true
-is_shown links (t ∷ path) = if t.lower then is_shown links path && (carried_node (elements_at links.records t.place)).in_use else is_shown links path
+is_shown links (t ∷ path) = if t.lower then is_shown links path && (carried_node (elements_at links.records t.offset)).in_use else is_shown links path
 
 -- the node of a record, if it is in use and no record above it is inactive (`shown`)
 abbrev pub own_node : Bool → ℕ → ℕ → Node → List LevelNode
-own_node shown level place n = if shown && n.in_use then record { place = place; level = level; carries = n } ∷ [] else []
+own_node shown level offset n = if shown && n.in_use then record { offset = offset; level = level; carries = n } ∷ [] else []
 
 -- the node of the record that a path leads to
 abbrev pub node_on : Links → List Turn → List LevelNode
@@ -78,12 +78,12 @@ IsCounted links path level shown = (level ≡ min (level_of path) 5) × (shown �
 
 abbrev pub AreMarks : Links → List Mark → Type 0
 AreMarks links [] = Unit {0}
-AreMarks links (m ∷ ms) = (m.next ≡ next_at links.records m.place) × IsCounted links (path_along m.begins ms) m.level m.shown × AreMarks links ms
+AreMarks links (m ∷ ms) = (m.next ≡ next_at links.records m.offset) × IsCounted links (path_along m.begins ms) m.level m.shown × AreMarks links ms
 
 abbrev pub IsStep : Links → List Mark → Option Step → Type 0
 IsStep links ms None = Unit {0}
 IsStep links ms (Some step) =
-    (0 < step.offset) × (step.offset ≡ named_by links (path_along step.begins ms)) × IsCounted links (path_along step.begins ms) step.level step.shown
+    (0 < step.link) × (step.link ≡ named_by links (path_along step.begins ms)) × IsCounted links (path_along step.begins ms) step.level step.shown
 
 -- ---- the records that were read of a directory (entries)
 
@@ -94,7 +94,7 @@ carried_by e = record { in_use = e.in_use; kind = e.kind.now; file_id = e.file_i
 -- the entry has the position, the offsets, the in-use flag, the type and the file ID of the record, which has all
 -- that are required
 pub record EntrySays (e : ReadRecord) (r : Record) : Type 0 where
-  pub place : e.place ≡ r.place
+  pub offset : e.offset ≡ r.offset
   pub next : e.next ≡ or_zero (next_offset r.elements)
   pub lower : e.lower ≡ or_zero (lower_offset r.elements)
   pub carries : carried_by e ≡ carried_node r.elements
@@ -118,15 +118,15 @@ AddsEntries s first text old new =
 -- the positions are strictly ascending, and none is below `least`
 abbrev pub Rise : ℕ → List Record → Type 0
 Rise least [] = Unit {0}
-Rise least (r ∷ records) = (least ≤ r.place) × Rise (suc r.place) records
+Rise least (r ∷ records) = (least ≤ r.offset) × Rise (suc r.offset) records
 
 -- the root and the entries are those of a directory with these elements, the first of which is at position `start`,
 -- and with these records
 pub record AreRead (root : Root) (entries : List ReadRecord) (start : ℕ) (es : Elements) (records : List Record) : Type 0 where
   pub first : root.first ≡ or_zero (first_offset start es)
   pub last : root.last ≡ or_zero (last_offset start es)
-  pub first_place : root.first_place ≡ place_in (found 0x00041200 start es)
-  pub last_place : root.last_place ≡ place_in (found 0x00041202 start es)
+  pub first_position : root.first_position ≡ offset_in (found 0x00041200 start es)
+  pub last_position : root.last_position ≡ offset_in (found 0x00041202 start es)
   pub entries_are : AreEntries entries records
   pub rise : Rise 0 records
 
@@ -140,15 +140,15 @@ AreFollowed root entries old new =
 -- memory ran out (67), or f is the first fault of the offsets
 pub record FailsToFollow (root : Root) (entries : List ReadRecord) (f : DirFault) : Type 0 where
   pub tag : f.tag ≡ no_tag
-  pub memory : f.number ≡ 67 → f.place ≡ 0
+  pub memory : f.number ≡ 67 → f.offset ≡ 0
   pub fault : (start : ℕ) (es : Elements) (records : List Record) → f.number ≢ 67 → AreRead root entries start es records
-      → links_fault start es (links_of start es records) ≡ Some (record { number = f.number; place = f.place })
+      → links_fault start es (links_of start es records) ≡ Some (record { number = f.number; offset = f.offset })
 
 -- ---- the effects of the steps that follow the offsets
 
 -- for each record, whether it was reached
 abbrev pub flags_of : List ℕ → List Record → List Bool
-flags_of reached records = map (λ r. is_one_of r.place reached) records
+flags_of reached records = map (λ r. is_one_of r.offset reached) records
 
 pub record AreFlagged (entries : List ReadRecord) (flags : List Bool) (records : List Record) (reached : List ℕ) : Type 0 where
   pub are : AreEntries entries records
@@ -156,24 +156,24 @@ pub record AreFlagged (entries : List ReadRecord) (flags : List Bool) (records :
   pub flagged : flags ≡ flags_of reached records
 
 -- no record is at this position
-abbrev pub IsNoPlace : List ReadRecord → ℕ → Type 0
-IsNoPlace entries place = (records : List Record) → AreEntries entries records → Rise 0 records → record_at place records ≡ None
+abbrev pub IsNoOffset : List ReadRecord → ℕ → Type 0
+IsNoOffset entries offset = (records : List Record) → AreEntries entries records → Rise 0 records → record_at offset records ≡ None
 
 -- the entry with index `at` is that of the record that the step leads to, which has no fault
 pub record IsTarget (links : Links) (entries : List ReadRecord) (ms : List Mark) (step : Step) (reached : List ℕ) (at : ℕ) : Type 0 where
-  pub place : (d : ReadRecord) → (slice_index_or entries at d).place ≡ step.offset
+  pub offset : (d : ReadRecord) → (slice_index_or entries at d).offset ≡ step.link
   pub good : path_fault links reached (path_along step.begins ms) ≡ None
 
 -- the step leads to the entry with index `at`, and its offset has no fault
 abbrev pub LeadsTo : List ReadRecord → List Bool → List Mark → Step → ℕ → Type 0
 LeadsTo entries flags ms step at =
-    (links : Links) (places : List ℕ) → AreFlagged entries flags links.records places → IsStep links ms (Some step) → IsTarget links entries ms step places at
+    (links : Links) (positions : List ℕ) → AreFlagged entries flags links.records positions → IsStep links ms (Some step) → IsTarget links entries ms step positions at
 
 -- the offset of the step has this fault
 abbrev pub IsWrongOffset : ℕ → List ReadRecord → List Bool → List Mark → Step → DirFault → Type 0
 IsWrongOffset root entries flags ms step f =
-    (links : Links) (places : List ℕ) → root ≡ links.place → AreFlagged entries flags links.records places → IsStep links ms (Some step)
-    → path_fault links places (path_along step.begins ms) ≡ Some (record { number = f.number; place = f.place })
+    (links : Links) (positions : List ℕ) → root ≡ links.offset → AreFlagged entries flags links.records positions → IsStep links ms (Some step)
+    → path_fault links positions (path_along step.begins ms) ≡ Some (record { number = f.number; offset = f.offset })
 
 -- the first step: the root's offset of its first record, or none if that is 0
 abbrev pub Begins : Root → Option Step → Type 0
@@ -199,26 +199,26 @@ Continues ms ms2 step pending e =
 
 -- all records in use were reached
 abbrev pub AreAllReached : List ReadRecord → List Bool → Type 0
-AreAllReached entries flags = (records : List Record) (places : List ℕ) → AreFlagged entries flags records places → unreached_fault places records ≡ None
+AreAllReached entries flags = (records : List Record) (positions : List ℕ) → AreFlagged entries flags records positions → unreached_fault positions records ≡ None
 
 -- f is the fault of the first record in use that was not reached
 abbrev pub IsRemainder : List ReadRecord → List Bool → DirFault → Type 0
 IsRemainder entries flags f =
-    (records : List Record) (places : List ℕ) → AreFlagged entries flags records places
-    → unreached_fault places records ≡ Some (record { number = f.number; place = f.place })
+    (records : List Record) (positions : List ℕ) → AreFlagged entries flags records positions
+    → unreached_fault positions records ≡ Some (record { number = f.number; offset = f.offset })
 
 -- ---- the results of reading the root and the records of a directory
 
 -- memory ran out (67), or f is the fault `first`
 pub record FailsAs (first : Option Fault) (f : DirFault) : Type 0 where
   pub tag : f.tag ≡ no_tag
-  pub memory : f.number ≡ 67 → f.place ≡ 0
-  pub fault : f.number ≢ 67 → first ≡ Some (record { number = f.number; place = f.place })
+  pub memory : f.number ≡ 67 → f.offset ≡ 0
+  pub fault : f.number ≢ 67 → first ≡ Some (record { number = f.number; offset = f.offset })
 
 -- an offset of the root and the position of the element that has it
-pub record IsRootOffset (start : ℕ) (f : Found) (place offset : ℕ) : Type 0 where
-  pub place_is : place ≡ place_in f
-  pub offset_is : number_in 4 f ≡ Some offset
+pub record IsRootOffset (start : ℕ) (f : Found) (offset link : ℕ) : Type 0 where
+  pub position_is : offset ≡ offset_in f
+  pub link_is : number_in 4 f ≡ Some link
   pub good : offset_fault start f ≡ None
 
 abbrev pub use_flag : Option ℕ → Option Bool

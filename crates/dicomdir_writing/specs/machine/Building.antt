@@ -8,7 +8,7 @@ use Rattle.dicomdir_writing.specs.declared.build_plan.Stop.{Stop}
 use Rattle.dicomdir_writing.specs.declared.build_plan.Stop.TheVariants.{TooLarge, OutOfMemory}
 use Rattle.dicomdir.specs.Directory.{Record}
 use Rattle.dicomdir_writing.specs.Record.{spelled, spelled_items, record_item, record_text, root_fields, records_header}
-use Rattle.dicomdir_writing.specs.Places.{forest_size, with_places, first_record_place, last_record_place, root_size, duplicates_of}
+use Rattle.dicomdir_writing.specs.Positions.{forest_size, with_positions, first_record_offset, last_record_offset, root_size, duplicates_of}
 use Rattle.dicomdir_writing.specs.Row.{Row}
 use Rattle.dicomdir.specs.Forest.{Forest, no_nodes, node, count_of}
 use Rattle.dicomdir_writing.specs.TreeOf.{group_node, TreeOf}
@@ -28,11 +28,11 @@ stop_fault TooLarge = too_large_fault
 stop_fault OutOfMemory = memory_fault
 
 -- the position with this distance from the end of the file, 0 for the distance 0
-abbrev pub place_from_end : ℕ → ℕ → ℕ
-place_from_end total distance = if nat_eq distance 0 then 0 else total - distance
+abbrev pub offset_from_end : ℕ → ℕ → ℕ
+offset_from_end total distance = if nat_eq distance 0 then 0 else total - distance
 
 abbrev pub entry_text : {A : Type 0} → ℕ → LaidRecord A → List ℕ
-entry_text total e = record_text e.level e.row.now (place_from_end total e.next) (place_from_end total e.lower)
+entry_text total e = record_text e.level e.row.now (offset_from_end total e.next) (offset_from_end total e.lower)
 
 -- the bytes of these records, in the order from the last of the list to the first
 abbrev pub laid_text : {A : Type 0} → ℕ → List (LaidRecord A) → List ℕ
@@ -43,7 +43,7 @@ laid_text total (e ∷ es) = laid_text total es ++ entry_text total e
 abbrev pub forest_text : Forest Record → List ℕ
 forest_text no_nodes = []
 forest_text (node r below next) =
-    spelled_items (record_item (first_record_place next) (first_record_place below) r.elements no_items)
+    spelled_items (record_item (first_record_offset next) (first_record_offset below) r.elements no_items)
     ++ (forest_text below ++ forest_text next)
 
 abbrev pub has_none : Forest Elements → Bool
@@ -68,9 +68,9 @@ groups_forest record_of below (group ∷ groups) = group_node record_of below gr
 pub record Lays {A : Type 0} (forest : Forest Elements) (old new : List (LaidRecord A)) (old_size new_size first last : ℕ) : Type 0 where
   pub size : new_size ≡ old_size + forest_size forest
   pub count : length new ≡ length old + count_of forest
-  pub text : (start : ℕ) → laid_text (start + new_size) new ≡ forest_text (with_places start forest) ++ laid_text (start + new_size) old
-  pub first_is : (start : ℕ) → place_from_end (start + new_size) first ≡ first_record_place (with_places start forest)
-  pub last_is : (start : ℕ) → place_from_end (start + new_size) last ≡ last_record_place (with_places start forest)
+  pub text : (start : ℕ) → laid_text (start + new_size) new ≡ forest_text (with_positions start forest) ++ laid_text (start + new_size) old
+  pub first_is : (start : ℕ) → offset_from_end (start + new_size) first ≡ first_record_offset (with_positions start forest)
+  pub last_is : (start : ℕ) → offset_from_end (start + new_size) last ≡ last_record_offset (with_positions start forest)
   pub none : nat_eq first 0 ≡ has_none forest
 
 -- ---- the invariant of a planned directory

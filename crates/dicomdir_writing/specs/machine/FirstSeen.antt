@@ -27,7 +27,7 @@ pub record Puts (key : List ℕ) (row : Row) (keys new : List (List ℕ)) (group
   pub groups_are : after ≡ put_in (cond (not (is_seen key keys)) (groups ++ [] ∷ []) groups) (position_or_len (bytes_eq key) keys) row
 
 -- the row was appended to the rows, or its index `at` to the duplicates if its SOP Instance UID is not new
-pub record TakesRow (at : ℕ) (row : Row) (keys new : List (List ℕ)) (rows after : List Row) (duplicates more : List ℕ) : Type 0 where
+pub record ConsumesRow (at : ℕ) (row : Row) (keys new : List (List ℕ)) (rows after : List Row) (duplicates more : List ℕ) : Type 0 where
   pub keys_are : new ≡ with_key row.instance keys
   pub rows_are : after ≡ cond (is_seen row.instance keys) rows (rows ++ row ∷ [])
   pub duplicates_are : more ≡ cond (is_seen row.instance keys) (duplicates ++ at ∷ []) duplicates

@@ -6,7 +6,7 @@ use Rattle.sequence.specs.declared.fault.Fault.{Fault}
 use Rattle.sequence.specs.declared.walker.Walker.{Walker}
 use Rattle.sequence.specs.Ending.{IsWholeDataSet, Fails}
 use Rattle.sequence.specs.Rules.{Limits}
-use Rattle.sequence.specs.Taken.{StandsAt, walker_syntax, limits_of}
+use Rattle.sequence.specs.Consumed.{StandsAt, walker_syntax, limits_of}
 use Rattle.dicomdir_writing.specs.declared.skip.Skip.{Skip}
 use Rattle.part10.specs.declared.meta_fault.MetaFault.{MetaFault}
 use Rattle.part10.specs.declared.meta_fault.MetaFault.TheVariants.{ReadFailed}
@@ -19,8 +19,8 @@ abbrev pub FailsBy : Coding → Limits → List ℕ → Skip → Type 0
 FailsBy s lim text reason = (fault : Fault) × Fails s lim text fault × (reason ≡ skip.Fault fault.number)
 
 -- the bytes that the reader had are a whole data set, which the walker has read
-abbrev pub TookWhole : {V D : ℕ} → Walker V D → Option (List ℕ) → Type 0
-TookWhole w old = IfSome old (λ text. StandsAt w text × IsWholeDataSet (walker_syntax w) (limits_of w) text)
+abbrev pub ConsumedWhole : {V D : ℕ} → Walker V D → Option (List ℕ) → Type 0
+ConsumedWhole w old = IfSome old (λ text. StandsAt w text × IsWholeDataSet (walker_syntax w) (limits_of w) text)
 
 -- the reason of a failure: a read failed (54), or the bytes that the reader had have a fault
 pub data WalkFails {V D : ℕ} (w : Walker V D) (old : Option (List ℕ)) (reason : Skip) : Type 0 where

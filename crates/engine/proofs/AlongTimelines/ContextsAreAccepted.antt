@@ -40,7 +40,7 @@ use Rattle.engine.specs.Requests.{answered, keeping, judged_so, at_request}
 use Rattle.engine.specs.Replies.{invalid, user_aborts, value_head, aborted_if_refused, command_refused, at_pdv_head, at_pdv, replied, going_on}
 use Rattle.engine.specs.Run.{Rooms, at_entry, at_end, cut, gives, released}
 use Rattle.engine.specs.Fair.{message_at}
-use Rattle.engine.specs.Reached.{takes_pdvs}
+use Rattle.engine.specs.Reached.{accepts_pdvs}
 use Rattle.engine.specs.machine.PerformsReaction.{is_remaining, Stays}
 use Rattle.engine.proofs.FieldsShow.AfterAnEvent.{moved_remaining, moved_stays}
 use Rattle.engine.proofs.AlongTimelines.HeadsAreFirst.{Opened, Between, OfPdu, OfPdv, opens_at, IsHeadedAt, AreHeadedAt, timeline_headed}
@@ -62,7 +62,7 @@ MessageKnown request (InSet id command set) = IsKnown request id
 abbrev HeadKnown : Progress → Opened → Type 0
 HeadKnown p Between = Unit {0}
 HeadKnown p (OfPdu kind n) = Unit {0}
-HeadKnown p (OfPdv n id control) = takes_pdvs p ≡ true → IsKnown p.request id
+HeadKnown p (OfPdv n id control) = accepts_pdvs p ≡ true → IsKnown p.request id
 
 record Sound (p : Progress) (o : Opened) : Type 0 where
   message : MessageKnown p.request p.message
@@ -83,13 +83,13 @@ decided_sound d p (OfPdu kind n) h = record { message = h.message; quiet = h.qui
 decided_sound d p (OfPdv n id control) h = record { message = h.message; quiet = h.quiet; head = h.head }
 
 -- where the values of the PDU don't count
-uncounted_head : (p : Progress) (o : Opened) → takes_pdvs p ≡ false → HeadKnown p o
+uncounted_head : (p : Progress) (o : Opened) → accepts_pdvs p ≡ false → HeadKnown p o
 uncounted_head p Between e = tt
 uncounted_head p (OfPdu kind n) e = tt
 uncounted_head p (OfPdv n id control) e = λ t. absurd (let wrong : true ≡ false = sym t ∙ e in cc)
 
-remaining_uncounted : (st : State) (p : Progress) → is_remaining st ≡ true → takes_pdvs (remaining st p) ≡ false
-remaining_uncounted st p l = by_remaining (λ (x : State). takes_pdvs (remaining x p) ≡ false) refl refl st l
+remaining_uncounted : (st : State) (p : Progress) → is_remaining st ≡ true → accepts_pdvs (remaining st p) ≡ false
+remaining_uncounted st p l = by_remaining (λ (x : State). accepts_pdvs (remaining x p) ≡ false) refl refl st l
 
 remaining_sound : (st : State) (p : Progress) (o : Opened) → is_remaining st ≡ true → Sound (remaining st p) o
 remaining_sound st p o l = record { message = tt; quiet = λ _. refl; head = uncounted_head (remaining st p) o (remaining_uncounted st p l) }
@@ -338,4 +338,4 @@ module _ (rooms : Rooms) (s : Settings) where
   pub story_accepted : (inputs : List Received) (story : List Happened) → entries_of story ≡ entries [] inputs → AreAccepted rooms s at_start story
   story_accepted inputs story reported =
       all_accepted at_start Between story (record { message = tt; quiet = λ _. refl; head = tt })
-      (subst (AreHeadedAt Any Between) (sym reported) (timeline_headed Any (record { takes = λ n xs h. tt; drops = λ n xs h. tt }) inputs tt))
+      (subst (AreHeadedAt Any Between) (sym reported) (timeline_headed Any (record { accepts = λ n xs h. tt; drops = λ n xs h. tt }) inputs tt))

@@ -79,7 +79,7 @@ pub record IsStarted (P : List ℕ → Type 0) (r : List ℕ) (o : Opened) : Typ
 
 -- P holds of the parts of a text of which it holds
 pub record HoldsOfParts (P : List ℕ → Type 0) : Type 0 where
-  pub takes : (n : ℕ) (xs : List ℕ) → P xs → P (take n xs)
+  pub accepts : (n : ℕ) (xs : List ℕ) → P xs → P (take n xs)
   pub drops : (n : ℕ) (xs : List ℕ) → P xs → P (drop n xs)
 
 after_more : (o : Opened) (xs ys : List Mark) → open_after o (xs ++ ys) ≡ open_after (open_after o xs) ys
@@ -114,7 +114,7 @@ module _ (P : List ℕ → Type 0) (parts : HoldsOfParts P) where
       let two : 2 ≤ n = ltb-false n 2 f in
       let enough : 4 + n ≤ length bytes = ltb-false (length bytes) (pdv_size bytes) g in
       let size : length (take (n - 2) (drop 6 bytes)) + 2 ≡ n = omega (arith, six, two, enough, length-take (n - 2) (drop 6 bytes), length-drop 6 bytes) in
-      (tt, ((ap (λ (k : ℕ). OfPdv k (get_or bytes 4 0) (get_or bytes 5 0)) (sym size), parts.takes (n - 2) (drop 6 bytes) (parts.drops 6 bytes p)), h Between))
+      (tt, ((ap (λ (k : ℕ). OfPdv k (get_or bytes 4 0) (get_or bytes 5 0)) (sym size), parts.accepts (n - 2) (drop 6 bytes) (parts.drops 6 bytes p)), h Between))
 
   leftover_headed : (b : Bool) (later : Pdvs) → ((o : Opened) → AreHeaded P o later.marks) → (o : Opened) → AreHeaded P o (if b then record { marks = Leftover ∷ []; spot = Dropped } else later).marks
   leftover_headed true later h o = (tt, tt)
@@ -207,7 +207,7 @@ module _ (P : List ℕ → Type 0) (parts : HoldsOfParts P) where
       let n = 6 + frame_length text in
       let size : length (take n text) ≡ n = omega (arith, length-take n text, enough) in
       let same : frame_length text ≡ frame_length (take n text) = ap frame_length (sym (take-append-drop n text)) ∙ (same_frame (take n text) (drop n text) (omega (arith, size))).n in
-      record { bytes = parts.takes n text p; size = omega (arith, size, same, length-drop 6 (take n text)) }
+      record { bytes = parts.accepts n text p; size = omega (arith, size, same, length-drop 6 (take n text)) }
 
   frames_good : (k : ℕ) (text : List ℕ) → P text → AreGood (pieces_in frame k text)
   frames_good zero text p = (tt, p)

@@ -51,8 +51,8 @@ pub data BringsNothing : HeadEvent → Type 0 where
   no_event : BringsNothing NoEvent
   at_once : (reason : ℕ) → BringsNothing (AtOnce event.Invalid reason)
 
-idle_place : (a : Action) (e : Event) → a ≡ action.Nothing → BringsNothing (if is_abort a then AtOnce e 2 else NoEvent)
-idle_place a e is = subst (λ (x : Action). BringsNothing (if is_abort x then AtOnce e 2 else NoEvent)) (sym is) no_event
+idle_offset : (a : Action) (e : Event) → a ≡ action.Nothing → BringsNothing (if is_abort a then AtOnce e 2 else NoEvent)
+idle_offset a e is = subst (λ (x : Action). BringsNothing (if is_abort x then AtOnce e 2 else NoEvent)) (sym is) no_event
 
 idle_head : (a b c d : Bool) (r1 r2 other : HeadEvent) → BringsNothing other → BringsNothing (if a then AtOnce event.Invalid 1 else (if b then AtOnce event.Invalid 6 else (if false && c then r1 else (if false && d then r2 else other))))
 idle_head true b c d r1 r2 other h = at_once 1
@@ -78,7 +78,7 @@ module _ (rq : Requested) (m : Started) (f : Bool) where
   mark_still : (rooms : Rooms) (s : Settings) (v : Finding) (d : Decision) (b : Bool) (x : Mark) → IsStill (at_end_with rq m f d b) (at_entry rooms s (at_end_with rq m f d b) v (At x))
   mark_still rooms s v d b (Head kind n) =
       head_still d b kind n (idle_head (not (is_known kind)) (has_four_bytes kind && not (nat_eq n 4)) (nat_eq kind 1) (nat_eq kind 4) (request_length (rooms.request - 12) n) (data_length s.max_pdu n) _
-      (idle_place _ (event_of kind) (ap (λ (step : Action × State). step.0) (idle_event (nat_eq kind 1) (nat_eq kind 2) (nat_eq kind 3) (nat_eq kind 4) (nat_eq kind 5) (nat_eq kind 6) (nat_eq kind 7)))))
+      (idle_offset _ (event_of kind) (ap (λ (step : Action × State). step.0) (idle_event (nat_eq kind 1) (nat_eq kind 2) (nat_eq kind 3) (nat_eq kind 4) (nat_eq kind 5) (nat_eq kind 6) (nat_eq kind 7)))))
   mark_still rooms s v d true (PdvHead n context control) = kept_still d true
   mark_still rooms s v d true (Pdv context control fragment) = kept_still d true
   mark_still rooms s v d true BadPdv = kept_still d true

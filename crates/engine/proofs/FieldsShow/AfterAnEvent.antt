@@ -16,7 +16,7 @@ use Rattle.pdu.specs.Sent.{Line, Sends}
 use Rattle.part10.specs.Store.{Store}
 use Rattle.dimse.specs.Messages.{NoMessage}
 use Rattle.dimse.specs.Joining.{ShowsMessage, with_pdv}
-use Rattle.engine.specs.Reached.{takes_pdvs}
+use Rattle.engine.specs.Reached.{accepts_pdvs}
 use Rattle.decisions.specs.declared.decision.Decision.{Decision}
 use Rattle.decisions.specs.declared.decision.Decision.TheVariants as decision
 use Rattle.engine.specs.Progress.{Progress, Advance, at_start, remaining, moved, deciding, decided_at, done, is_due, is_established}
@@ -240,7 +240,7 @@ decided_there Sta13 before d n = refl
 
 pub pends_begins : (k : Kept) (store : Store) (p : Progress) → Pends k store p [] [] → Pends (record k { refused = false; body = [] }) store (record p { refused = false }) [] []
 pends_begins k store p h =
-    let same : counted_pdv p [] ≡ counted_pdv (record p { refused = false }) [] = sym (if_nothing (takes_pdvs p)) ∙ if_nothing (is_established p.state && true) in
+    let same : counted_pdv p [] ≡ counted_pdv (record p { refused = false }) [] = sym (if_nothing (accepts_pdvs p)) ∙ if_nothing (is_established p.state && true) in
     record {
       state_is = h.state_is;
       refused_is = λ n. refl;

@@ -14,11 +14,11 @@ use Rattle.engine.specs.declared.phase.Phase.TheVariants.{AwaitingRequest, Estab
 use Rattle.engine.specs.declared.phase.Peer.{Peer}
 use Rattle.engine.specs.declared.phase.Message.{Message}
 use Rattle.engine.specs.declared.provider.Provider.{Provider}
-use Rattle.engine.specs.Phases.{state_in, request_in, stored_in, taken_in}
+use Rattle.engine.specs.Phases.{state_in, request_in, stored_in, consumed_in}
 use Rattle.engine.specs.StoredData.{Nothing}
 use Rattle.engine.specs.Progress.{is_due, is_established}
 use Rattle.engine.specs.Held.{is_ended}
-use Rattle.engine.specs.Kept.{Kept, IsUnagreed, kept_in, takes_pdvs_in, takes_body_in}
+use Rattle.engine.specs.Kept.{Kept, IsUnagreed, kept_in, accepts_pdvs_in, accepts_body_in}
 use Rattle.engine.specs.machine.PerformsReaction.{IsRemaining, is_remaining, state_after}
 
 -- a join without any fragment
@@ -60,7 +60,7 @@ unended phase h = grind (arith, common_steps)
 pub awaiting_stored : {A C V D : ℕ} → (phase : Phase A C V D) → state_in phase ≡ Sta2 → stored_in phase ≡ Nothing
 awaiting_stored phase h = grind (arith, common_steps)
 
-pub awaiting_room : {A C V D : ℕ} → (phase : Phase A C V D) → state_in phase ≡ Sta2 → length (request_in phase) + 12 ≡ taken_in phase
+pub awaiting_room : {A C V D : ℕ} → (phase : Phase A C V D) → state_in phase ≡ Sta2 → length (request_in phase) + 12 ≡ consumed_in phase
 awaiting_room phase h = grind (arith, common_steps)
 
 -- an association that is not left after a send keeps its state
@@ -72,17 +72,17 @@ state_kept (Err f) next state l stays = let x : is_remaining Sta1 ≡ false = l 
 pub never_both : (t : Bool) → t && false ≡ false
 never_both t = grind (arith, common_steps)
 
-pub refused_pdvs : (k : Kept) → k.refused ≡ true → takes_pdvs_in k ≡ false
+pub refused_pdvs : (k : Kept) → k.refused ≡ true → accepts_pdvs_in k ≡ false
 refused_pdvs k r = ap (λ (b : Bool). is_established k.state && not b) r ∙ never_both (is_established k.state)
 
-pub refused_body : (k : Kept) (kind : ℕ) → k.refused ≡ true → takes_body_in k kind ≡ false
+pub refused_body : (k : Kept) (kind : ℕ) → k.refused ≡ true → accepts_body_in k kind ≡ false
 refused_body k kind r = ap (λ (b : Bool). is_due k.state && (not b && nat_eq kind 1)) r ∙ never_both (is_due k.state)
 
-pub other_body : (k : Kept) (kind : ℕ) → (kind ≡ 1 → ⊥) → takes_body_in k kind ≡ false
+pub other_body : (k : Kept) (kind : ℕ) → (kind ≡ 1 → ⊥) → accepts_body_in k kind ≡ false
 other_body k kind other = by (nat_eq kind 1) refl where
-  by : (t : Bool) → nat_eq kind 1 ≡ t → takes_body_in k kind ≡ false
+  by : (t : Bool) → nat_eq kind 1 ≡ t → accepts_body_in k kind ≡ false
   by true is = absurd (other (grind (arith, nat_tests)))
   by false is = ap (λ (b : Bool). is_due k.state && (not k.refused && b)) is ∙ ap (λ (b : Bool). is_due k.state && b) (never_both (not k.refused)) ∙ never_both (is_due k.state)
 
-pub taken_body : (refused : Bool) (kind : ℕ) → refused ≡ false → kind ≡ 1 → not refused && nat_eq kind 1 ≡ true
-taken_body refused kind r e = rw (r, e) refl
+pub consumed_body : (refused : Bool) (kind : ℕ) → refused ≡ false → kind ≡ 1 → not refused && nat_eq kind 1 ≡ true
+consumed_body refused kind r e = rw (r, e) refl

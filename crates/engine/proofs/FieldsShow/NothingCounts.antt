@@ -13,8 +13,8 @@ use Rattle.engine.specs.Drafts.{IsDraft, none_due}
 use Rattle.engine.specs.Fair.{InStore}
 use Rattle.engine.specs.Held.{is_ended}
 use Rattle.engine.specs.Progress.{Progress, is_due, is_established}
-use Rattle.engine.specs.Reached.{takes_pdvs}
-use Rattle.engine.specs.Kept.{Kept, Pends, counted_pdv, takes_pdvs_in}
+use Rattle.engine.specs.Reached.{accepts_pdvs}
+use Rattle.engine.specs.Kept.{Kept, Pends, counted_pdv, accepts_pdvs_in}
 use Rattle.engine.specs.StoredData.{Stored, Nothing, Walks, not_walked, walked, drafting_in}
 use Rattle.engine.proofs.FieldsShow.ByState.{ended_is}
 
@@ -25,7 +25,7 @@ no_store request m none store = let wrong : NoMessage ≡ InSet store.id store.c
 
 pub none_stored : {depth most : ℕ} {request : Requested} {m : Started} {stored : Stored} → m ≡ NoMessage → Walks depth most request m stored → stored ≡ Nothing
 none_stored e (not_walked none) = refl
-none_stored {request = request} {m = m} e (walked store takes) = absurd (no_store request m e store)
+none_stored {request = request} {m = m} e (walked store accepts) = absurd (no_store request m e store)
 
 pub walks_none : (depth most : ℕ) (request : Requested) (m : Started) → m ≡ NoMessage → Walks depth most request m Nothing
 walks_none depth most request m e = not_walked (no_store request m e)
@@ -83,7 +83,7 @@ if_short : (t : Bool) (b : List ℕ) → length b < 6 → length (if t then b el
 if_short t b h = grind (arith, common_steps)
 
 counted_short : (p : Progress) (b : List ℕ) → length b < 6 → length (counted_pdv p b) < 6
-counted_short p b l = if_short (takes_pdvs p) b l
+counted_short p b l = if_short (accepts_pdvs p) b l
 
 is_short : (n : ℕ) → n < 6 → nat_lt n 6 ≡ true
 is_short n l = grind (arith, nat_tests)
@@ -118,13 +118,13 @@ pends_short k store p body b c l m h =
 
 -- ---- whether PDVs count
 
-takes_by : (st : State) (a b : Bool) → (is_ended st ≡ false → a ≡ b) → (is_established st && not a) ≡ (is_established st && not b)
-takes_by Sta1 a b h = refl
-takes_by Sta2 a b h = refl
-takes_by Sta3 a b h = refl
-takes_by Sta6 a b h = ap not (h refl)
-takes_by Sta8 a b h = refl
-takes_by Sta13 a b h = refl
+accepts_by : (st : State) (a b : Bool) → (is_ended st ≡ false → a ≡ b) → (is_established st && not a) ≡ (is_established st && not b)
+accepts_by Sta1 a b h = refl
+accepts_by Sta2 a b h = refl
+accepts_by Sta3 a b h = refl
+accepts_by Sta6 a b h = ap not (h refl)
+accepts_by Sta8 a b h = refl
+accepts_by Sta13 a b h = refl
 
-pub takes_shown : (k : Kept) (store : Store) (p : Progress) (body started : List ℕ) → Pends k store p body started → takes_pdvs_in k ≡ takes_pdvs p
-takes_shown k store p body started h = ap (λ (x : State). is_established x && not k.refused) h.state_is ∙ takes_by p.state k.refused p.refused h.refused_is
+pub accepts_shown : (k : Kept) (store : Store) (p : Progress) (body started : List ℕ) → Pends k store p body started → accepts_pdvs_in k ≡ accepts_pdvs p
+accepts_shown k store p body started h = ap (λ (x : State). is_established x && not k.refused) h.state_is ∙ accepts_by p.state k.refused p.refused h.refused_is

@@ -17,7 +17,7 @@ use Rattle.decisions.specs.declared.decision.Decision.TheVariants as decision
 use Rattle.decisions.specs.ValueEnds.{value_end}
 use Rattle.pdu.specs.Marks.{BadPdv, Leftover}
 use Rattle.engine.specs.Progress.{Progress, Advance, deciding, nothing, remaining, refusing, is_due, is_established}
-use Rattle.engine.specs.Reached.{takes_pdvs}
+use Rattle.engine.specs.Reached.{accepts_pdvs}
 use Rattle.engine.specs.Replies.{invalid}
 use Rattle.engine.specs.Run.{Rooms, at_entry, cut, fails}
 use Rattle.engine.specs.Fair.{IsVerdict, message_at}
@@ -123,24 +123,24 @@ pub none_counted_body : (q : Progress) → counted_body q [] ≡ []
 none_counted_body q = if_nothing (is_due q.state && not q.refused)
 
 pub none_counted_pdv : (q : Progress) → counted_pdv q [] ≡ []
-none_counted_pdv q = if_nothing (takes_pdvs q)
+none_counted_pdv q = if_nothing (accepts_pdvs q)
 
 -- ---- whether PDVs count
 
-pub taken_when : (e r : Bool) (a b : Advance) → (if r then b else (if e then a else b)) ≡ (if e && not r then a else b)
-taken_when e r a b = grind arith
+pub consumed_when : (e r : Bool) (a b : Advance) → (if r then b else (if e then a else b)) ≡ (if e && not r then a else b)
+consumed_when e r a b = grind arith
 
 -- a PDV that is bad, and bytes that are remaining
-pub at_bad : (rooms : Rooms) (s : Settings) (p : Progress) → at_entry rooms s p good (At BadPdv) ≡ (if takes_pdvs p then invalid (deciding decision.ValueInvalid p) else nothing p)
-at_bad rooms s p = taken_when (is_established p.state) p.refused (invalid (deciding decision.ValueInvalid p)) (nothing p)
+pub at_bad : (rooms : Rooms) (s : Settings) (p : Progress) → at_entry rooms s p good (At BadPdv) ≡ (if accepts_pdvs p then invalid (deciding decision.ValueInvalid p) else nothing p)
+at_bad rooms s p = consumed_when (is_established p.state) p.refused (invalid (deciding decision.ValueInvalid p)) (nothing p)
 
-pub at_leftover : (rooms : Rooms) (s : Settings) (p : Progress) → at_entry rooms s p good (At Leftover) ≡ (if takes_pdvs p then invalid (deciding (decision.BytesRemaining (value_end p.decided)) p) else nothing p)
-at_leftover rooms s p = taken_when (is_established p.state) p.refused (invalid (deciding (decision.BytesRemaining (value_end p.decided)) p)) (nothing p)
+pub at_leftover : (rooms : Rooms) (s : Settings) (p : Progress) → at_entry rooms s p good (At Leftover) ≡ (if accepts_pdvs p then invalid (deciding (decision.BytesRemaining (value_end p.decided)) p) else nothing p)
+at_leftover rooms s p = consumed_when (is_established p.state) p.refused (invalid (deciding (decision.BytesRemaining (value_end p.decided)) p)) (nothing p)
 
 -- where the fields show what was decided before
 pub remaining_after : (p : Progress) (d : Decision) → d ≡ p.decided
-    → (if takes_pdvs p then invalid (deciding (decision.BytesRemaining (value_end p.decided)) p) else nothing p) ≡ (if takes_pdvs p then invalid (deciding (decision.BytesRemaining (value_end d)) p) else nothing p)
-remaining_after p d e = ap (λ (x : Decision). if takes_pdvs p then invalid (deciding (decision.BytesRemaining (value_end x)) p) else nothing p) (sym e)
+    → (if accepts_pdvs p then invalid (deciding (decision.BytesRemaining (value_end p.decided)) p) else nothing p) ≡ (if accepts_pdvs p then invalid (deciding (decision.BytesRemaining (value_end d)) p) else nothing p)
+remaining_after p d e = ap (λ (x : Decision). if accepts_pdvs p then invalid (deciding (decision.BytesRemaining (value_end x)) p) else nothing p) (sym e)
 
 -- ---- events that leave the association or keep its state
 

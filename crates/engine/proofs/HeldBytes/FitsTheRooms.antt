@@ -39,7 +39,7 @@ use Rattle.decisions.specs.declared.decision.Decision.{Decision}
 use Rattle.decisions.specs.declared.decision.Decision.TheVariants as decision
 use Rattle.decisions.specs.ValueEnds.{value_end}
 use Rattle.engine.specs.Progress.{Progress, Advance, deciding, deciding_unless_ended, absorb, remaining, moved, done, nothing, is_due, is_established}
-use Rattle.engine.specs.Reached.{takes_pdvs}
+use Rattle.engine.specs.Reached.{accepts_pdvs}
 use Rattle.engine.specs.Replies.{invalid, value_head, command_refused, at_pdv_head, at_pdv, replied}
 use Rattle.engine.specs.Requested.{request_record}
 use Rattle.engine.specs.Requests.{declined, answered, at_request, keeping}
@@ -54,7 +54,7 @@ use Rattle.engine.proofs.FieldsShow.AfterAnEvent.{moved_remaining, moved_stays}
 use Rattle.engine.proofs.MarksAreDone.RowsFit.{few_rows}
 use Rattle.engine.proofs.FieldsShow.KeptInPhases.{never_both}
 use Rattle.engine.proofs.FieldsShow.ByState.{established_is, due_is, by_remaining}
-use Rattle.negotiate.specs.Taken.{Taken}
+use Rattle.negotiate.specs.Allowed.{Allowed}
 
 -- the bytes of a data set that have come
 abbrev pub set_of : Started → List ℕ
@@ -67,11 +67,11 @@ pub record IsSmall (rooms : Rooms) (r : RequestRecord) : Type 0 where
   pub rows : 32 + 4 * accepted_count r ≤ rooms.request
   pub contexts : accepted_count r ≤ 128
 
--- what the last mark began has room: the body of a request that is taken, and the fragment of a value that counts
+-- what the last mark began has room: the body of a request that is accepted, and the fragment of a value that counts
 abbrev pub HasRoom : Rooms → Progress → Opened → Type 0
 HasRoom rooms p Between = Unit {0}
 HasRoom rooms p (OfPdu kind n) = is_due p.state ≡ true → p.refused ≡ false → nat_eq kind 1 ≡ true → n ≤ rooms.request - 12
-HasRoom rooms p (OfPdv n context control) = takes_pdvs p ≡ true → refusal rooms.command p.message n context control ≡ None
+HasRoom rooms p (OfPdv n context control) = accepts_pdvs p ≡ true → refusal rooms.command p.message n context control ≡ None
 
 pub record Fits (rooms : Rooms) (p : Progress) (o : Opened) : Type 0 where
   pub command : of_command p.message ≤ rooms.command
@@ -85,7 +85,7 @@ no_bytes i = lit< tt
 -- ---- requests
 
 -- of one that is read: it has more bytes than its rows, and at most 128 contexts
-small_request : (rooms : Rooms) (additional : Taken) (body : List ℕ) → IsBytes body → request_fault body ≡ None → length body ≤ rooms.request - 12
+small_request : (rooms : Rooms) (additional : Allowed) (body : List ℕ) → IsBytes body → request_fault body ≡ None → length body ≤ rooms.request - 12
     → IsSmall rooms (offered additional (items.request_record body))
 small_request rooms additional body bytes none le =
     let r = items.request_record body in
@@ -160,10 +160,10 @@ row_fits rooms (InSet id command set) true fits = tt
 module _ (rooms : Rooms) where
   -- ---- where nothing that has started counts
 
-  uncounted : (p : Progress) (o : Opened) → is_due p.state ≡ false → takes_pdvs p ≡ false → HasRoom rooms p o
+  uncounted : (p : Progress) (o : Opened) → is_due p.state ≡ false → accepts_pdvs p ≡ false → HasRoom rooms p o
   uncounted p Between d t = tt
   uncounted p (OfPdu kind n) d t = λ due. absurd (let wrong : true ≡ false = sym due ∙ d in cc)
-  uncounted p (OfPdv n context control) d t = λ takes. absurd (let wrong : true ≡ false = sym takes ∙ t in cc)
+  uncounted p (OfPdv n context control) d t = λ accepts. absurd (let wrong : true ≡ false = sym accepts ∙ t in cc)
 
   remaining_due : (st : State) → is_remaining st ≡ true → is_due st ≡ false
   remaining_due = by_remaining (λ (x : State). is_due x ≡ false) refl refl
@@ -194,7 +194,7 @@ module _ (rooms : Rooms) where
   refused_room : (p : Progress) (o : Opened) → HasRoom rooms (record p { refused = true }) o
   refused_room p Between = tt
   refused_room p (OfPdu kind n) = λ due r. absurd cc
-  refused_room p (OfPdv n context control) = λ takes. absurd (let wrong : true ≡ false = sym takes ∙ never_both (is_established p.state) in cc)
+  refused_room p (OfPdv n context control) = λ accepts. absurd (let wrong : true ≡ false = sym accepts ∙ never_both (is_established p.state) in cc)
 
   refused_fits : (p : Progress) (o later : Opened) → Fits rooms p o → Fits rooms (record p { refused = true }) later
   refused_fits p o later h = record { command = h.command; bytes = h.bytes; agreed = h.agreed; room = refused_room p later }
@@ -212,13 +212,13 @@ module _ (rooms : Rooms) where
       let q = deciding (command_refused p pdv fault) p in
       refused_fits (done [] 0 q event.UserAborts).next Between Between (event_fits q Between event.UserAborts (stays_aborts p.state) (decided_fits q.decided p Between (with_nothing p o h)))
 
-  pdv_fits : (p : Progress) (finding : Finding) (o : Opened) (context control : ℕ) (fragment : List ℕ) → Fits rooms p o → o ≡ OfPdv (length fragment + 2) context control → IsBytes fragment → takes_pdvs p ≡ true
+  pdv_fits : (p : Progress) (finding : Finding) (o : Opened) (context control : ℕ) (fragment : List ℕ) → Fits rooms p o → o ≡ OfPdv (length fragment + 2) context control → IsBytes fragment → accepts_pdvs p ≡ true
       → Fits rooms (at_pdv p finding (record { context = context; control = control; fragment = fragment })).next Between
-  pdv_fits p finding o context control fragment h is bytes takes =
+  pdv_fits p finding o context control fragment h is bytes accepts =
       let room : HasRoom rooms p (OfPdv (length fragment + 2) context control) = subst (HasRoom rooms p) is h.room in
       let pdv : messages.Pdv = record { context = context; control = control; fragment = fragment } in
       value_fits p finding o pdv (brought p.message pdv) h
-      (row_fits rooms (with_fragment context fragment p.message) (is_last control) (fragment_within rooms p.message (length fragment) context control fragment (room takes) (omega arith) bytes (h.command, h.bytes)))
+      (row_fits rooms (with_fragment context fragment p.message) (is_last control) (fragment_within rooms p.message (length fragment) context control fragment (room accepts) (omega arith) bytes (h.command, h.bytes)))
 
   -- ---- heads
 
@@ -227,7 +227,7 @@ module _ (rooms : Rooms) where
   pdv_head_fits p o n id control None refused e h =
       let q = deciding (decision.ContextRefused (value_head n id control)) p in
       refused_fits (done [] 6 q event.Invalid).next Between _ (event_fits q Between event.Invalid (stays_invalid p.state) (decided_fits q.decided p Between (with_nothing p o h)))
-  pdv_head_fits p o n id control (Some context) None e h = record { command = h.command; bytes = h.bytes; agreed = h.agreed; room = λ takes. e }
+  pdv_head_fits p o n id control (Some context) None e h = record { command = h.command; bytes = h.bytes; agreed = h.agreed; room = λ accepts. e }
   pdv_head_fits p o n id control (Some context) (Some fault) e h =
       let q = deciding (decision.FragmentRefused (value_head n id control) fault) p in
       refused_fits (done [] 0 q event.UserAborts).next Between _ (event_fits q Between event.UserAborts (stays_aborts p.state) (decided_fits q.decided p Between (with_nothing p o h)))
@@ -296,29 +296,29 @@ module _ (rooms : Rooms) where
   -- ---- any entry
 
   -- a mark counts where its PDU was not refused and the association is established
-  counted_fits : (p : Progress) (o later : Opened) (refused established : Bool) (g : Advance) → p.refused ≡ refused → is_established p.state ≡ established → Fits rooms p o → (takes_pdvs p ≡ false → HasRoom rooms p later)
-      → (takes_pdvs p ≡ true → Fits rooms g.next later) → Fits rooms (if refused then nothing p else (if established then g else nothing p)).next later
+  counted_fits : (p : Progress) (o later : Opened) (refused established : Bool) (g : Advance) → p.refused ≡ refused → is_established p.state ≡ established → Fits rooms p o → (accepts_pdvs p ≡ false → HasRoom rooms p later)
+      → (accepts_pdvs p ≡ true → Fits rooms g.next later) → Fits rooms (if refused then nothing p else (if established then g else nothing p)).next later
   counted_fits p o later true established g r e h no_room k = record { command = h.command; bytes = h.bytes; agreed = h.agreed; room = no_room (ap (λ (b : Bool). is_established p.state && not b) r ∙ never_both (is_established p.state)) }
   counted_fits p o later false true g r e h no_room k = k (rw (e, r) refl)
   counted_fits p o later false false g r e h no_room k = record { command = h.command; bytes = h.bytes; agreed = h.agreed; room = no_room (ap (λ (b : Bool). b && not p.refused) e) }
 
-  not_taken : (p : Progress) (n context control : ℕ) → takes_pdvs p ≡ false → HasRoom rooms p (OfPdv n context control)
-  not_taken p n context control t = λ takes. absurd (let wrong : true ≡ false = sym takes ∙ t in cc)
+  not_consumed : (p : Progress) (n context control : ℕ) → accepts_pdvs p ≡ false → HasRoom rooms p (OfPdv n context control)
+  not_consumed p n context control t = λ accepts. absurd (let wrong : true ≡ false = sym accepts ∙ t in cc)
 
   entry_fits : (s : Settings) (p : Progress) (finding : Finding) (o : Opened) (x : Entry) → Fits rooms p o → IsHeadedAt IsBytes o x → Fits rooms (at_entry rooms s p finding x).next (opens_at o x)
   entry_fits s p finding o (At (Head kind n)) h k =
       let fresh : Progress = record p { refused = false } in
       pdu_head_fits s.max_pdu fresh kind n (head_event (rooms.request - 12) s.max_pdu fresh.state kind n) refl (record { command = h.command; bytes = h.bytes; agreed = h.agreed; room = tt })
   entry_fits s p finding o (At (PdvHead n context control)) h k =
-      counted_fits p o (OfPdv n context control) p.refused (is_established p.state) (at_pdv_head rooms.command p n context control) refl refl h (not_taken p n context control)
-      (λ takes. pdv_head_fits p o n context control (context_of (request_record p.request) context) (refusal rooms.command p.message n context control) refl h)
+      counted_fits p o (OfPdv n context control) p.refused (is_established p.state) (at_pdv_head rooms.command p n context control) refl refl h (not_consumed p n context control)
+      (λ accepts. pdv_head_fits p o n context control (context_of (request_record p.request) context) (refusal rooms.command p.message n context control) refl h)
   entry_fits s p finding o (At (Pdv context control fragment)) h k =
       counted_fits p o Between p.refused (is_established p.state) (at_pdv p finding (record { context = context; control = control; fragment = fragment })) refl refl h (λ t. tt)
-      (λ takes. pdv_fits p finding o context control fragment h k.0 k.1 takes)
+      (λ accepts. pdv_fits p finding o context control fragment h k.0 k.1 accepts)
   entry_fits s p finding o (At BadPdv) h k =
-      counted_fits p o Between p.refused (is_established p.state) (invalid (deciding decision.ValueInvalid p)) refl refl h (λ t. tt) (λ takes. invalid_fits decision.ValueInvalid p o h)
+      counted_fits p o Between p.refused (is_established p.state) (invalid (deciding decision.ValueInvalid p)) refl refl h (λ t. tt) (λ accepts. invalid_fits decision.ValueInvalid p o h)
   entry_fits s p finding o (At Leftover) h k =
-      counted_fits p o Between p.refused (is_established p.state) (invalid (deciding (decision.BytesRemaining (value_end p.decided)) p)) refl refl h (λ t. tt) (λ takes. invalid_fits (decision.BytesRemaining (value_end p.decided)) p o h)
+      counted_fits p o Between p.refused (is_established p.state) (invalid (deciding (decision.BytesRemaining (value_end p.decided)) p)) refl refl h (λ t. tt) (λ accepts. invalid_fits (decision.BytesRemaining (value_end p.decided)) p o h)
   entry_fits s p finding o (At (End kind body)) h k = by p.refused refl
     where
       by : (refused : Bool) → p.refused ≡ refused → Fits rooms (if refused then nothing p else at_end s p kind body).next Between

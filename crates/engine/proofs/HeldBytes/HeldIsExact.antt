@@ -15,22 +15,22 @@ use Rattle.part10.specs.Store.{Store}
 use Rattle.sequence.specs.declared.coding.Coding.{Coding}
 use Rattle.sequence.specs.Rules.{Limits}
 use Rattle.sequence.specs.Walk.{Report, Reports, going, refused}
-use Rattle.sequence.specs.Taken.{walker_syntax, limits_of, reported_by}
+use Rattle.sequence.specs.Consumed.{walker_syntax, limits_of, reported_by}
 use Rattle.engine.specs.Requested.{Requested}
 use Rattle.engine.specs.Stores.{limits}
 use Rattle.engine.specs.Run.{Rooms}
-use Rattle.engine.specs.Reached.{Reached, takes_pdvs, started_in, started_pdv, message_so_far}
+use Rattle.engine.specs.Reached.{Reached, accepts_pdvs, started_in, started_pdv, message_so_far}
 use Rattle.engine.specs.Held as holding
 use Rattle.engine.specs.Held.{is_ended, unfinished, of_request, of_command, held_before_data, IsHeldOfSet, unbroken, faulty, IsHeldOfMessage, Held}
 use Rattle.engine.specs.Stands.{Shows}
-use Rattle.engine.specs.Kept.{Kept, takes_pdvs_in, held_by}
+use Rattle.engine.specs.Kept.{Kept, accepts_pdvs_in, held_by}
 use Rattle.engine.specs.StoredData.{Stored, Walks, not_walked, walked, held_in}
 use Rattle.engine.specs.FrameFields.{Fields, StandsAt, reads, skips}
 use Rattle.engine.specs.machine.Skips.{in_pdv_head}
 use Rattle.engine.specs.machine.HeldHeads.{heads_of}
 use Rattle.engine.proofs.PiecesAreDone.SkippedPdu.{skips_frame}
 use Rattle.engine.proofs.HeldBytes.KeptByPhase.{held_shown, held_ended}
-use Rattle.engine.proofs.FieldsShow.NothingCounts.{takes_shown, ended_stored}
+use Rattle.engine.proofs.FieldsShow.NothingCounts.{accepts_shown, ended_stored}
 
 few : (xs : List ℕ) → length xs < 6 → unfinished xs ≡ length xs
 few xs lt = rw (lt-ltb (length xs) 6 lt) refl
@@ -41,9 +41,9 @@ many xs le = rw (le-ltb (length xs) 6 le) refl
 heads_ended : (r : Reached) → is_ended r.progress.state ≡ true → heads_of r ≡ 0
 heads_ended r e = rw e refl
 
-heads_open : (r : Reached) (b : List ℕ) (n m : ℕ) → is_ended r.progress.state ≡ false → started_in (spot r.rest) ≡ b → unfinished r.rest ≡ n → unfinished (if takes_pdvs r.progress then b else []) ≡ m → heads_of r ≡ n + m
+heads_open : (r : Reached) (b : List ℕ) (n m : ℕ) → is_ended r.progress.state ≡ false → started_in (spot r.rest) ≡ b → unfinished r.rest ≡ n → unfinished (if accepts_pdvs r.progress then b else []) ≡ m → heads_of r ≡ n + m
 heads_open r b n m e is first second =
-    let started : unfinished (started_pdv r) ≡ m = ap (λ (x : List ℕ). unfinished (if takes_pdvs r.progress then x else [])) is ∙ second in
+    let started : unfinished (started_pdv r) ≡ m = ap (λ (x : List ℕ). unfinished (if accepts_pdvs r.progress then x else [])) is ∙ second in
     rw e (omega (arith, first, started))
 
 -- ---- heads
@@ -71,38 +71,38 @@ heads_of_pdv x = grind (arith, common_steps)
 
 module _ (q : Position) (k : Kept) (store : Store) (r : Reached) where
   -- the deframer holds those that count: no head of a PDV is gathered where PDVs don't
-  pub heads_are : (n : ℕ) → (takes_pdvs_in k ≡ false → in_pdv_head q ≡ false) → ((x : List ℕ) (due : List Mark) → At q x due → n ≡ unfinished_heads x) → ((x : List ℕ) → SkipsAt q x → n ≡ 0)
+  pub heads_are : (n : ℕ) → (accepts_pdvs_in k ≡ false → in_pdv_head q ≡ false) → ((x : List ℕ) (due : List Mark) → At q x due → n ≡ unfinished_heads x) → ((x : List ℕ) → SkipsAt q x → n ≡ 0)
       → Shows (record { position = q; kept = k }) store r → n ≡ heads_of r
   heads_are n headless reported skipping h = elim (cases_Bool (is_ended r.progress.state)) [
     | inl e ↦ reported [] [] (h.headless e) ∙ sym (heads_ended r e)
     | inr e ↦ go e (h.frame.framed e)
   ]
     where
-      takes_is : takes_pdvs_in k ≡ takes_pdvs r.progress
-      takes_is = takes_shown k store r.progress _ _ h.frame.pends
+      accepts_is : accepts_pdvs_in k ≡ accepts_pdvs r.progress
+      accepts_is = accepts_shown k store r.progress _ _ h.frame.pends
 
       within : is_ended r.progress.state ≡ false → At q r.rest [] → 6 ≤ length r.rest → n ≡ unfinished_pdv_head (spot r.rest) → n ≡ heads_of r
-      within e at ge is = elim (cases_Bool (takes_pdvs_in k)) [
+      within e at ge is = elim (cases_Bool (accepts_pdvs_in k)) [
         | inl t ↦
-            let takes : takes_pdvs r.progress ≡ true = sym takes_is ∙ t in
-            let second : unfinished (if takes_pdvs r.progress then started_in (spot r.rest) else []) ≡ unfinished_pdv_head (spot r.rest) = rw takes (sym (heads_of_pdv (spot r.rest))) in
+            let accepts : accepts_pdvs r.progress ≡ true = sym accepts_is ∙ t in
+            let second : unfinished (if accepts_pdvs r.progress then started_in (spot r.rest) else []) ≡ unfinished_pdv_head (spot r.rest) = rw accepts (sym (heads_of_pdv (spot r.rest))) in
             omega (arith, is, heads_open r (started_in (spot r.rest)) 0 (unfinished_pdv_head (spot r.rest)) e refl (many r.rest ge) second)
         | inr t ↦
-            let takes : takes_pdvs r.progress ≡ false = sym takes_is ∙ t in
-            let second : unfinished (if takes_pdvs r.progress then started_in (spot r.rest) else []) ≡ 0 = rw takes refl in
+            let accepts : accepts_pdvs r.progress ≡ false = sym accepts_is ∙ t in
+            let second : unfinished (if accepts_pdvs r.progress then started_in (spot r.rest) else []) ≡ 0 = rw accepts refl in
             omega (arith, is, no_pdv_head q r.rest at (headless t) ge, heads_open r (started_in (spot r.rest)) 0 0 e refl (many r.rest ge) second)
       ]
 
       go : is_ended r.progress.state ≡ false → StandsAt q k r.rest [] → n ≡ heads_of r
       go e (skips s u none) =
-          let takes : takes_pdvs r.progress ≡ false = sym takes_is ∙ u.pdvs in
-          let second : unfinished (if takes_pdvs r.progress then started_in (spot r.rest) else []) ≡ 0 = rw takes refl in
+          let accepts : accepts_pdvs r.progress ≡ false = sym accepts_is ∙ u.pdvs in
+          let second : unfinished (if accepts_pdvs r.progress then started_in (spot r.rest) else []) ≡ 0 = rw accepts refl in
           omega (arith, skipping r.rest s, heads_open r (started_in (spot r.rest)) 0 0 e refl (many r.rest (skips_frame q r.rest s).headed) second)
       go e (reads at) = elim (cases_lt (length r.rest) 6) [
         | inl lt ↦
             let heads : unfinished_heads r.rest ≡ length r.rest = rw (lt-ltb (length r.rest) 6 lt) refl in
             let open_is : started_in (spot r.rest) ≡ [] = ap started_in (spot_opening r.rest lt) in
-            omega (arith, reported r.rest [] at, heads, heads_open r [] (length r.rest) 0 e open_is (few r.rest lt) (unfinished_none (takes_pdvs r.progress)))
+            omega (arith, reported r.rest [] at, heads, heads_open r [] (length r.rest) 0 e open_is (few r.rest lt) (unfinished_none (accepts_pdvs r.progress)))
         | inr ge ↦
             let heads : unfinished_heads r.rest ≡ unfinished_pdv_head (spot r.rest) = rw (le-ltb (length r.rest) 6 ge) refl in
             within e at ge (reported r.rest [] at ∙ heads)
@@ -117,10 +117,10 @@ held_reported (refused fault front) = faulty fault front
 held_walked : {depth most : ℕ} {request : Requested} {m : Started} {stored : Stored} → (rooms : Rooms) (s : Settings) → rooms.depth ≡ depth → s.max_data ≡ most
     → Walks depth most request m stored → IsHeldOfMessage rooms s request m (held_in stored)
 held_walked rooms s d l (not_walked none) = holding.not_walked none
-held_walked rooms s d l (walked {walker = w} store takes) =
-    let reported : IsHeldOfSet (walker_syntax w) (limits_of w) store.set (reported_by w).held = held_reported takes.stands.reports in
-    let same : limits_of w ≡ limits rooms.depth s.max_data = takes.limits_are ∙ rw (d, l) refl in
-    holding.walked store (rw (takes.syntax_is, same) at reported)
+held_walked rooms s d l (walked {walker = w} store accepts) =
+    let reported : IsHeldOfSet (walker_syntax w) (limits_of w) store.set (reported_by w).held = held_reported accepts.stands.reports in
+    let same : limits_of w ≡ limits rooms.depth s.max_data = accepts.limits_are ∙ rw (d, l) refl in
+    holding.walked store (rw (accepts.syntax_is, same) at reported)
 
 pub held_as : (rooms : Rooms) (s : Settings) (f : Fields) (store : Store) (r : Reached) (heads : ℕ) → rooms.depth ≡ f.kept.depth → s.max_data ≡ f.kept.most → Shows f store r → heads ≡ heads_of r
     → Held rooms s r (heads + held_by f.kept)

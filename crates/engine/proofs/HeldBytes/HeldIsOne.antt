@@ -32,8 +32,8 @@ of_one_set syntax lim b n m (unbroken {es = es} {path = path} {last = last} {tai
 of_one_set syntax lim b n m (unbroken whole front) (faulty fault front2) = absurd (no_fault whole fault)
 of_one_set syntax lim b n m (faulty fault front) (unbroken whole front2) = absurd (no_fault whole fault)
 of_one_set syntax lim b n m (faulty {p = p} {u = u} {rule = rule} {tag = tag} {es = es} {path = path} {last = last} fault front) (faulty {p = p2} {u = u2} {rule = rule2} {tag = tag2} {es = es2} {path = path2} {last = last2} fault2 front2) =
-    let place = (one_fault syntax lim b p p2 u u2 rule rule2 tag tag2 fault fault2).0 in
-    let same = one_path syntax p es es2 path path2 last last2 (in_header []) (in_header []) front (subst (λ (x : List ℕ). Open syntax x es2 path2 last2 (in_header [])) (sym place) front2) in
+    let offset = (one_fault syntax lim b p p2 u u2 rule rule2 tag tag2 fault fault2).0 in
+    let same = one_path syntax p es es2 path path2 last last2 (in_header []) (in_header []) front (subst (λ (x : List ℕ). Open syntax x es2 path2 last2 (in_header [])) (sym offset) front2) in
     λ i. held_of lim.wanted (same.0 i) (same.1 i) (in_header [])
 
 in_set : (id id2 : ℕ) (command command2 set set2 : List ℕ) → InSet id command set ≡ InSet id2 command2 set2 → (id ≡ id2) × (set ≡ set2)

@@ -1,4 +1,4 @@
--- No more bytes are held than the limits have place for, wherever a timeline has led (`held_is_within_rooms`). Stands on
+-- No more bytes are held than the limits have room for, wherever a timeline has led (`held_is_within_rooms`). Stands on
 -- FitsTheRooms, HeldIsExact, AlongTimelines/HeadsAreFirst and the laws of `pdu` and `sequence`.
 use Rattle.std.proofs.Common.{◌≡◌, ℕ, ◌+◌, ◌-◌, ◌*◌, ◌<◌, ◌≤◌, Bool, true, false, not, ◌&&◌, List, [], ◌∷◌, length, take, drop, get_or, zero, suc, None, refl, sym, ap, subst, ◌∙◌, arith, lit<, nat_eq, nat_lt, ltb-true, ltb-false, length-drop, get_or-drop, if◌then◌else◌}
 use Rattle.std.proofs.lemmas.Bool.{lt-ltb, le-ltb}
@@ -25,7 +25,7 @@ use Rattle.engine.specs.Held.{is_ended, unfinished, of_request, of_command, held
 use Rattle.engine.specs.HeldLaws.{IsWithinRooms, HeldIsWithinRooms}
 use Rattle.engine.specs.Inputs.{stream_of}
 use Rattle.engine.specs.Progress.{Progress, at_start, is_due, is_established}
-use Rattle.engine.specs.Reached.{Reached, reached, started_in, takes_pdvs, started_pdv, message_so_far}
+use Rattle.engine.specs.Reached.{Reached, reached, started_in, accepts_pdvs, started_pdv, message_so_far}
 use Rattle.engine.specs.Requested.{Requested, request_record}
 use Rattle.engine.specs.Run.{Rooms, progress_of}
 use Rattle.engine.specs.Stores.{limits, wanted}
@@ -35,13 +35,13 @@ use Rattle.engine.proofs.HeldBytes.FitsTheRooms.{Fits, HasRoom, set_of, MessageF
 use Rattle.engine.proofs.HeldBytes.HeldIsExact.{unfinished_none}
 
 pub bytes_parts : HoldsOfParts IsBytes
-bytes_parts = record { takes = takes; drops = λ n xs h i. rw get_or-drop (h (n + i)) }
+bytes_parts = record { accepts = accepts; drops = λ n xs h i. rw get_or-drop (h (n + i)) }
   where
-    takes : (n : ℕ) (xs : List ℕ) → IsBytes xs → IsBytes (take n xs)
-    takes zero xs h i = lit< tt
-    takes (suc n) [] h i = lit< tt
-    takes (suc n) (x ∷ xs) h zero = h zero
-    takes (suc n) (x ∷ xs) h (suc i) = takes n xs (λ j. h (suc j)) i
+    accepts : (n : ℕ) (xs : List ℕ) → IsBytes xs → IsBytes (take n xs)
+    accepts zero xs h i = lit< tt
+    accepts (suc n) [] h i = lit< tt
+    accepts (suc n) (x ∷ xs) h zero = h zero
+    accepts (suc n) (x ∷ xs) h (suc i) = accepts n xs (λ j. h (suc j)) i
 
 -- ---- heads
 
@@ -59,7 +59,7 @@ few_heads r = by (nat_lt (length r.rest) 6) refl
     by : (b : Bool) → nat_lt (length r.rest) 6 ≡ b → (if b then length r.rest else 0) + unfinished (started_pdv r) ≤ 5
     by true e =
         let lt = ltb-true (length r.rest) 6 e in
-        let no_pdv : unfinished (started_pdv r) ≡ 0 = ap (λ (x : Spot). unfinished (if takes_pdvs r.progress then started_in x else [])) (spot_opening r.rest lt) ∙ unfinished_none (takes_pdvs r.progress) in
+        let no_pdv : unfinished (started_pdv r) ≡ 0 = ap (λ (x : Spot). unfinished (if accepts_pdvs r.progress then started_in x else [])) (spot_opening r.rest lt) ∙ unfinished_none (accepts_pdvs r.progress) in
         omega (arith, lt, no_pdv)
     by false e = omega (arith, few (started_pdv r))
 
@@ -99,28 +99,28 @@ module _ (limit : Rooms) (o : Opened) where
 
   -- ---- the message
 
-  pdv_within : (p : Progress) (room : ℕ) (part : List ℕ) → Fits limit p o → takes_pdvs p ≡ true → IsUnfinishedPdv room part → IsBytes part × (6 ≤ length part → o ≡ OfPdv (big_number 4 part) (get_or part 4 0) (get_or part 5 0)) → MessageFits limit (with_pdv part p.message)
-  pdv_within p room part h takes (in_head lt) k = subst (λ (b : Bool). MessageFits limit (if b then p.message else with_fragment (get_or part 4 0) (drop 6 part) p.message)) (sym (lt-ltb (length part) 6 lt)) (h.command, h.bytes)
-  pdv_within p room part h takes (in_fragment six two enough short) k =
+  pdv_within : (p : Progress) (room : ℕ) (part : List ℕ) → Fits limit p o → accepts_pdvs p ≡ true → IsUnfinishedPdv room part → IsBytes part × (6 ≤ length part → o ≡ OfPdv (big_number 4 part) (get_or part 4 0) (get_or part 5 0)) → MessageFits limit (with_pdv part p.message)
+  pdv_within p room part h accepts (in_head lt) k = subst (λ (b : Bool). MessageFits limit (if b then p.message else with_fragment (get_or part 4 0) (drop 6 part) p.message)) (sym (lt-ltb (length part) 6 lt)) (h.command, h.bytes)
+  pdv_within p room part h accepts (in_fragment six two enough short) k =
       let n = big_number 4 part in
       let size : n - 2 + 2 ≡ n = omega (arith, two) in
       let has : HasRoom limit p (OfPdv n (get_or part 4 0) (get_or part 5 0)) = subst (HasRoom limit p) (k.1 six) h.room in
-      let none : refusal limit.command p.message (n - 2 + 2) (get_or part 4 0) (get_or part 5 0) ≡ None = subst (λ (x : ℕ). refusal limit.command p.message x (get_or part 4 0) (get_or part 5 0) ≡ None) (sym size) (has takes) in
+      let none : refusal limit.command p.message (n - 2 + 2) (get_or part 4 0) (get_or part 5 0) ≡ None = subst (λ (x : ℕ). refusal limit.command p.message x (get_or part 4 0) (get_or part 5 0) ≡ None) (sym size) (has accepts) in
       let few : length (drop 6 part) ≤ n - 2 = omega (arith, length-drop 6 part, short, two) in
       subst (λ (b : Bool). MessageFits limit (if b then p.message else with_fragment (get_or part 4 0) (drop 6 part) p.message)) (sym (le-ltb (length part) 6 six))
       (fragment_within limit p.message (n - 2) (get_or part 4 0) (get_or part 5 0) (drop 6 part) none few (bytes_parts.drops 6 part k.0) (h.command, h.bytes))
 
   message_within : (r : Reached) → Fits limit r.progress o → IsStarted IsBytes r.rest o → IsRest r.rest → MessageFits limit (message_so_far r)
-  message_within r h k partial = by (takes_pdvs r.progress) refl
+  message_within r h k partial = by (accepts_pdvs r.progress) refl
     where
-      spotted : (x : Spot) → spot r.rest ≡ x → takes_pdvs r.progress ≡ true → MessageFits limit (with_pdv (started_in x) r.progress.message)
-      spotted Opening e takes = (h.command, h.bytes)
-      spotted Plain e takes = (h.command, h.bytes)
-      spotted (InPdv part) e takes = pdv_within r.progress (room_remaining r.rest + length part) part h takes (unfinished_pdv r.rest part partial e) (k.pdv part e)
+      spotted : (x : Spot) → spot r.rest ≡ x → accepts_pdvs r.progress ≡ true → MessageFits limit (with_pdv (started_in x) r.progress.message)
+      spotted Opening e accepts = (h.command, h.bytes)
+      spotted Plain e accepts = (h.command, h.bytes)
+      spotted (InPdv part) e accepts = pdv_within r.progress (room_remaining r.rest + length part) part h accepts (unfinished_pdv r.rest part partial e) (k.pdv part e)
 
-      by : (b : Bool) → takes_pdvs r.progress ≡ b → MessageFits limit (with_pdv (if b then started_in (spot r.rest) else []) r.progress.message)
-      by true takes = spotted (spot r.rest) refl takes
-      by false takes = (h.command, h.bytes)
+      by : (b : Bool) → accepts_pdvs r.progress ≡ b → MessageFits limit (with_pdv (if b then started_in (spot r.rest) else []) r.progress.message)
+      by true accepts = spotted (spot r.rest) refl accepts
+      by false accepts = (h.command, h.bytes)
 
 -- ---- the data set
 

@@ -1,4 +1,4 @@
--- A part of the body of a PDU is kept where the body is (`pends_taken`), and else nothing changes (`pends_untaken`). Stands
+-- A part of the body of a PDU is kept where the body is (`pends_consumed`), and else nothing changes (`pends_unconsumed`). Stands
 -- on the definitions alone.
 use Rattle.std.proofs.Common.{◌≡◌, ◌∙◌, ℕ, ◌+◌, Bool, true, false, not, ◌&&◌, List, [], ◌++◌, nat_eq, ap, sym, refl, arith, if◌then◌else◌}
 use Rattle.acceptor.specs.declared.state.State.{State}
@@ -6,7 +6,7 @@ use Rattle.acceptor.specs.declared.state.State.TheVariants.{Sta1, Sta2, Sta3, St
 use Rattle.part10.specs.Store.{Store}
 use Rattle.engine.specs.Held.{is_ended}
 use Rattle.engine.specs.Progress.{Progress, is_due}
-use Rattle.engine.specs.Kept.{Kept, Pends, body_in, takes_body_in}
+use Rattle.engine.specs.Kept.{Kept, Pends, body_in, accepts_body_in}
 use Rattle.engine.specs.machine.Capacity.{BodyFits}
 
 counted_more : (st : State) (kept refused one : Bool) (held body part : List ℕ) → (is_ended st ≡ false → kept ≡ refused) → is_due st && (not kept && one) ≡ true
@@ -33,10 +33,10 @@ counted_same Sta6 kept refused one held body part same t e = e
 counted_same Sta8 kept refused one held body part same t e = e
 counted_same Sta13 kept refused one held body part same t e = e
 
-pub pends_taken : (k : Kept) (store : Store) (p : Progress) (kind : ℕ) (body part held : List ℕ) → takes_body_in k kind ≡ true → held ≡ k.body ++ part
+pub pends_consumed : (k : Kept) (store : Store) (p : Progress) (kind : ℕ) (body part held : List ℕ) → accepts_body_in k kind ≡ true → held ≡ k.body ++ part
     → Pends k store p (body_in kind body) [] → Pends (record k { body = held }) store p (body_in kind (body ++ part)) []
-pends_taken k store p kind body part held taken more h =
-    let t : is_due p.state && (not k.refused && nat_eq kind 1) ≡ true = ap (λ (st : State). is_due st && (not k.refused && nat_eq kind 1)) (sym h.state_is) ∙ taken in
+pends_consumed k store p kind body part held consumed more h =
+    let t : is_due p.state && (not k.refused && nat_eq kind 1) ≡ true = ap (λ (st : State). is_due st && (not k.refused && nat_eq kind 1)) (sym h.state_is) ∙ consumed in
     record {
       state_is = h.state_is;
       refused_is = h.refused_is;
@@ -51,9 +51,9 @@ pends_taken k store p kind body part held taken more h =
       failed_in = h.failed_in;
     }
 
-pub pends_untaken : (k : Kept) (store : Store) (p : Progress) (kind : ℕ) (body part : List ℕ) → takes_body_in k kind ≡ false
+pub pends_unconsumed : (k : Kept) (store : Store) (p : Progress) (kind : ℕ) (body part : List ℕ) → accepts_body_in k kind ≡ false
     → Pends k store p (body_in kind body) [] → Pends k store p (body_in kind (body ++ part)) []
-pends_untaken k store p kind body part dropped h =
+pends_unconsumed k store p kind body part dropped h =
     let t : is_due p.state && (not k.refused && nat_eq kind 1) ≡ false = ap (λ (st : State). is_due st && (not k.refused && nat_eq kind 1)) (sym h.state_is) ∙ dropped in
     record {
       state_is = h.state_is;
@@ -70,5 +70,5 @@ pends_untaken k store p kind body part dropped h =
     }
 
 -- the bytes of another body take no room
-pub fits_untaken : (room : ℕ) (k : Kept) (kind m n : ℕ) → BodyFits room k kind (n + m) → BodyFits room k kind m
-fits_untaken room k kind m n h = λ due taken one. let f = h due taken one in omega (arith, f)
+pub fits_unconsumed : (room : ℕ) (k : Kept) (kind m n : ℕ) → BodyFits room k kind (n + m) → BodyFits room k kind m
+fits_unconsumed room k kind m n h = λ due consumed one. let f = h due consumed one in omega (arith, f)

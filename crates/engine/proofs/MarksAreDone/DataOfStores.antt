@@ -22,7 +22,7 @@ use Rattle.engine.specs.Timeline.{At, good}
 use Rattle.engine.specs.Devices.{Devices, devices, files_in, with_files, line_with}
 use Rattle.engine.specs.Drafts.{IsDraft, HasDraft, ReportsDraft, draft_due, none_due}
 use Rattle.engine.specs.Progress.{Progress, Advance, nothing, absorb, is_established}
-use Rattle.engine.specs.Reached.{takes_pdvs}
+use Rattle.engine.specs.Reached.{accepts_pdvs}
 use Rattle.decisions.specs.declared.decision.Decision.TheVariants as decision
 use Rattle.dimse.specs.declared.joined.Joined.{Joined}
 use Rattle.dimse.specs.declared.joined.Joined.TheVariants as joined
@@ -39,7 +39,7 @@ use Rattle.engine.specs.machine.Storing.{BeginsStore, Continues}
 use Rattle.engine.specs.machine.Does.{Does}
 use Rattle.engine.proofs.StoresAreKept.DraftAndWalk.{Carried, none_carried, meta_by, due_file}
 use Rattle.engine.proofs.FieldsShow.TriedIsDone.{if_nothing, line_same, line_gained, filed_nothing, sent_nothing}
-use Rattle.engine.proofs.MarksAreDone.PdvJoined.{entry_of, pdv_taken, pdv_arrives, verdict_by, taken_state}
+use Rattle.engine.proofs.MarksAreDone.PdvJoined.{entry_of, pdv_consumed, pdv_arrives, verdict_by, consumed_state}
 use Rattle.engine.specs.Fair.{MayFail}
 use Rattle.std.specs.Io.KnownBytes.{append_known}
 use Rattle.std.proofs.lemmas.List.{length-append}
@@ -47,7 +47,7 @@ use Rattle.sequence.specs.Rules.{Limits}
 use Rattle.engine.specs.Drafts.{Drafts}
 use Rattle.engine.specs.machine.Does.{Appends}
 use Rattle.engine.proofs.StoresAreKept.DraftAndWalk.{so_far, carried, files_kept, part_more, pdv_store, continues_so}
-use Rattle.engine.proofs.MarksAreDone.PdvJoined.{counted_taken, aside_of, aside_absorbed, pends_joined, IsDataDue}
+use Rattle.engine.proofs.MarksAreDone.PdvJoined.{counted_consumed, aside_of, aside_absorbed, pends_joined, IsDataDue}
 use Rattle.pdu.specs.Heads.{pdv_head_of}
 
 -- ---- the data of a store begin
@@ -86,9 +86,9 @@ other_store request id command c context e accepted none s =
 
 pub begins_drafts : (syntax : Coding) (lim : Limits) (bytes : List ℕ) (stored : Stored) (drafting : Bool) (old new : Store) → BeginsStore syntax lim bytes stored old new → Drafts drafting old (drafting_in stored) new
 begins_drafts syntax lim bytes Nothing drafting old new h = absurd h
-begins_drafts syntax lim bytes (Walking walker true) drafting old new (takes, step) =
+begins_drafts syntax lim bytes (Walking walker true) drafting old new (accepts, step) =
     let there : new.has_draft ≡ true = ap (λ (x : Store). x.has_draft) step in record { there = λ e. there; own = λ e. there }
-begins_drafts syntax lim bytes (Walking walker false) drafting old new (takes, step) = record { there = λ e. absurd cc; own = λ e. ap (λ (x : Store). x.has_draft) step }
+begins_drafts syntax lim bytes (Walking walker false) drafting old new (accepts, step) = record { there = λ e. absurd cc; own = λ e. ap (λ (x : Store). x.has_draft) step }
 
 -- nothing is kept
 pub idle_proceeds : (depth most : ℕ) (request : Requested) (m : Started) (stored : Stored) (store : Store) → stored ≡ Nothing → (InStore request m → ⊥) → Proceeds depth most request m false stored store store
@@ -99,22 +99,22 @@ idle_proceeds depth most request m stored store e none =
 pub started_proceeds : (depth most : ℕ) (request : Requested) (m : Started) (s : InStore request m) (bytes : List ℕ) (stored : Stored) (old new : Store) → s.set ≡ [] → bytes ≡ head (meta_by request s.context s.asked)
     → BeginsStore (coding_in s.context.syntax) (limits depth most) bytes stored old new → Proceeds depth most request m false stored old new
 started_proceeds depth most request m s bytes Nothing old new none is h = absurd h
-started_proceeds depth most request m s bytes (Walking walker true) old new none is (takes, step) =
+started_proceeds depth most request m s bytes (Walking walker true) old new none is (accepts, step) =
     let file : bytes ≡ File (meta_by request s.context s.asked) s.set = is ∙ sym (append-nil (head (meta_by request s.context s.asked))) ∙ ap (λ (xs : List ℕ). head (meta_by request s.context s.asked) ++ xs) (sym none) in
     record {
       failed = false;
       may = λ x. absurd cc;
-      walks = walked s (subst (λ (xs : List ℕ). HasWalked walker (coding_in s.context.syntax) (limits depth most) xs) (sym none) takes);
+      walks = walked s (subst (λ (xs : List ℕ). HasWalked walker (coding_in s.context.syntax) (limits depth most) xs) (sym none) accepts);
       draft = draft_due (due_file request m false s refl)
           (subst (λ (x : Store). HasDraft x (File (meta_by request s.context s.asked) s.set)) (sym step) (record { there = refl; bytes = reported_started old.reported bytes _ file }));
       files = ap files_in step ∙ reported_files old.reported bytes;
       count = ap (λ (x : Store). x.failures) step ∙ omega arith;
     }
-started_proceeds depth most request m s bytes (Walking walker false) old new none is (takes, step) =
+started_proceeds depth most request m s bytes (Walking walker false) old new none is (accepts, step) =
     record {
       failed = true;
       may = λ x. (refl, s);
-      walks = walked s (subst (λ (xs : List ℕ). HasWalked walker (coding_in s.context.syntax) (limits depth most) xs) (sym none) takes);
+      walks = walked s (subst (λ (xs : List ℕ). HasWalked walker (coding_in s.context.syntax) (limits depth most) xs) (sym none) accepts);
       draft = none_due (λ file due. let x : true ≡ false = due.unfailed in absurd cc);
       files = ap files_in step ∙ files_kept old.reported;
       count = ap (λ (x : Store). x.failures) step;
@@ -123,18 +123,18 @@ started_proceeds depth most request m s bytes (Walking walker false) old new non
 either_failed : (f g : Bool) → (f || g) ≡ true → (f ≡ true) ⊎ (g ≡ true)
 either_failed f g h = grind (arith, common_steps)
 
-pub does_due : (rooms : Rooms) (s : Settings) (p : Progress) (started : List ℕ) (room : ℕ) (k : Kept) (j : Joining) (z : Stored) (l : Line) (so sn : Store) (later : Started) → Pends k so p [] started → takes_pdvs p ≡ true
+pub does_due : (rooms : Rooms) (s : Settings) (p : Progress) (started : List ℕ) (room : ℕ) (k : Kept) (j : Joining) (z : Stored) (l : Line) (so sn : Store) (later : Started) → Pends k so p [] started → accepts_pdvs p ≡ true
     → brought p.message (pdv_of started) ≡ Goes later → ShowsMessage k.room j later [] → IsDataDue room p.message (pdv_head_of started) (drop 6 started) later → joined.DataDue ≡ continues p.message later
     → Proceeds k.depth k.most p.request later false z so sn
     → Does rooms s p (At (entry_of started)) (record k { join = j; storing = z; decided = decision.DataDue }) [] [] (devices l so) (devices l sn)
-does_due rooms s p started room k j z l so sn later h taken goes shows due announced x =
+does_due rooms s p started room k j z l so sn later h consumed goes shows due announced x =
     let q = absorb x.failed p in
-    let six = taken_state p taken in
+    let six = consumed_state p consumed in
     let unended : is_ended p.state ≡ false = ap is_ended six in
     let unfailed : p.filing_failed ≡ false = never p.filing_failed refl (λ e. due.none_before p.request (h.failed_in unended e)) in
-    let is : at_entry rooms s q good (At (entry_of started)) ≡ nothing (going_on later q) = pdv_taken rooms s q good started taken ∙ pdv_arrives q good started (Goes later) goes in
-    let plain : at_entry rooms s p good (At (entry_of started)) ≡ nothing (going_on later p) = pdv_taken rooms s p good started taken ∙ pdv_arrives p good started (Goes later) goes in
-    let nil : counted_pdv (going_on later q) [] ≡ [] = if_nothing (takes_pdvs q) in
+    let is : at_entry rooms s q good (At (entry_of started)) ≡ nothing (going_on later q) = pdv_consumed rooms s q good started consumed ∙ pdv_arrives q good started (Goes later) goes in
+    let plain : at_entry rooms s p good (At (entry_of started)) ≡ nothing (going_on later p) = pdv_consumed rooms s p good started consumed ∙ pdv_arrives p good started (Goes later) goes in
+    let nil : counted_pdv (going_on later q) [] ≡ [] = if_nothing (accepts_pdvs q) in
     let now : so_far (going_on later q) [] ≡ later = ap (λ (xs : List ℕ). with_pdv xs later) nil in
     let draft : IsDraft p.request later (x.failed || p.filing_failed) sn (drafting_in z) = subst (λ (b : Bool). IsDraft p.request later (x.failed || b) sn (drafting_in z)) (sym unfailed) x.draft in
     let c = subst (λ (m : Started). Carried k.depth k.most z sn p.request m (x.failed || p.filing_failed)) (sym now) (x.walks, draft) in
@@ -154,7 +154,7 @@ does_due rooms s p started room k j z l so sn later h taken goes shows due annou
     record {
       outcome = record { wire = None; filing = x.failed; finding = good };
       fair = record {
-        verdict = verdict_by rooms s p q good started (Goes later) taken goes tt;
+        verdict = verdict_by rooms s p q good started (Goes later) consumed goes tt;
         wire = tt;
         filing = λ y. subst (λ (g : Advance). MayFail p g.next) (sym plain) (unfailed, inr (x.may y).1);
       };
@@ -173,7 +173,7 @@ does_due rooms s p started room k j z l so sn later h taken goes shows due annou
         by (inl y) = (x.may y).1
         by (inr y) = let wrong : true ≡ false = sym y ∙ unfailed in absurd cc
 
--- ---- and go on
+-- ---- and continue
 
 pub appends_none : (rooms : Rooms) (s : Settings) (p : Progress) (k : Kept) (started : List ℕ) (d : Devices) → Pends k d.store p [] started → Appends rooms s p k [] started d d
 appends_none rooms s p k started d h = record {
@@ -187,13 +187,13 @@ appends_none rooms s p k started d h = record {
   };
 }
 
-pub does_append : (rooms : Rooms) (s : Settings) (p : Progress) (started part : List ℕ) (k : Kept) (j : Joining) (z : Stored) (l : Line) (so sn : Store) → Pends k so p [] started → takes_pdvs p ≡ true → 6 ≤ length started
+pub does_append : (rooms : Rooms) (s : Settings) (p : Progress) (started part : List ℕ) (k : Kept) (j : Joining) (z : Stored) (l : Line) (so sn : Store) → Pends k so p [] started → accepts_pdvs p ≡ true → 6 ≤ length started
     → ShowsMessage k.room j p.message (started ++ part) → Continues part k.storing z so sn → Appends rooms s p (record k { join = j; storing = z }) [] (started ++ part) (devices l so) (devices l sn)
-does_append rooms s p started part k j z l so sn h taken six shows g =
-    let old = subst (λ (xs : List ℕ). Carried k.depth k.most k.storing so p.request (with_pdv xs p.message) p.filing_failed) (counted_taken p started taken) (carried k so p [] started h) in
+does_append rooms s p started part k j z l so sn h consumed six shows g =
+    let old = subst (λ (xs : List ℕ). Carried k.depth k.most k.storing so p.request (with_pdv xs p.message) p.filing_failed) (counted_consumed p started consumed) (carried k so p [] started h) in
     let x = continues_so k.depth k.most p.request (with_pdv started p.message) p.filing_failed (get_or started 4 0) part so sn k.storing z old g in
     let more = part_more started part p.message six in
-    let counts = counted_taken p (started ++ part) taken in
+    let counts = counted_consumed p (started ++ part) consumed in
     let now : so_far p (started ++ part) ≡ with_fragment (get_or started 4 0) part (with_pdv started p.message) = ap (λ (xs : List ℕ). with_pdv xs p.message) counts ∙ more in
     let longer : 6 ≤ length (started ++ part) = omega (arith, length-append started part) in
     let store : x.failed ≡ true → InStore p.request p.message =

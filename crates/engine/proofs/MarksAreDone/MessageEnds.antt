@@ -27,7 +27,7 @@ use Rattle.engine.specs.Timeline.{At, Finding, good}
 use Rattle.engine.specs.Devices.{Devices, devices, files_in, with_files, line_with, IsFront}
 use Rattle.engine.specs.Drafts.{IsDraft, ReportsDraft}
 use Rattle.engine.specs.Progress.{Progress, Advance, absorb, remaining, deciding}
-use Rattle.engine.specs.Reached.{takes_pdvs}
+use Rattle.engine.specs.Reached.{accepts_pdvs}
 use Rattle.decisions.specs.declared.decision.Decision.{Decision}
 use Rattle.decisions.specs.declared.decision.Decision.TheVariants as decision
 use Rattle.engine.specs.Replies.{replied, ended_message, finding_on, echo_status, file_in, file_put}
@@ -46,7 +46,7 @@ use Rattle.engine.specs.machine.Does.{Does}
 use Rattle.engine.proofs.StoresAreKept.DraftAndWalk.{none_carried, meta_by, file_due, undrafted, drafted, drops_unfiled, files_kept}
 use Rattle.engine.proofs.FieldsShow.AfterAnEvent.{settled_failed, pends_decided}
 use Rattle.engine.proofs.FieldsShow.TriedIsDone.{if_nothing, line_same, line_gained, files_cut, filed_nothing}
-use Rattle.engine.proofs.MarksAreDone.PdvJoined.{entry_of, pdv_taken, pdv_arrives, verdict_by}
+use Rattle.engine.proofs.MarksAreDone.PdvJoined.{entry_of, pdv_consumed, pdv_arrives, verdict_by}
 use Rattle.engine.proofs.FieldsShow.NothingCounts.{no_store}
 use Rattle.engine.proofs.StoresAreKept.WalkIsJudged.{fault_is_failure}
 
@@ -285,8 +285,8 @@ pub judged_store : (depth most : ℕ) (request : Requested) (m : Message) (recei
     → EndsAs c f old new stored → StoreEnds depth most request m received c before f old new
 judged_store depth most request m received c before f old new stored w h (inr (is, alone)) e (field, with_set) none ends = let wrong : true ≡ false = sym with_set ∙ alone c e in absurd cc
 judged_store depth most request m received c before f old new _ (not_walked idle) h (inl is) e (field, with_set) none ends = unwalked_ends depth most request m received c before f old new is e idle (none refl).0 (none refl).1
-judged_store depth most request m received c before f old new _ (walked {drafting = drafting} store takes) h (inl is) e (field, with_set) none ends =
-    walked_ends depth most request m received c before f old new is e field store drafting h (ends store.context depth most store.set takes)
+judged_store depth most request m received c before f old new _ (walked {drafting = drafting} store accepts) h (inl is) e (field, with_set) none ends =
+    walked_ends depth most request m received c before f old new is e field store drafting h (ends store.context depth most store.set accepts)
 
 -- a request that is no echo is a store, and has data
 pub is_store : (field : ℕ) (announced : Bool) (instance : Option (List ℕ)) → is_request field announced instance ≡ true → (field ≡ 0x0030 → ⊥) → (field ≡ 0x0001) × (announced ≡ true)
@@ -312,7 +312,7 @@ is_maximum n h = by (nat_lt n 8) refl where
 ended_pends : (p : Progress) (old : Kept) (j : Joining) (z : Stored) (store : Store) → Aside old p → old.state ≡ Sta6 → ShowsMessage old.room j NoMessage [] → z ≡ Nothing
     → Pends (record old { join = j; storing = z; state = Sta6 }) store (ended_message p) [] []
 ended_pends p old j z store h six quiet none =
-    let nil : counted_pdv (ended_message p) [] ≡ [] = if_nothing (takes_pdvs p) in
+    let nil : counted_pdv (ended_message p) [] ≡ [] = if_nothing (accepts_pdvs p) in
     let c = none_carried old.depth old.most z store p.request (with_pdv (counted_pdv (ended_message p) []) NoMessage) false none
     (no_store p.request (with_pdv (counted_pdv (ended_message p) []) NoMessage) (ap (λ (xs : List ℕ). with_pdv xs NoMessage) nil)) in
     record {
@@ -359,16 +359,16 @@ concludes rooms s p m received d (Err x) old new j z lo ln so sm sl sn h six qui
   count = settles.unfiled.count ∙ gone.count ∙ e.count;
 }
 
-pub does_concluded : (rooms : Rooms) (s : Settings) (p : Progress) (started : List ℕ) (m : Message) (received : Started) (k : Kept) (old new : Devices) → takes_pdvs p ≡ true → brought p.message (pdv_of started) ≡ Ends m
+pub does_concluded : (rooms : Rooms) (s : Settings) (p : Progress) (started : List ℕ) (m : Message) (received : Started) (k : Kept) (old new : Devices) → accepts_pdvs p ≡ true → brought p.message (pdv_of started) ≡ Ends m
     → (InStore p.request received → InStore p.request p.message) → Concludes rooms s p m received k old new → Does rooms s p (At (entry_of started)) k [] [] old new
-does_concluded rooms s p started m received k old new taken e to x =
+does_concluded rooms s p started m received k old new consumed e to x =
     let q = absorb x.failed p in
     let is : at_entry rooms s q x.finding (At (entry_of started)) ≡ replied p x.finding m (command_in m.command) =
-    pdv_taken rooms s q x.finding started taken ∙ pdv_arrives q x.finding started (Ends m) e ∙ replied_absorbed p x.failed x.finding m (command_in m.command) in
+    pdv_consumed rooms s q x.finding started consumed ∙ pdv_arrives q x.finding started (Ends m) e ∙ replied_absorbed p x.failed x.finding m (command_in m.command) in
     record {
       outcome = record { wire = x.wire; filing = x.failed; finding = x.finding };
       fair = record {
-        verdict = verdict_by rooms s p q x.finding started (Ends m) taken e x.verdict;
+        verdict = verdict_by rooms s p q x.finding started (Ends m) consumed e x.verdict;
         wire = subst (λ (g : Advance). IsFront x.wire g.sent) (sym is) x.fair;
         filing = λ y. ((x.may y).0, inl (to (x.may y).1));
       };

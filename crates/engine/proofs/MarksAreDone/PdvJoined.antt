@@ -30,12 +30,12 @@ use Rattle.engine.specs.Timeline.{At, Finding, good}
 use Rattle.decisions.specs.declared.decision.Decision.TheVariants as decision
 use Rattle.dimse.specs.Messages as message
 use Rattle.engine.specs.Progress.{Progress, Advance, deciding, nothing, done, absorb, is_established}
-use Rattle.engine.specs.Reached.{takes_pdvs}
+use Rattle.engine.specs.Reached.{accepts_pdvs}
 use Rattle.engine.specs.Replies.{invalid, user_aborts, value_head, aborted_if_refused, command_refused, decided_on, at_pdv_head, at_pdv, replied, going_on}
 use Rattle.engine.specs.Run.{Rooms, at_entry}
 use Rattle.engine.specs.Fair.{InStore, IsVerdict, message_at}
 use Rattle.engine.specs.Held.{is_ended}
-use Rattle.engine.specs.Kept.{Kept, Pends, counted_body, counted_pdv, takes_pdvs_in}
+use Rattle.engine.specs.Kept.{Kept, Pends, counted_body, counted_pdv, accepts_pdvs_in}
 use Rattle.engine.specs.machine.Does.{Does}
 use Rattle.engine.specs.machine.Messages.{with_join, Aside, HasReceived}
 use Rattle.engine.specs.StoredData.{Stored}
@@ -43,21 +43,21 @@ use Rattle.engine.proofs.StoresAreKept.DraftAndWalk.{Carried, so_far, carried, n
 use Rattle.engine.specs.Devices.{Devices}
 use Rattle.engine.specs.machine.PerformsReaction.{PerformsReaction}
 use Rattle.engine.proofs.FieldsShow.AfterAnEvent.{tries_from}
-use Rattle.engine.proofs.FieldsShow.TriedIsDone.{does_nothing, taken_when, if_nothing, none_counted_pdv, tries_nothing}
-use Rattle.engine.proofs.FieldsShow.NothingCounts.{no_store, takes_shown}
+use Rattle.engine.proofs.FieldsShow.TriedIsDone.{does_nothing, consumed_when, if_nothing, none_counted_pdv, tries_nothing}
+use Rattle.engine.proofs.FieldsShow.NothingCounts.{no_store, accepts_shown}
 
 -- ---- where PDVs count
 
 established_when : (st : State) (r : Bool) → (is_established st && not r) ≡ true → st ≡ Sta6
 established_when st r h = grind (arith, common_steps)
 
-pub taken_state : (p : Progress) → takes_pdvs p ≡ true → p.state ≡ Sta6
-taken_state p h = established_when p.state p.refused h
+pub consumed_state : (p : Progress) → accepts_pdvs p ≡ true → p.state ≡ Sta6
+consumed_state p h = established_when p.state p.refused h
 
-pub counted_taken : (p : Progress) (started : List ℕ) → takes_pdvs p ≡ true → counted_pdv p started ≡ started
-counted_taken p started t = ap (λ (x : Bool). if x then started else []) t
+pub counted_consumed : (p : Progress) (started : List ℕ) → accepts_pdvs p ≡ true → counted_pdv p started ≡ started
+counted_consumed p started t = ap (λ (x : Bool). if x then started else []) t
 
-pub pends_dropped : (k : Kept) (store : Store) (p : Progress) (body b c : List ℕ) → takes_pdvs p ≡ false → Pends k store p body b → Pends k store p body c
+pub pends_dropped : (k : Kept) (store : Store) (p : Progress) (body b c : List ℕ) → accepts_pdvs p ≡ false → Pends k store p body b → Pends k store p body c
 pends_dropped k store p body b c t h =
     let same : counted_pdv p b ≡ counted_pdv p c = ap (λ (x : Bool). if x then b else []) t ∙ sym (ap (λ (x : Bool). if x then c else []) t) in
     let d = subst (λ (xs : List ℕ). Carried k.depth k.most k.storing store p.request (with_pdv xs p.message) p.filing_failed) same (carried k store p body b h) in
@@ -113,9 +113,9 @@ pends_joined k store p j stored started h shows c failed = record {
 }
 
 -- the head of a PDV was received
-pub pends_headed : (k : Kept) (store : Store) (p : Progress) (j : Joining) (started : List ℕ) → length started ≡ 6 → takes_pdvs p ≡ true → Pends k store p [] [] → ShowsMessage k.room j p.message started → Pends (with_join j k) store p [] started
+pub pends_headed : (k : Kept) (store : Store) (p : Progress) (j : Joining) (started : List ℕ) → length started ≡ 6 → accepts_pdvs p ≡ true → Pends k store p [] [] → ShowsMessage k.room j p.message started → Pends (with_join j k) store p [] started
 pends_headed k store p j started six t h shows =
-    let counts = counted_taken p started t in
+    let counts = counted_consumed p started t in
     let base = subst (λ (xs : List ℕ). Carried k.depth k.most k.storing store p.request (with_pdv xs p.message) p.filing_failed) (none_counted_pdv p) (carried k store p [] [] h) in
     let c = subst (λ (xs : List ℕ). Carried k.depth k.most k.storing store p.request (with_pdv xs p.message) p.filing_failed) (sym counts)
     (head_carried k.depth k.most k.storing store p.request started p.message p.filing_failed six base) in
@@ -123,13 +123,13 @@ pends_headed k store p j started six t h shows =
 
 -- ---- the head of a PDV
 
-pub head_taken : (rooms : Rooms) (s : Settings) (p : Progress) (n c x : ℕ) → takes_pdvs p ≡ true → at_entry rooms s p good (At (mark.PdvHead n c x)) ≡ at_pdv_head rooms.command p n c x
-head_taken rooms s p n c x t =
-    taken_when (is_established p.state) p.refused (at_pdv_head rooms.command p n c x) (nothing p) ∙ ap (λ (y : Bool). if y then at_pdv_head rooms.command p n c x else nothing p) t
+pub head_consumed : (rooms : Rooms) (s : Settings) (p : Progress) (n c x : ℕ) → accepts_pdvs p ≡ true → at_entry rooms s p good (At (mark.PdvHead n c x)) ≡ at_pdv_head rooms.command p n c x
+head_consumed rooms s p n c x t =
+    consumed_when (is_established p.state) p.refused (at_pdv_head rooms.command p n c x) (nothing p) ∙ ap (λ (y : Bool). if y then at_pdv_head rooms.command p n c x else nothing p) t
 
-pub head_dropped : (rooms : Rooms) (s : Settings) (p : Progress) (n c x : ℕ) → takes_pdvs p ≡ false → at_entry rooms s p good (At (mark.PdvHead n c x)) ≡ nothing p
+pub head_dropped : (rooms : Rooms) (s : Settings) (p : Progress) (n c x : ℕ) → accepts_pdvs p ≡ false → at_entry rooms s p good (At (mark.PdvHead n c x)) ≡ nothing p
 head_dropped rooms s p n c x t =
-    taken_when (is_established p.state) p.refused (at_pdv_head rooms.command p n c x) (nothing p) ∙ ap (λ (y : Bool). if y then at_pdv_head rooms.command p n c x else nothing p) t
+    consumed_when (is_established p.state) p.refused (at_pdv_head rooms.command p n c x) (nothing p) ∙ ap (λ (y : Bool). if y then at_pdv_head rooms.command p n c x else nothing p) t
 
 -- what the head of a PDV gives, by whether its context is accepted
 abbrev by_context : ℕ → Progress → (n c x : ℕ) → Option Context → Advance
@@ -156,11 +156,11 @@ judged_some (Some fault) f e = ap (λ (x : DimseFault). Some x) (let h : ◌≡�
 -- between two PDVs the join shows the message
 pub join_between : (k : Kept) (store : Store) (p : Progress) (body : List ℕ) → Pends k store p body [] → k.join.message ≡ without_set p.message
 join_between k store p body h =
-    let shows : ShowsMessage k.room k.join p.message [] = subst (λ (xs : List ℕ). ShowsMessage k.room k.join p.message xs) (if_nothing (takes_pdvs p)) h.join_is in
+    let shows : ShowsMessage k.room k.join p.message [] = subst (λ (xs : List ℕ). ShowsMessage k.room k.join p.message xs) (if_nothing (accepts_pdvs p)) h.join_is in
     ap (λ (j : Joining). j.message) shows.shows
 
-pub context_shown : (k : Kept) (store : Store) (p : Progress) (body started : List ℕ) (id : ℕ) → Pends k store p body started → takes_pdvs p ≡ true → context_in k.additional k.table id ≡ context_of (request_record p.request) id
-context_shown k store p body started id h t = (h.agreed (taken_state p t)).contexts id
+pub context_shown : (k : Kept) (store : Store) (p : Progress) (body started : List ℕ) (id : ℕ) → Pends k store p body started → accepts_pdvs p ≡ true → context_in k.additional k.table id ≡ context_of (request_record p.request) id
+context_shown k store p body started id h t = (h.agreed (consumed_state p t)).contexts id
 
 -- ---- a whole PDV
 
@@ -168,13 +168,13 @@ context_shown k store p body started id h t = (h.agreed (taken_state p t)).conte
 abbrev pub entry_of : List ℕ → mark.Mark
 entry_of started = Pdv (get_or started 4 0) (get_or started 5 0) (drop 6 started)
 
-pub pdv_taken : (rooms : Rooms) (s : Settings) (p : Progress) (f : Finding) (started : List ℕ) → takes_pdvs p ≡ true → at_entry rooms s p f (At (entry_of started)) ≡ at_pdv p f (pdv_of started)
-pdv_taken rooms s p f started t =
-    taken_when (is_established p.state) p.refused (at_pdv p f (pdv_of started)) (nothing p) ∙ ap (λ (y : Bool). if y then at_pdv p f (pdv_of started) else nothing p) t
+pub pdv_consumed : (rooms : Rooms) (s : Settings) (p : Progress) (f : Finding) (started : List ℕ) → accepts_pdvs p ≡ true → at_entry rooms s p f (At (entry_of started)) ≡ at_pdv p f (pdv_of started)
+pdv_consumed rooms s p f started t =
+    consumed_when (is_established p.state) p.refused (at_pdv p f (pdv_of started)) (nothing p) ∙ ap (λ (y : Bool). if y then at_pdv p f (pdv_of started) else nothing p) t
 
-pub pdv_dropped : (rooms : Rooms) (s : Settings) (p : Progress) (started : List ℕ) → takes_pdvs p ≡ false → at_entry rooms s p good (At (entry_of started)) ≡ nothing p
+pub pdv_dropped : (rooms : Rooms) (s : Settings) (p : Progress) (started : List ℕ) → accepts_pdvs p ≡ false → at_entry rooms s p good (At (entry_of started)) ≡ nothing p
 pdv_dropped rooms s p started t =
-    taken_when (is_established p.state) p.refused (at_pdv p good (pdv_of started)) (nothing p) ∙ ap (λ (y : Bool). if y then at_pdv p good (pdv_of started) else nothing p) t
+    consumed_when (is_established p.state) p.refused (at_pdv p good (pdv_of started)) (nothing p) ∙ ap (λ (y : Bool). if y then at_pdv p good (pdv_of started) else nothing p) t
 
 -- what a PDV brings to the message comes to this
 abbrev pub by_brought : Progress → Finding → message.Pdv → Brought → Advance
@@ -191,39 +191,39 @@ brought_is p f pdv (Refuses fault) = refl
 pub pdv_arrives : (p : Progress) (f : Finding) (started : List ℕ) (b : Brought) → brought p.message (pdv_of started) ≡ b → at_pdv p f (pdv_of started) ≡ by_brought p f (pdv_of started) b
 pdv_arrives p f started b e = brought_is p f (pdv_of started) (brought p.message (pdv_of started)) ∙ ap (by_brought p f (pdv_of started)) e
 
-pub verdict_by : (rooms : Rooms) (s : Settings) (p q : Progress) (f : Finding) (started : List ℕ) (b : Brought) → takes_pdvs p ≡ true → brought p.message (pdv_of started) ≡ b → IsVerdict rooms s q f (message_by b)
+pub verdict_by : (rooms : Rooms) (s : Settings) (p q : Progress) (f : Finding) (started : List ℕ) (b : Brought) → accepts_pdvs p ≡ true → brought p.message (pdv_of started) ≡ b → IsVerdict rooms s q f (message_by b)
     → IsVerdict rooms s q f (message_at p (At (entry_of started)))
 verdict_by rooms s p q f started b t e h =
     subst (λ (o : Option Message). IsVerdict rooms s q f o) (sym (ap (λ (x : Bool). if x then message_by (brought p.message (pdv_of started)) else None) t ∙ ap message_by e)) h
 
-pub verdict_none : (rooms : Rooms) (s : Settings) (p : Progress) (started : List ℕ) → takes_pdvs p ≡ false → IsVerdict rooms s p good (message_at p (At (entry_of started)))
+pub verdict_none : (rooms : Rooms) (s : Settings) (p : Progress) (started : List ℕ) → accepts_pdvs p ≡ false → IsVerdict rooms s p good (message_at p (At (entry_of started)))
 verdict_none rooms s p started t =
     subst (λ (o : Option Message). IsVerdict rooms s p good o) (sym (ap (λ (x : Bool). if x then message_by (brought p.message (pdv_of started)) else None) t)) tt
 
 -- ---- the end of a PDV at the join
 
--- a PDV that is taken continues with the message that the join shows, and the join ends it with this result
+-- a PDV that is accepted continues with the message that the join shows, and the join ends it with this result
 pub record EndsPdv (k : Kept) (p : Progress) (started : List ℕ) (j : Joining) (r : Result Joined DimseFault) : Type 0 where
-  pub taken : takes_pdvs p ≡ true
+  pub consumed : accepts_pdvs p ≡ true
   pub shows : ShowsMessage k.room k.join p.message started
   pub joins : Joins k.room p.message (brought p.message (pdv_of started)) k.join j r
 
-pub ends_pdv : (k : Kept) (store : Store) (p : Progress) (started : List ℕ) (j : Joining) (given r : Result Joined DimseFault) → 6 ≤ length started → Pends k store p [] started → takes_pdvs_in k ≡ true
+pub ends_pdv : (k : Kept) (store : Store) (p : Progress) (started : List ℕ) (j : Joining) (given r : Result Joined DimseFault) → 6 ≤ length started → Pends k store p [] started → accepts_pdvs_in k ≡ true
     → ((m : Started) (b : List ℕ) → 6 ≤ length b → ShowsMessage k.room k.join m b → Joins k.room m (brought m (pdv_of b)) k.join j given) → given ≡ r → EndsPdv k p started j r
-ends_pdv k store p started j given r six h takes ends is =
-    let taken = sym (takes_shown k store p [] started h) ∙ takes in
-    let shows = subst (λ (xs : List ℕ). ShowsMessage k.room k.join p.message xs) (counted_taken p started taken) h.join_is in
-    record { taken = taken; shows = shows; joins = subst (λ (x : Result Joined DimseFault). Joins k.room p.message (brought p.message (pdv_of started)) k.join j x) is (ends p.message started six shows) }
+ends_pdv k store p started j given r six h accepts ends is =
+    let consumed = sym (accepts_shown k store p [] started h) ∙ accepts in
+    let shows = subst (λ (xs : List ℕ). ShowsMessage k.room k.join p.message xs) (counted_consumed p started consumed) h.join_is in
+    record { consumed = consumed; shows = shows; joins = subst (λ (x : Result Joined DimseFault). Joins k.room p.message (brought p.message (pdv_of started)) k.join j x) is (ends p.message started six shows) }
 
 -- what is carried of the store, with the PDV
-pub carried_taken : (k : Kept) (store : Store) (p : Progress) (started : List ℕ) → takes_pdvs p ≡ true → Pends k store p [] started → Carried k.depth k.most k.storing store p.request (with_pdv started p.message) p.filing_failed
-carried_taken k store p started taken h =
-    subst (λ (xs : List ℕ). Carried k.depth k.most k.storing store p.request (with_pdv xs p.message) p.filing_failed) (counted_taken p started taken) (carried k store p [] started h)
+pub carried_consumed : (k : Kept) (store : Store) (p : Progress) (started : List ℕ) → accepts_pdvs p ≡ true → Pends k store p [] started → Carried k.depth k.most k.storing store p.request (with_pdv started p.message) p.filing_failed
+carried_consumed k store p started consumed h =
+    subst (λ (xs : List ℕ). Carried k.depth k.most k.storing store p.request (with_pdv xs p.message) p.filing_failed) (counted_consumed p started consumed) (carried k store p [] started h)
 
--- a PDV that is not taken does nothing
-pub does_dropped : (rooms : Rooms) (s : Settings) (k : Kept) (p : Progress) (started : List ℕ) (d : Devices) → takes_pdvs_in k ≡ false → Pends k d.store p [] started → Does rooms s p (At (entry_of started)) k [] [] d d
+-- a PDV that is not accepted does nothing
+pub does_dropped : (rooms : Rooms) (s : Settings) (k : Kept) (p : Progress) (started : List ℕ) (d : Devices) → accepts_pdvs_in k ≡ false → Pends k d.store p [] started → Does rooms s p (At (entry_of started)) k [] [] d d
 does_dropped rooms s k p started d drops h =
-    let dropped = sym (takes_shown k d.store p [] started h) ∙ drops in
+    let dropped = sym (accepts_shown k d.store p [] started h) ∙ drops in
     does_nothing rooms s p (At (entry_of started)) k [] [] d (pdv_dropped rooms s p started dropped) (verdict_none rooms s p started dropped) (pends_dropped k d.store p [] started [] dropped h)
 
 -- ---- by what the join returned
@@ -353,11 +353,11 @@ module _ (room : ℕ) (before : Started) (started : List ℕ) (six : 6 ≤ lengt
     by (Refuses g) is (e, h) = (is ∙ ap (λ (x : DimseFault). Refuses x) (let x : ◌≡◌ {A = Result Joined DimseFault} (Err f) (Err g) = e in cc), h)
 
 -- the message continues
-pub pends_going_on : (k : Kept) (store : Store) (p : Progress) (j : Joining) (later : Started) (started : List ℕ) → Pends k store p [] started → takes_pdvs p ≡ true → ShowsMessage k.room j later []
+pub pends_going_on : (k : Kept) (store : Store) (p : Progress) (j : Joining) (later : Started) (started : List ℕ) → Pends k store p [] started → accepts_pdvs p ≡ true → ShowsMessage k.room j later []
     → later ≡ with_pdv started p.message → joined.More ≡ continues p.message later → 6 ≤ length started → Pends (with_join j k) store (going_on later p) [] []
 pends_going_on k store p j later started h t shows is more six =
     let none : counted_pdv (going_on later p) [] ≡ [] = none_counted_pdv (going_on later p) in
-    let same : so_far p started ≡ so_far (going_on later p) [] = ap (λ (xs : List ℕ). with_pdv xs p.message) (counted_taken p started t) ∙ sym is ∙ sym (ap (λ (xs : List ℕ). with_pdv xs later) none) in
+    let same : so_far p started ≡ so_far (going_on later p) [] = ap (λ (xs : List ℕ). with_pdv xs p.message) (counted_consumed p started t) ∙ sym is ∙ sym (ap (λ (xs : List ℕ). with_pdv xs later) none) in
     let c = subst (λ (x : Started). Carried k.depth k.most k.storing store p.request x p.filing_failed) same (carried k store p [] started h) in
     record {
       state_is = h.state_is;
@@ -366,7 +366,7 @@ pends_going_on k store p j later started h t shows is more six =
       body_is = h.body_is;
       join_is = subst (λ (xs : List ℕ). ShowsMessage k.room j later xs) (sym none) shows;
       agreed = h.agreed;
-      none_remaining = λ e. let x : is_established Sta6 ≡ false = sym (ap is_established (taken_state p t)) ∙ e in absurd cc;
+      none_remaining = λ e. let x : is_established Sta6 ≡ false = sym (ap is_established (consumed_state p t)) ∙ e in absurd cc;
       unagreed = h.unagreed;
       walks = c.0;
       draft = c.1;
@@ -374,11 +374,11 @@ pends_going_on k store p j later started h t shows is more six =
           subst (λ (x : Started). InStore p.request x) (sym (is ∙ long_pdv started p.message six)) (store_fragment p.request (get_or started 4 0) (drop 6 started) p.message (h.failed_in n e));
     }
 
-pub aborted_pdv : (p : Progress) (started : List ℕ) → takes_pdvs p ≡ true → counted_pdv (done [] 0 p event.UserAborts).next started ≡ []
-aborted_pdv p started t = ap (λ (st : State). counted_pdv (done [] 0 (record p { state = st }) event.UserAborts).next started) (taken_state p t)
+pub aborted_pdv : (p : Progress) (started : List ℕ) → accepts_pdvs p ≡ true → counted_pdv (done [] 0 p event.UserAborts).next started ≡ []
+aborted_pdv p started t = ap (λ (st : State). counted_pdv (done [] 0 (record p { state = st }) event.UserAborts).next started) (consumed_state p t)
 
-pub aborted_body : (p : Progress) → takes_pdvs p ≡ true → counted_body (done [] 0 p event.UserAborts).next [] ≡ []
-aborted_body p t = ap (λ (st : State). counted_body (done [] 0 (record p { state = st }) event.UserAborts).next []) (taken_state p t)
+pub aborted_body : (p : Progress) → accepts_pdvs p ≡ true → counted_body (done [] 0 p event.UserAborts).next [] ≡ []
+aborted_body p t = ap (λ (st : State). counted_body (done [] 0 (record p { state = st }) event.UserAborts).next []) (consumed_state p t)
 
 pub tries_still : (p q : Progress) (k : Kept) (body started : List ℕ) (d : Devices) → Pends k d.store q body started → PerformsReaction p (nothing q) k body started d d
 tries_still p q k body started d h = tries_from p q (nothing q) k body started d d (tries_nothing q k body started d h)

@@ -12,7 +12,7 @@ use Rattle.pdu.specs.Request.{ContextTexts, RequestText}
 use Rattle.negotiate.specs.ContextRows.{accepted_count}
 use Rattle.negotiate.specs.Contexts.{offered, result_of, seen}
 use Rattle.std.proofs.Common.{nat_eq}
-use Rattle.negotiate.specs.Taken.{Taken}
+use Rattle.negotiate.specs.Allowed.{Allowed}
 
 -- an item has four bytes at least
 items_size : (items : List (List ℕ)) → AllByRecursion (IsWholePiece item) items → 4 * length items ≤ length (joined items)
@@ -26,10 +26,10 @@ contexts_items [] (i ∷ is) h = absurd h
 contexts_items (p ∷ ps) [] h = absurd h
 contexts_items (p ∷ ps) (i ∷ is) h = omega (arith, contexts_items ps is h.1)
 
-seen_length : (additional : Taken) (ps : List Proposal) → length (map (seen additional) ps) ≡ length ps
+seen_length : (additional : Allowed) (ps : List Proposal) → length (map (seen additional) ps) ≡ length ps
 seen_length additional ps = grind (arith, common_steps)
 
-pub few_rows : (additional : Taken) (r : RequestRecord) (b : List ℕ) → RequestText r b → 68 + 4 * accepted_count (offered additional r) ≤ length b
+pub few_rows : (additional : Allowed) (r : RequestRecord) (b : List ℕ) → RequestText r b → 68 + 4 * accepted_count (offered additional r) ≤ length b
 few_rows additional r b h =
     let rest = joined h.items in
     let size = ap length h.whole in

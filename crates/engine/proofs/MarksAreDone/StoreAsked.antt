@@ -7,7 +7,7 @@ use Rattle.acceptor.specs.declared.state.State.{State}
 use Rattle.acceptor.specs.declared.state.State.TheVariants.{Sta6}
 use Rattle.dimse.specs.Command.{is_request}
 use Rattle.engine.specs.Progress.{is_established}
-use Rattle.engine.specs.Kept.{Kept, takes_pdvs_in}
+use Rattle.engine.specs.Kept.{Kept, accepts_pdvs_in}
 
 -- a request that announces a data set is a C-STORE
 pub store_if_data : (field : ℕ) (announced : Bool) (instance : Option (List ℕ)) → is_request field announced instance ≡ true → announced ≡ true → field ≡ 1
@@ -32,5 +32,5 @@ data_if_store field announced None r one without = absurd (let x = rw one at r i
 data_if_store field announced (Some instance) r one without = absurd (let x = rw (one, without) at r in cc)
 
 -- where PDVs count for nothing
-pub not_taking : {P : Type 0} → (k : Kept) → takes_pdvs_in k ≡ false → k.state ≡ Sta6 → k.refused ≡ false → P
-not_taking k none six kept = absurd (let wrong : true ≡ false = sym (ap (λ (st : State). is_established st && not k.refused) six ∙ ap not kept) ∙ none in cc)
+pub not_accepting : {P : Type 0} → (k : Kept) → accepts_pdvs_in k ≡ false → k.state ≡ Sta6 → k.refused ≡ false → P
+not_accepting k none six kept = absurd (let wrong : true ≡ false = sym (ap (λ (st : State). is_established st && not k.refused) six ∙ ap not kept) ∙ none in cc)

@@ -16,14 +16,14 @@ use Rattle.engine.specs.Held.{is_ended}
 use Rattle.engine.specs.Requests.{at_request}
 use Rattle.engine.specs.Devices.{Devices, line_after, IsFront}
 use Rattle.engine.specs.Run.{Rooms, cut, at_end, at_entry, released}
-use Rattle.engine.specs.Kept.{Kept, Pends, counted_body, body_in, takes_body_in}
+use Rattle.engine.specs.Kept.{Kept, Pends, counted_body, body_in, accepts_body_in}
 use Rattle.engine.specs.machine.PerformsReaction.{PerformsReaction}
 use Rattle.engine.specs.machine.Does.{Does}
 use Rattle.engine.specs.machine.Tries.{TriesRequest}
 use Rattle.engine.proofs.FieldsShow.TriedIsDone.{does_by, none_counted_body}
 use Rattle.engine.proofs.MarksAreDone.WholeRequest.{LeavesOrStands, request_arrives}
 use Rattle.engine.proofs.FieldsShow.ByState.{due_is}
-use Rattle.negotiate.specs.Taken.{Taken}
+use Rattle.negotiate.specs.Allowed.{Allowed}
 
 -- by which type it is
 abbrev by_kind : Settings → Progress → List ℕ → (seven one five : Bool) → Advance
@@ -38,8 +38,8 @@ refused_shown k store p body started h lives = h.refused_is (ap is_ended (sym h.
 pub refused_end : (rooms : Rooms) (s : Settings) (p : Progress) (kind : ℕ) (body : List ℕ) → p.refused ≡ true → at_entry rooms s p good (At (End kind body)) ≡ nothing p
 refused_end rooms s p kind body e = ap (λ (t : Bool). if t then nothing p else at_end s p kind body) e
 
-pub taken_end : (rooms : Rooms) (s : Settings) (p : Progress) (kind : ℕ) (body : List ℕ) → p.refused ≡ false → at_entry rooms s p good (At (End kind body)) ≡ at_end s p kind body
-taken_end rooms s p kind body e = ap (λ (t : Bool). if t then nothing p else at_end s p kind body) e
+pub consumed_end : (rooms : Rooms) (s : Settings) (p : Progress) (kind : ℕ) (body : List ℕ) → p.refused ≡ false → at_entry rooms s p good (At (End kind body)) ≡ at_end s p kind body
+consumed_end rooms s p kind body e = ap (λ (t : Bool). if t then nothing p else at_end s p kind body) e
 
 pub whole_abort : (s : Settings) (p : Progress) (kind : ℕ) (body : List ℕ) → kind ≡ 7 → at_end s p kind body ≡ done [] 0 (deciding_unless_ended decision.Aborted p) event.Abort
 whole_abort s p kind body e = ap (λ (n : ℕ). at_end s p n body) e
@@ -58,7 +58,7 @@ whole_other s p kind body a b c =
 
 -- ---- bytes of a body that do not count
 
-received_to : (additional : Taken) (body : List ℕ) (p : Progress) (g first : Advance) (xs : List ℕ) → LeavesOrStands additional body p g first → counted_body g.next xs ≡ []
+received_to : (additional : Allowed) (body : List ℕ) (p : Progress) (g first : Advance) (xs : List ℕ) → LeavesOrStands additional body p g first → counted_body g.next xs ≡ []
 received_to additional body p g first xs (a, b, inl (x, is)) = ap (λ (q : Progress). counted_body q xs) is
 received_to additional body p g first xs (a, b, inr (x, is)) = ap (λ (q : Progress). counted_body q xs) is
 
@@ -104,7 +104,7 @@ not_due : (a c : Bool) → (a && c) ≡ false → (c && a) ≡ false
 not_due a c e = grind (arith, common_steps)
 
 -- no request is due
-pub undue : (k : Kept) (store : Store) (p : Progress) (kind : ℕ) (body started : List ℕ) → Pends k store p body started → takes_body_in k kind ≡ false → k.refused ≡ false → (nat_eq kind 1 && is_due p.state) ≡ false
+pub undue : (k : Kept) (store : Store) (p : Progress) (kind : ℕ) (body started : List ℕ) → Pends k store p body started → accepts_body_in k kind ≡ false → k.refused ≡ false → (nat_eq kind 1 && is_due p.state) ≡ false
 undue k store p kind body started h e r =
     not_due (is_due p.state) (nat_eq kind 1) (ap (λ (st : State). is_due st && nat_eq kind 1) (sym h.state_is) ∙ ap (λ (t : Bool). is_due k.state && (not t && nat_eq kind 1)) (sym r) ∙ e)
 
@@ -115,13 +115,13 @@ due_lives : (st : State) → is_due st ≡ true → is_ended st ≡ false
 due_lives st e = ap is_ended (due_is st e)
 
 -- of whose body nothing was kept
-pub pends_unkept : (k : Kept) (store : Store) (p : Progress) (kind : ℕ) (body : List ℕ) → takes_body_in k kind ≡ false → Pends k store p (body_in kind body) [] → Pends k store p [] []
+pub pends_unkept : (k : Kept) (store : Store) (p : Progress) (kind : ℕ) (body : List ℕ) → accepts_body_in k kind ≡ false → Pends k store p (body_in kind body) [] → Pends k store p [] []
 pends_unkept k store p kind body e h =
     pends_recounted k store p (body_in kind body)
     (uncounted_kind (is_due p.state) k.refused p.refused (nat_eq kind 1) body (λ due. h.refused_is (due_lives p.state due)) (ap (λ (st : State). is_due st && (not k.refused && nat_eq kind 1)) (sym h.state_is) ∙ e)) h
 
 -- a request that was due was answered
-pub does_request : (rooms : Rooms) (s : Settings) (p : Progress) (kind : ℕ) (body : List ℕ) (k n : Kept) (old new : Devices) → takes_body_in k kind ≡ true → Pends k old.store p (body_in kind body) [] → TriesRequest s k n old new
+pub does_request : (rooms : Rooms) (s : Settings) (p : Progress) (kind : ℕ) (body : List ℕ) (k n : Kept) (old new : Devices) → accepts_body_in k kind ≡ true → Pends k old.store p (body_in kind body) [] → TriesRequest s k n old new
     → Does rooms s p (At (End kind body)) n [] [] old new
 does_request rooms s p kind body k n old new e h tries =
     let is = if_kept (is_due k.state) k.refused (nat_eq kind 1) e in
@@ -130,6 +130,6 @@ does_request rooms s p kind body k n old new e h tries =
     let one : kind ≡ 1 = eqb-true kind 1 is.2 in
     let arrives = request_arrives s body p (due_is p.state due) in
     does_by rooms s p (At (End kind body)) (at_request s p body) n [] [] old new
-    (taken_end rooms s p kind body unrefused ∙ ap (λ (x : ℕ). at_end s p x body) one ∙ ap (λ (t : Bool). if t then at_request s p body else nothing p) due) arrives.1 tt
+    (consumed_end rooms s p kind body unrefused ∙ ap (λ (x : ℕ). at_end s p x body) one ∙ ap (λ (t : Bool). if t then at_request s p body else nothing p) due) arrives.1 tt
     (tries_recounted p (at_request s p body) n body old new (received_to s.additional body p (at_request s p body) (at_request s at_start body) body arrives)
     (tries p body (subst (λ (x : ℕ). Pends k old.store p (body_in x body) []) one h) unrefused due))

@@ -38,7 +38,7 @@ use Rattle.engine.proofs.StoresAreKept.DraftAndWalk.{so_far, none_carried}
 use Rattle.engine.proofs.FieldsShow.AfterAnEvent.{pends_remaining, settled_failed}
 use Rattle.engine.proofs.FieldsShow.TriedIsDone.{none_counted_pdv, if_nothing}
 use Rattle.engine.proofs.FieldsShow.NothingCounts.{no_store}
-use Rattle.negotiate.specs.Taken.{Taken}
+use Rattle.negotiate.specs.Allowed.{Allowed}
 
 -- ---- which of them it is
 
@@ -119,11 +119,11 @@ invalid_decided s body fault e =
 -- ---- in any progress that awaits a request
 
 -- a request to a receiver that accepts these further storage classes
-abbrev pub asked : Taken → List ℕ → Requested
+abbrev pub asked : Allowed → List ℕ → Requested
 asked additional body = record { additional = additional; body = body }
 
 -- the association is left, or established with this request
-abbrev pub LeavesOrStands : Taken → List ℕ → Progress → Advance → Advance → Type 0
+abbrev pub LeavesOrStands : Allowed → List ℕ → Progress → Advance → Advance → Type 0
 LeavesOrStands additional body p g first =
     (g.sent ≡ first.sent) × (g.files ≡ []) × (((first.next.state ≡ Sta13) × (g.next ≡ remaining Sta13 (deciding first.next.decided p)))
     ⊎ ((first.next.state ≡ Sta6) × (g.next ≡ record p { state = Sta6; request = asked additional body; decided = first.next.decided })))
@@ -152,8 +152,8 @@ pub record IsEstablishedBy (kept : Kept) (r : RequestRecord) : Type 0 where
   pub storing : kept.storing ≡ Nothing
   pub agreed : Agreed kept.caller kept.peer_max kept.table kept.additional r
 
-not_taken : (st : State) (r : Bool) → ◌≡◌ {A = List ℕ} (if is_established st && not r then [] else []) []
-not_taken st r = if_nothing (is_established st && not r)
+not_consumed : (st : State) (r : Bool) → ◌≡◌ {A = List ℕ} (if is_established st && not r then [] else []) []
+not_consumed st r = if_nothing (is_established st && not r)
 
 pends_due : (p : Progress) (old : Kept) (store : Store) (body : List ℕ) → Pends old store p body [] → old.state ≡ Sta2 → p.refused ≡ false → old.body ≡ body
 pends_due p old store body h due r =
@@ -163,7 +163,7 @@ pends_due p old store body h due r =
 quiet_between : (p : Progress) → p.message ≡ NoMessage → so_far p [] ≡ NoMessage
 quiet_between p none = ap (λ (xs : List ℕ). with_pdv xs p.message) (none_counted_pdv p) ∙ none
 
-stood : (additional : Taken) (p : Progress) (d : Decision) (body : List ℕ) (old given new : Kept) (store : Store) → Pends old store p body [] → old.state ≡ Sta2 → given.refused ≡ old.refused → given.decided ≡ d
+stood : (additional : Allowed) (p : Progress) (d : Decision) (body : List ℕ) (old given new : Kept) (store : Store) → Pends old store p body [] → old.state ≡ Sta2 → given.refused ≡ old.refused → given.decided ≡ d
     → new ≡ record given { state = Sta6 } → IsEstablishedBy given (requested.request_record (asked additional body)) → Pends new store (record p { state = Sta6; request = asked additional body; decided = d }) body []
 stood additional p d body old given new store h due same reported is fresh =
     let q = record p { state = Sta6; request = asked additional body; decided = d } in
@@ -176,7 +176,7 @@ stood additional p d body old given new store h due same reported is fresh =
       refused_is = λ n. same ∙ h.refused_is (ap is_ended two);
       decided_is = reported;
       body_is = fresh.body;
-      join_is = subst (λ (m : Started). ShowsMessage given.room given.join m (counted_pdv q [])) (sym none) (subst (λ (xs : List ℕ). ShowsMessage given.room given.join NoMessage xs) (sym (not_taken Sta6 p.refused)) fresh.join);
+      join_is = subst (λ (m : Started). ShowsMessage given.room given.join m (counted_pdv q [])) (sym none) (subst (λ (xs : List ℕ). ShowsMessage given.room given.join NoMessage xs) (sym (not_consumed Sta6 p.refused)) fresh.join);
       agreed = λ six. fresh.agreed;
       none_remaining = λ e. none;
       unagreed = λ e. absurd cc;
@@ -186,7 +186,7 @@ stood additional p d body old given new store h due same reported is fresh =
     })
 
 -- the request that is whole was answered, or the wire failed
-module _ (additional : Taken) (p : Progress) (g first : Advance) (body : List ℕ) (n : State) (old given new : Kept) (lo ln : Line) (so sn : Store) where
+module _ (additional : Allowed) (p : Progress) (g first : Advance) (body : List ℕ) (n : State) (old given new : Kept) (lo ln : Line) (so sn : Store) where
   answered_decided : LeavesOrStands additional body p g first → g.next.decided ≡ first.next.decided
   answered_decided (sent, files, inl (st, is)) = ap (λ (q : Progress). q.decided) is
   answered_decided (sent, files, inr (st, is)) = ap (λ (q : Progress). q.decided) is

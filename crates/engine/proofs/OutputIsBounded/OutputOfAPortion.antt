@@ -30,10 +30,10 @@ use Rattle.part10.specs.Store.{Store}
 use Rattle.engine.specs.FrameFields.{Fields, StandsAt, reads, skips}
 use Rattle.engine.specs.Held.{is_ended}
 use Rattle.engine.specs.Inputs.{Received, Bytes, Close, Expiry, UserAbort, stream_of}
-use Rattle.engine.specs.Kept.{takes_pdvs_in}
+use Rattle.engine.specs.Kept.{accepts_pdvs_in}
 use Rattle.engine.specs.OutputLaws.{AnswersHave, IsOfBytes, SendsFew, most_sent, EntriesOfMore, IsSilent, SilentSendsNothing, AbortsShortly}
 use Rattle.engine.specs.Progress.{Progress, Advance, at_start, absorb, nothing}
-use Rattle.engine.specs.Reached.{reached, takes_pdvs}
+use Rattle.engine.specs.Reached.{reached, accepts_pdvs}
 use Rattle.engine.specs.Run.{Rooms, at_entry, cut, gives, progress_of, sent_of}
 use Rattle.engine.specs.Stands.{Stands}
 use Rattle.engine.specs.Timeline as timeline
@@ -43,7 +43,7 @@ use Rattle.engine.proofs.AlongTimelines.HeadsAreFirst.{Opened, Between, opens_at
 use Rattle.engine.proofs.WholeRun.OneInputMore.{stream_then}
 use Rattle.engine.proofs.OutputIsBounded.OutputOfAPiece.{cut_few, few_bytes_but_answers, few_marks, sent_few, stories_answer_shortly}
 use Rattle.engine.proofs.PiecesAreDone.FramesAndMarks.{more}
-use Rattle.engine.proofs.FieldsShow.NothingCounts.{takes_shown}
+use Rattle.engine.proofs.FieldsShow.NothingCounts.{accepts_shown}
 use Rattle.engine.proofs.AlongTimelines.TimelineGrows.{entries_append}
 use Rattle.engine.proofs.PiecesAreDone.SkippedPdu.{dropped_by}
 
@@ -120,7 +120,7 @@ piece_of_bytes inputs piece h =
 -- ---- marks within a frame of which nothing counts
 
 module _ (rooms : Rooms) (s : Settings) where
-  pub inner_nothing : (p : Progress) (finding : Finding) (m : Mark) → IsInner m → takes_pdvs p ≡ false → at_entry rooms s p finding (timeline.At m) ≡ nothing p
+  pub inner_nothing : (p : Progress) (finding : Finding) (m : Mark) → IsInner m → accepts_pdvs p ≡ false → at_entry rooms s p finding (timeline.At m) ≡ nothing p
   inner_nothing p finding (Head kind n) i t = absurd i
   inner_nothing p finding (PdvHead n context control) i t = dropped_by p _ t
   inner_nothing p finding (Pdv context control fragment) i t = dropped_by p _ t
@@ -135,11 +135,11 @@ module _ (rooms : Rooms) (s : Settings) where
   cut_nothing None p g e = e
   cut_nothing (Some k) p g e = take_nothing k g.sent e
 
-  pub still_uncounted : (wire : Option ℕ) (p q : Progress) → takes_pdvs q ≡ false → takes_pdvs (cut wire p (nothing q)).next ≡ false
+  pub still_uncounted : (wire : Option ℕ) (p q : Progress) → accepts_pdvs q ≡ false → accepts_pdvs (cut wire p (nothing q)).next ≡ false
   still_uncounted wire p q h = grind (arith, common_steps)
 
   -- what comes after them is all that is sent
-  past_inner : (ms : List Mark) (es : List Entry) (p : Progress) (story : List Happened) → AreInner ms → takes_pdvs p ≡ false → entries_of story ≡ map timeline.At ms ++ es → AnswersHave rooms s longest_accept p story
+  past_inner : (ms : List Mark) (es : List Entry) (p : Progress) (story : List Happened) → AreInner ms → accepts_pdvs p ≡ false → entries_of story ≡ map timeline.At ms ++ es → AnswersHave rooms s longest_accept p story
       → length (sent_of rooms s p story) ≤ length es * 4650
   past_inner [] es p story i t reported short =
       let number : length story ≡ length es = sym (length-map story (λ (h : Happened). h.0)) ∙ ap length reported in
@@ -149,7 +149,7 @@ module _ (rooms : Rooms) (s : Settings) where
       let at : h.0 ≡ timeline.At m = cc in
       let q = absorb h.1.filing p in
       let g : at_entry rooms s q h.1.finding h.0 ≡ nothing q = ap (at_entry rooms s q h.1.finding) at ∙ inner_nothing q h.1.finding m i.0 t in
-      let next : takes_pdvs (gives rooms s p h).next ≡ false = subst (λ (x : Advance). takes_pdvs (cut h.1.wire p x).next ≡ false) (sym g) (still_uncounted h.1.wire p q t) in
+      let next : accepts_pdvs (gives rooms s p h).next ≡ false = subst (λ (x : Advance). accepts_pdvs (cut h.1.wire p x).next ≡ false) (sym g) (still_uncounted h.1.wire p q t) in
       let others : entries_of story ≡ map timeline.At ms ++ es = cc in
       let none : (gives rooms s p h).sent ≡ [] = cut_nothing h.1.wire p (at_entry rooms s q h.1.finding h.0) (ap (λ (x : Advance). x.sent) g) in
       subst (λ (xs : List ℕ). length (xs ++ sent_of rooms s (gives rooms s p h).next story) ≤ length es * 4650) (sym none)
@@ -160,7 +160,7 @@ module _ (rooms : Rooms) (s : Settings) where
   few_marked : (p : Progress) (story : List Happened) (ms : List Mark) → entries_of story ≡ map timeline.At ms → length ms ≤ 4 → AnswersHave rooms s longest_accept p story → length (sent_of rooms s p story) ≤ most_sent
   few_marked p story ms reported few short = omega (arith, sent_few rooms s longest_accept p story short, length-map story (λ (h : Happened). h.0), ap length reported, length-map ms timeline.At, few)
 
-  skipped_few : (q : Position) (r c : List ℕ) (p : Progress) (story : List Happened) → SkipsAt q r → takes_pdvs p ≡ false → length c ≤ bytes_due q → entries_of story ≡ map timeline.At (new_marks r c)
+  skipped_few : (q : Position) (r c : List ℕ) (p : Progress) (story : List Happened) → SkipsAt q r → accepts_pdvs p ≡ false → length c ≤ bytes_due q → entries_of story ≡ map timeline.At (new_marks r c)
       → AnswersHave rooms s longest_accept p story → length (sent_of rooms s p story) ≤ most_sent
   skipped_few (position.Head bytes) r c p story a t le reported short = absurd a
   skipped_few (position.Body kind remaining) r c p story a t le reported short = absurd a
@@ -181,7 +181,7 @@ module _ (rooms : Rooms) (s : Settings) where
             omega (arith, few)
       ]
 
-  stands_few : (f : Fields) (r c : List ℕ) (p : Progress) (story : List Happened) → StandsAt f.position f.kept r [] → takes_pdvs_in f.kept ≡ takes_pdvs p → length c ≤ bytes_due f.position
+  stands_few : (f : Fields) (r c : List ℕ) (p : Progress) (story : List Happened) → StandsAt f.position f.kept r [] → accepts_pdvs_in f.kept ≡ accepts_pdvs p → length c ≤ bytes_due f.position
       → entries_of story ≡ map timeline.At (new_marks r c) → AnswersHave rooms s longest_accept p story → length (sent_of rooms s p story) ≤ most_sent
   stands_few f r c p story (reads a) same le reported short = few_marked p story (new_marks r c) reported (few_of_part f.position r c a le) short
   stands_few f r c p story (skips a u none) same le reported short = skipped_few f.position r c p story a (sym same ∙ u.pdvs) le reported short
@@ -206,7 +206,7 @@ module _ (rooms : Rooms) (s : Settings) where
     by (inr due) =
         let pends = h.shows.frame.pends in
         let framed = h.shows.frame.framed (ap is_ended (sym pends.state_is) ∙ due.0) in
-        stands_few f (rest_of stream) piece p after framed (takes_shown f.kept store (reached rooms s inputs story failed).progress _ _ pends)
+        stands_few f (rest_of stream) piece p after framed (accepts_shown f.kept store (reached rooms s inputs story failed).progress _ _ pends)
         (omega (arith, le, due.1)) (marked ∙ ap (map timeline.At) (new_rest stream piece)) short
 
 -- ---- the other inputs

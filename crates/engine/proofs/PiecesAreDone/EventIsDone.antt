@@ -18,9 +18,9 @@ use Rattle.pdu.specs.Spot.{InPdv, spot, room_remaining}
 use Rattle.pdu.specs.Parts as parts
 use Rattle.pdu.specs.Parts.{Arrives, end_mark, leftover_marks}
 use Rattle.pdu.specs.Events.{marks_among}
-use Rattle.pdu.specs.Deframing.{At, AtHead, AtBody, in_body, after_body, AtPdvHead, AtFragment, in_fragment, after_fragment, IsOver, Took}
+use Rattle.pdu.specs.Deframing.{At, AtHead, AtBody, in_body, after_body, AtPdvHead, AtFragment, in_fragment, after_fragment, IsOver, Consumed}
 use Rattle.pdu.specs.Steps.{body_kind, IsInHead, FollowsHead, FollowsPdv, HeadIsWhole, PdvHeadIsWhole, IsLent, Steps}
-use Rattle.pdu.proofs.Public.{same_head, rest_alone, spot_opening, unfinished_pdv, head_done, plain_part, pdv_head_done, pdv_head_whole, fragment_part, fragment_done, marks_taken, mark_taken, among_body, among_fragment}
+use Rattle.pdu.proofs.Public.{same_head, rest_alone, spot_opening, unfinished_pdv, head_done, plain_part, pdv_head_done, pdv_head_whole, fragment_part, fragment_done, marks_consumed, mark_consumed, among_body, among_fragment}
 use Rattle.negotiate.specs.Settings.{Settings}
 use Rattle.part10.specs.Store.{Store}
 use Rattle.engine.specs.Timeline as timeline
@@ -32,7 +32,7 @@ use Rattle.engine.specs.Kept.{Kept, Pends, body_in}
 use Rattle.engine.specs.machine.Does.{Does, DoesAll, Appends}
 use Rattle.engine.specs.FrameFields.{body_of, reads}
 use Rattle.engine.specs.machine.Shows.{ShowsDue, Handles, Pending}
-use Rattle.engine.specs.machine.Events.{Takes}
+use Rattle.engine.specs.machine.Events.{Accepts}
 use Rattle.engine.proofs.FieldsShow.NothingCounts.{pends_short}
 use Rattle.engine.proofs.PiecesAreDone.EntriesJoin.{does_none, does_one, does_appended}
 use Rattle.engine.proofs.PiecesAreDone.EventShape.{EndsFrom, Shaped}
@@ -157,14 +157,14 @@ module _ (rooms : Rooms) (set : Settings) where
 
   -- ---- no event
 
-  pub handled_none : (q new : Position) (n : ℕ) (c : List ℕ) (k : Kept) (p : Progress) (r : List ℕ) (due : List Mark) (d : Devices) → length c ≡ n → Steps q n c None new → At q r due → Took new r due c None
+  pub handled_none : (q new : Position) (n : ℕ) (c : List ℕ) (k : Kept) (p : Progress) (r : List ℕ) (due : List Mark) (d : Devices) → length c ≡ n → Steps q n c None new → At q r due → Consumed new r due c None
       → ShowsDue (record { position = q; kept = k }) d.store p r due → Handles rooms set (record { position = new; kept = k }) p r due c false d d
   handled_none q new n c k p r due d size s here t h = go q s here where
     none_then : t.later ≡ []
     none_then = t.at_once refl
 
     all : due ++ new_marks r c ≡ []
-    all = marks_taken new r due c None t ∙ ap (λ (ms : List Mark). ms ++ t.later) (ap marks_among t.reports) ∙ none_then
+    all = marks_consumed new r due c None t ∙ ap (λ (ms : List Mark). ms ++ t.later) (ap marks_among t.reports) ∙ none_then
 
     none : due ≡ []
     none = no_marks due (new_marks r c) all
@@ -199,19 +199,19 @@ module _ (rooms : Rooms) (set : Settings) where
   -- ---- the head of a frame
 
   handled_head : (new : Position) (bytes c : List ℕ) (head : PduHead) (k k2 : Kept) (p : Progress) (r : List ℕ) (due : List Mark) (d d2 : Devices) → AtHead bytes r due → HeadIsWhole (bytes ++ c) head new
-      → Took new r due c (Some (event.PduHead head)) → (Pends k d.store p [] [] → Does rooms set p (timeline.At (Head head.kind head.length)) k2 [] [] d d2)
+      → Consumed new r due c (Some (event.PduHead head)) → (Pends k d.store p [] [] → Does rooms set p (timeline.At (Head head.kind head.length)) k2 [] [] d d2)
       → (body started : List ℕ) → Pending r due body started → Pends k d.store p body started → Handles rooms set (record { position = new; kept = k2 }) p r due c true d d2
-  handled_head new bytes c head k k2 p r due d d2 a w t takes body started pending pends =
+  handled_head new bytes c head k k2 p r due d d2 a w t accepts body started pending pends =
       let is : bytes ++ c ≡ r ++ c = ap (λ (x : List ℕ). x ++ c) a.bytes_are in
       let six : length (r ++ c) ≡ 6 = ap length (sym is) ∙ w.all in
       let head_is : head ≡ pdu_head_of (r ++ c) = w.head_is ∙ ap pdu_head_of is in
       let reported = t.reports in
       let m = reported.mark in
       let m_is : m ≡ Head head.kind head.length = mark_of_head head m reported.same in
-      let all : due ++ new_marks r c ≡ Head head.kind head.length ∷ t.later = mark_taken new r due c (event.PduHead head) t reported ∙ ap (λ (x : Mark). x ∷ t.later) m_is in
+      let all : due ++ new_marks r c ≡ Head head.kind head.length ∷ t.later = mark_consumed new r due c (event.PduHead head) t reported ∙ ap (λ (x : Mark). x ∷ t.later) m_is in
       let marks : new_marks r c ≡ Head head.kind head.length ∷ t.later = subst (λ (ms : List Mark). ms ++ new_marks r c ≡ Head head.kind head.length ∷ t.later) a.none_due all in
       let s = after_head_settled r c head new t.later a.short six head_is (Head head.kind head.length) marks w.follows t.is_at in
-      handled_settled new k2 p r due c (Head head.kind head.length) t.later d d2 all s t.is_at (takes (pends_open k d.store p r due body started a.short a.none_due pending pends))
+      handled_settled new k2 p r due c (Head head.kind head.length) t.later d d2 all s t.is_at (accepts (pends_open k d.store p r due body started a.short a.none_due pending pends))
 
   -- ---- a body
 
@@ -219,12 +219,12 @@ module _ (rooms : Rooms) (set : Settings) where
       → AtBody kind remaining r due → (later : List Mark) → due ++ new_marks r c ≡ later → At new (rest_of (r ++ c)) later
       → ((body : List ℕ) → Pends k d.store p (body_in kind body) [] → Pends k2 d.store p (body_in kind (body ++ part)) [])
       → (body started : List ℕ) → Pending r due body started → Pends k d.store p body started → Handles rooms set (record { position = new; kept = k2 }) p r due c true d d
-  handled_body new kind remaining n part c k k2 p r due d size lent some none (after_body o) later all at takes body started pending pends = absurd (omega (arith, o.none_remaining, lent.within, size, some))
-  handled_body new kind remaining n part c k k2 p r due d size lent some none (in_body lt i none_too) later all at takes body started pending pends =
+  handled_body new kind remaining n part c k k2 p r due d size lent some none (after_body o) later all at accepts body started pending pends = absurd (omega (arith, o.none_remaining, lent.within, size, some))
+  handled_body new kind remaining n part c k k2 p r due d size lent some none (in_body lt i none_too) later all at accepts body started pending pends =
       let x = pending_none r due body started none pending in
       let was : Pends k d.store p (body_in kind (drop 6 r)) [] = subst (λ (z : ℕ). Pends k d.store p (body_in z (drop 6 r)) []) i.kind_is (pends_as k d.store p (body_of r) [] body started x.0 (x.1 ∙ ap started_in i.spot_is) pends) in
       let m = more r c i.headed in
-      let now : Pends k2 d.store p (body_in kind (drop 6 r ++ c)) [] = subst (λ (z : List ℕ). Pends k2 d.store p (body_in kind (drop 6 r ++ z)) []) lent.part_is (takes (drop 6 r) was) in
+      let now : Pends k2 d.store p (body_in kind (drop 6 r ++ c)) [] = subst (λ (z : List ℕ). Pends k2 d.store p (body_in kind (drop 6 r ++ z)) []) lent.part_is (accepts (drop 6 r) was) in
       let body_is : body_of (r ++ c) ≡ body_in kind (drop 6 r ++ c) = rw (m.kind, m.body, i.kind_is) refl in
       let arrives = plain_part r c i.rest i.spot_is in
       let marks : new_marks r c ≡ later = subst (λ (ms : List Mark). ms ++ new_marks r c ≡ later) none all in
@@ -251,17 +251,17 @@ module _ (rooms : Rooms) (set : Settings) where
   -- ---- the head of a value
 
   handled_pdv_head : (new : Position) (remaining n : ℕ) (bytes c : List ℕ) (head : declared.PdvHead) (k k2 : Kept) (p : Progress) (r : List ℕ) (due : List Mark) (d d2 : Devices) → length c ≡ n → AtPdvHead remaining bytes r due
-      → PdvHeadIsWhole remaining n (bytes ++ c) (event.PdvHead head) new → Took new r due c (Some (event.PdvHead head))
+      → PdvHeadIsWhole remaining n (bytes ++ c) (event.PdvHead head) new → Consumed new r due c (Some (event.PdvHead head))
       → (Pends k d.store p [] [] → Does rooms set p (timeline.At (head_mark (bytes ++ c))) k2 [] (bytes ++ c) d d2)
       → (body started : List ℕ) → Pending r due body started → Pends k d.store p body started → Handles rooms set (record { position = new; kept = k2 }) p r due c true d d2
-  handled_pdv_head new remaining n bytes c head k k2 p r due d d2 size a w t takes body started pending pends =
+  handled_pdv_head new remaining n bytes c head k k2 p r due d d2 size a w t accepts body started pending pends =
       let v = bytes ++ c in
       let i = a.inside in
       let f = w.follows in
       let reported = t.reports in
-      let all : due ++ new_marks r c ≡ reported.mark ∷ t.later = mark_taken new r due c (event.PdvHead head) t reported in
+      let all : due ++ new_marks r c ≡ reported.mark ∷ t.later = mark_consumed new r due c (event.PdvHead head) t reported in
       let marks : new_marks r c ≡ reported.mark ∷ t.later = subst (λ (ms : List Mark). ms ++ new_marks r c ≡ reported.mark ∷ t.later) a.none_due all in
-      let did = takes (pends_in_pdv k d.store p remaining bytes r due body started a pending pends) in
+      let did = accepts (pends_in_pdv k d.store p remaining bytes r due body started a pending pends) in
       let total : length v ≡ length bytes + length c = length-append bytes c in
       let two : 2 ≤ big_number 4 v = f.1 in
       let fits : big_number 4 v ≤ (remaining - n) + 2 = f.2 in
@@ -287,13 +287,13 @@ module _ (rooms : Rooms) (set : Settings) where
       → AtFragment remaining due_more r due → (later : List Mark) → due ++ new_marks r c ≡ later → At new (rest_of (r ++ c)) later
       → ((b : List ℕ) → 6 ≤ length b → Pends k d.store p [] b → Appends rooms set p k2 [] (b ++ part) d d2)
       → (body started : List ℕ) → Pending r due body started → Pends k d.store p body started → Handles rooms set (record { position = new; kept = k2 }) p r due c true d d2
-  handled_fragment new remaining due_more n part c k k2 p r due d d2 size lent some none (after_fragment zero x) later all at takes body started pending pends = absurd (omega (arith, zero, lent.within, size, some))
-  handled_fragment new remaining due_more n part c k k2 p r due d d2 size lent some none (in_fragment lt fr) later all at takes body started pending pends =
+  handled_fragment new remaining due_more n part c k k2 p r due d d2 size lent some none (after_fragment zero x) later all at accepts body started pending pends = absurd (omega (arith, zero, lent.within, size, some))
+  handled_fragment new remaining due_more n part c k k2 p r due d d2 size lent some none (in_fragment lt fr) later all at accepts body started pending pends =
       let x = pending_none r due body started none pending in
       let i = fr.inside in
       let b = fr.part in
       let was : Pends k d.store p [] b = pends_as k d.store p [] b body started (x.0 ∙ body_of_data r i.kind_is) (x.1 ∙ ap started_in i.spot_is) pends in
-      let appended : Appends rooms set p k2 [] (b ++ c) d d2 = subst (λ (z : List ℕ). Appends rooms set p k2 [] (b ++ z) d d2) lent.part_is (takes b fr.headed was) in
+      let appended : Appends rooms set p k2 [] (b ++ c) d d2 = subst (λ (z : List ℕ). Appends rooms set p k2 [] (b ++ z) d d2) lent.part_is (accepts b fr.headed was) in
       let total : length (b ++ c) ≡ length b + length c = length-append b c in
       let fits : pdv_size b ≤ room_remaining r + length b = fragment_room r b i.rest i.spot_is fr.headed in
       let marks : new_marks r c ≡ later = subst (λ (ms : List Mark). ms ++ new_marks r c ≡ later) none all in
@@ -323,86 +323,86 @@ module _ (rooms : Rooms) (set : Settings) where
   -- ---- the end of a value
 
   handled_value_end : (new : Position) (remaining due_more : ℕ) (c : List ℕ) (k k2 : Kept) (p : Progress) (r : List ℕ) (due : List Mark) (d d2 : Devices) → due_more ≡ 0 → FollowsPdv new → AtFragment remaining due_more r due
-      → At (position.Fragment remaining due_more) r due → Took new r due c (Some event.PdvEnd)
+      → At (position.Fragment remaining due_more) r due → Consumed new r due c (Some event.PdvEnd)
       → ((b : List ℕ) → 6 ≤ length b → length b ≡ pdv_size b → Pends k d.store p [] b → Does rooms set p (timeline.At (Pdv (get_or b 4 0) (get_or b 5 0) (drop 6 b))) k2 [] [] d d2)
       → (body started : List ℕ) → Pending r due body started → Pends k d.store p body started → Handles rooms set (record { position = new; kept = k2 }) p r due c true d d2
-  handled_value_end new remaining due_more c k k2 p r due d d2 zero follows (in_fragment lt fr) at t takes body started pending pends = absurd (omega (arith, lt, zero))
-  handled_value_end new remaining due_more c k k2 p r due d d2 zero follows (after_fragment none x) at t takes body started pending pends =
+  handled_value_end new remaining due_more c k k2 p r due d d2 zero follows (in_fragment lt fr) at t accepts body started pending pends = absurd (omega (arith, lt, zero))
+  handled_value_end new remaining due_more c k k2 p r due d d2 zero follows (after_fragment none x) at t accepts body started pending pends =
       let h = subst (λ (ms : List Mark). Pending r ms body started) x.due_is pending in
       let reported = t.reports in
-      let all : due ++ new_marks r c ≡ reported.mark ∷ t.later = mark_taken new r due c event.PdvEnd t reported in
+      let all : due ++ new_marks r c ≡ reported.mark ∷ t.later = mark_consumed new r due c event.PdvEnd t reported in
       let whole : Pdv x.context x.control x.fragment ∷ (x.later ++ new_marks r c) ≡ reported.mark ∷ t.later = subst (λ (ms : List Mark). ms ++ new_marks r c ≡ reported.mark ∷ t.later) x.due_is all in
       let m_is : Pdv x.context x.control x.fragment ≡ reported.mark = first_mark (Pdv x.context x.control x.fragment) reported.mark (x.later ++ new_marks r c) t.later whole in
       let was : Pends k d.store p [] started = subst (λ (z : List ℕ). Pends k d.store p z started) h.0 pends in
       let mark : Pdv (get_or started 4 0) (get_or started 5 0) (drop 6 started) ≡ reported.mark = whole_mark started h.2 ∙ h.3 ∙ m_is in
-      handled_quiet new k2 p r due c reported.mark t.later d d2 all (quiet_after_pdv new follows) t.is_at (subst (λ (z : Mark). Does rooms set p (timeline.At z) k2 [] [] d d2) mark (takes started h.1 h.2 was))
+      handled_quiet new k2 p r due c reported.mark t.later d d2 all (quiet_after_pdv new follows) t.is_at (subst (λ (z : Mark). Does rooms set p (timeline.At z) k2 [] [] d d2) mark (accepts started h.1 h.2 was))
 
   -- ---- the end of a frame
 
-  handled_over : (new : Position) (kind remaining : ℕ) (reported : ℕ) (c : List ℕ) (k k2 : Kept) (p : Progress) (r : List ℕ) (due : List Mark) (d d2 : Devices) → reported ≡ kind → IsInHead new → IsOver kind remaining r due → Took new r due c (Some (event.PduEnd reported))
+  handled_over : (new : Position) (kind remaining : ℕ) (reported : ℕ) (c : List ℕ) (k k2 : Kept) (p : Progress) (r : List ℕ) (due : List Mark) (d d2 : Devices) → reported ≡ kind → IsInHead new → IsOver kind remaining r due → Consumed new r due c (Some (event.PduEnd reported))
       → ((body : List ℕ) → Pends k d.store p (body_in reported body) [] → Does rooms set p (timeline.At (End reported body)) k2 [] [] d d2)
       → (body started : List ℕ) → Pending r due body started → Pends k d.store p body started → Handles rooms set (record { position = new; kept = k2 }) p r due c true d d2
-  handled_over new kind remaining reported c k k2 p r due d d2 same in_head o t takes body started pending pends =
+  handled_over new kind remaining reported c k k2 p r due d d2 same in_head o t accepts body started pending pends =
       let h = subst (λ (ms : List Mark). Pending r ms body started) o.due_is pending in
       let report = t.reports in
-      let all : due ++ new_marks r c ≡ report.mark ∷ t.later = mark_taken new r due c (event.PduEnd reported) t report in
+      let all : due ++ new_marks r c ≡ report.mark ∷ t.later = mark_consumed new r due c (event.PduEnd reported) t report in
       let whole : End kind o.body ∷ new_marks r c ≡ report.mark ∷ t.later = subst (λ (ms : List Mark). ms ++ new_marks r c ≡ report.mark ∷ t.later) o.due_is all in
       let m_is : End kind o.body ≡ report.mark = first_mark (End kind o.body) report.mark (new_marks r c) t.later whole in
       let was : Pends k d.store p (body_in reported o.body) [] = pends_as k d.store p (body_in reported o.body) [] body started (h.0 ∙ ap (λ (x : ℕ). body_in x o.body) (sym same)) h.1 pends in
       let mark : End reported o.body ≡ report.mark = ap (λ (x : ℕ). End x o.body) same ∙ m_is in
-      handled_quiet new k2 p r due c report.mark t.later d d2 all (quiet_in_head new in_head) t.is_at (subst (λ (z : Mark). Does rooms set p (timeline.At z) k2 [] [] d d2) mark (takes o.body was))
+      handled_quiet new k2 p r due c report.mark t.later d d2 all (quiet_in_head new in_head) t.is_at (subst (λ (z : Mark). Does rooms set p (timeline.At z) k2 [] [] d d2) mark (accepts o.body was))
 
-  handled_end : (q new : Position) (reported : ℕ) (c : List ℕ) (k k2 : Kept) (p : Progress) (r : List ℕ) (due : List Mark) (d d2 : Devices) → IsInHead new → EndsFrom q reported → At q r due → Took new r due c (Some (event.PduEnd reported))
+  handled_end : (q new : Position) (reported : ℕ) (c : List ℕ) (k k2 : Kept) (p : Progress) (r : List ℕ) (due : List Mark) (d d2 : Devices) → IsInHead new → EndsFrom q reported → At q r due → Consumed new r due c (Some (event.PduEnd reported))
       → ((body : List ℕ) → Pends k d.store p (body_in reported body) [] → Does rooms set p (timeline.At (End reported body)) k2 [] [] d d2)
       → (body started : List ℕ) → Pending r due body started → Pends k d.store p body started → Handles rooms set (record { position = new; kept = k2 }) p r due c true d d2
-  handled_end (position.Head bytes) new reported c k k2 p r due d d2 in_head w a t takes body started pending pends = absurd w
-  handled_end (position.Body kind remaining) new reported c k k2 p r due d d2 in_head w a t takes body started pending pends = go a where
+  handled_end (position.Head bytes) new reported c k k2 p r due d d2 in_head w a t accepts body started pending pends = absurd w
+  handled_end (position.Body kind remaining) new reported c k k2 p r due d d2 in_head w a t accepts body started pending pends = go a where
     go : AtBody kind remaining r due → Handles rooms set (record { position = new; kept = k2 }) p r due c true d d2
     go (in_body lt i none) = absurd (omega (arith, lt, w.1))
-    go (after_body o) = handled_over new kind remaining reported c k k2 p r due d d2 w.0 in_head o t takes body started pending pends
-  handled_end (position.PdvHead remaining bytes) new reported c k k2 p r due d d2 in_head w a t takes body started pending pends =
+    go (after_body o) = handled_over new kind remaining reported c k k2 p r due d d2 w.0 in_head o t accepts body started pending pends
+  handled_end (position.PdvHead remaining bytes) new reported c k k2 p r due d d2 in_head w a t accepts body started pending pends =
       let report = t.reports in
-      let all : due ++ new_marks r c ≡ report.mark ∷ t.later = mark_taken new r due c (event.PduEnd reported) t report in
+      let all : due ++ new_marks r c ≡ report.mark ∷ t.later = mark_consumed new r due c (event.PduEnd reported) t report in
       let x = mark_of_end reported report.mark report.same in
       let was : Pends k d.store p (body_in reported x.0) [] = subst (λ (z : ℕ). Pends k d.store p (body_in z x.0) []) (sym w) (pends_in_pdv k d.store p remaining bytes.items r due body started a pending pends) in
-      handled_quiet new k2 p r due c report.mark t.later d d2 all (quiet_in_head new in_head) t.is_at (subst (λ (z : Mark). Does rooms set p (timeline.At z) k2 [] [] d d2) (sym x.1) (takes x.0 was))
-  handled_end (position.Fragment remaining more) new reported c k k2 p r due d d2 in_head w a t takes body started pending pends = absurd w
-  handled_end (position.Leftover remaining) new reported c k k2 p r due d d2 in_head w a t takes body started pending pends = absurd w
-  handled_end (position.Skipped kind remaining) new reported c k k2 p r due d d2 in_head w a t takes body started pending pends = handled_over new kind remaining reported c k k2 p r due d d2 w in_head a t takes body started pending pends
+      handled_quiet new k2 p r due c report.mark t.later d d2 all (quiet_in_head new in_head) t.is_at (subst (λ (z : Mark). Does rooms set p (timeline.At z) k2 [] [] d d2) (sym x.1) (accepts x.0 was))
+  handled_end (position.Fragment remaining more) new reported c k k2 p r due d d2 in_head w a t accepts body started pending pends = absurd w
+  handled_end (position.Leftover remaining) new reported c k k2 p r due d d2 in_head w a t accepts body started pending pends = absurd w
+  handled_end (position.Skipped kind remaining) new reported c k k2 p r due d d2 in_head w a t accepts body started pending pends = handled_over new kind remaining reported c k k2 p r due d d2 w in_head a t accepts body started pending pends
 
   -- ---- any event
 
-  pub handled_event : (q new : Position) (n : ℕ) (c : List ℕ) (e : Event) (k k2 : Kept) (p : Progress) (r : List ℕ) (due : List Mark) (d d2 : Devices) → length c ≡ n → Shaped q n c e new → At q r due → Took new r due c (Some e)
-      → Takes rooms set k k2 (body_kind new) e d d2 → ShowsDue (record { position = q; kept = k }) d.store p r due → Handles rooms set (record { position = new; kept = k2 }) p r due c true d d2
-  handled_event q new n c (event.PduHead head) k k2 p r due d d2 size (bytes, is, w) here t takes h =
-      handled_head new bytes.items c head k k2 p r due d d2 (subst (λ (x : Position). At x r due) is here) w t (takes p) h.body h.started h.pending h.pends
-  handled_event q new n c (event.Body part) k k2 p r due d d2 size (kind, remaining, is, lent) here t takes h =
+  pub handled_event : (q new : Position) (n : ℕ) (c : List ℕ) (e : Event) (k k2 : Kept) (p : Progress) (r : List ℕ) (due : List Mark) (d d2 : Devices) → length c ≡ n → Shaped q n c e new → At q r due → Consumed new r due c (Some e)
+      → Accepts rooms set k k2 (body_kind new) e d d2 → ShowsDue (record { position = q; kept = k }) d.store p r due → Handles rooms set (record { position = new; kept = k2 }) p r due c true d d2
+  handled_event q new n c (event.PduHead head) k k2 p r due d d2 size (bytes, is, w) here t accepts h =
+      handled_head new bytes.items c head k k2 p r due d d2 (subst (λ (x : Position). At x r due) is here) w t (accepts p) h.body h.started h.pending h.pends
+  handled_event q new n c (event.Body part) k k2 p r due d d2 size (kind, remaining, is, lent) here t accepts h =
       let some = t.reports.some in
-      let all : due ++ new_marks r c ≡ t.later = marks_taken new r due c (Some (event.Body part)) t ∙ ap (λ (ms : List Mark). ms ++ t.later) (ap marks_among t.reports.lent ∙ among_body c) in
-      let same : Takes rooms set k k2 kind (event.Body part) d d2 = subst (λ (x : Position). Takes rooms set k k2 (body_kind x) (event.Body part) d d2) lent.new_is takes in
+      let all : due ++ new_marks r c ≡ t.later = marks_consumed new r due c (Some (event.Body part)) t ∙ ap (λ (ms : List Mark). ms ++ t.later) (ap marks_among t.reports.lent ∙ among_body c) in
+      let same : Accepts rooms set k k2 kind (event.Body part) d d2 = subst (λ (x : Position). Accepts rooms set k k2 (body_kind x) (event.Body part) d d2) lent.new_is accepts in
       subst (λ (x : Devices). Handles rooms set (record { position = new; kept = k2 }) p r due c true d x) (sym same.0)
       (handled_body new kind remaining n part.now c k k2 p r due d size lent some (t.prompt some) (subst (λ (x : Position). At x r due) is here) t.later all t.is_at (same.1 p) h.body h.started h.pending h.pends)
-  handled_event q new n c (event.PdvHead head) k k2 p r due d d2 size (remaining, bytes, is, w) here t takes h =
-      handled_pdv_head new remaining n bytes.items c head k k2 p r due d d2 size (subst (λ (x : Position). At x r due) is here) w t (takes p (bytes.items ++ c) w.all w.follows.0) h.body h.started h.pending h.pends
-  handled_event q new n c (event.Fragment part) k k2 p r due d d2 size (remaining, due_more, is, lent) here t takes h =
+  handled_event q new n c (event.PdvHead head) k k2 p r due d d2 size (remaining, bytes, is, w) here t accepts h =
+      handled_pdv_head new remaining n bytes.items c head k k2 p r due d d2 size (subst (λ (x : Position). At x r due) is here) w t (accepts p (bytes.items ++ c) w.all w.follows.0) h.body h.started h.pending h.pends
+  handled_event q new n c (event.Fragment part) k k2 p r due d d2 size (remaining, due_more, is, lent) here t accepts h =
       let some = t.reports.some in
-      let all : due ++ new_marks r c ≡ t.later = marks_taken new r due c (Some (event.Fragment part)) t ∙ ap (λ (ms : List Mark). ms ++ t.later) (ap marks_among t.reports.lent ∙ among_fragment c) in
-      handled_fragment new remaining due_more n part.now c k k2 p r due d d2 size lent some (t.prompt some) (subst (λ (x : Position). At x r due) is here) t.later all t.is_at (takes p) h.body h.started h.pending h.pends
-  handled_event q new n c event.PdvEnd k k2 p r due d d2 size (remaining, due_more, is, zero, follows) here t takes h =
+      let all : due ++ new_marks r c ≡ t.later = marks_consumed new r due c (Some (event.Fragment part)) t ∙ ap (λ (ms : List Mark). ms ++ t.later) (ap marks_among t.reports.lent ∙ among_fragment c) in
+      handled_fragment new remaining due_more n part.now c k k2 p r due d d2 size lent some (t.prompt some) (subst (λ (x : Position). At x r due) is here) t.later all t.is_at (accepts p) h.body h.started h.pending h.pends
+  handled_event q new n c event.PdvEnd k k2 p r due d d2 size (remaining, due_more, is, zero, follows) here t accepts h =
       let at = subst (λ (x : Position). At x r due) is here in
-      handled_value_end new remaining due_more c k k2 p r due d d2 zero follows at at t (takes p) h.body h.started h.pending h.pends
-  handled_event q new n c event.BadPdv k k2 p r due d d2 size (remaining, bytes, is, w) here t takes h =
+      handled_value_end new remaining due_more c k k2 p r due d d2 zero follows at at t (accepts p) h.body h.started h.pending h.pends
+  handled_event q new n c event.BadPdv k k2 p r due d d2 size (remaining, bytes, is, w) here t accepts h =
       let reported = t.reports in
-      let all : due ++ new_marks r c ≡ BadPdv ∷ t.later = mark_taken new r due c event.BadPdv t reported ∙ ap (λ (x : Mark). x ∷ t.later) (mark_of_bad reported.mark reported.same) in
+      let all : due ++ new_marks r c ≡ BadPdv ∷ t.later = mark_consumed new r due c event.BadPdv t reported ∙ ap (λ (x : Mark). x ∷ t.later) (mark_of_bad reported.mark reported.same) in
       handled_quiet new k2 p r due c BadPdv t.later d d2 all (quiet_plain new (remaining - n) w.follows) t.is_at
-      (takes p (pends_in_pdv k d.store p remaining bytes.items r due h.body h.started (subst (λ (x : Position). At x r due) is here) h.pending h.pends))
-  handled_event q new n c event.Leftover k k2 p r due d d2 size (remaining, is, e) here t takes h =
+      (accepts p (pends_in_pdv k d.store p remaining bytes.items r due h.body h.started (subst (λ (x : Position). At x r due) is here) h.pending h.pends))
+  handled_event q new n c event.Leftover k k2 p r due d d2 size (remaining, is, e) here t accepts h =
       let a = subst (λ (x : Position). At x r due) is here in
       let x = subst (λ (ms : List Mark). Pending r ms h.body h.started) a.due_is h.pending in
       let reported = t.reports in
-      let all : due ++ new_marks r c ≡ reported.mark ∷ t.later = mark_taken new r due c event.Leftover t reported in
+      let all : due ++ new_marks r c ≡ reported.mark ∷ t.later = mark_consumed new r due c event.Leftover t reported in
       let whole : Leftover ∷ new_marks r c ≡ reported.mark ∷ t.later = subst (λ (ms : List Mark). ms ++ new_marks r c ≡ reported.mark ∷ t.later) a.due_is all in
       let m_is : Leftover ≡ reported.mark = first_mark Leftover reported.mark (new_marks r c) t.later whole in
       handled_quiet new k2 p r due c reported.mark t.later d d2 all (quiet_plain new remaining e) t.is_at
-      (subst (λ (z : Mark). Does rooms set p (timeline.At z) k2 [] [] d d2) m_is (takes p (pends_as k d.store p [] [] h.body h.started x.0 x.1 h.pends)))
-  handled_event q new n c (event.PduEnd reported) k k2 p r due d d2 size (s, from) here t takes h = handled_end q new reported c k k2 p r due d d2 s from here t (takes p) h.body h.started h.pending h.pends
+      (subst (λ (z : Mark). Does rooms set p (timeline.At z) k2 [] [] d d2) m_is (accepts p (pends_as k d.store p [] [] h.body h.started x.0 x.1 h.pends)))
+  handled_event q new n c (event.PduEnd reported) k k2 p r due d d2 size (s, from) here t accepts h = handled_end q new reported c k k2 p r due d d2 s from here t (accepts p) h.body h.started h.pending h.pends

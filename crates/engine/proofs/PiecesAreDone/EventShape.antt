@@ -88,19 +88,19 @@ shaped (position.Skipped kind remaining) n c (event.PduEnd reported) new s = (s.
 -- ---- room
 
 pub no_body : (room : ℕ) (k : Kept) (kind n : ℕ) → (kind ≡ 1 → ⊥) → BodyFits room k kind n
-no_body room k kind n other = λ due taken one. absurd (other one)
+no_body room k kind n other = λ due consumed one. absurd (other one)
 
 pub no_fragment : (k : Kept) → FragmentFits k 0
-no_fragment k = λ six taken. omega arith
+no_fragment k = λ six consumed. omega arith
 
 abbrev pub FitsAt : ℕ → Kept → Position → Type 0
 FitsAt room k q = BodyFits room k (body_kind q) (body_due q) × FragmentFits k (fragment_due q)
 
 pub body_less : (room : ℕ) (k : Kept) (kind n m : ℕ) → m ≤ n → BodyFits room k kind n → BodyFits room k kind m
-body_less room k kind n m le h = λ due taken one. let all = h due taken one in omega (arith, all, le)
+body_less room k kind n m le h = λ due consumed one. let all = h due consumed one in omega (arith, all, le)
 
 pub fragment_less : (k : Kept) (n m : ℕ) → m ≤ n → FragmentFits k n → FragmentFits k m
-fragment_less k n m le h = λ six taken. let all = h six taken in omega (arith, all, le)
+fragment_less k n m le h = λ six consumed. let all = h six consumed in omega (arith, all, le)
 
 -- the room that is needed is there
 pub has_room : (room : ℕ) (k : Kept) (q : Position) (n : ℕ) (c : List ℕ) (e : Event) (new : Position) → length c ≡ n → Shaped q n c e new → FitsAt room k q → HasRoom room k (body_kind new) e
@@ -129,7 +129,7 @@ fits_in_head room k (position.Skipped kind remaining) s = absurd s
 
 fits_after_head : (room : ℕ) (k : Kept) (head : PduHead) (new : Position) → FollowsHead head new → BodyFits room k head.kind head.length → FitsAt room k new
 fits_after_head room k head (position.Head bytes) s h = absurd s
-fits_after_head room k head (position.Body kind remaining) s h = (λ due taken one. let all = h due taken (sym s.0 ∙ one) in omega (arith, all, s.1), no_fragment k)
+fits_after_head room k head (position.Body kind remaining) s h = (λ due consumed one. let all = h due consumed (sym s.0 ∙ one) in omega (arith, all, s.1), no_fragment k)
 fits_after_head room k head (position.PdvHead remaining bytes) s h = (no_body room k 0 0 (λ e. absurd cc), no_fragment k)
 fits_after_head room k head (position.Fragment remaining more) s h = absurd s
 fits_after_head room k head (position.Leftover remaining) s h = absurd s

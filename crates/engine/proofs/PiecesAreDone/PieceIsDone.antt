@@ -1,5 +1,5 @@
--- One event handled after another (`handled_then`), all of a piece is done (`took_all`), also where the end drops the rest
--- (`took_dropped`). Stands on EntriesJoin and the laws of `pdu`.
+-- One event handled after another (`handled_then`), all of a piece is done (`consumed_all`), also where the end drops the rest
+-- (`consumed_dropped`). Stands on EntriesJoin and the laws of `pdu`.
 use Rattle.std.proofs.Common.{◌≡◌, ℕ, Bool, true, false, List, [], ◌++◌, map, refl, sym, ap, subst, ◌∙◌, append_assoc, arith}
 use Rattle.std.proofs.lemmas.List.{append-nil, map-append}
 use Rattle.pdu.specs.Frames.{IsRest, rest_of}
@@ -27,7 +27,7 @@ pub spot_none : spot [] ≡ Opening
 spot_none = spot_opening [] (omega arith)
 
 module _ (rooms : Rooms) (s : Settings) where
-  -- nothing was taken
+  -- nothing was consumed
   pub handled_start : (f : Fields) (p : Progress) (r : List ℕ) (t : Devices) → IsRest r → is_ended p.state ≡ false → ShowsFrame f t.store p r → Handles rooms s f p r [] [] true t t
   handled_start f p r t rest still h =
       let same : rest_of (r ++ []) ≡ r = ap rest_of (append-nil r) ∙ rest_alone r rest in
@@ -66,8 +66,8 @@ module _ (rooms : Rooms) (s : Settings) where
       }
 
   -- no marks are due
-  pub took_all : (f : Fields) (p : Progress) (r c : List ℕ) (t u : Devices) → Handles rooms s f p r [] c false t u → DoesPart rooms s f p r c t u
-  took_all f p r c t u x =
+  pub consumed_all : (f : Fields) (p : Progress) (r c : List ℕ) (t u : Devices) → Handles rooms s f p r [] c false t u → DoesPart rooms s f p r c t u
+  consumed_all f p r c t u x =
       let none : x.later ≡ [] = x.none_due refl in
       let rest = rest_of (r ++ c) in
       let q : Progress = absorb x.does.failed (progress_of rooms s p x.does.story) in
@@ -87,8 +87,8 @@ module _ (rooms : Rooms) (s : Settings) where
       }
 
   -- the heads were released where the association has ended
-  pub took_dropped : (f g : Fields) (p : Progress) (r c : List ℕ) (t u : Devices) → g.kept ≡ f.kept → (is_ended f.kept.state ≡ false → g ≡ f) → DoesPart rooms s f p r c t u → DoesPart rooms s g p r c t u
-  took_dropped f g p r c t u kept same x =
+  pub consumed_dropped : (f g : Fields) (p : Progress) (r c : List ℕ) (t u : Devices) → g.kept ≡ f.kept → (is_ended f.kept.state ≡ false → g ≡ f) → DoesPart rooms s f p r c t u → DoesPart rooms s g p r c t u
+  consumed_dropped f g p r c t u kept same x =
       let q = absorb x.failed (progress_of rooms s p x.story) in
       let rest = rest_of (r ++ c) in
       record {

@@ -29,18 +29,18 @@ use Rattle.decisions.specs.ValueEnds.{value_end}
 use Rattle.engine.specs.Progress.{Progress, Advance, deciding, absorb, nothing, is_due, is_established}
 use Rattle.engine.specs.Devices.{Devices}
 use Rattle.engine.specs.Run.{Rooms, gives, progress_of}
-use Rattle.engine.specs.Reached.{takes_pdvs, started_in}
+use Rattle.engine.specs.Reached.{accepts_pdvs, started_in}
 use Rattle.engine.specs.Replies.{invalid, at_pdv_head, at_pdv}
 use Rattle.engine.specs.Held.{is_ended}
 use Rattle.engine.specs.Fair.{IsVerdict}
-use Rattle.engine.specs.Kept.{Kept, Pends, counted_body, body_in, takes_pdvs_in, takes_body_in}
+use Rattle.engine.specs.Kept.{Kept, Pends, counted_body, body_in, accepts_pdvs_in, accepts_body_in}
 use Rattle.engine.specs.machine.Does.{Does, DoesAll}
-use Rattle.engine.specs.machine.Events.{Takes}
+use Rattle.engine.specs.machine.Events.{Accepts}
 use Rattle.engine.specs.FrameFields.{IsUncounted, StandsAt, reads, skips, body_of}
 use Rattle.engine.specs.machine.Skips.{passed, in_pdv_head}
 use Rattle.engine.specs.machine.Shows.{Handles, Pending}
-use Rattle.engine.proofs.FieldsShow.NothingCounts.{takes_shown}
-use Rattle.engine.proofs.FieldsShow.TriedIsDone.{does_nothing, taken_when, none_counted_body}
+use Rattle.engine.proofs.FieldsShow.NothingCounts.{accepts_shown}
+use Rattle.engine.proofs.FieldsShow.TriedIsDone.{does_nothing, consumed_when, none_counted_body}
 use Rattle.engine.proofs.PiecesAreDone.EntriesJoin.{does_none, does_one, does_more, does_then}
 use Rattle.engine.proofs.MarksAreDone.PdvJoined.{pends_dropped}
 use Rattle.engine.proofs.PiecesAreDone.PieceIsDone.{spot_none}
@@ -76,15 +76,15 @@ body_uncounted Sta6 a b one xs h e = refl
 body_uncounted Sta8 a b one xs h e = refl
 body_uncounted Sta13 a b one xs h e = refl
 
-pub none_counted : (k : Kept) (store : Store) (p : Progress) (body started : List ℕ) (kind : ℕ) (xs : List ℕ) → takes_body_in k kind ≡ false → Pends k store p body started → counted_body p (body_in kind xs) ≡ []
+pub none_counted : (k : Kept) (store : Store) (p : Progress) (body started : List ℕ) (kind : ℕ) (xs : List ℕ) → accepts_body_in k kind ≡ false → Pends k store p body started → counted_body p (body_in kind xs) ≡ []
 none_counted k store p body started kind xs u h =
     let at_p : (is_due p.state && (not k.refused && nat_eq kind 1)) ≡ false = sym (ap (λ (st : State). is_due st && (not k.refused && nat_eq kind 1)) h.state_is) ∙ u in
     body_uncounted p.state k.refused p.refused (nat_eq kind 1) xs h.refused_is at_p
 
 -- what has come of it may be anything
-pub pends_past : (k : Kept) (store : Store) (p : Progress) (body other started started_too : List ℕ) → counted_body p body ≡ counted_body p other → takes_pdvs_in k ≡ false → Pends k store p body started → Pends k store p other started_too
+pub pends_past : (k : Kept) (store : Store) (p : Progress) (body other started started_too : List ℕ) → counted_body p body ≡ counted_body p other → accepts_pdvs_in k ≡ false → Pends k store p body started → Pends k store p other started_too
 pends_past k store p body other started started_too same t was =
-    let h = pends_dropped k store p body started started_too (sym (takes_shown k store p body started was) ∙ t) was in
+    let h = pends_dropped k store p body started started_too (sym (accepts_shown k store p body started was) ∙ t) was in
     record {
       state_is = h.state_is;
       refused_is = h.refused_is;
@@ -102,12 +102,12 @@ pends_past k store p body other started started_too same t was =
 not_due : (a b : Bool) → (a && (b && false)) ≡ false
 not_due a b = grind (arith, common_steps)
 
-data_uncounted : (k : Kept) (kind : ℕ) → kind ≡ 4 → takes_body_in k kind ≡ false
-data_uncounted k kind e = subst (λ (x : ℕ). takes_body_in k x ≡ false) (sym e) (not_due (is_due k.state) (not k.refused))
+data_uncounted : (k : Kept) (kind : ℕ) → kind ≡ 4 → accepts_body_in k kind ≡ false
+data_uncounted k kind e = subst (λ (x : ℕ). accepts_body_in k x ≡ false) (sym e) (not_due (is_due k.state) (not k.refused))
 
-uncounted_at : (q : Position) (k : Kept) (r : List ℕ) (due : List Mark) → At q r due → SkipsAt (skip_of q) r → takes_body_in k (body_kind q) ≡ false → takes_body_in k (frame_kind r) ≡ false
+uncounted_at : (q : Position) (k : Kept) (r : List ℕ) (due : List Mark) → At q r due → SkipsAt (skip_of q) r → accepts_body_in k (body_kind q) ≡ false → accepts_body_in k (frame_kind r) ≡ false
 uncounted_at (position.Head bytes) k r due a s t = absurd s
-uncounted_at (position.Body kind remaining) k r due a s t = subst (λ (x : ℕ). takes_body_in k x ≡ false) (sym s.3) t
+uncounted_at (position.Body kind remaining) k r due a s t = subst (λ (x : ℕ). accepts_body_in k x ≡ false) (sym s.3) t
 uncounted_at (position.PdvHead remaining bytes) k r due a s t = data_uncounted k (frame_kind r) s.3
 uncounted_at (position.Fragment remaining more) k r due a s t = data_uncounted k (frame_kind r) s.3
 uncounted_at (position.Leftover remaining) k r due a s t = data_uncounted k (frame_kind r) s.3
@@ -115,7 +115,7 @@ uncounted_at (position.Skipped kind remaining) k r due a s t = absurd (omega (ar
 
 -- ---- what is pending where marks within a frame are due
 
-pending_within : (k : Kept) (store : Store) (p : Progress) (r : List ℕ) (ms : List Mark) (body started : List ℕ) → takes_body_in k (frame_kind r) ≡ false → AreInner ms → Pending r ms body started → Pends k store p body started → counted_body p body ≡ []
+pending_within : (k : Kept) (store : Store) (p : Progress) (r : List ℕ) (ms : List Mark) (body started : List ℕ) → accepts_body_in k (frame_kind r) ≡ false → AreInner ms → Pending r ms body started → Pends k store p body started → counted_body p body ≡ []
 pending_within k store p r [] body started u i h pends = ap (counted_body p) h.0 ∙ none_counted k store p body started (frame_kind r) (drop 6 r) u pends
 pending_within k store p r (Head kind n ∷ ms) body started u i h pends = absurd i.0
 pending_within k store p r (PdvHead n context control ∷ ms) body started u i h pends = ap (counted_body p) h.0 ∙ none_counted_body p
@@ -156,7 +156,7 @@ heads_still (position.Skipped kind remaining) n c new s e = at_skipped new s whe
 skipped_no_head : (q : Position) → in_pdv_head (skip_of q) ≡ false
 skipped_no_head q = grind (arith, common_steps)
 
-body_no_head : (q : Position) (k : Kept) → takes_body_in k (body_kind q) ≡ true → in_pdv_head q ≡ false
+body_no_head : (q : Position) (k : Kept) → accepts_body_in k (body_kind q) ≡ true → in_pdv_head q ≡ false
 body_no_head (position.Head bytes) k t = refl
 body_no_head (position.Body kind remaining) k t = refl
 body_no_head (position.PdvHead remaining bytes) k t = let wrong : true ≡ false = sym t ∙ not_due (is_due k.state) (not k.refused) in absurd cc
@@ -164,9 +164,9 @@ body_no_head (position.Fragment remaining more) k t = refl
 body_no_head (position.Leftover remaining) k t = refl
 body_no_head (position.Skipped kind remaining) k t = refl
 
-pub heads_passed : (k : Kept) (q : Position) → takes_pdvs_in k ≡ false → in_pdv_head (passed k q) ≡ false
+pub heads_passed : (k : Kept) (q : Position) → accepts_pdvs_in k ≡ false → in_pdv_head (passed k q) ≡ false
 heads_passed k q t =
-    elim (cases_Bool (takes_body_in k (body_kind q))) [
+    elim (cases_Bool (accepts_body_in k (body_kind q))) [
       | inl b ↦ rw (t, b) (body_no_head q k b)
       | inr b ↦ rw (t, b) (skipped_no_head q)
     ]
@@ -183,7 +183,7 @@ room_skipped room k (position.Skipped kind remaining) h = (no_body room k 0 0 (�
 
 pub room_passed : (room : ℕ) (k : Kept) (q : Position) → FitsAt room k q → FitsAt room k (passed k q)
 room_passed room k q h =
-    elim (cases_Bool (takes_pdvs_in k || takes_body_in k (body_kind q))) [
+    elim (cases_Bool (accepts_pdvs_in k || accepts_body_in k (body_kind q))) [
       | inl t ↦ rw t h
       | inr t ↦ rw t (room_skipped room k q h)
     ]
@@ -195,34 +195,34 @@ neither a b h = grind (arith, common_steps)
 
 pub stands_passed : (q : Position) (k n : Kept) (r : List ℕ) → ((kind : ℕ) → IsUncounted k kind → IsUncounted n kind) → StandsAt q k r [] → StandsAt (passed n q) n r []
 stands_passed q k n r still h =
-    elim (cases_Bool (takes_pdvs_in n || takes_body_in n (body_kind q))) [
+    elim (cases_Bool (accepts_pdvs_in n || accepts_body_in n (body_kind q))) [
       | inl t ↦ rw t (same h)
-      | inr t ↦ rw t (skip (neither (takes_pdvs_in n) (takes_body_in n (body_kind q)) t) h)
+      | inr t ↦ rw t (skip (neither (accepts_pdvs_in n) (accepts_body_in n (body_kind q)) t) h)
     ]
   where
     same : StandsAt q k r [] → StandsAt q n r []
     same (reads a) = reads a
     same (skips s u none) = skips s (still (frame_kind r) u) refl
 
-    by : (takes_pdvs_in n ≡ false) × (takes_body_in n (body_kind q) ≡ false) → At q r [] → Skip (skip_of q) r [] → StandsAt (skip_of q) n r []
+    by : (accepts_pdvs_in n ≡ false) × (accepts_body_in n (body_kind q) ≡ false) → At q r [] → Skip (skip_of q) r [] → StandsAt (skip_of q) n r []
     by t at (no_frame lt none a) = reads a
     by t at (end_alone before kind body are only is a) = absurd (some_last before (End kind body) (sym is))
     by t at (skipped are s) = skips s (record { pdvs = t.0; body = uncounted_at q n r [] at s t.1 }) refl
 
-    skip : (takes_pdvs_in n ≡ false) × (takes_body_in n (body_kind q) ≡ false) → StandsAt q k r [] → StandsAt (skip_of q) n r []
+    skip : (accepts_pdvs_in n ≡ false) × (accepts_body_in n (body_kind q) ≡ false) → StandsAt q k r [] → StandsAt (skip_of q) n r []
     skip t (reads a) = by t a (skip_at q r [] a)
     skip t (skips s u none) = subst (λ (x : Position). StandsAt x n r []) (sym (skips_frame q r s).same) (skips s (still (frame_kind r) u) refl)
 
 -- ---- marks within a frame give nothing
 
-pub dropped_by : (p : Progress) (g : Advance) → takes_pdvs p ≡ false → (if p.refused then nothing p else (if is_established p.state then g else nothing p)) ≡ nothing p
-dropped_by p g t = taken_when (is_established p.state) p.refused g (nothing p) ∙ ap (λ (y : Bool). if y then g else nothing p) t
+pub dropped_by : (p : Progress) (g : Advance) → accepts_pdvs p ≡ false → (if p.refused then nothing p else (if is_established p.state then g else nothing p)) ≡ nothing p
+dropped_by p g t = consumed_when (is_established p.state) p.refused g (nothing p) ∙ ap (λ (y : Bool). if y then g else nothing p) t
 
 module _ (rooms : Rooms) (set : Settings) where
-  no_message : (p : Progress) (m : Option Message) → takes_pdvs p ≡ false → IsVerdict rooms set p good (if takes_pdvs p then m else None)
+  no_message : (p : Progress) (m : Option Message) → accepts_pdvs p ≡ false → IsVerdict rooms set p good (if accepts_pdvs p then m else None)
   no_message p m t = subst (λ (o : Option Message). IsVerdict rooms set p good o) (sym (ap (λ (x : Bool). if x then m else None) t)) tt
 
-  does_within : (p : Progress) (m : Mark) (k : Kept) (body started : List ℕ) (d : Devices) → IsInner m → takes_pdvs p ≡ false → Pends k d.store p body started → Does rooms set p (timeline.At m) k body started d d
+  does_within : (p : Progress) (m : Mark) (k : Kept) (body started : List ℕ) (d : Devices) → IsInner m → accepts_pdvs p ≡ false → Pends k d.store p body started → Does rooms set p (timeline.At m) k body started d d
   does_within p (Head kind n) k body started d i t h = absurd i
   does_within p (PdvHead n context control) k body started d i t h = does_nothing rooms set p (timeline.At (PdvHead n context control)) k body started d (dropped_by p (at_pdv_head rooms.command p n context control) t) tt h
   does_within p (Pdv context control fragment) k body started d i t h =
@@ -232,14 +232,14 @@ module _ (rooms : Rooms) (set : Settings) where
   does_within p Leftover k body started d i t h = does_nothing rooms set p (timeline.At Leftover) k body started d (dropped_by p (invalid (deciding (decision.BytesRemaining (value_end p.decided)) p)) t) tt h
   does_within p (End kind whole) k body started d i t h = absurd i
 
-  does_inner : (ms : List Mark) → AreInner ms → (p : Progress) (k : Kept) (body started : List ℕ) (d : Devices) → takes_pdvs_in k ≡ false → Pends k d.store p body started → DoesAll rooms set p (map timeline.At ms) k body started d d
+  does_inner : (ms : List Mark) → AreInner ms → (p : Progress) (k : Kept) (body started : List ℕ) (d : Devices) → accepts_pdvs_in k ≡ false → Pends k d.store p body started → DoesAll rooms set p (map timeline.At ms) k body started d d
   does_inner [] i p k body started d t h = does_none rooms set p k body started d h
   does_inner (m ∷ ms) i p k body started d t h =
-      let one = does_within p m k body started d i.0 (sym (takes_shown k d.store p body started h) ∙ t) h in
+      let one = does_within p m k body started d i.0 (sym (accepts_shown k d.store p body started h) ∙ t) h in
       does_more rooms set p (timeline.At m) (map timeline.At ms) k k body started body started d d d one (does_inner ms i.1 (gives rooms set p (timeline.At m, one.outcome)).next k body started d t one.pends)
 
   -- some marks were done, and these within the frame after them
-  does_past : (p : Progress) (xs ys : List Mark) (k : Kept) (b f body started : List ℕ) (d e : Devices) → AreInner ys → takes_pdvs_in k ≡ false → (h : DoesAll rooms set p (map timeline.At xs) k b f d e)
+  does_past : (p : Progress) (xs ys : List Mark) (k : Kept) (b f body started : List ℕ) (d e : Devices) → AreInner ys → accepts_pdvs_in k ≡ false → (h : DoesAll rooms set p (map timeline.At xs) k b f d e)
       → Pends k e.store (absorb h.failed (progress_of rooms set p h.story)) body started → DoesAll rooms set p (map timeline.At (xs ++ ys)) k body started d e
   does_past p xs ys k b f body started d e i t h pends =
       let q = absorb h.failed (progress_of rooms set p h.story) in
@@ -272,7 +272,7 @@ module _ (rooms : Rooms) (set : Settings) where
   skipped_end : (new : Position) (k k2 : Kept) (p : Progress) (r c : List ℕ) (due : List Mark) (d d2 : Devices) → IsUncounted k (frame_kind r) → IsRest r → 6 ≤ length r → due ≡ [] → IsFrame (r ++ c) → At new [] []
       → ((q : Progress) (whole : List ℕ) → Pends k d.store q (body_in (frame_kind r) whole) [] → Does rooms set q (timeline.At (End (frame_kind r) whole)) k2 [] [] d d2)
       → (body started : List ℕ) → Pending r due body started → Pends k d.store p body started → Handles rooms set (record { position = new; kept = k2 }) p r due c true d d2
-  skipped_end new k k2 p r c due d d2 u rest headed none whole at takes body started pending pends =
+  skipped_end new k k2 p r c due d d2 u rest headed none whole at accepts body started pending pends =
       let w = (marks_within r c rest headed).ends whole in
       let text = drop 6 (r ++ c) in
       let last : Mark = end_mark (r ++ c) in
@@ -283,7 +283,7 @@ module _ (rooms : Rooms) (set : Settings) where
       let was = pends_past k d.store p body (body_in (frame_kind r) text) started [] (nothing_was ∙ sym nothing_is) u.pdvs pends in
       let first = does_inner w.inner w.are_inner p k (body_in (frame_kind r) text) [] d u.pdvs was in
       let q = absorb first.failed (progress_of rooms set p first.story) in
-      let last_did : Does rooms set q (timeline.At last) k2 [] [] d d2 = subst (λ (m : Mark). Does rooms set q (timeline.At m) k2 [] [] d d2) mark (takes q text first.pends) in
+      let last_did : Does rooms set q (timeline.At last) k2 [] [] d d2 = subst (λ (m : Mark). Does rooms set q (timeline.At m) k2 [] [] d d2) mark (accepts q text first.pends) in
       record {
         marks = w.inner ++ last ∷ [];
         later = [];
@@ -303,17 +303,17 @@ module _ (rooms : Rooms) (set : Settings) where
   passed_none q new c k p r due d s u none (ends e w at) body started pending pends = absurd cc
 
   pub passed_event : (q new : Position) (c : List ℕ) (e : Event) (k k2 : Kept) (p : Progress) (r : List ℕ) (due : List Mark) (d d2 : Devices) → SkipsAt q r → IsUncounted k (frame_kind r) → due ≡ [] → Skipped new r c (Some e)
-      → Takes rooms set k k2 (body_kind new) e d d2 → (body started : List ℕ) → Pending r due body started → Pends k d.store p body started → Handles rooms set (record { position = new; kept = k2 }) p r due c true d d2
-  passed_event q new c e k k2 p r due d d2 s u none (continues is at) takes body started pending pends = absurd cc
-  passed_event q new c e k k2 p r due d d2 s u none (ends is w at) takes body started pending pends =
+      → Accepts rooms set k k2 (body_kind new) e d d2 → (body started : List ℕ) → Pending r due body started → Pends k d.store p body started → Handles rooms set (record { position = new; kept = k2 }) p r due c true d d2
+  passed_event q new c e k k2 p r due d d2 s u none (continues is at) accepts body started pending pends = absurd cc
+  passed_event q new c e k k2 p r due d d2 s u none (ends is w at) accepts body started pending pends =
       let f = skips_frame q r s in
       let same : e ≡ event.PduEnd (frame_kind r) = cc in
-      let takes_end : Takes rooms set k k2 (body_kind new) (event.PduEnd (frame_kind r)) d d2 = subst (λ (x : Event). Takes rooms set k k2 (body_kind new) x d d2) same takes in
-      skipped_end new k k2 p r c due d d2 u f.rest f.headed none w at takes_end body started pending pends
+      let accepts_end : Accepts rooms set k k2 (body_kind new) (event.PduEnd (frame_kind r)) d d2 = subst (λ (x : Event). Accepts rooms set k k2 (body_kind new) x d d2) same accepts in
+      skipped_end new k k2 p r c due d d2 u f.rest f.headed none w at accepts_end body started pending pends
 
   -- ---- the rest of a frame goes by after an event
 
-  handled_skip : (q : Position) (k : Kept) (p : Progress) (r : List ℕ) (due : List Mark) (c : List ℕ) (more : Bool) (d e : Devices) → takes_pdvs_in k ≡ false → takes_body_in k (body_kind q) ≡ false
+  handled_skip : (q : Position) (k : Kept) (p : Progress) (r : List ℕ) (due : List Mark) (c : List ℕ) (more : Bool) (d e : Devices) → accepts_pdvs_in k ≡ false → accepts_body_in k (body_kind q) ≡ false
       → Handles rooms set (record { position = q; kept = k }) p r due c more d e → Handles rooms set (record { position = skip_of q; kept = k }) p r due c more d e
   handled_skip q k p r due c more d e t b x = go x.is_at where
     rest : List ℕ
@@ -370,7 +370,7 @@ module _ (rooms : Rooms) (set : Settings) where
   pub handled_passed : (q : Position) (k : Kept) (p : Progress) (r : List ℕ) (due : List Mark) (c : List ℕ) (more : Bool) (d e : Devices)
       → Handles rooms set (record { position = q; kept = k }) p r due c more d e → Handles rooms set (record { position = passed k q; kept = k }) p r due c more d e
   handled_passed q k p r due c more d e x =
-      elim (cases_Bool (takes_pdvs_in k || takes_body_in k (body_kind q))) [
+      elim (cases_Bool (accepts_pdvs_in k || accepts_body_in k (body_kind q))) [
         | inl t ↦ rw t x
-        | inr t ↦ let neither_of = neither (takes_pdvs_in k) (takes_body_in k (body_kind q)) t in rw t (handled_skip q k p r due c more d e neither_of.0 neither_of.1 x)
+        | inr t ↦ let neither_of = neither (accepts_pdvs_in k) (accepts_body_in k (body_kind q)) t in rw t (handled_skip q k p r due c more d e neither_of.0 neither_of.1 x)
       ]

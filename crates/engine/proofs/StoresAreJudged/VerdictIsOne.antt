@@ -21,7 +21,7 @@ use Rattle.engine.proofs.HeldBytes.HeldIsOne.{no_fault}
 
 faults_alike : (s : Coding) (lim : Limits) (b : List ℕ) (one other : Fault) → Fails s lim b one → Fails s lim b other → of_fault one ≡ of_fault other
 faults_alike s lim b one other (breaks_rule {p = p} {u = u} {rule = rule} {tag = tag} f) (breaks_rule {p = p2} {u = u2} {rule = rule2} {tag = tag2} g) =
-    let k = one_fault s lim b p p2 u u2 rule rule2 tag tag2 f g in λ i. of_fault (record { number = k.2 i; place = 0; tag = k.3 i })
+    let k = one_fault s lim b p p2 u u2 rule rule2 tag tag2 f g in λ i. of_fault (record { number = k.2 i; offset = 0; tag = k.3 i })
 faults_alike s lim b one other (breaks_rule f) (ends_early g) = absurd (no_fault g.unbroken f)
 faults_alike s lim b one other (ends_early f) (breaks_rule g) = absurd (no_fault f.unbroken g)
 faults_alike s lim b one other (ends_early f) (ends_early g) =

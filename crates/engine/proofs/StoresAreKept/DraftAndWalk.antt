@@ -52,7 +52,7 @@ none_carried depth most stored store request m failed e none =
 
 pub nothing_walked : {depth most : ℕ} {request : Requested} {m : Started} {stored : Stored} → (InStore request m → ⊥) → Walks depth most request m stored → stored ≡ Nothing
 nothing_walked none (not_walked h) = refl
-nothing_walked none (walked store takes) = absurd (none store)
+nothing_walked none (walked store accepts) = absurd (none store)
 
 -- no store before and none after
 pub idle_carried : (depth most : ℕ) (stored : Stored) (store other : Store) (request later : Requested) (m n : Started) (failed failed_then : Bool) → (InStore request m → ⊥) → (InStore later n → ⊥)
@@ -243,7 +243,7 @@ module _ (depth most : ℕ) (request : Requested) (m : Started) (before : Bool) 
       let c = none_carried depth most b new request later before off (λ s. none (fragment_store request context part m s)) in
       record { failed = false; may = λ x. absurd cc; walks = c.0; draft = c.1; files = ap files_in same; count = ap (λ (x : Store). x.failures) same ∙ omega arith }
   continues_so (Walking walker d) Nothing c g = absurd g
-  continues_so (Walking walker d) (Walking after e) (walked s takes, h) (keeps, g) =
+  continues_so (Walking walker d) (Walking after e) (walked s accepts, h) (keeps, g) =
       let more = store_fragment request context part m s in
       let r = grows d e h s g in
-      record { failed = r.0; may = λ x. (r.1 x, more); walks = walked more (keeps (coding_in s.context.syntax) (limits depth most) s.set takes); draft = r.2; files = r.3; count = r.4 }
+      record { failed = r.0; may = λ x. (r.1 x, more); walks = walked more (keeps (coding_in s.context.syntax) (limits depth most) s.set accepts); draft = r.2; files = r.3; count = r.4 }

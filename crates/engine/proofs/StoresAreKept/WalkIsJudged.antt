@@ -13,7 +13,7 @@ use Rattle.sequence.specs.Tree.{Elements, no_elements}
 use Rattle.sequence.specs.Wanted.{Values, kept_of}
 use Rattle.sequence.specs.Ending.{IsWholeDataSet, Fails}
 use Rattle.sequence.specs.Walk.{Report, Reports, going, refused}
-use Rattle.sequence.specs.Taken.{StandsAt, walker_syntax, limits_of, reported_by}
+use Rattle.sequence.specs.Consumed.{StandsAt, walker_syntax, limits_of, reported_by}
 use Rattle.sequence.proofs.Public.{one_path, whole_breaks_no_rule}
 use Rattle.dimse.specs.Command.{CommandRecord}
 use Rattle.dimse.specs.Status.{success, out_of_resources, cannot_understand}
@@ -111,20 +111,20 @@ committed_walk w command finding old new drafting context depth most set e g (un
 
 pub ends_committed : (command : CommandRecord) (finding : Finding) (old new : Store) (stored : Stored) → drafting_in stored ≡ true → HasVerdict command stored (Ok tt) → Commits finding old new → EndsAs command finding old new stored
 ends_committed command finding old new Nothing e k c = tt
-ends_committed command finding old new (Walking w drafting) e k c = λ context depth most set takes. committed_walk w command finding old new drafting context depth most set e (k context depth most set takes) c
+ends_committed command finding old new (Walking w drafting) e k c = λ context depth most set accepts. committed_walk w command finding old new drafting context depth most set e (k context depth most set accepts) c
 
 pub ends_unfiled : (command : CommandRecord) (finding : Finding) (store : Store) (stored : Stored) → drafting_in stored ≡ false → HasVerdict command stored (Ok tt) → finding ≡ failure out_of_resources → EndsAs command finding store store stored
 ends_unfiled command finding store Nothing e k is = tt
-ends_unfiled command finding store (Walking w drafting) e k is = λ context depth most set takes. record {
+ends_unfiled command finding store (Walking w drafting) e k is = λ context depth most set accepts. record {
   failed_then = false;
   draft = ends.dropped (unfiled_fails finding is) (rw e refl);
-  verdict = λ of. rw e (rw is (verdict_unfiled (k context depth most set takes) of));
+  verdict = λ of. rw e (rw is (verdict_unfiled (k context depth most set accepts) of));
 }
 
 pub ends_failed : (command : CommandRecord) (s : StoreStatus) (old new : Store) (stored : Stored) → HasVerdict command stored (Err s) → Drops (drafting_in stored) old new → EndsAs command (finding_of s) old new stored
 ends_failed command s old new Nothing k d = tt
-ends_failed command s old new (Walking w drafting) k d = λ context depth most set takes. record {
+ends_failed command s old new (Walking w drafting) k d = λ context depth most set accepts. record {
   failed_then = false;
   draft = ends.dropped k.0 d;
-  verdict = λ of. k.1 context depth most set takes of _;
+  verdict = λ of. k.1 context depth most set accepts of _;
 }

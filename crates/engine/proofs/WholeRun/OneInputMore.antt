@@ -39,7 +39,7 @@ use Rattle.engine.proofs.FieldsShow.TriedIsDone.{does_by}
 use Rattle.engine.proofs.PiecesAreDone.EntriesJoin.{push_entries, push_wire, push_sent, push_files, push_fair, push_last, push_filing, push_progress, does_one}
 use Rattle.engine.proofs.FieldsShow.NothingCounts.{pends_ended}
 use Rattle.engine.proofs.PiecesAreDone.SkippedPdu.{stands_passed}
-use Rattle.engine.proofs.PiecesAreDone.PieceIsDone.{empty_rest, spot_none, took_dropped}
+use Rattle.engine.proofs.PiecesAreDone.PieceIsDone.{empty_rest, spot_none, consumed_dropped}
 use Rattle.engine.proofs.AlongTimelines.NothingAfterTheEnd.{calm, stays}
 use Rattle.engine.proofs.FieldsShow.ByState.{ended_is}
 
@@ -201,11 +201,11 @@ module _ (rooms : Rooms) (s : Settings) where
   pub moved_feed : (inputs : List Received) (story : List Happened) (failed : Bool) (piece : List ℕ) (old_f f g : Fields) (d e : Devices) → Stands rooms s inputs story failed old_f d.store
       → is_ended old_f.kept.state ≡ false → ((p : Progress) (r : List ℕ) → IsRest r → is_ended p.state ≡ false → ShowsFrame old_f d.store p r → DoesPart rooms s f p r piece d e)
       → Dropped f g → Drafts (drafting old_f) d.store (drafting f) e.store → Moved rooms s inputs story failed (Bytes piece) old_f g d e
-  moved_feed inputs story failed piece old_f f g d e h there takes dropped same =
+  moved_feed inputs story failed piece old_f f g d e h there accepts dropped same =
       let stream = stream_of inputs in
       let p = absorb failed (progress_of rooms s at_start story) in
-      let took = takes p (rest_of stream) (rest_is_rest stream) (sym (ap is_ended h.shows.frame.pends.state_is) ∙ there) h.shows.frame in
-      moved_bytes inputs story failed piece old_f g d e h.story_is (took_dropped rooms s f g p (rest_of stream) piece d e dropped.kept dropped.same took) (headless_then f g dropped)
+      let consumes = accepts p (rest_of stream) (rest_is_rest stream) (sym (ap is_ended h.shows.frame.pends.state_is) ∙ there) h.shows.frame in
+      moved_bytes inputs story failed piece old_f g d e h.story_is (consumed_dropped rooms s f g p (rest_of stream) piece d e dropped.kept dropped.same consumes) (headless_then f g dropped)
       (drafts_kept old_f f g d.store e.store dropped.kept same)
 
   -- a call that consumes another input

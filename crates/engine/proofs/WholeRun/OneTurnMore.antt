@@ -11,7 +11,7 @@ use Rattle.engine.specs.declared.source.Input.{Input}
 use Rattle.engine.specs.declared.report.Report.{Report}
 use Rattle.engine.specs.Devices.{Devices, with_files, filed}
 use Rattle.engine.specs.Held.{Held, is_ended}
-use Rattle.engine.specs.Inputs.{Received, Supply, first_of, others_of, first_inputs, input_of, stream_of, TakesFirst, Gives, with_given}
+use Rattle.engine.specs.Inputs.{Received, Supply, first_of, others_of, first_inputs, input_of, stream_of, ConsumesFirst, Gives, with_given}
 use Rattle.engine.specs.Moves.{Moved}
 use Rattle.engine.specs.Progress.{at_start}
 use Rattle.engine.specs.Ran.{inputs_after, story_after, EndsLast, LeavesOthers, standing_of, Answered}
@@ -22,7 +22,7 @@ use Rattle.engine.specs.FrameFields.{Fields}
 use Rattle.engine.specs.StoredData.{drafting_in}
 use Rattle.engine.specs.TurnLaws.{TurnsBegin, OneTurnMore, TurnsAreARun, EndedHasNoDraft}
 use Rattle.engine.specs.Timeline.{Happened, Entry, entries, entries_of}
-use Rattle.engine.specs.Turns.{TakesFront, Follows, Stood, TookTurns, TookInput, Reports}
+use Rattle.engine.specs.Turns.{ConsumesFront, Follows, Stood, ConsumedTurns, ConsumedInput, Reports}
 use Rattle.engine.proofs.AlongTimelines.StoriesJoin.{gains_nothing, gains_then}
 use Rattle.engine.proofs.AlongTimelines.TimelineGrows.{entries_append}
 use Rattle.engine.proofs.FieldsShow.NothingCounts.{ended_stored}
@@ -37,37 +37,37 @@ after_more : (n : ℕ) (xs : List Received) → inputs_after (suc n) xs ≡ othe
 after_more zero xs = refl
 after_more (suc n) xs = after_more n (others_of xs)
 
-front_more : (old now next : Option (List Received)) (taken : List Received) (x : Received) → TakesFront old now taken → TakesFirst now next x → TakesFront old next (taken ++ x ∷ [])
-front_more None now next taken x f g = rw f at g
-front_more (Some all) now next taken x f g =
-    let k : (x ≡ first_of (inputs_after (length taken) all)) × (next ≡ Some (others_of (inputs_after (length taken) all))) = rw f.1 at g in
-    let len : length (taken ++ x ∷ []) ≡ suc (length taken) = length-append taken (x ∷ []) ∙ omega arith in (
-      rw (len, first_more (length taken) all, k.0) (ap (λ (ys : List Received). ys ++ first_of (inputs_after (length taken) all) ∷ []) f.0),
-      rw (len, after_more (length taken) all) k.1,
+front_more : (old now next : Option (List Received)) (consumed : List Received) (x : Received) → ConsumesFront old now consumed → ConsumesFirst now next x → ConsumesFront old next (consumed ++ x ∷ [])
+front_more None now next consumed x f g = rw f at g
+front_more (Some all) now next consumed x f g =
+    let k : (x ≡ first_of (inputs_after (length consumed) all)) × (next ≡ Some (others_of (inputs_after (length consumed) all))) = rw f.1 at g in
+    let len : length (consumed ++ x ∷ []) ≡ suc (length consumed) = length-append consumed (x ∷ []) ∙ omega arith in (
+      rw (len, first_more (length consumed) all, k.0) (ap (λ (ys : List Received). ys ++ first_of (inputs_after (length consumed) all) ∷ []) f.0),
+      rw (len, after_more (length consumed) all) k.1,
     )
 
-given_more : (old : Option (List Received)) (taken more : List Received) → with_given more (with_given taken old) ≡ with_given (taken ++ more) old
-given_more None taken more = refl
-given_more (Some given) taken more = ap (λ (xs : List Received). Some xs) (append_assoc given taken more)
+given_more : (old : Option (List Received)) (consumed more : List Received) → with_given more (with_given consumed old) ≡ with_given (consumed ++ more) old
+given_more None consumed more = refl
+given_more (Some given) consumed more = ap (λ (xs : List Received). Some xs) (append_assoc given consumed more)
 
 given_nothing : (old : Option (List Received)) → old ≡ with_given [] old
 given_nothing None = refl
 given_nothing (Some given) = ap (λ (xs : List Received). Some xs) (sym (append-nil given))
 
-follows_more : (old now next : Supply) (taken : List Received) (bytes : List ℕ) (kind : Input) → Follows old now taken → Gives now next bytes kind → Follows old next (taken ++ input_of kind bytes ∷ [])
-follows_more old now next taken bytes kind f g = record {
-  front = front_more old.expected now.expected next.expected taken (input_of kind bytes) f.front g.first;
-  given = g.added ∙ ap (with_given (input_of kind bytes ∷ [])) f.given ∙ given_more old.given taken (input_of kind bytes ∷ []);
+follows_more : (old now next : Supply) (consumed : List Received) (bytes : List ℕ) (kind : Input) → Follows old now consumed → Gives now next bytes kind → Follows old next (consumed ++ input_of kind bytes ∷ [])
+follows_more old now next consumed bytes kind f g = record {
+  front = front_more old.expected now.expected next.expected consumed (input_of kind bytes) f.front g.first;
+  given = g.added ∙ ap (with_given (input_of kind bytes ∷ [])) f.given ∙ given_more old.given consumed (input_of kind bytes ∷ []);
 }
 
-front_start : (source : Option (List Received)) → TakesFront source source []
+front_start : (source : Option (List Received)) → ConsumesFront source source []
 front_start source = grind (arith, common_steps)
 
 follows_start : (source : Supply) → Follows source source []
 follows_start source = record { front = front_start source.expected; given = given_nothing source.given }
 
-pub follows_all : (old now : Option (List Received)) (taken all : List Received) → TakesFront old now taken → old ≡ Some all → LeavesOthers taken all now
-follows_all old now taken all f e = let g : TakesFront (Some all) now taken = subst (λ (x : Option (List Received)). TakesFront x now taken) e f in record { first = g.0; others = g.1 }
+pub follows_all : (old now : Option (List Received)) (consumed all : List Received) → ConsumesFront old now consumed → old ≡ Some all → LeavesOthers consumed all now
+follows_all old now consumed all f e = let g : ConsumesFront (Some all) now consumed = subst (λ (x : Option (List Received)). ConsumesFront x now consumed) e f in record { first = g.0; others = g.1 }
 
 -- ---- the story of a front of the inputs
 
@@ -75,51 +75,51 @@ length_take : (n : ℕ) (xs ys : List Received) → n ≤ length xs → take n (
 length_take n xs ys h = take-append-le n xs ys h
 
 -- the timeline of a front is no longer than that of all
-few_entries : (n : ℕ) (taken : List Received) → n ≤ length taken → length (entries [] (take n taken)) ≤ length (entries [] taken)
-few_entries n taken h =
-    let front = take n taken in
-    let parts : entries [] taken ≡ entries [] front ++ entries (stream_of front) (drop n taken) = sym (ap (entries []) (take-append-drop n taken)) ∙ entries_append front (drop n taken) in
-    omega (arith, ap length parts, length-append (entries [] front) (entries (stream_of front) (drop n taken)))
+few_entries : (n : ℕ) (consumed : List Received) → n ≤ length consumed → length (entries [] (take n consumed)) ≤ length (entries [] consumed)
+few_entries n consumed h =
+    let front = take n consumed in
+    let parts : entries [] consumed ≡ entries [] front ++ entries (stream_of front) (drop n consumed) = sym (ap (entries []) (take-append-drop n consumed)) ∙ entries_append front (drop n consumed) in
+    omega (arith, ap length parts, length-append (entries [] front) (entries (stream_of front) (drop n consumed)))
 
 story_length : (story : List Happened) (es : List Entry) → entries_of story ≡ es → length story ≡ length es
 story_length story es e = sym (length-map story (λ (h : Happened). h.0)) ∙ ap length e
 
 -- with one input more, and its part of the story, it is as before
-story_before : (n : ℕ) (taken : List Received) (x : Received) (story more : List Happened) → entries_of story ≡ entries [] taken → n ≤ length taken
-    → story_after n (taken ++ x ∷ []) (story ++ more) ≡ story_after n taken story
-story_before n taken x story more reported h =
-    let same : take n (taken ++ x ∷ []) ≡ take n taken = length_take n taken (x ∷ []) h in
-    let k = length (entries [] (take n taken)) in
+story_before : (n : ℕ) (consumed : List Received) (x : Received) (story more : List Happened) → entries_of story ≡ entries [] consumed → n ≤ length consumed
+    → story_after n (consumed ++ x ∷ []) (story ++ more) ≡ story_after n consumed story
+story_before n consumed x story more reported h =
+    let same : take n (consumed ++ x ∷ []) ≡ take n consumed = length_take n consumed (x ∷ []) h in
+    let k = length (entries [] (take n consumed)) in
     ap (λ (xs : List Received). take (length (entries [] xs)) (story ++ more)) same
-    ∙ take-append-le k story more (omega (arith, few_entries n taken h, story_length story (entries [] taken) reported))
+    ∙ take-append-le k story more (omega (arith, few_entries n consumed h, story_length story (entries [] consumed) reported))
 
-story_whole : (taken : List Received) (story : List Happened) → entries_of story ≡ entries [] taken → story_after (length taken) taken story ≡ story
-story_whole taken story reported =
-    ap (λ (xs : List Received). take (length (entries [] xs)) story) (take_all (length taken) taken (omega arith))
-    ∙ take_all (length (entries [] taken)) story (omega (arith, story_length story (entries [] taken) reported))
+story_whole : (consumed : List Received) (story : List Happened) → entries_of story ≡ entries [] consumed → story_after (length consumed) consumed story ≡ story
+story_whole consumed story reported =
+    ap (λ (xs : List Received). take (length (entries [] xs)) story) (take_all (length consumed) consumed (omega arith))
+    ∙ take_all (length (entries [] consumed)) story (omega (arith, story_length story (entries [] consumed) reported))
 
 module _ (rooms : Rooms) (s : Settings) where
   ends_last_start : EndsLast rooms s [] []
   ends_last_start n h = absurd (omega (arith, h))
 
   -- the inputs so far did not end the association
-  ends_last_more : (taken : List Received) (x : Received) (story more : List Happened) → entries_of story ≡ entries [] taken → (progress_of rooms s at_start story).state ≢ Sta1 → EndsLast rooms s taken story
-      → EndsLast rooms s (taken ++ x ∷ []) (story ++ more)
-  ends_last_more taken x story more reported open_still last n h e =
-      let within : n ≤ length taken = omega (arith, h, length-append taken (x ∷ [])) in
-      let state : (progress_of rooms s at_start (story_after n taken story)).state ≡ Sta1 =
-      ap (λ (t : List Happened). (progress_of rooms s at_start t).state) (sym (story_before n taken x story more reported within)) ∙ e in
-      elim (cases_lt n (length taken)) [
+  ends_last_more : (consumed : List Received) (x : Received) (story more : List Happened) → entries_of story ≡ entries [] consumed → (progress_of rooms s at_start story).state ≢ Sta1 → EndsLast rooms s consumed story
+      → EndsLast rooms s (consumed ++ x ∷ []) (story ++ more)
+  ends_last_more consumed x story more reported open_still last n h e =
+      let within : n ≤ length consumed = omega (arith, h, length-append consumed (x ∷ [])) in
+      let state : (progress_of rooms s at_start (story_after n consumed story)).state ≡ Sta1 =
+      ap (λ (t : List Happened). (progress_of rooms s at_start t).state) (sym (story_before n consumed x story more reported within)) ∙ e in
+      elim (cases_lt n (length consumed)) [
         | inl lt ↦ last n lt state
         | inr le ↦ open_still (ap (λ (t : List Happened). (progress_of rooms s at_start t).state)
-            (sym (ap (λ (k : ℕ). story_after k taken story) (omega (arith, le, within)) ∙ story_whole taken story reported)) ∙ state)
+            (sym (ap (λ (k : ℕ). story_after k consumed story) (omega (arith, le, within)) ∙ story_whole consumed story reported)) ∙ state)
       ]
 
   -- ---- one turn more
 
-  pub running_start : (seen : Fields) (source : Supply) (d : Devices) → Stands rooms s [] [] false seen d.store → TookTurns rooms s 0 source source seen d d
+  pub running_start : (seen : Fields) (source : Supply) (d : Devices) → Stands rooms s [] [] false seen d.store → ConsumedTurns rooms s 0 source source seen d d
   running_start seen source d h = record {
-    taken = [];
+    consumed = [];
     number = refl;
     follows = follows_start source;
     stood = record { story = []; failed = false; stands = h; last = ends_last_start; gains = gains_nothing rooms s at_start d };
@@ -130,20 +130,20 @@ module _ (rooms : Rooms) (s : Settings) where
   OnInput seen seen_new now new x set = (inputs : List Received) (story : List Happened) (failed : Bool) → Stands rooms set inputs story failed seen now.store
       → Moved rooms set inputs story failed x seen seen_new now new
 
-  pub running_more : (seen seen_new : Fields) (source now next : Supply) (turns : ℕ) (old mid new : Devices) (bytes : List ℕ) (kind : Input) (set : Settings) → set ≡ s → seen.kept.state ≢ Sta1 → (r : TookTurns rooms s turns source now seen old mid)
-      → Gives now next bytes kind → OnInput seen seen_new mid new (input_of kind bytes) set → TookTurns rooms s (turns + 1) source next seen_new old new
+  pub running_more : (seen seen_new : Fields) (source now next : Supply) (turns : ℕ) (old mid new : Devices) (bytes : List ℕ) (kind : Input) (set : Settings) → set ≡ s → seen.kept.state ≢ Sta1 → (r : ConsumedTurns rooms s turns source now seen old mid)
+      → Gives now next bytes kind → OnInput seen seen_new mid new (input_of kind bytes) set → ConsumedTurns rooms s (turns + 1) source next seen_new old new
   running_more seen seen_new source now next turns old mid new bytes kind set is open_still r g k = record {
-    taken = r.taken ++ input_of kind bytes ∷ [];
-    number = omega (arith, r.number, length-append r.taken (input_of kind bytes ∷ []));
-    follows = follows_more source now next r.taken bytes kind r.follows g;
+    consumed = r.consumed ++ input_of kind bytes ∷ [];
+    number = omega (arith, r.number, length-append r.consumed (input_of kind bytes ∷ []));
+    follows = follows_more source now next r.consumed bytes kind r.follows g;
     stood =
         let before = r.stood in
-        let m = subst (OnInput seen seen_new mid new (input_of kind bytes)) is k r.taken before.story before.failed before.stands in
+        let m = subst (OnInput seen seen_new mid new (input_of kind bytes)) is k r.consumed before.story before.failed before.stands in
         record {
           story = before.story ++ m.more;
           failed = m.failed_then;
           stands = m.stands;
-          last = ends_last_more r.taken (input_of kind bytes) before.story m.more before.stands.story_is.reported
+          last = ends_last_more r.consumed (input_of kind bytes) before.story m.more before.stands.story_is.reported
               (λ e. open_still (before.stands.shows.frame.pends.state_is ∙ e)) before.last;
           gains = gains_then rooms s at_start before.story m.more false before.failed m.failed_then old mid new before.gains m.gains;
         };
@@ -161,11 +161,11 @@ module _ (rooms : Rooms) (s : Settings) where
       let same : now.files ≡ old.files ++ files = cc in
       ap (λ (fs : List (List ℕ)). Some (record { files = fs; draft = [] })) same
 
-  pub answered_by : (taken : List Received) (report : Report) (seen : Fields) (old now new : Devices) → Stood rooms s taken seen old now → report.standing ≡ standing_of seen.kept.state
-      → ((story : List Happened) (failed : Bool) → Stands rooms s taken story failed seen now.store → Held rooms s (reached rooms s taken story failed) report.held)
+  pub answered_by : (consumed : List Received) (report : Report) (seen : Fields) (old now new : Devices) → Stood rooms s consumed seen old now → report.standing ≡ standing_of seen.kept.state
+      → ((story : List Happened) (failed : Bool) → Stands rooms s consumed story failed seen now.store → Held rooms s (reached rooms s consumed story failed) report.held)
       → (seen.kept.state ≡ Sta6 → report.held ≤ 544 + rooms.command + rooms.values + 16 * rooms.depth)
-      → new.line ≡ now.line → new.store ≡ stepped without_draft false now.store → Answered rooms s taken report old new
-  answered_by taken report seen old now new h e held accepted line store = record {
+      → new.line ≡ now.line → new.store ≡ stepped without_draft false now.store → Answered rooms s consumed report old new
+  answered_by consumed report seen old now new h e held accepted line store = record {
     story = h.story;
     failed = h.failed;
     sent = sent_of rooms s at_start h.story;
@@ -192,12 +192,12 @@ one_turn_more rooms s turns source now next seen seen_new old mid new open_still
 
 pub turns_are_a_run : TurnsAreARun
 turns_are_a_run rooms s turns most source now seen old mid new report r few ended reports line store = record {
-  taken = r.taken;
+  consumed = r.consumed;
   most_turns = omega (arith, r.number, few);
   all_turns = λ lt. reports.standing ∙ ap standing_of (ended (omega (arith, r.number, lt)));
-  source = λ all e. follows_all _ _ r.taken all r.follows.front e;
+  source = λ all e. follows_all _ _ r.consumed all r.follows.front e;
   given = r.follows.given;
-  answered = answered_by rooms s r.taken report seen old mid new r.stood reports.standing (λ story failed h. reports.held r.taken story failed h) reports.accepted_room line store;
+  answered = answered_by rooms s r.consumed report seen old mid new r.stood reports.standing (λ story failed h. reports.held r.consumed story failed h) reports.accepted_room line store;
   no_draft = ap (λ (x : Store). x.has_draft) store;
 }
 
@@ -207,8 +207,8 @@ ended_has_no_draft rooms s inputs story failed seen store h e =
     ap drafting_in (ended_stored seen.kept store (reached rooms s inputs story failed).progress _ _ (ap is_ended (sym pends.state_is) ∙ e) pends)
 
 -- with the settings that an association has
-pub took_set : (rooms : Rooms) (set s : Settings) (now next : Supply) (seen seen_new : Fields) (old new : Devices) → set ≡ s → TookInput rooms set now next seen seen_new old new → TookInput rooms s now next seen seen_new old new
-took_set rooms set s now next seen seen_new old new e t = subst (λ (x : Settings). TookInput rooms x now next seen seen_new old new) e t
+pub consumed_set : (rooms : Rooms) (set s : Settings) (now next : Supply) (seen seen_new : Fields) (old new : Devices) → set ≡ s → ConsumedInput rooms set now next seen seen_new old new → ConsumedInput rooms s now next seen seen_new old new
+consumed_set rooms set s now next seen seen_new old new e t = subst (λ (x : Settings). ConsumedInput rooms x now next seen seen_new old new) e t
 
 pub reports_set : (rooms : Rooms) (set s : Settings) (seen : Fields) (store : Store) (report : Report) → set ≡ s → Reports rooms set seen store report → Reports rooms s seen store report
 reports_set rooms set s seen store report e r = subst (λ (x : Settings). Reports rooms x seen store report) e r

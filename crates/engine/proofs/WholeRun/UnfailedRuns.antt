@@ -1,4 +1,4 @@
--- Every good image that a run has taken whole is filed and answered by success (`every_good_image_is_filed`); inputs have one
+-- Every good image that a run has consumed whole is filed and answered by success (`every_good_image_is_filed`); inputs have one
 -- run without failures (`one_run`), whatever the cuts (`cuts_give_the_same`). Stands on AlongTimelines, HeldBytes/HeldIsOne,
 -- MarksAreDone/PdvJoined and StoresAreJudged.
 use Rattle.std.proofs.Common.{◌≡◌, ◌⊎◌, inl, inr, ℕ, Bool, true, false, not, ◌&&◌, List, [], ◌∷◌, ◌++◌, Option, Some, None, Result, Ok, Err, refl, sym, ap, subst, ◌∙◌, append_assoc, arith, nat_eq, if◌then◌else◌}
@@ -220,8 +220,8 @@ one_run rooms s a b story story2 failed failed2 sent sent2 files files2 state en
     )
 
 -- where no count rose, the story has no failure
-unfailed : (rooms : Rooms) (s : Settings) (taken : List Received) (report : Report) (old new : Devices) → (x : Answered rooms s taken report old new) → NoneFailed old new → IsUnfailed x.story x.failed
-unfailed rooms s taken report old new x none = record {
+unfailed : (rooms : Rooms) (s : Settings) (consumed : List Received) (report : Report) (old new : Devices) → (x : Answered rooms s consumed report old new) → NoneFailed old new → IsUnfailed x.story x.failed
+unfailed rooms s consumed report old new x none = record {
   wire = omega (arith, ap (λ (line : Line). line.failures) x.line, none.wire);
   filing = omega (arith, x.count, none.filing);
 }

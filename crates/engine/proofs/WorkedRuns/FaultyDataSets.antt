@@ -20,7 +20,7 @@ pub fault_reported : (depth most : ℕ) (context : Context) (command : CommandRe
     → Verdict depth most context command set failed (of_fault fault)
 fault_reported depth most context command set failed reported fault of (going ok o) e = absurd cc
 fault_reported depth most context command set failed reported fault of (refused {p = p} {u = u} {rule = rule} {tag = tag} f o) e =
-    let same : ◌≡◌ {A = Fault} (record { number = rule; place = length p; tag = tag }) fault = cc in
+    let same : ◌≡◌ {A = Fault} (record { number = rule; offset = length p; tag = tag }) fault = cc in
     subst (λ (z : Fault). Verdict depth most context command set failed (of_fault z)) same (record { elements = no_elements; first = inr (of, inl (_, breaks_rule f, refl)) })
 
 of_ct : (syntax : Transfer) → IsOfContext (ct_in syntax) ct_store

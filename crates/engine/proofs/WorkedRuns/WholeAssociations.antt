@@ -42,7 +42,7 @@ use Rattle.engine.specs.Examples.{rooms, settings, calm}
 use Rattle.engine.specs.WholeExamples.{unsupported, echo_inputs, request_inputs, TheEchoRuns, TheRequestIsHeld, ItStandsEstablished, VerdictsOnStores, ct_context, store_of}
 use Rattle.negotiate.specs.Settings.{Settings}
 use Rattle.engine.specs.FrameFields.{reads}
-use Rattle.negotiate.specs.Taken.{nothing_additional}
+use Rattle.negotiate.specs.Allowed.{nothing_additional}
 
 calm_entries : (es : List Entry) → entries_of (calm es) ≡ es
 calm_entries [] = refl

@@ -23,41 +23,41 @@ use Rattle.engine.specs.machine.Capacity.{BodyFits, FragmentFits}
 use Rattle.engine.specs.machine.Does.{Does, Appends}
 
 -- the head of a PDU, of this type and length
-abbrev pub TakesHead : Rooms → Settings → Kept → Kept → ℕ → ℕ → Devices → Devices → Type 0
-TakesHead rooms s old new kind size d e = (p : Progress) → Pends old d.store p [] [] → Does rooms s p (At (Head kind size)) new [] [] d e
+abbrev pub AcceptsHead : Rooms → Settings → Kept → Kept → ℕ → ℕ → Devices → Devices → Type 0
+AcceptsHead rooms s old new kind size d e = (p : Progress) → Pends old d.store p [] [] → Does rooms s p (At (Head kind size)) new [] [] d e
 
 -- a part of the body of a PDU of this type
-abbrev pub TakesBody : Kept → Kept → ℕ → List ℕ → Store → Type 0
-TakesBody old new kind part store = (p : Progress) (body : List ℕ) → Pends old store p (body_in kind body) [] → Pends new store p (body_in kind (body ++ part)) []
+abbrev pub AcceptsBody : Kept → Kept → ℕ → List ℕ → Store → Type 0
+AcceptsBody old new kind part store = (p : Progress) (body : List ℕ) → Pends old store p (body_in kind body) [] → Pends new store p (body_in kind (body ++ part)) []
 
 -- the head of a presentation data value
-abbrev pub TakesPdvHead : Rooms → Settings → Kept → Kept → PdvHead → Devices → Devices → Type 0
-TakesPdvHead rooms s old new head d e = (p : Progress) (started : List ℕ) → length started ≡ pdv_head_size → head ≡ pdv_head_of started
+abbrev pub AcceptsPdvHead : Rooms → Settings → Kept → Kept → PdvHead → Devices → Devices → Type 0
+AcceptsPdvHead rooms s old new head d e = (p : Progress) (started : List ℕ) → length started ≡ pdv_head_size → head ≡ pdv_head_of started
     → Pends old d.store p [] [] → Does rooms s p (At (head_mark started)) new [] started d e
 
 -- a part of a fragment
-abbrev pub TakesFragment : Rooms → Settings → Kept → Kept → List ℕ → Devices → Devices → Type 0
-TakesFragment rooms s old new part d e = (p : Progress) (started : List ℕ) → pdv_head_size ≤ length started → Pends old d.store p [] started → Appends rooms s p new [] (started ++ part) d e
+abbrev pub AcceptsFragment : Rooms → Settings → Kept → Kept → List ℕ → Devices → Devices → Type 0
+AcceptsFragment rooms s old new part d e = (p : Progress) (started : List ℕ) → pdv_head_size ≤ length started → Pends old d.store p [] started → Appends rooms s p new [] (started ++ part) d e
 
 -- the end of a presentation data value
-abbrev pub TakesPdvEnd : Rooms → Settings → Kept → Kept → Devices → Devices → Type 0
-TakesPdvEnd rooms s old new d e = (p : Progress) (started : List ℕ) → pdv_head_size ≤ length started → length started ≡ pdv_size started → Pends old d.store p [] started
+abbrev pub AcceptsPdvEnd : Rooms → Settings → Kept → Kept → Devices → Devices → Type 0
+AcceptsPdvEnd rooms s old new d e = (p : Progress) (started : List ℕ) → pdv_head_size ≤ length started → length started ≡ pdv_size started → Pends old d.store p [] started
     → Does rooms s p (At (Pdv (pdv_context started) (pdv_control started) (pdv_content started))) new [] [] d e
 
 -- the end of a PDU of this type
-abbrev pub TakesEnd : Rooms → Settings → Kept → Kept → ℕ → Devices → Devices → Type 0
-TakesEnd rooms s old new kind d e = (p : Progress) (body : List ℕ) → Pends old d.store p (body_in kind body) [] → Does rooms s p (At (End kind body)) new [] [] d e
+abbrev pub AcceptsEnd : Rooms → Settings → Kept → Kept → ℕ → Devices → Devices → Type 0
+AcceptsEnd rooms s old new kind d e = (p : Progress) (body : List ℕ) → Pends old d.store p (body_in kind body) [] → Does rooms s p (At (End kind body)) new [] [] d e
 
 -- the effect of a call for each event; `kind` is the type of the unfinished PDU
-abbrev pub Takes : Rooms → Settings → Kept → Kept → ℕ → Event → Devices → Devices → Type 0
-Takes rooms s old new kind (event.PduHead head) d e = TakesHead rooms s old new head.kind head.length d e
-Takes rooms s old new kind (event.Body part) d e = (e ≡ d) × TakesBody old new kind part.now d.store
-Takes rooms s old new kind (event.PdvHead head) d e = TakesPdvHead rooms s old new head d e
-Takes rooms s old new kind (event.Fragment part) d e = TakesFragment rooms s old new part.now d e
-Takes rooms s old new kind event.PdvEnd d e = TakesPdvEnd rooms s old new d e
-Takes rooms s old new kind event.BadPdv d e = (p : Progress) → Pends old d.store p [] [] → Does rooms s p (At BadPdv) new [] [] d e
-Takes rooms s old new kind event.Leftover d e = (p : Progress) → Pends old d.store p [] [] → Does rooms s p (At Leftover) new [] [] d e
-Takes rooms s old new kind (event.PduEnd whole) d e = TakesEnd rooms s old new whole d e
+abbrev pub Accepts : Rooms → Settings → Kept → Kept → ℕ → Event → Devices → Devices → Type 0
+Accepts rooms s old new kind (event.PduHead head) d e = AcceptsHead rooms s old new head.kind head.length d e
+Accepts rooms s old new kind (event.Body part) d e = (e ≡ d) × AcceptsBody old new kind part.now d.store
+Accepts rooms s old new kind (event.PdvHead head) d e = AcceptsPdvHead rooms s old new head d e
+Accepts rooms s old new kind (event.Fragment part) d e = AcceptsFragment rooms s old new part.now d e
+Accepts rooms s old new kind event.PdvEnd d e = AcceptsPdvEnd rooms s old new d e
+Accepts rooms s old new kind event.BadPdv d e = (p : Progress) → Pends old d.store p [] [] → Does rooms s p (At BadPdv) new [] [] d e
+Accepts rooms s old new kind event.Leftover d e = (p : Progress) → Pends old d.store p [] [] → Does rooms s p (At Leftover) new [] [] d e
+Accepts rooms s old new kind (event.PduEnd whole) d e = AcceptsEnd rooms s old new whole d e
 
 abbrev pub HasRoom : ℕ → Kept → ℕ → Event → Type 0
 HasRoom room kept kind (event.Body part) = BodyFits room kept kind (length part.now)

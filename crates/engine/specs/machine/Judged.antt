@@ -13,7 +13,7 @@ use Rattle.engine.specs.declared.sending.Reaction.TheVariants as due
 use Rattle.engine.specs.Timeline.{Entry, At, good}
 use Rattle.decisions.specs.declared.decision.Decision.{Decision}
 use Rattle.engine.specs.Progress.{Progress, Advance, deciding, nothing}
-use Rattle.engine.specs.Reached.{takes_pdvs}
+use Rattle.engine.specs.Reached.{accepts_pdvs}
 use Rattle.engine.specs.Replies.{invalid}
 use Rattle.engine.specs.Run.{Rooms, at_entry}
 use Rattle.engine.specs.Kept.{Kept, Pends, body_in}
@@ -47,4 +47,4 @@ JudgesEnd rooms s old new kind due store = (p : Progress) (body : List ℕ) → 
 
 -- the same for an invalid presentation data value, by which this is decided
 abbrev pub JudgesInvalid : Decision → Kept → Kept → Reaction → Store → Type 0
-JudgesInvalid decision old new due store = (p : Progress) → Pends old store p [] [] → LeavesDue (if takes_pdvs p then invalid (deciding decision p) else nothing p) due new store [] []
+JudgesInvalid decision old new due store = (p : Progress) → Pends old store p [] [] → LeavesDue (if accepts_pdvs p then invalid (deciding decision p) else nothing p) due new store [] []

@@ -66,7 +66,7 @@ pub record Handles (rooms : Rooms) (s : Settings) (f : Fields) (p : Progress) (r
 
 -- so many bytes of a piece were read, up to the next event, if there is one, and that was handled
 abbrev pub DoesNext : Rooms → Settings → Fields → Fields → List ℕ → ℕ × Bool → Devices → Devices → Type 0
-DoesNext rooms s old new piece taken d e = (p : Progress) (r : List ℕ) (due : List Mark) → ShowsDue old d.store p r due → Handles rooms s new p r due (take taken.0 piece) taken.1 d e
+DoesNext rooms s old new piece consumed d e = (p : Progress) (r : List ℕ) (due : List Mark) → ShowsDue old d.store p r due → Handles rooms s new p r due (take consumed.0 piece) consumed.1 d e
 
 -- a piece of the stream was handled
 abbrev pub DoesPiece : Rooms → Settings → Fields → Fields → List ℕ → Devices → Devices → Type 0

@@ -25,23 +25,23 @@ pub record Attempted (has_sync : Bool) (draft : ℕ) (names : List Location) (re
 -- the effect of an attempt to name a file: one more named location, in addition to the draft's name if it was linked,
 -- or the same ones; after an error one failed call more
 abbrev pub NameLeaves : {E : Type 0} → Bool → ℕ → Location → Result Attempt E → List Call → List Call → Type 0
-NameLeaves has_sync draft place (Ok (Named file)) old new =
-    Attempted has_sync draft (place ∷ standing old) (refusals old) old new × (file.place ≡ place) × (file.how ≡ Linked → was_written new ≡ is_written old)
-NameLeaves has_sync draft place (Ok (Met obstacle)) old new = Attempted has_sync draft (standing old) (refusals old) old new × (is_written new ≡ is_written old)
-NameLeaves has_sync draft place (Err error) old new = Attempted has_sync draft (standing old) (refusals old + 1) old new
+NameLeaves has_sync draft location (Ok (Named file)) old new =
+    Attempted has_sync draft (location ∷ standing old) (refusals old) old new × (file.location ≡ location) × (file.how ≡ Linked → was_written new ≡ is_written old)
+NameLeaves has_sync draft location (Ok (Met obstacle)) old new = Attempted has_sync draft (standing old) (refusals old) old new × (is_written new ≡ is_written old)
+NameLeaves has_sync draft location (Err error) old new = Attempted has_sync draft (standing old) (refusals old + 1) old new
 
 -- after an error: the same locations are named, and the last location is the same; or the new name could not be
 -- removed, and its location is the last one
-abbrev pub LeavesPlace : Location → Naming → Naming → Type 0
-LeavesPlace place old new =
-    ((standing new.calls ≡ standing old.calls) × (new.last ≡ old.last)) ⊎ ((standing new.calls ≡ place ∷ standing old.calls) × (new.last ≡ place))
+abbrev pub LeavesLocation : Location → Naming → Naming → Type 0
+LeavesLocation location old new =
+    ((standing new.calls ≡ standing old.calls) × (new.last ≡ old.last)) ⊎ ((standing new.calls ≡ location ∷ standing old.calls) × (new.last ≡ location))
 
 -- the effect of an attempt to name a file on the state of the numbering: a location that was named is the last one
-abbrev pub PlaceLeaves : {E : Type 0} → Location → Result Attempt E → Naming → Naming → Type 0
-PlaceLeaves place (Ok (Named file)) old new = (standing new.calls ≡ place ∷ standing old.calls) × (refusals new.calls ≡ refusals old.calls) × (new.last ≡ place)
-PlaceLeaves place (Ok (Met obstacle)) old new =
+abbrev pub LocationLeaves : {E : Type 0} → Location → Result Attempt E → Naming → Naming → Type 0
+LocationLeaves location (Ok (Named file)) old new = (standing new.calls ≡ location ∷ standing old.calls) × (refusals new.calls ≡ refusals old.calls) × (new.last ≡ location)
+LocationLeaves location (Ok (Met obstacle)) old new =
     (standing new.calls ≡ standing old.calls) × (refusals new.calls ≡ refusals old.calls) × (new.last ≡ old.last) × (is_written new.calls ≡ is_written old.calls)
-PlaceLeaves place (Err error) old new = LeavesPlace place old new × (refusals old.calls < refusals new.calls)
+LocationLeaves location (Err error) old new = LeavesLocation location old new × (refusals old.calls < refusals new.calls)
 
 -- the name of a file was synced, if the file got one
 abbrev pub SyncsName : {E : Type 0} → Result Attempt E → List Call → Type 0

@@ -51,7 +51,7 @@ where
         ensures own { self.new.names.own ≡ self.old.names.own }
         ensures same_names { standing self.new.names.calls ≡ standing self.old.names.calls }
         ensures written { OnOk result (is_written self.new.names.calls ≡ true) }
-        ensures taken { OnOk result (refusals self.new.names.calls ≡ refusals self.old.names.calls) }
+        ensures unchanged { OnOk result (refusals self.new.names.calls ≡ refusals self.old.names.calls) }
         ensures refused { OnErr result (refusals self.old.names.calls < refusals self.new.names.calls) }
     {
         match &self.handed {
@@ -70,7 +70,7 @@ where
         ensures same_pending { self.new.pending ≡ self.old.pending }
         ensures sync { self.new.names.has_sync ≡ self.old.names.has_sync }
         ensures own { self.new.names.own ≡ self.old.names.own }
-        ensures named { IfOk result (λ place. standing self.new.names.calls ≡ place ∷ standing self.old.names.calls) }
+        ensures named { IfOk result (λ location. standing self.new.names.calls ≡ location ∷ standing self.old.names.calls) }
         ensures settled { OnOk result (refusals self.new.names.calls ≡ refusals self.old.names.calls) }
         ensures remaining { OnErr result (LeavesNames (standing self.old.names.calls) (standing self.new.names.calls)) }
         ensures refused { OnErr result (WasRefused self.old.names self.new.names) }
@@ -96,32 +96,32 @@ where
 
     /// Removes the file at this location, whose name could not be synced, and records that it is
     /// lost.
-    fn take_back(&mut self, place: Location)
-        requires named { self.old.pending ≡ pending.Named place }
+    fn take_back(&mut self, location: Location)
+        requires named { self.old.pending ≡ pending.Named location }
         ensures same { self.new.contents ≡ self.old.contents }
-        ensures names { SettlesNames false (pending.Named place) self.old.names self.new.names }
+        ensures names { SettlesNames false (pending.Named location) self.old.names self.new.names }
         ensures lost { self.new.pending ≡ pending.Lost }
     {
         self.pending = Pending::Lost;
         // A name that cannot be removed stays, as after a failed commit without groups.
-        let _ = self.folder.remove_at(place, &mut self.names);
+        let _ = self.folder.remove_at(location, &mut self.names);
         self.lose(Error::other("the names of the group could not be synced"));
     }
 
     /// Reports the unsettled commit of the file at this location, if this sync of names has the
     /// file. Returns whether it has; otherwise nothing changes.
-    fn report(&mut self, place: Location, synced: &NamesSynced<R::A>) -> bool
-        requires named { self.old.pending ≡ pending.Named place }
-        ensures covers { result ≡ is_synced place synced.now }
+    fn report(&mut self, location: Location, synced: &NamesSynced<R::A>) -> bool
+        requires named { self.old.pending ≡ pending.Named location }
+        ensures covers { result ≡ is_synced location synced.now }
         ensures same { self.new.contents ≡ self.old.contents }
         ensures settled { result ≡ true → self.new.pending ≡ pending.Settled }
         ensures on_disk { result ≡ true → is_unsettled self.new ≡ false }
-        ensures reported { result ≡ true → self.new.names ≡ reported place self.old.names }
+        ensures reported { result ≡ true → self.new.names ≡ reported location self.old.names }
         ensures has_pending { result ≡ false → self.new ≡ self.old }
     {
-        let has = self.names.calls.has_synced(synced, place);
+        let has = self.names.calls.has_synced(synced, location);
         if has {
-            self.names.report(place);
+            self.names.report(location);
             self.pending = Pending::Settled;
         }
         has
@@ -159,9 +159,9 @@ where
             return;
         }
         match self.name_handed() {
-            Ok(place) => {
+            Ok(location) => {
                 self.handed = None;
-                self.pending = Pending::Named(place);
+                self.pending = Pending::Named(location);
             }
             Err(error) => self.lose(error),
         }
@@ -180,14 +180,14 @@ where
     {
         match self.pending {
             Pending::Settled => Ok(()),
-            Pending::Named(place) => {
-                if self.report(place, synced) {
+            Pending::Named(location) => {
+                if self.report(location, synced) {
                     self.remove_old_name();
-                    self.note(place);
+                    self.note(location);
                     self.committed = self.committed.saturating_add(1);
                     return Ok(());
                 }
-                self.take_back(place);
+                self.take_back(location);
                 Err(FilingFailed)
             }
             Pending::Unnamed | Pending::Lost => Err(FilingFailed),

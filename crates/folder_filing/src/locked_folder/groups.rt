@@ -33,7 +33,7 @@ where
     /// Fails if the path leads to another folder than the locked one. In a group the path is
     /// checked once, before the first file is named.
     pub(super) fn check_group(&self, in_group: bool, calls: &mut FolderCalls) -> io::Result<()>
-        ensures taken { OnOk result (calls.new ≡ calls.old) }
+        ensures unchanged { OnOk result (calls.new ≡ calls.old) }
         ensures refused { OnErr result (Asks (standing calls.old) (refusals calls.old + 1) calls.old calls.new) }
     {
         if in_group && self.group.is_checked() {
@@ -52,7 +52,7 @@ where
         open: Option<OpenFolder<R::File>>,
         calls: &mut FolderCalls,
     ) -> io::Result<()>
-        ensures taken { OnOk result (calls.new ≡ calls.old) }
+        ensures unchanged { OnOk result (calls.new ≡ calls.old) }
         ensures refused { OnErr result (calls.new ≡ seen.Refused ∷ calls.old) }
     {
         if file.has_remaining() {
@@ -86,8 +86,12 @@ where
 
     /// Removes the file at this location, the last one that the filing has named, because its name
     /// could not be synced.
-    pub(crate) fn remove_at(&self, place: Location, names: &mut GivenNames<R::A>) -> io::Result<()>
-        requires newest { ∥ IsNewest place (standing names.old.calls) ∥₁ }
+    pub(crate) fn remove_at(
+        &self,
+        location: Location,
+        names: &mut GivenNames<R::A>,
+    ) -> io::Result<()>
+        requires newest { ∥ IsNewest location (standing names.old.calls) ∥₁ }
         ensures sync { names.new.has_sync ≡ names.old.has_sync }
         ensures own { names.new.own ≡ names.old.own }
         ensures removed { OnOk result (standing names.new.calls ≡ drop 1 (standing names.old.calls)) }
@@ -97,9 +101,9 @@ where
         ensures orderly { ∥ IsOrderly names.old ∥₁ → ∥ IsOrderly names.new ∥₁ }
     {
         self.check_path(&mut names.calls)?;
-        let path = names.calls.text(self.path_of(place))?;
+        let path = names.calls.text(self.path_of(location))?;
         let target = Target {
-            place,
+            location,
             path: path.as_str(),
             layout: self.layout,
             has_sync: names.has_sync,

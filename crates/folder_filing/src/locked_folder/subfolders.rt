@@ -37,7 +37,7 @@ where
     ///
     /// Fails, with the subfolder's name in the message, if the system call fails.
     pub(super) fn make_folder(&self, folder: u32, calls: &mut FolderCalls) -> io::Result<()>
-        ensures taken { OnOk result (calls.new ≡ calls.old) }
+        ensures unchanged { OnOk result (calls.new ≡ calls.old) }
         ensures refused { OnErr result (calls.new ≡ seen.Refused ∷ calls.old) }
     {
         let path = calls.text(folder_path(self.rt.alloc(), self.dir.as_str(), folder))?;
@@ -55,10 +55,10 @@ where
         target: Target<'_>,
         calls: &mut FolderCalls,
     ) -> io::Result<Option<FolderIdentity>>
-        ensures taken { OnOk result (calls.new ≡ calls.old) }
+        ensures unchanged { OnOk result (calls.new ≡ calls.old) }
         ensures refused { OnErr result (calls.new ≡ seen.Refused ∷ calls.old) }
     {
-        let number = target.place.folder;
+        let number = target.location.folder;
         if number == 0 || !target.has_sync {
             return Ok(None);
         }
@@ -82,12 +82,12 @@ where
         file: NamedFile,
         calls: &mut FolderCalls,
     ) -> io::Result<Option<OpenFolder<R::File>>>
-        ensures number { IfOk result (λ opened. IfSome opened (λ folder. folder ≡ file.place.folder)) }
+        ensures number { IfOk result (λ opened. IfSome opened (λ folder. folder ≡ file.location.folder)) }
         ensures moved { IfOk result (λ opened. opened ≡ None → file.how ≡ how.Linked) }
-        ensures taken { OnOk result (calls.new ≡ calls.old) }
+        ensures unchanged { OnOk result (calls.new ≡ calls.old) }
         ensures refused { OnErr result (calls.new ≡ seen.Refused ∷ calls.old) }
     {
-        let number = file.place().folder;
+        let number = file.location().folder;
         let folder = match open_subfolder(&self.rt, self.dir.as_str(), number) {
             Ok(folder) if file.folder() == Some(folder.identity()) => folder,
             Err(error) if error.kind() != ErrorKind::NotFound => return calls.passed(Err(error)),

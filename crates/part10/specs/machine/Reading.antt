@@ -44,7 +44,7 @@ NoSize rest = (n : ℕ) (back : List ℕ) → n < 2 ^ 32 → rest ≢ length_ele
 pub record HeaderRead (remaining : ℕ) (header : Header) (size : ℕ) (old new : Option (List ℕ)) : Type 0 where
   pub bytes : List ℕ
   pub spells : SpellsHeader Explicit header bytes
-  pub taken : Consumes old new bytes
+  pub consumed : Consumes old new bytes
   pub counted : length bytes ≡ size
   pub within : size ≤ remaining
 
@@ -76,7 +76,7 @@ pub record ElementRead (last remaining : ℕ) (element : Element) (old new : Opt
   pub bytes : List ℕ
   pub value : List ℕ
   pub is : IsElement last header bytes value
-  pub taken : Consumes old new (bytes ++ value)
+  pub consumed : Consumes old new (bytes ++ value)
   pub number : element.number ≡ header.tag.1
   pub uid : element.uid ≡ uid_of value
   pub counted : length bytes + length value ≡ element.size
@@ -102,7 +102,7 @@ pub record IsFound (found : Found) (elements : List MetaElement) : Type 0 where
 pub record GroupRead (size : ℕ) (found : Found) (old new : Option (List ℕ)) : Type 0 where
   pub group : List ℕ
   pub elements : List MetaElement
-  pub taken : Consumes old new group
+  pub consumed : Consumes old new group
   pub counted : length group ≡ size
   pub spelled : MetaElements 0 elements group
   pub is : IsFound found elements

@@ -18,7 +18,7 @@ pub(crate) enum Kept {
 
 /// The location of a file: the number of its subfolder, 0 for the main folder, and its own number.
 #[derive(Clone, Copy, PartialEq, Eq)]
-struct Place {
+struct Location {
     folder: u32,
     file: u32,
 }
@@ -34,7 +34,7 @@ pub(crate) struct Due<'a> {
 /// The files of a disk with their locations, and the greatest subfolder number, or 0.
 #[derive(Drop)]
 pub(crate) struct Filed {
-    files: Vec<(Place, usize)>,
+    files: Vec<(Location, usize)>,
     last_folder: u32,
 }
 
@@ -43,10 +43,10 @@ fn unexpected() -> Error {
 }
 
 /// Adds the files of a folder.
-fn add_files(to: &mut Vec<(Place, usize)>, folder: u32, entries: &[Entry]) -> io::Result<()> {
+fn add_files(to: &mut Vec<(Location, usize)>, folder: u32, entries: &[Entry]) -> io::Result<()> {
     for entry in entries {
         match (entry.name.number(b'I'), entry.node) {
-            (Some(file), Node::File(at)) => to.push((Place { folder, file }, at))?,
+            (Some(file), Node::File(at)) => to.push((Location { folder, file }, at))?,
             _ => return Err(unexpected()),
         }
     }
@@ -106,22 +106,22 @@ impl Filed {
     }
 
     /// Returns the location of the next file.
-    fn next_place(&self, kept: Kept) -> Place {
+    fn next_location(&self, kept: Kept) -> Location {
         let folder = self.last_folder;
         let mut last = 0u32;
-        for (place, _) in &self.files {
-            if place.folder == folder {
-                last = last.max(place.file);
+        for (location, _) in &self.files {
+            if location.folder == folder {
+                last = last.max(location.file);
             }
         }
         let is_full = kept == Kept::Levels && (folder == 0 || last >= PER);
         if is_full {
-            return Place {
+            return Location {
                 folder: folder.saturating_add(1),
                 file: 1,
             };
         }
-        Place {
+        Location {
             folder,
             file: last.saturating_add(1),
         }
@@ -135,9 +135,9 @@ impl Filed {
         now: &Filed,
         bytes: &[u8],
     ) -> io::Result<bool> {
-        let next = self.next_place(kept);
-        for (place, at) in &now.files {
-            if *place == next {
+        let next = self.next_location(kept);
+        for (location, at) in &now.files {
+            if *location == next {
                 return Ok(disk.file(*at)?.bytes() == bytes);
             }
         }

@@ -27,7 +27,7 @@ all_of : (a b c d : Broken) → a ≡ None → b ≡ None → c ≡ None → d �
 all_of a b c d e f g h = rw (e, f, g, h) refl
 
 header_of : (lim : Limits) (spot : Spot) (size : ℕ) (h : Header) → is_long_mark h ≡ false → (not (is_marker h.tag) && is_not_allowed (shape spot.syntax h)) ≡ false → is_endless spot h ≡ false → (not (is_undefined h.length) && nat_eq (h.length % 2) 1) ≡ false
-    → (not (is_undefined h.length) && passes spot.near (size + h.length)) ≡ false → nat_lt lim.bytes (spot.place + size + counted_length h.length) ≡ false → is_too_long lim spot h ≡ false → (opens spot h && nat_le lim.depth spot.depth) ≡ false
+    → (not (is_undefined h.length) && passes spot.near (size + h.length)) ≡ false → nat_lt lim.bytes (spot.offset + size + counted_length h.length) ≡ false → is_too_long lim spot h ≡ false → (opens spot h && nat_le lim.depth spot.depth) ≡ false
     → broken_header lim spot size h ≡ None
 unfolding broken_header
 header_of lim spot size h a b o c d e f g = rw (a, b, o, c, d, e, f, g) refl
@@ -35,7 +35,7 @@ header_of lim spot size h a b o c d e f g = rw (a, b, o, c, d, e, f, g) refl
 not_less : (a b c d : ℕ) → b + (c + d) ≤ a → nat_lt a (b + c + d) ≡ false
 not_less a b c d le = grind (arith, nat_tests)
 
-pub is_fitting : (lim : Limits) (spot : Spot) (size : ℕ) (h : Header) → 8 ≤ size → broken_tag spot h.tag ≡ None → passes spot.near (size + counted_length h.length) ≡ false → spot.place + (size + counted_length h.length) ≤ lim.bytes
+pub is_fitting : (lim : Limits) (spot : Spot) (size : ℕ) (h : Header) → 8 ≤ size → broken_tag spot h.tag ≡ None → passes spot.near (size + counted_length h.length) ≡ false → spot.offset + (size + counted_length h.length) ≤ lim.bytes
     → is_long_mark h ≡ false → (not (is_marker h.tag) && is_not_allowed (shape spot.syntax h)) ≡ false → is_endless spot h ≡ false → (not (is_undefined h.length) && nat_eq (h.length % 2) 1) ≡ false → is_too_long lim spot h ≡ false → (opens spot h && nat_le lim.depth spot.depth) ≡ false
     → broken_whole lim spot size h ≡ None
 unfolding broken_whole
@@ -44,4 +44,4 @@ is_fitting lim spot size h eight tag near limit mark allowed bounded odd long de
     let cut = near_less spot.near size (size + counted_length h.length) (omega arith) near in
     let over = counted_is spot.near size h.length (is_undefined h.length) refl near in
     all_of (broken_due spot) (broken_tag spot h.tag) (when (not (is_plain (layout spot.syntax) h.tag)) (broken_need spot (Size size) h.tag)) (broken_header lim spot size h)
-    (rw due refl) tag (none_size spot size h (not (is_plain (layout spot.syntax) h.tag)) cut) (header_of lim spot size h mark allowed bounded odd over (not_less lim.bytes spot.place size (counted_length h.length) limit) long deep)
+    (rw due refl) tag (none_size spot size h (not (is_plain (layout spot.syntax) h.tag)) cut) (header_of lim spot size h mark allowed bounded odd over (not_less lim.bytes spot.offset size (counted_length h.length) limit) long deep)

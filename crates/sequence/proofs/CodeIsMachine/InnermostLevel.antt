@@ -30,26 +30,26 @@ top_at root (l ∷ k ∷ ls) d lt = top_at (scope_of l) (k ∷ ls) d (omega arit
     last = omega arith
 
 -- a pop, where the innermost level ends
-pub arrive_popped : (root : Scope) (place : ℕ) (ls : List Level) (l : Level) → stops_at (scope_of l).stop place ≡ true → arrive place (top_of root (ls ++ l ∷ [])) (below_of root [] (ls ++ l ∷ [])) ≡ arrive place (top_of root ls) (below_of root [] ls)
+pub arrive_popped : (root : Scope) (offset : ℕ) (ls : List Level) (l : Level) → stops_at (scope_of l).stop offset ≡ true → arrive offset (top_of root (ls ++ l ∷ [])) (below_of root [] (ls ++ l ∷ [])) ≡ arrive offset (top_of root ls) (below_of root [] ls)
 unfolding arrive
-arrive_popped root place ls l e = rw (top_push root ls l, below_push root [] ls l, e) refl
+arrive_popped root offset ls l e = rw (top_push root ls l, below_push root [] ls l, e) refl
 
 -- the innermost level does not end here
-stays_by : (f : Scope) (fs : List Scope) (place : ℕ) → stops_at f.stop place ≡ false → arrive place f fs ≡ due f fs place
+stays_by : (f : Scope) (fs : List Scope) (offset : ℕ) → stops_at f.stop offset ≡ false → arrive offset f fs ≡ due f fs offset
 unfolding arrive
-stays_by f [] place e = refl
-stays_by f (g ∷ gs) place e = rw e refl
+stays_by f [] offset e = refl
+stays_by f (g ∷ gs) offset e = rw e refl
 
-pub arrive_stays : (root : Scope) (place : ℕ) (ls : List Level) → stops_at (top_of root ls).stop place ≡ false → arrive place (top_of root ls) (below_of root [] ls) ≡ due (top_of root ls) (below_of root [] ls) place
-arrive_stays root place ls e = stays_by (top_of root ls) (below_of root [] ls) place e
+pub arrive_stays : (root : Scope) (offset : ℕ) (ls : List Level) → stops_at (top_of root ls).stop offset ≡ false → arrive offset (top_of root ls) (below_of root [] ls) ≡ due (top_of root ls) (below_of root [] ls) offset
+arrive_stays root offset ls e = stays_by (top_of root ls) (below_of root [] ls) offset e
 
 -- the same of a pop that gave the innermost level
-pub remaining_one : (root : Scope) (place : ℕ) (old new : List Level) (o : Option Level) → old ≡ new ++ option_to_list o → stops_at (top_of root old).stop place ≡ true → root.stop ≡ None
-    → arrive place (top_of root new) (below_of root [] new) ≡ arrive place (top_of root old) (below_of root [] old)
-remaining_one root place old new None same e none = rw (same ∙ append-nil new) refl
-remaining_one root place old new (Some l) same e none =
-    let k : stops_at (scope_of l).stop place ≡ true = ap (λ f. stops_at f.stop place) (sym (top_push root new l)) ∙ ap (λ z. stops_at (top_of root z).stop place) (sym same) ∙ e in
-    rw same (sym (arrive_popped root place new l k))
+pub remaining_one : (root : Scope) (offset : ℕ) (old new : List Level) (o : Option Level) → old ≡ new ++ option_to_list o → stops_at (top_of root old).stop offset ≡ true → root.stop ≡ None
+    → arrive offset (top_of root new) (below_of root [] new) ≡ arrive offset (top_of root old) (below_of root [] old)
+remaining_one root offset old new None same e none = rw (same ∙ append-nil new) refl
+remaining_one root offset old new (Some l) same e none =
+    let k : stops_at (scope_of l).stop offset ≡ true = ap (λ f. stops_at f.stop offset) (sym (top_push root new l)) ∙ ap (λ z. stops_at (top_of root z).stop offset) (sym same) ∙ e in
+    rw same (sym (arrive_popped root offset new l k))
 
 pub nearest_along : (f : Scope) (fs : List Scope) (ls : List Level) → nearer (top_of f ls).stop (nearest (below_of f fs ls)) ≡ nearest_from (nearer f.stop (nearest fs)) ls
 nearest_along f fs [] = refl
@@ -69,13 +69,13 @@ empty_length (f ∷ fs) = sym (ne_eqb (suc (length fs)) 0 (omega arith))
 pub below_empty : (root : Scope) (ls : List Level) → is_empty (below_of root [] ls) ≡ nat_eq (length ls) 0
 below_empty root ls = let h : length (below_of root [] ls) ≡ length ls = omega (arith, below_length root [] ls) in empty_length (below_of root [] ls) ∙ ap (λ n. nat_eq n 0) h
 
-pub spot_is : (root : Scope) (ls : List Level) (place : ℕ) (f : Scope) (near : Option ℕ) (open-ended : Bool) → root.stop ≡ None → f ≡ top_of root ls → near ≡ less (nearest_from None ls) place → open-ended ≡ (is_none f.stop && not (nat_eq (length ls) 0))
-    → ◌≡◌ {A = Spot} (record { syntax = f.syntax; in_sequence = f.in_sequence; open_ended = open-ended; near = near; last = f.last; depth = length ls; place = place }) (spot_of (top_of root ls) (below_of root [] ls) place)
-spot_is root ls place f near open-ended none top-is near-is open-is =
-    let n : near ≡ less (nearer (top_of root ls).stop (nearest (below_of root [] ls))) place = near-is ∙ ap (λ o. less o place) (sym (nearest_is root ls none)) in
+pub spot_is : (root : Scope) (ls : List Level) (offset : ℕ) (f : Scope) (near : Option ℕ) (open-ended : Bool) → root.stop ≡ None → f ≡ top_of root ls → near ≡ less (nearest_from None ls) offset → open-ended ≡ (is_none f.stop && not (nat_eq (length ls) 0))
+    → ◌≡◌ {A = Spot} (record { syntax = f.syntax; in_sequence = f.in_sequence; open_ended = open-ended; near = near; last = f.last; depth = length ls; offset = offset }) (spot_of (top_of root ls) (below_of root [] ls) offset)
+spot_is root ls offset f near open-ended none top-is near-is open-is =
+    let n : near ≡ less (nearer (top_of root ls).stop (nearest (below_of root [] ls))) offset = near-is ∙ ap (λ o. less o offset) (sym (nearest_is root ls none)) in
     let o : open-ended ≡ (is_none (top_of root ls).stop && not (is_empty (below_of root [] ls))) = open-is ∙ ap (λ z. is_none z.stop && not (nat_eq (length ls) 0)) top-is ∙ ap (λ z. is_none (top_of root ls).stop && not z) (sym (below_empty root ls)) in
     let d : length ls ≡ length (below_of root [] ls) = omega (arith, below_length root [] ls) in
-    λ i. record { syntax = (top-is i).syntax; in_sequence = (top-is i).in_sequence; open_ended = o i; near = n i; last = (top-is i).last; depth = d i; place = place }
+    λ i. record { syntax = (top-is i).syntax; in_sequence = (top-is i).in_sequence; open_ended = o i; near = n i; last = (top-is i).last; depth = d i; offset = offset }
 
 -- the last tag of the innermost level is another
 pub last_set : (root : Scope) (old mid new : List Level) (level made : Level) (tag : Tag) → old ≡ mid ++ level ∷ [] → new ≡ mid ++ made ∷ [] → scope_of made ≡ record (scope_of level) { last = number tag }
@@ -97,12 +97,12 @@ last_changed root items slice d made tag n same some made-is n-is =
     take-append-le (length items) ws (drop (length ws) items) (omega (arith, long, size)) ∙ ap (λ z. take z ws) size ∙ take-set_at slice (length slice - 1) (length slice) made one (omega (arith, some)) in
     last_set root items (take (length slice - 1) slice) (refill (length items) items ws) (get_or slice (length slice - 1) d) made tag old new (made-is ∙ ap (λ z. record (scope_of (get_or slice (length slice - 1) d)) { last = z }) n-is)
 
-pub level_opened : (root : Scope) (levels more : List Level) (place n : ℕ) (f : Scope) (made : Level) → n ≢ 0 → more ≡ levels ++ made ∷ [] → scope_of made ≡ f
-    → arrive place (top_of root more) (below_of root [] more) ≡ begin_level place f (top_of root levels) (below_of root [] levels) n
+pub level_opened : (root : Scope) (levels more : List Level) (offset n : ℕ) (f : Scope) (made : Level) → n ≢ 0 → more ≡ levels ++ made ∷ [] → scope_of made ≡ f
+    → arrive offset (top_of root more) (below_of root [] more) ≡ begin_level offset f (top_of root levels) (below_of root [] levels) n
 unfolding begin_level
-level_opened root levels more place n f made some more-is made-is =
+level_opened root levels more offset n f made some more-is made-is =
     let z : nat_eq n 0 ≡ false = ne_eqb n 0 some in
-    rw z (ap (λ l. arrive place (top_of root l) (below_of root [] l)) more-is ∙ ap (λ t. arrive place t (below_of root [] (levels ++ made ∷ []))) (top_push root levels made ∙ made-is) ∙ ap (λ fs. arrive place f fs) (below_push root [] levels made))
+    rw z (ap (λ l. arrive offset (top_of root l) (below_of root [] l)) more-is ∙ ap (λ t. arrive offset t (below_of root [] (levels ++ made ∷ []))) (top_push root levels made ∙ made-is) ∙ ap (λ fs. arrive offset f fs) (below_push root [] levels made))
 
 pub level_empty : (p : ℕ) (g f : Scope) (fs : List Scope) (n : ℕ) → n ≡ 0 → arrive p f fs ≡ begin_level p g f fs n
 unfolding begin_level
@@ -116,11 +116,11 @@ pub value_started : (p : ℕ) (f : Scope) (fs : List Scope) (t : Tag) (n : ℕ) 
 unfolding begin_value
 value_started p f fs t n some = let z : nat_eq n 0 ≡ false = ne_eqb n 0 some in rw z refl
 
-pub level_remaining : (root : Scope) (place : ℕ) (old new : List Level) (o : Option Level) → old ≡ new ++ option_to_list o → IsSome o ↔ (0 < length old) → arrive place (top_of root new) (below_of root [] new) ≡ leave place (top_of root old) (below_of root [] old)
+pub level_remaining : (root : Scope) (offset : ℕ) (old new : List Level) (o : Option Level) → old ≡ new ++ option_to_list o → IsSome o ↔ (0 < length old) → arrive offset (top_of root new) (below_of root [] new) ≡ leave offset (top_of root old) (below_of root [] old)
 unfolding leave
-level_remaining root place old [] None same v = rw same refl
-level_remaining root place old (l ∷ ls) None same v = absurd (let some : IsSome {T = Level} None = v.1 (omega (arith, ap length same, length-append (l ∷ ls) [])) in cc)
-level_remaining root place old new (Some l) same v = rw same (rw (top_push root new l, below_push root [] new l) refl)
+level_remaining root offset old [] None same v = rw same refl
+level_remaining root offset old (l ∷ ls) None same v = absurd (let some : IsSome {T = Level} None = v.1 (omega (arith, ap length same, length-append (l ∷ ls) [])) in cc)
+level_remaining root offset old new (Some l) same v = rw same (rw (top_push root new l, below_push root [] new l) refl)
 
 -- the nearest end, from the innermost level outwards
 

@@ -10,7 +10,7 @@ use Rattle.sequence.specs.Open.{IsUnfinishedHeader}
 use Rattle.sequence.specs.Rules.{Limits, Broken}
 use Rattle.sequence.specs.machine.Machine.{spot_of}
 use Rattle.sequence.specs.machine.Heading.{IsQuiet, is_started}
-use Rattle.sequence.specs.machine.Steps.{IsTaken}
+use Rattle.sequence.specs.machine.Steps.{IsConsumed}
 use Rattle.sequence.proofs.MachineStands.UnbrokenHeader.{on_tail}
 
 both : (a b : Bool) → (a && b) ≡ true → (a ≡ true) × (b ≡ true)
@@ -45,8 +45,8 @@ pub started_tail : (lim : Limits) (f : Scope) (fs : List Scope) (p : ℕ) (t : L
 started_tail lim f fs p [] e = nothing_unfinished f.syntax
 started_tail lim f fs p (x ∷ t) e = let q = started_quiet lim f fs p (x ∷ t) e (omega arith) in on_tail lim _ (x ∷ t) q.fine q.part
 
--- of an empty piece nothing is taken
-pub none_reported : (lim : Limits) (f : Scope) (fs : List Scope) (p : ℕ) (t piece : List ℕ) (stage : Stage) → is_started lim f fs p t ≡ true → stage ≡ stages.Heading → piece ≡ [] → IsTaken f.syntax t piece p 0 stage t None
+-- of an empty piece nothing is consumed
+pub none_reported : (lim : Limits) (f : Scope) (fs : List Scope) (p : ℕ) (t piece : List ℕ) (stage : Stage) → is_started lim f fs p t ≡ true → stage ≡ stages.Heading → piece ≡ [] → IsConsumed f.syntax t piece p 0 stage t None
 none_reported lim f fs p t piece stage b e none =
     let all : t ≡ t ++ piece = sym (ap (λ z. t ++ z) none ∙ append-nil t) in
-    subst (λ z. IsTaken f.syntax t piece p 0 z t None) (sym e) (sym (ap length none), all, subst (IsUnfinishedHeader f.syntax) all (started_tail lim f fs p t b))
+    subst (λ z. IsConsumed f.syntax t piece p 0 z t None) (sym e) (sym (ap length none), all, subst (IsUnfinishedHeader f.syntax) all (started_tail lim f fs p t b))

@@ -1,4 +1,4 @@
--- The code's state after a header is taken is the machine's (`value_header`, `sequence_header`, `item_header`,
+-- The code's state after a header is consumed is the machine's (`value_header`, `sequence_header`, `item_header`,
 -- `mark_header`), with what is kept (`keep_value` and others). Stands on InnermostLevel, MachineStands and the laws of
 -- `element`.
 use Rattle.std.proofs.Common.{◌≡◌, ℕ, ◌+◌, ◌-◌, ◌<◌, ◌≤◌, Bool, true, false, not, ◌&&◌, List, [], ◌∷◌, ◌++◌, length, Some, None, refl, sym, ap, ◌∙◌, inl, inr, ◌⊎◌, arith, nat_lt, nat_eq, eq-eqb, ne_eqb, ltb-false, if◌then◌else◌}
@@ -31,23 +31,23 @@ not_true : (a : Bool) → not a ≡ true → a ≡ false
 not_true true e = absurd cc
 not_true false e = refl
 
-due_is : (f : Scope) (fs : List Scope) (place : ℕ) (x : Broken) → at f fs place (mode_of (stage_by x place) place []) ≡ due_by x f fs place
-due_is f fs place None = ap (λ n. at f fs place (Heading n [])) same
+due_is : (f : Scope) (fs : List Scope) (offset : ℕ) (x : Broken) → at f fs offset (mode_of (stage_by x offset) offset []) ≡ due_by x f fs offset
+due_is f fs offset None = ap (λ n. at f fs offset (Heading n [])) same
   where
-    same : place - 0 ≡ place
+    same : offset - 0 ≡ offset
     same = omega arith
-due_is f fs place (Some x) = refl
+due_is f fs offset (Some x) = refl
 
-pub arrived : (root : Scope) (old new : List Level) (place : ℕ) (spot : Spot) (x : Broken) (stage : Stage) (header : List ℕ) → arrive place (top_of root old) (below_of root [] old) ≡ due (top_of root new) (below_of root [] new) place
-    → spot ≡ spot_of (top_of root new) (below_of root [] new) place → x ≡ broken_due spot → stage ≡ stage_by x place → header ≡ []
-    → at (top_of root new) (below_of root [] new) place (mode_of stage place header) ≡ arrive place (top_of root old) (below_of root [] old)
+pub arrived : (root : Scope) (old new : List Level) (offset : ℕ) (spot : Spot) (x : Broken) (stage : Stage) (header : List ℕ) → arrive offset (top_of root old) (below_of root [] old) ≡ due (top_of root new) (below_of root [] new) offset
+    → spot ≡ spot_of (top_of root new) (below_of root [] new) offset → x ≡ broken_due spot → stage ≡ stage_by x offset → header ≡ []
+    → at (top_of root new) (below_of root [] new) offset (mode_of stage offset header) ≡ arrive offset (top_of root old) (below_of root [] old)
 unfolding due
-arrived root old new place spot x stage header e spot-is x-is stage-is header-is =
-    let y : x ≡ broken_due (spot_of (top_of root new) (below_of root [] new) place) = x-is ∙ ap broken_due spot-is in
-    ap (λ z. at (top_of root new) (below_of root [] new) place (mode_of z place header)) stage-is
-    ∙ ap (λ z. at (top_of root new) (below_of root [] new) place (mode_of (stage_by x place) place z)) header-is
-    ∙ due_is (top_of root new) (below_of root [] new) place x
-    ∙ ap (λ z. due_by z (top_of root new) (below_of root [] new) place) y
+arrived root old new offset spot x stage header e spot-is x-is stage-is header-is =
+    let y : x ≡ broken_due (spot_of (top_of root new) (below_of root [] new) offset) = x-is ∙ ap broken_due spot-is in
+    ap (λ z. at (top_of root new) (below_of root [] new) offset (mode_of z offset header)) stage-is
+    ∙ ap (λ z. at (top_of root new) (below_of root [] new) offset (mode_of (stage_by x offset) offset z)) header-is
+    ∙ due_is (top_of root new) (below_of root [] new) offset x
+    ∙ ap (λ z. due_by z (top_of root new) (below_of root [] new) offset) y
     ∙ sym e
 
 if_true : {A : Type 0} (b : Bool) (x y : A) → b ≡ true → (if b then x else y) ≡ x
@@ -109,7 +109,7 @@ no_header p f fs h top m sh top-is = element_header p f fs h top NotAllowed m sh
 
 -- a byte of a header
 
-pub within_limit : (lim : Limits) (spot : Spot) (t : List ℕ) → broken lim spot t ≡ None → is_whole (layout spot.syntax) t ≡ true → spot.place + length t + counted_length (header_at (layout spot.syntax) t).length ≤ lim.bytes
+pub within_limit : (lim : Limits) (spot : Spot) (t : List ℕ) → broken lim spot t ≡ None → is_whole (layout spot.syntax) t ≡ true → spot.offset + length t + counted_length (header_at (layout spot.syntax) t).length ≤ lim.bytes
 within_limit lim spot t ok w = ltb-false _ _ (is_sound lim spot (length t) (header_at (layout spot.syntax) t) ((unbroken_is lim spot t ok).whole_ok w)).short
 
 pub has_room_remaining : (lim : Limits) (spot : Spot) (t : List ℕ) → broken lim spot t ≡ None → is_whole (layout spot.syntax) t ≡ true → has_room lim.depth spot.depth spot.syntax (header_at (layout spot.syntax) t) ≡ true

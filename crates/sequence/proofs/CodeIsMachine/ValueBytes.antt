@@ -1,4 +1,4 @@
--- The bytes of a value taken at once bring the machine where they bring it one by one (`run_ends`, `run_continues`), and keep
+-- The bytes of a value consumed at once bring the machine where they bring it one by one (`run_ends`, `run_continues`), and keep
 -- the same (`run_kept`). Stands on StateAfterCall and GrammarLeads/TreesRun.
 use Rattle.std.proofs.Common.{◌≡◌, ℕ, ◌+◌, ◌-◌, ◌<◌, ◌≤◌, Bool, true, false, List, [], ◌∷◌, length, Some, None, nat_le, nat_eq, leb-true, leb-false, subst, refl, sym, ap, ◌∙◌, arith, if◌then◌else◌}
 use Rattle.std.proofs.lemmas.Bool.Decides.{nat_tests}
@@ -57,65 +57,65 @@ part_kept lim f fs t p n values (x ∷ y ∷ v) le =
 
 -- of a walker in a value
 
-pub run_ends : (f : Scope) (fs : List Scope) (lim : Limits) (place end : ℕ) (stage : Stage) (header : List ℕ) (tag : Tag) (remaining : ℕ) (kept : Bool) (v : List ℕ) → stage ≡ stages.Value tag remaining kept → 0 < length v → length v ≡ remaining → end ≡ place + length v
-    → arrive end f fs ≡ run lim (at f fs place (mode_of stage place header)) v
-run_ends f fs lim place end stage header tag remaining kept v e some size end-is =
-    sym (ap (λ z. run lim (at f fs place (mode_of z place header)) v) e ∙ reading_run lim f fs tag place end remaining v size (omega (arith, some, size)) (omega (arith, end-is, size)))
+pub run_ends : (f : Scope) (fs : List Scope) (lim : Limits) (offset end : ℕ) (stage : Stage) (header : List ℕ) (tag : Tag) (remaining : ℕ) (kept : Bool) (v : List ℕ) → stage ≡ stages.Value tag remaining kept → 0 < length v → length v ≡ remaining → end ≡ offset + length v
+    → arrive end f fs ≡ run lim (at f fs offset (mode_of stage offset header)) v
+run_ends f fs lim offset end stage header tag remaining kept v e some size end-is =
+    sym (ap (λ z. run lim (at f fs offset (mode_of z offset header)) v) e ∙ reading_run lim f fs tag offset end remaining v size (omega (arith, some, size)) (omega (arith, end-is, size)))
 
-pub run_continues : (f : Scope) (fs : List Scope) (lim : Limits) (place end : ℕ) (stage : Stage) (header : List ℕ) (tag : Tag) (remaining rest : ℕ) (kept : Bool) (v : List ℕ) → stage ≡ stages.Value tag remaining kept → length v < remaining → rest ≡ remaining - length v → end ≡ place + length v
-    → at f fs end (Reading tag rest) ≡ run lim (at f fs place (mode_of stage place header)) v
-run_continues f fs lim place end stage header tag remaining rest kept v e lt rest-is end-is =
-    sym (ap (λ z. run lim (at f fs place (mode_of z place header)) v) e ∙ part_run lim f fs tag place end remaining rest v lt end-is rest-is)
+pub run_continues : (f : Scope) (fs : List Scope) (lim : Limits) (offset end : ℕ) (stage : Stage) (header : List ℕ) (tag : Tag) (remaining rest : ℕ) (kept : Bool) (v : List ℕ) → stage ≡ stages.Value tag remaining kept → length v < remaining → rest ≡ remaining - length v → end ≡ offset + length v
+    → at f fs end (Reading tag rest) ≡ run lim (at f fs offset (mode_of stage offset header)) v
+run_continues f fs lim offset end stage header tag remaining rest kept v e lt rest-is end-is =
+    sym (ap (λ z. run lim (at f fs offset (mode_of z offset header)) v) e ∙ part_run lim f fs tag offset end remaining rest v lt end-is rest-is)
 
-pub run_kept : (lim : Limits) (f root : Scope) (levels : List Level) (stage : Stage) (tag : Tag) (remaining : ℕ) (kept : Bool) (place : ℕ) (header : List ℕ) (values new : Values) (v : List ℕ)
+pub run_kept : (lim : Limits) (f root : Scope) (levels : List Level) (stage : Stage) (tag : Tag) (remaining : ℕ) (kept : Bool) (offset : ℕ) (header : List ℕ) (values new : Values) (v : List ℕ)
     → stage ≡ stages.Value tag remaining kept → is_kept stage ≡ is_wanted_in lim.wanted levels stage → length v ≤ remaining → new ≡ (if kept then with_bytes values v else values)
-    → new ≡ keeps lim (at f (below_of root [] levels) place (mode_of stage place header)) values v
-run_kept lim f root levels stage tag remaining kept place header values new v e flag le new-is =
+    → new ≡ keeps lim (at f (below_of root [] levels) offset (mode_of stage offset header)) values v
+run_kept lim f root levels stage tag remaining kept offset header values new v e flag le new-is =
     let same : kept ≡ wanted_at lim (below_of root [] levels) (number tag) = ap is_kept (sym e) ∙ flag ∙ ap (is_wanted_in lim.wanted levels) e ∙ wanted_is lim root levels (number tag) in
-    new-is ∙ ap (λ z. if z then with_bytes values v else values) same ∙ sym (part_kept lim f (below_of root [] levels) tag place remaining values v le)
-    ∙ ap (λ z. keeps lim (at f (below_of root [] levels) place (mode_of z place header)) values v) (sym e)
+    new-is ∙ ap (λ z. if z then with_bytes values v else values) same ∙ sym (part_kept lim f (below_of root [] levels) tag offset remaining values v le)
+    ∙ ap (λ z. keeps lim (at f (below_of root [] levels) offset (mode_of z offset header)) values v) (sym e)
 
-due_place : (y : Broken) (p : ℕ) (f : Scope) (fs : List Scope) → (due_by y f fs p).place ≡ p
-due_place None p f fs = refl
-due_place (Some y) p f fs = refl
+due_offset : (y : Broken) (p : ℕ) (f : Scope) (fs : List Scope) → (due_by y f fs p).offset ≡ p
+due_offset None p f fs = refl
+due_offset (Some y) p f fs = refl
 
-by_place : (b : Bool) (x y : State) (p : ℕ) → x.place ≡ p → y.place ≡ p → (if b then x else y).place ≡ p
-by_place true x y p e f = e
-by_place false x y p e f = f
+by_offset : (b : Bool) (x y : State) (p : ℕ) → x.offset ≡ p → y.offset ≡ p → (if b then x else y).offset ≡ p
+by_offset true x y p e f = e
+by_offset false x y p e f = f
 
-pub arrive_place : (p : ℕ) (f : Scope) (fs : List Scope) → (arrive p f fs).place ≡ p
+pub arrive_offset : (p : ℕ) (f : Scope) (fs : List Scope) → (arrive p f fs).offset ≡ p
 unfolding arrive due
-arrive_place p f [] = due_place (broken_due (spot_of f [] p)) p f []
-arrive_place p f (g ∷ gs) = by_place (stops_at f.stop p) (arrive p g gs) (due f (g ∷ gs) p) p (arrive_place p g gs) (due_place (broken_due (spot_of f (g ∷ gs) p)) p f (g ∷ gs))
+arrive_offset p f [] = due_offset (broken_due (spot_of f [] p)) p f []
+arrive_offset p f (g ∷ gs) = by_offset (stops_at f.stop p) (arrive p g gs) (due f (g ∷ gs) p) p (arrive_offset p g gs) (due_offset (broken_due (spot_of f (g ∷ gs) p)) p f (g ∷ gs))
 
-pub begin_value_place : (p : ℕ) (f : Scope) (fs : List Scope) (t : Tag) (n : ℕ) → (begin_value p f fs t n).place ≡ p
+pub begin_value_offset : (p : ℕ) (f : Scope) (fs : List Scope) (t : Tag) (n : ℕ) → (begin_value p f fs t n).offset ≡ p
 unfolding begin_value
-begin_value_place p f fs t n = by_place (nat_eq n 0) _ _ p (arrive_place p f fs) refl
+begin_value_offset p f fs t n = by_offset (nat_eq n 0) _ _ p (arrive_offset p f fs) refl
 
-pub begin_level_place : (p : ℕ) (g f : Scope) (fs : List Scope) (n : ℕ) → (begin_level p g f fs n).place ≡ p
+pub begin_level_offset : (p : ℕ) (g f : Scope) (fs : List Scope) (n : ℕ) → (begin_level p g f fs n).offset ≡ p
 unfolding begin_level
-begin_level_place p g f fs n = by_place (nat_eq n 0) _ _ p (arrive_place p f fs) (arrive_place p g (f ∷ fs))
+begin_level_offset p g f fs n = by_offset (nat_eq n 0) _ _ p (arrive_offset p f fs) (arrive_offset p g (f ∷ fs))
 
-leave_place : (p : ℕ) (f : Scope) (fs : List Scope) → (leave p f fs).place ≡ p
+leave_offset : (p : ℕ) (f : Scope) (fs : List Scope) → (leave p f fs).offset ≡ p
 unfolding leave
-leave_place p f [] = arrive_place p f []
-leave_place p f (g ∷ gs) = arrive_place p g gs
+leave_offset p f [] = arrive_offset p f []
+leave_offset p f (g ∷ gs) = arrive_offset p g gs
 
-element_place : (p : ℕ) (f : Scope) (fs : List Scope) (h : Header) (sh : Shape) → (take_element p f fs h sh).place ≡ p
-element_place p f fs h Value = begin_value_place p (started f h.tag) fs h.tag h.length
-element_place p f fs h (Sequence inner) = begin_level_place p (sequence_scope inner (stop_of p h.length)) (started f h.tag) fs h.length
-element_place p f fs h NotAllowed = arrive_place p f fs
+element_offset : (p : ℕ) (f : Scope) (fs : List Scope) (h : Header) (sh : Shape) → (take_element p f fs h sh).offset ≡ p
+element_offset p f fs h Value = begin_value_offset p (started f h.tag) fs h.tag h.length
+element_offset p f fs h (Sequence inner) = begin_level_offset p (sequence_scope inner (stop_of p h.length)) (started f h.tag) fs h.length
+element_offset p f fs h NotAllowed = arrive_offset p f fs
 
-item_place : (p : ℕ) (f : Scope) (fs : List Scope) (h : Header) → (take_item p f fs h).place ≡ p
-item_place p f fs h = by_place (has_fragments f.syntax) _ _ p (begin_value_place p f fs h.tag h.length) (begin_level_place p (set_scope f.syntax (stop_of p h.length) 0) f fs h.length)
+item_offset : (p : ℕ) (f : Scope) (fs : List Scope) (h : Header) → (take_item p f fs h).offset ≡ p
+item_offset p f fs h = by_offset (has_fragments f.syntax) _ _ p (begin_value_offset p f fs h.tag h.length) (begin_level_offset p (set_scope f.syntax (stop_of p h.length) 0) f fs h.length)
 
-pub take_place : (p : ℕ) (f : Scope) (fs : List Scope) (h : Header) → (take_header p f fs h).place ≡ p
+pub take_offset : (p : ℕ) (f : Scope) (fs : List Scope) (h : Header) → (take_header p f fs h).offset ≡ p
 unfolding take_header
-take_place p f fs h =
-    by_place (is_marker h.tag) _ _ p (by_place (same_tag h.tag item_tag) _ _ p (item_place p f fs h) (leave_place p f fs))
-    (element_place p f fs h (shape f.syntax h))
+take_offset p f fs h =
+    by_offset (is_marker h.tag) _ _ p (by_offset (same_tag h.tag item_tag) _ _ p (item_offset p f fs h) (leave_offset p f fs))
+    (element_offset p f fs h (shape f.syntax h))
 
--- what is taken up
+-- what is consumed up
 
 due_arrives : (y : Broken) (p : ℕ) (f : Scope) (fs : List Scope) → ArrivesAt (due_by y f fs p).mode p
 due_arrives None p f fs = refl
@@ -157,13 +157,13 @@ take_arrives p f fs h =
     by_arrives (is_marker h.tag) _ _ p (by_arrives (same_tag h.tag item_tag) _ _ p (item_arrives p f fs h) (leave_arrives p f fs))
     (element_arrives p f fs h (shape f.syntax h))
 
-pub value_part_arrives : (f : Scope) (fs : List Scope) (lim : Limits) (place : ℕ) (stage : Stage) (header : List ℕ) (tag : Tag) (remaining : ℕ) (kept : Bool) (v : List ℕ) → stage ≡ stages.Value tag remaining kept → 0 < length v → length v ≤ remaining
-    → ArrivesAt (run lim (at f fs place (mode_of stage place header)) v).mode (place + length v)
-value_part_arrives f fs lim place stage header tag remaining kept v e some le = by (nat_le remaining (length v)) refl
+pub value_part_arrives : (f : Scope) (fs : List Scope) (lim : Limits) (offset : ℕ) (stage : Stage) (header : List ℕ) (tag : Tag) (remaining : ℕ) (kept : Bool) (v : List ℕ) → stage ≡ stages.Value tag remaining kept → 0 < length v → length v ≤ remaining
+    → ArrivesAt (run lim (at f fs offset (mode_of stage offset header)) v).mode (offset + length v)
+value_part_arrives f fs lim offset stage header tag remaining kept v e some le = by (nat_le remaining (length v)) refl
   where
-    by : (b : Bool) → nat_le remaining (length v) ≡ b → ArrivesAt (run lim (at f fs place (mode_of stage place header)) v).mode (place + length v)
+    by : (b : Bool) → nat_le remaining (length v) ≡ b → ArrivesAt (run lim (at f fs offset (mode_of stage offset header)) v).mode (offset + length v)
     by true q =
         let size : length v ≡ remaining = omega (arith, le, leb-true remaining (length v) q) in
-        subst (λ z. ArrivesAt z.mode (place + length v)) (run_ends f fs lim place (place + length v) stage header tag remaining kept v e some size refl) (arrive_arrives (place + length v) f fs)
+        subst (λ z. ArrivesAt z.mode (offset + length v)) (run_ends f fs lim offset (offset + length v) stage header tag remaining kept v e some size refl) (arrive_arrives (offset + length v) f fs)
     by false q =
-        subst (λ z. ArrivesAt z.mode (place + length v)) (run_continues f fs lim place (place + length v) stage header tag remaining (remaining - length v) kept v e (leb-false remaining (length v) q) refl refl) tt
+        subst (λ z. ArrivesAt z.mode (offset + length v)) (run_continues f fs lim offset (offset + length v) stage header tag remaining (remaining - length v) kept v e (leb-false remaining (length v) q) refl refl) tt

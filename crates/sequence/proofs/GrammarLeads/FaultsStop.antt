@@ -59,7 +59,7 @@ spot_over q (e ∷ path) s last =
     let near = near_over q (e ∷ path) s last in
     let ended : (machine.is_none (stop_at q e.remaining) && true) ≡ is_none e.remaining = and_true (machine.is_none (stop_at q e.remaining)) ∙ none_remaining e.remaining q in
     let depth = depth_over q (e ∷ path) (set_scope s None last) in
-    λ i. record { syntax = e.syntax; in_sequence = e.in_sequence; open_ended = ended i; near = near i; last = e.last; depth = depth i; place = q }
+    λ i. record { syntax = e.syntax; in_sequence = e.in_sequence; open_ended = ended i; near = near i; last = e.last; depth = depth i; offset = q }
 
 -- the innermost level does not end here
 stays : (o : Option ℕ) (q : ℕ) → o ≢ Some 0 → stops_at (stop_at q o) q ≡ false
@@ -79,7 +79,7 @@ front_part : (s : Coding) (t u : List ℕ) → ((w : List ℕ) (y : ℕ) (z : Li
 front_part s t [] one some = absurd (omega arith)
 front_part s t (y ∷ u) one some = one t y u refl
 
--- a fault of the header at the place n stopped it
+-- a fault of the header at the offset n stopped it
 abbrev pub StopsAt : ℕ → Mode → Type 0
 StopsAt n (Stopped rule p t) = p ≡ n
 StopsAt n (Heading begin t) = ⊥

@@ -14,9 +14,9 @@ use Rattle.sequence.specs.machine.Machine.{set_scope, sequence_scope, State, arr
 pub use Rattle.sequence.specs.Holding.{stop_at, scope_at}
 use Rattle.element.proofs.Public.{spelled_long}
 use Rattle.sequence.specs.machine.Standing.{LastsTo}
-use Rattle.sequence.proofs.GrammarLeads.TreesRun.{Goes, goes_then, open_from_lasts, lasts_less, header_run, elements_run, items_run, taken_sequence, taken_item}
+use Rattle.sequence.proofs.GrammarLeads.TreesRun.{Goes, goes_then, open_from_lasts, lasts_less, header_run, elements_run, items_run, consumed_sequence, consumed_item}
 
--- the levels of a path, at a place
+-- the levels of a path, at an offset
 abbrev pub top_over : ℕ → List PathEntry → Scope → Scope
 top_over q [] f = f
 top_over q (e ∷ path) f = scope_at q e
@@ -75,7 +75,7 @@ sequence_leads lim s es b h hb inner rest set el sh some stop fs p q want room q
     let first = elements_run lim set stop fs p (p + length b) (lasts_less stop (p + length b) q room (omega arith)) refl in
     let second : Goes (run lim (arrive (p + length b) (set_scope s stop (last_of 0 es)) fs) hb) (arrive (p + length b + length hb) (sequence_scope inner (stop_of (p + length b + length hb) h.length)) (set_scope s stop (number h.tag) ∷ fs)) =
     subst (λ z. Goes (run lim (arrive (p + length b) (set_scope s stop (last_of 0 es)) fs) hb) z)
-    (taken_sequence (p + length b + length hb) s stop (last_of 0 es) fs h inner el.no_marker sh ∙ opened (p + length b + length hb) _ _ fs h.length some)
+    (consumed_sequence (p + length b + length hb) s stop (last_of 0 es) fs h inner el.no_marker sh ∙ opened (p + length b + length hb) _ _ fs h.length some)
     (header_run lim (set_scope s stop (last_of 0 es)) fs (p + length b) (p + length b + length hb) h hb el.spelled (open_from_lasts stop (p + length b) (length hb) (lasts_less stop (p + length b + length hb) q room (omega arith)) (omega arith)) refl) in
     goes_then lim _ _ _ b (hb ++ rest) first (goes_then lim _ _ _ hb rest second goes)
 
@@ -86,7 +86,7 @@ item_step lim s k kb b2 path last it level goes stop fs p q room q-is =
     let size : q ≡ p + length kb + length b2 = omega (arith, q-is, length-append kb b2) in
     let long = spelled_long it.spelled in
     let first : Goes (run lim (arrive p (sequence_scope s stop) fs) kb) (arrive (p + length kb) (set_scope s (stop_of (p + length kb) k.length) 0) (sequence_scope s stop ∷ fs)) =
-    subst (λ z. Goes (run lim (arrive p (sequence_scope s stop) fs) kb) z) (taken_item (p + length kb) (sequence_scope s stop) fs k it.tagged it.nests ∙ opened (p + length kb) _ _ fs k.length level.some)
+    subst (λ z. Goes (run lim (arrive p (sequence_scope s stop) fs) kb) z) (consumed_item (p + length kb) (sequence_scope s stop) fs k it.tagged it.nests ∙ opened (p + length kb) _ _ fs k.length level.some)
     (header_run lim (sequence_scope s stop) fs p (p + length kb) k kb it.spelled (open_from_lasts stop p (length kb) (lasts_less stop (p + length kb) q room (omega arith)) (omega arith)) refl) in
     let holds : LastsTo (stop_of (p + length kb) k.length) q = lasts_to_stop (p + length kb) k.length q (λ d. omega (arith, level.within d)) in
     let second = goes (stop_of (p + length kb) k.length) (sequence_scope s stop ∷ fs) (p + length kb) q holds size in

@@ -13,7 +13,7 @@ use Rattle.sequence.specs.machine.Machine.{set_scope, sequence_scope, stop_of}
 use Rattle.sequence.specs.machine.Standing.{Reaches, at_root, into_sequence, into_item, LastsTo, AllLastTo}
 use Rattle.sequence.proofs.GrammarLeads.FrontsRun.{stop_at, scope_at, top_over, below_over, top_append, below_append, stop_is}
 
--- the text b is a front whose path, at the place n, is these levels
+-- the text b is a front whose path, at the offset n, is these levels
 pub record IsFront (s : Coding) (ws : List Want) (values : Values) (n : ℕ) (b : List ℕ) (tail : Tail) (f : Scope) (fs : List Scope) : Type 0 where
   pub elements : Elements
   pub path : List PathEntry
@@ -33,7 +33,7 @@ received_by stop p n k stop-is holds defined =
 plug_text : (q0 hb0 ib0 b0 hb eb b rest : List ℕ) → b0 ≡ q0 ++ (hb0 ++ ib0) → b ≡ b0 ++ (hb ++ eb) → q0 ++ (hb0 ++ (ib0 ++ (hb ++ (eb ++ rest)))) ≡ b ++ rest
 plug_text q0 hb0 ib0 b0 hb eb b rest e0 e = sym (ap (λ z. z ++ rest) (e ∙ ap (λ z. z ++ (hb ++ eb)) e0) ∙ simp append_assoc)
 
--- a place where the header of a level ended, and what followed it
+-- an offset where the header of a level ended, and what followed it
 pub level_is : (stop : Option ℕ) (before received : List ℕ) (n k : ℕ) → n ≡ length before + length received → k ≢ 0 → stop ≡ stop_of (length before) k → LastsTo stop n → IsOpenLevel k (length received)
 level_is stop before received n k n-is some stop-is holds = record { some = some; within = λ d. let le = received_by stop (length before) n k stop-is holds d in omega (arith, le, n-is) }
 

@@ -87,7 +87,7 @@ cut (in_item_of q {k = k} {kb = kb} {b2 = b2} {path = path} {last = last} level 
 deep_in : (s : Coding) (lim : Limits) (values : Values) (f : Scope) (fs : List Scope) (p : ℕ) (m : Mode) (b : List ℕ) → StandsIn s lim values f fs p m b → length fs ≤ lim.depth
 deep_in s lim values f fs p (Heading begin t) b h = h.1.due.levels.deep
 deep_in s lim values f fs p (Reading t n) b h = h.1.levels.deep
-deep_in s lim values f fs p (Stopped rule place t) b h = h.due.levels.deep
+deep_in s lim values f fs p (Stopped rule offset t) b h = h.due.levels.deep
 
 due_below : (x : Broken) (f : Scope) (fs : List Scope) (p : ℕ) → (due_by x f fs p).below ≡ fs
 due_below None f fs p = refl
@@ -117,5 +117,5 @@ never_deeper s lim b bytes going-on p rest es path last tail e o = by (rw (start
         let st = run lim (start s) c.text in
         let below-is : (run lim (start s) c.text).below ≡ below_over (length c.text) c.path2 (set_scope s None c.last) [] =
         ap (λ (z : State). z.below) (k ∙ arrive_over (length c.text) c.path2 s c.last c.innermost) ∙ due_levels (top_over (length c.text) c.path2 (set_scope s None c.last)) (below_over (length c.text) c.path2 (set_scope s None c.last) []) (length c.text) in
-        let deep = deep_in s lim (keeps lim (start s) [] c.text) st.top st.below st.place st.mode c.text (stands s lim c.text (front_bytes c.text (c.rest ++ rest) (subst IsBytes text bytes))) in
+        let deep = deep_in s lim (keeps lim (start s) [] c.text) st.top st.below st.offset st.mode c.text (stands s lim c.text (front_bytes c.text (c.rest ++ rest) (subst IsBytes text bytes))) in
         omega (arith, deep, ap length below-is, depth_over (length c.text) c.path2 (set_scope s None c.last), c.same)

@@ -70,7 +70,7 @@ lasts_less (Some e) p q h le = omega arith
 pub goes_from : (lim : Limits) (st mid want : State) (b : List ℕ) → Goes st mid → Goes (run lim mid b) want → Goes (run lim st b) want
 goes_from lim st mid want b (inl e) (inl g) = inl (ap (λ (z : State). run lim z b) e ∙ g)
 goes_from lim st mid want b (inl e) (inr g) = inr (rw e g)
-goes_from lim st mid want b (inr h) g = inr (let r = run_stopped lim st.top st.below st.place st.mode b h in rw r h)
+goes_from lim st mid want b (inr h) g = inr (let r = run_stopped lim st.top st.below st.offset st.mode b h in rw r h)
 
 pub goes_then : (lim : Limits) (st mid want : State) (a b : List ℕ) → Goes (run lim st a) mid → Goes (run lim mid b) want → Goes (run lim st (a ++ b)) want
 goes_then lim st mid want a b g h = rw (run_append lim st a b) (goes_from lim (run lim st a) mid want b g h)
@@ -190,30 +190,30 @@ RunsSet lim s last end b = (stop : Option ℕ) (fs : List Scope) (p q : ℕ) →
 abbrev pub RunsItems : Limits → Coding → List ℕ → Type 0
 RunsItems lim s b = (stop : Option ℕ) (fs : List Scope) (p q : ℕ) → LastsTo stop q → q ≡ p + length b → Goes (run lim (arrive p (sequence_scope s stop) fs) b) (arrive q (sequence_scope s stop) fs)
 
-pub taken_value : (p : ℕ) (s : Coding) (stop : Option ℕ) (last : ℕ) (fs : List Scope) (h : Header) → is_marker h.tag ≡ false → shape s h ≡ Value
+pub consumed_value : (p : ℕ) (s : Coding) (stop : Option ℕ) (last : ℕ) (fs : List Scope) (h : Header) → is_marker h.tag ≡ false → shape s h ≡ Value
     → take_header p (set_scope s stop last) fs h ≡ begin_value p (set_scope s stop (number h.tag)) fs h.tag h.length
 unfolding take_header
-taken_value p s stop last fs h m e = rw (m, e) refl
+consumed_value p s stop last fs h m e = rw (m, e) refl
 
-pub taken_sequence : (p : ℕ) (s : Coding) (stop : Option ℕ) (last : ℕ) (fs : List Scope) (h : Header) (inner : Coding) → is_marker h.tag ≡ false → shape s h ≡ Sequence inner
+pub consumed_sequence : (p : ℕ) (s : Coding) (stop : Option ℕ) (last : ℕ) (fs : List Scope) (h : Header) (inner : Coding) → is_marker h.tag ≡ false → shape s h ≡ Sequence inner
     → take_header p (set_scope s stop last) fs h ≡ begin_level p (sequence_scope inner (stop_of p h.length)) (set_scope s stop (number h.tag)) fs h.length
 unfolding take_header
-taken_sequence p s stop last fs h inner m e = rw (m, e) refl
+consumed_sequence p s stop last fs h inner m e = rw (m, e) refl
 
-pub taken_item : (p : ℕ) (f : Scope) (fs : List Scope) (h : Header) → h.tag ≡ item_tag → has_fragments f.syntax ≡ false → take_header p f fs h ≡ begin_level p (set_scope f.syntax (stop_of p h.length) 0) f fs h.length
+pub consumed_item : (p : ℕ) (f : Scope) (fs : List Scope) (h : Header) → h.tag ≡ item_tag → has_fragments f.syntax ≡ false → take_header p f fs h ≡ begin_level p (set_scope f.syntax (stop_of p h.length) 0) f fs h.length
 unfolding take_header
-taken_item p f fs h e n = rw (e, n) refl
+consumed_item p f fs h e n = rw (e, n) refl
 
-pub taken_fragment : (p : ℕ) (f : Scope) (fs : List Scope) (h : Header) → h.tag ≡ item_tag → has_fragments f.syntax ≡ true → take_header p f fs h ≡ begin_value p f fs h.tag h.length
+pub consumed_fragment : (p : ℕ) (f : Scope) (fs : List Scope) (h : Header) → h.tag ≡ item_tag → has_fragments f.syntax ≡ true → take_header p f fs h ≡ begin_value p f fs h.tag h.length
 unfolding take_header
-taken_fragment p f fs h e n = rw (e, n) refl
+consumed_fragment p f fs h e n = rw (e, n) refl
 
 value_step : (lim : Limits) (s : Coding) (last : ℕ) (h : Header) (hb v b : List ℕ) (end : ℕ) → IsElement s last h hb → shape s h ≡ Value → IsValue h.length v → RunsSet lim s (number h.tag) end b → RunsSet lim s last end (hb ++ (v ++ b))
 value_step lim s last h hb v b end el sh val rest stop fs p q room q-is =
     let size : q ≡ p + length hb + length v + length b = omega (arith, length-append hb (v ++ b), length-append v b) in
     let long = spelled_long el.spelled in
     let first : Goes (run lim (arrive p (set_scope s stop last) fs) hb) (begin_value (p + length hb) (set_scope s stop (number h.tag)) fs h.tag h.length) =
-    subst (λ z. Goes (run lim (arrive p (set_scope s stop last) fs) hb) z) (taken_value (p + length hb) s stop last fs h el.no_marker sh)
+    subst (λ z. Goes (run lim (arrive p (set_scope s stop last) fs) hb) z) (consumed_value (p + length hb) s stop last fs h el.no_marker sh)
     (header_run lim (set_scope s stop last) fs p (p + length hb) h hb el.spelled (open_from_lasts stop p (length hb) (lasts_less stop (p + length hb) q room (omega arith)) (omega arith)) refl) in
     let second : Goes (run lim (begin_value (p + length hb) (set_scope s stop (number h.tag)) fs h.tag h.length) v) (arrive (p + length hb + length v) (set_scope s stop (number h.tag)) fs) =
     inl (value_on lim (set_scope s stop (number h.tag)) fs h.tag (p + length hb) (p + length hb + length v) h.length v (nat_eq h.length 0) refl val.size (omega (arith, val.size))) in
@@ -226,7 +226,7 @@ sequence_step lim s last h hb ib cb b inner end el sh closed items rest stop fs 
     let long = spelled_long el.spelled in
     let f : Scope = set_scope s stop (number h.tag) in
     let first : Goes (run lim (arrive p (set_scope s stop last) fs) hb) (begin_level (p + length hb) (sequence_scope inner (stop_of (p + length hb) h.length)) f fs h.length) =
-    subst (λ z. Goes (run lim (arrive p (set_scope s stop last) fs) hb) z) (taken_sequence (p + length hb) s stop last fs h inner el.no_marker sh)
+    subst (λ z. Goes (run lim (arrive p (set_scope s stop last) fs) hb) z) (consumed_sequence (p + length hb) s stop last fs h inner el.no_marker sh)
     (header_run lim (set_scope s stop last) fs p (p + length hb) h hb el.spelled (open_from_lasts stop p (length hb) (lasts_less stop (p + length hb) q room (omega arith)) (omega arith)) refl) in
     let second : Goes (run lim (begin_level (p + length hb) (sequence_scope inner (stop_of (p + length hb) h.length)) f fs h.length) cb) (arrive (p + length hb + length cb) f fs) =
     level_run lim (sequence_scope inner) (sequence_scope inner) f fs (p + length hb) (p + length hb + length cb) closed sequence_end_mark (λ o. refl) (λ o holds. items o (f ∷ fs) (p + length hb) (p + length hb + length ib) holds refl) refl in
@@ -239,7 +239,7 @@ item_step lim s h hb eb cb b end it closed elements rest stop fs p q room q-is =
     let long = spelled_long it.spelled in
     let f : Scope = sequence_scope s stop in
     let first : Goes (run lim (arrive p f fs) hb) (begin_level (p + length hb) (set_scope s (stop_of (p + length hb) h.length) 0) f fs h.length) =
-    subst (λ z. Goes (run lim (arrive p f fs) hb) z) (taken_item (p + length hb) f fs h it.tagged it.nests)
+    subst (λ z. Goes (run lim (arrive p f fs) hb) z) (consumed_item (p + length hb) f fs h it.tagged it.nests)
     (header_run lim f fs p (p + length hb) h hb it.spelled (open_from_lasts stop p (length hb) (lasts_less stop (p + length hb) q room (omega arith)) (omega arith)) refl) in
     let second : Goes (run lim (begin_level (p + length hb) (set_scope s (stop_of (p + length hb) h.length) 0) f fs h.length) cb) (arrive (p + length hb + length cb) f fs) =
     level_run lim (λ o. set_scope s o 0) (λ o. set_scope s o end) f fs (p + length hb) (p + length hb + length cb) closed item_end_mark (λ o. refl) (λ o holds. elements o (f ∷ fs) (p + length hb) (p + length hb + length eb) holds refl) refl in
@@ -250,7 +250,7 @@ fragment_step lim s h hb v b it val rest stop fs p q room q-is =
     let size : q ≡ p + length hb + length v + length b = omega (arith, length-append hb (v ++ b), length-append v b) in
     let long = spelled_long it.spelled in
     let first : Goes (run lim (arrive p (sequence_scope s stop) fs) hb) (begin_value (p + length hb) (sequence_scope s stop) fs h.tag h.length) =
-    subst (λ z. Goes (run lim (arrive p (sequence_scope s stop) fs) hb) z) (taken_fragment (p + length hb) (sequence_scope s stop) fs h it.tagged it.holds)
+    subst (λ z. Goes (run lim (arrive p (sequence_scope s stop) fs) hb) z) (consumed_fragment (p + length hb) (sequence_scope s stop) fs h it.tagged it.holds)
     (header_run lim (sequence_scope s stop) fs p (p + length hb) h hb it.spelled (open_from_lasts stop p (length hb) (lasts_less stop (p + length hb) q room (omega arith)) (omega arith)) refl) in
     let second : Goes (run lim (begin_value (p + length hb) (sequence_scope s stop) fs h.tag h.length) v) (arrive (p + length hb + length v) (sequence_scope s stop) fs) =
     inl (value_on lim (sequence_scope s stop) fs h.tag (p + length hb) (p + length hb + length v) h.length v (nat_eq h.length 0) refl val.size (omega (arith, val.size))) in

@@ -55,7 +55,7 @@ stands s lim b bytes = run_stands s lim (start s) [] [] b bytes (start_stands s 
 -- a stop is for good
 
 stopped_on : (lim : Limits) (st : State) (more : List ℕ) → HasStopped st.mode → run lim st more ≡ st
-stopped_on lim st more h = run_stopped lim st.top st.below st.place st.mode more h
+stopped_on lim st more h = run_stopped lim st.top st.below st.offset st.mode more h
 
 pub stays_stopped : (s : Coding) (lim : Limits) (a c : List ℕ) → HasStopped (run lim (start s) a).mode → run lim (start s) (a ++ c) ≡ run lim (start s) a
 stays_stopped s lim a c h = run_append lim (start s) a c ∙ stopped_on lim (run lim (start s) a) c h
@@ -65,18 +65,18 @@ stops_stopped n (Stopped rule p t) h = tt
 stops_stopped n (Heading begin t) h = absurd h
 stops_stopped n (Reading t k) h = absurd h
 
-stop_place : (n : ℕ) (rule p : ℕ) (t : Tag) (m : Mode) → m ≡ Stopped rule p t → StopsAt n m → p ≡ n
-stop_place n rule p t m e h = subst (StopsAt n) e h
+stop_offset : (n : ℕ) (rule p : ℕ) (t : Tag) (m : Mode) → m ≡ Stopped rule p t → StopsAt n m → p ≡ n
+stop_offset n rule p t m e h = subst (StopsAt n) e h
 
-place_by : (s : Coding) (lim : Limits) (values : Values) (f : Scope) (fs : List Scope) (p : ℕ) (m : Mode) (b : List ℕ) → StandsIn s lim values f fs p m b → p ≤ length b
-place_by s lim values f fs p (Heading begin t) b h = omega (arith, h.0)
-place_by s lim values f fs p (Reading t n) b h = omega (arith, h.0)
-place_by s lim values f fs p (Stopped rule place t) b h = omega (arith, h.received, ap length h.text, length-append (h.before ++ h.u) h.rest)
+offset_by : (s : Coding) (lim : Limits) (values : Values) (f : Scope) (fs : List Scope) (p : ℕ) (m : Mode) (b : List ℕ) → StandsIn s lim values f fs p m b → p ≤ length b
+offset_by s lim values f fs p (Heading begin t) b h = omega (arith, h.0)
+offset_by s lim values f fs p (Reading t n) b h = omega (arith, h.0)
+offset_by s lim values f fs p (Stopped rule offset t) b h = omega (arith, h.received, ap length h.text, length-append (h.before ++ h.u) h.rest)
 
-place_within : (s : Coding) (lim : Limits) (b : List ℕ) → IsBytes b → (run lim (start s) b).place ≤ length b
-place_within s lim b bytes =
+offset_within : (s : Coding) (lim : Limits) (b : List ℕ) → IsBytes b → (run lim (start s) b).offset ≤ length b
+offset_within s lim b bytes =
     let st = run lim (start s) b in
-    place_by s lim (keeps lim (start s) [] b) st.top st.below st.place st.mode b (stands s lim b bytes)
+    offset_by s lim (keeps lim (start s) [] b) st.top st.below st.offset st.mode b (stands s lim b bytes)
 
 -- a text at which the machine continues breaks no rule
 pub goes_unbroken : (s : Coding) (lim : Limits) (b : List ℕ) → (HasStopped (run lim (start s) b).mode → ⊥) → IsUnbroken s lim b
@@ -94,8 +94,8 @@ pub spot_is : {s : Coding} {ws : List Want} {values : Values} {b : List ℕ} {ta
 spot_is {s = s} {b = b} {f = f} {fs = fs} x =
     ap (λ z. spot_of z fs (length b)) (sym x.top) ∙ ap (λ z. spot_of (top_over (length b) x.path (set_scope s None x.last)) z (length b)) (sym x.below) ∙ spot_over (length b) x.path s x.last
 
-pub stop_breaks : (s : Coding) (lim : Limits) (values : Values) (f : Scope) (fs : List Scope) (p rule place : ℕ) (t : Tag) (b : List ℕ) (h : IsStopped s lim values f fs p rule place t b) → Breaks s lim h.before h.u rule t
-stop_breaks s lim values f fs p rule place t b h =
+pub stop_breaks : (s : Coding) (lim : Limits) (values : Values) (f : Scope) (fs : List Scope) (p rule offset : ℕ) (t : Tag) (b : List ℕ) (h : IsStopped s lim values f fs p rule offset t b) → Breaks s lim h.before h.u rule t
+stop_breaks s lim values f fs p rule offset t b h =
     let x = open_due s lim values f fs h.before h.due in
     let spot = spot_is x in
     record {
@@ -104,14 +104,14 @@ stop_breaks s lim values f fs p rule place t b h =
       last = x.last;
       due = due_open s lim values f fs h.before h.due;
       one_header = λ w y z same. subst (λ (z : Spot). is_whole (layout z.syntax) w ≡ false) spot (h.one_header w y z same).part;
-      breaks = subst (λ z. broken lim z h.u ≡ Some (rule, t)) (ap (λ z. spot_of f fs z) h.place-is ∙ spot) h.breaks;
+      breaks = subst (λ z. broken lim z h.u ≡ Some (rule, t)) (ap (λ z. spot_of f fs z) h.offset-is ∙ spot) h.breaks;
     }
 
-pub stop_first : (s : Coding) (lim : Limits) (values : Values) (f : Scope) (fs : List Scope) (p rule place : ℕ) (t : Tag) (b : List ℕ) → IsBytes b → run lim (start s) b ≡ at f fs p (Stopped rule place t) → (h : IsStopped s lim values f fs p rule place t b) → FirstFault s lim b h.before h.u rule t
-stop_first s lim values f fs p rule place t b bytes state h = record {
+pub stop_first : (s : Coding) (lim : Limits) (values : Values) (f : Scope) (fs : List Scope) (p rule offset : ℕ) (t : Tag) (b : List ℕ) → IsBytes b → run lim (start s) b ≡ at f fs p (Stopped rule offset t) → (h : IsStopped s lim values f fs p rule offset t b) → FirstFault s lim b h.before h.u rule t
+stop_first s lim values f fs p rule offset t b bytes state h = record {
   rest = h.rest;
   text = h.text;
-  breaks = stop_breaks s lim values f fs p rule place t b h;
+  breaks = stop_breaks s lim values f fs p rule offset t b h;
   first = λ q v more n u e breaks. by q v more e (breaks_stop s lim q v n u breaks);
 }
   where
@@ -119,16 +119,16 @@ stop_first s lim values f fs p rule place t b bytes state h = record {
     by q v more e (inl k) =
         let text : b ≡ q ++ (v ++ more) = e ∙ append_assoc q v more in
         let same : run lim (start s) b ≡ run lim (start s) q = ap (run lim (start s)) text ∙ stays_stopped s lim q (v ++ more) k in
-        let place-is : p ≡ (run lim (start s) q).place = ap (λ (z : State). z.place) (sym state ∙ same) in
-        let far = place_within s lim q (front_bytes q (v ++ more) (subst IsBytes text bytes)) in
-        record { place = omega (arith, far, place-is, h.received, length-append h.before h.u); end = omega (arith, far, place-is, h.received, length-append q v) }
+        let offset-is : p ≡ (run lim (start s) q).offset = ap (λ (z : State). z.offset) (sym state ∙ same) in
+        let far = offset_within s lim q (front_bytes q (v ++ more) (subst IsBytes text bytes)) in
+        record { offset = omega (arith, far, offset-is, h.received, length-append h.before h.u); end = omega (arith, far, offset-is, h.received, length-append q v) }
     by q v more e (inr k) =
         let stopped = stops_stopped (length q) _ k in
         let same : run lim (start s) b ≡ run lim (start s) (q ++ v) = ap (run lim (start s)) e ∙ stays_stopped s lim (q ++ v) more stopped in
-        let place-is : p ≡ (run lim (start s) (q ++ v)).place = ap (λ (z : State). z.place) (sym state ∙ same) in
-        let far = place_within s lim (q ++ v) (front_bytes (q ++ v) more (subst IsBytes e bytes)) in
-        let begin : place ≡ length q = stop_place (length q) rule place t _ (ap (λ (z : State). z.mode) (sym same ∙ state)) k in
-        record { place = omega (arith, begin, h.place-is); end = omega (arith, far, place-is, h.received) }
+        let offset-is : p ≡ (run lim (start s) (q ++ v)).offset = ap (λ (z : State). z.offset) (sym state ∙ same) in
+        let far = offset_within s lim (q ++ v) (front_bytes (q ++ v) more (subst IsBytes e bytes)) in
+        let begin : offset ≡ length q = stop_offset (length q) rule offset t _ (ap (λ (z : State). z.mode) (sym same ∙ state)) k in
+        record { offset = omega (arith, begin, h.offset-is); end = omega (arith, far, offset-is, h.received) }
 
 -- what is reported
 
@@ -156,7 +156,7 @@ pub record FrontAt (s : Coding) (ws : List Want) (values : Values) (b : List ℕ
 pub heading_at : (s : Coding) (lim : Limits) (values : Values) (f : Scope) (fs : List Scope) (begin : ℕ) (t b : List ℕ) → IsHeading s lim values f fs begin t b → FrontAt s lim.wanted values b (in_header t) f fs
 heading_at s lim values f fs begin t b h =
     let near = nearest_lasts (length h.before) (f ∷ fs) h.due.levels.hold in
-    let spot : spot_of f fs begin ≡ spot_of f fs (length h.before) = ap (λ z. spot_of f fs z) h.place in
+    let spot : spot_of f fs begin ≡ spot_of f fs (length h.before) = ap (λ z. spot_of f fs z) h.offset in
     let unbroken = subst (λ z. broken lim z t ≡ None) spot (h.unbroken t [] (sym (append-nil t))) in
     let far = inside lim (spot_of f fs (length h.before)) t h.tail unbroken in
     let past = all_last (length h.before + (length t + 1)) (f ∷ fs) (lasts_after _ (length h.before) (length t + 1) near far) h.due.levels.nested in
@@ -176,7 +176,7 @@ heading_reports : (s : Coding) (lim : Limits) (values : Values) (f : Scope) (fs 
 heading_reports s lim values f fs p begin t b ok both =
     let x = heading_front s lim values f fs begin t b both.1 in
     let held : held_of lim.wanted x.elements x.path (in_header t) ≡ length t + size_of_values values + 16 * length fs = omega (arith, no_value lim.wanted x.path t, x.levels, ap size_of_values x.kept) in
-    subst (Reports s lim b) (λ i. record { fault = None; levels = x.levels i; place = sym both.0 i; held = held i; kept = sym x.kept i }) (going ok x.front)
+    subst (Reports s lim b) (λ i. record { fault = None; levels = x.levels i; offset = sym both.0 i; held = held i; kept = sym x.kept i }) (going ok x.front)
 
 value_held : (lim : Limits) (fs : List Scope) (path : List PathEntry) (h : Header) (v : List ℕ) (whole : Values) → length path ≡ length fs → size_of_values (with_value lim fs (number h.tag) v whole) ≡ size_of_values whole + started_bytes lim.wanted path (in_value h v)
 value_held lim [] (e ∷ path) h v whole same = absurd (omega arith)
@@ -217,13 +217,13 @@ round_stop f g h e = ap (λ (z : Scope). z.stop) e ∙ started_stop g h
 
 pub reading_at : (s : Coding) (lim : Limits) (values : Values) (f : Scope) (fs : List Scope) (t : Tag) (n : ℕ) (b : List ℕ) (r : IsReading s lim values f fs t n b) → FrontAt s lim.wanted r.whole b (in_value r.h r.v) r.round fs
 reading_at s lim values f fs t n b r =
-    let place : length b ≡ length (r.before ++ (r.hb ++ r.v)) = ap length r.text in
+    let offset : length b ≡ length (r.before ++ (r.hb ++ r.v)) = ap length r.text in
     let past = less_all (f ∷ fs) (length b + 1) (length b + n) r.levels.hold (omega (arith, r.more)) in
     let here = less_all (f ∷ fs) (length b) (length b + 1) past (omega arith) in
     let stop = round_stop f r.round r.h r.top in
     let hold : AllLastTo (r.round ∷ fs) (length b) = (subst (λ o. LastsTo o (length b)) stop here.0, here.1) in
     let nested : AreNested None (r.round ∷ fs) = subst (λ o. IsRemaining o None × AreNested (if is_some o then o else None) fs) stop r.levels.nested in
-    let x = subst (λ z. IsFront s lim.wanted r.whole (length b) z (in_value r.h r.v) r.round fs) (sym r.text) (front_reading r.h r.hb r.v (length b) r.reaches r.begins (omega (arith, r.size, r.more)) hold place) in
+    let x = subst (λ z. IsFront s lim.wanted r.whole (length b) z (in_value r.h r.v) r.round fs) (sym r.text) (front_reading r.h r.hb r.v (length b) r.reaches r.begins (omega (arith, r.size, r.more)) hold offset) in
     record { front = x; is_open = open_of x nested (past_stays r.round.stop (length b) (subst (λ o. LastsTo o (length b + 1)) stop past.0)) }
 
 pub reading_front : (s : Coding) (lim : Limits) (values : Values) (f : Scope) (fs : List Scope) (t : Tag) (n : ℕ) (b : List ℕ) (r : IsReading s lim values f fs t n b) → OpenEnd s lim r.whole b (in_value r.h r.v) fs
@@ -240,24 +240,24 @@ reading_reports s lim values f fs p t n b ok both =
     let held : held_of lim.wanted x.elements x.path (in_value r.h r.v) ≡ 0 + size_of_values values + 16 * length fs = omega (arith, values-held, x.levels, ap size_of_values x.kept) in
     let whole : (if wanted_at lim fs (number t) then but_last values else values) ≡ r.whole =
     ap (λ z. if wanted_at lim fs (number z) then but_last values else values) r.tagged ∙ ap (λ z. if wanted_at lim fs (number r.h.tag) then but_last z else z) r.kept ∙ value_whole lim fs (number r.h.tag) r.v r.whole in
-    subst (Reports s lim b) (λ i. record { fault = None; levels = x.levels i; place = sym both.0 i; held = held i; kept = sym (whole ∙ x.kept) i }) (going ok x.front)
+    subst (Reports s lim b) (λ i. record { fault = None; levels = x.levels i; offset = sym both.0 i; held = held i; kept = sym (whole ∙ x.kept) i }) (going ok x.front)
 
-stopped_reports : (s : Coding) (lim : Limits) (values : Values) (f : Scope) (fs : List Scope) (p rule place : ℕ) (t : Tag) (b : List ℕ) → IsBytes b → run lim (start s) b ≡ at f fs p (Stopped rule place t) → IsStopped s lim values f fs p rule place t b → Reports s lim b (reported_in lim (at f fs p (Stopped rule place t)) values)
-stopped_reports s lim values f fs p rule place t b bytes state h =
+stopped_reports : (s : Coding) (lim : Limits) (values : Values) (f : Scope) (fs : List Scope) (p rule offset : ℕ) (t : Tag) (b : List ℕ) → IsBytes b → run lim (start s) b ≡ at f fs p (Stopped rule offset t) → IsStopped s lim values f fs p rule offset t b → Reports s lim b (reported_in lim (at f fs p (Stopped rule offset t)) values)
+stopped_reports s lim values f fs p rule offset t b bytes state h =
     let x = open_due s lim values f fs h.before h.due in
     let o = due_open s lim values f fs h.before h.due in
     let levels = levels_is x in
     let held : held_of lim.wanted x.elements x.path (in_header []) ≡ 0 + size_of_values values + 16 * length fs = omega (arith, no_value lim.wanted x.path [], levels, ap size_of_values x.kept) in
-    subst (Reports s lim b) (λ i. record { fault = Some (record { number = rule; place = sym h.place-is i; tag = t }); levels = levels i; place = sym h.received i; held = held i; kept = sym x.kept i })
-    (refused (stop_first s lim values f fs p rule place t b bytes state h) o)
+    subst (Reports s lim b) (λ i. record { fault = Some (record { number = rule; offset = sym h.offset-is i; tag = t }); levels = levels i; offset = sym h.received i; held = held i; kept = sym x.kept i })
+    (refused (stop_first s lim values f fs p rule offset t b bytes state h) o)
 
 reports_by : (s : Coding) (lim : Limits) (values : Values) (f : Scope) (fs : List Scope) (p : ℕ) (m : Mode) (b : List ℕ) → IsBytes b → run lim (start s) b ≡ at f fs p m → StandsIn s lim values f fs p m b → Reports s lim b (reported_in lim (at f fs p m) values)
 reports_by s lim values f fs p (Heading begin t) b bytes state h = heading_reports s lim values f fs p begin t b (goes_unbroken s lim b (λ k. subst (λ (z : State). HasStopped z.mode) state k)) h
 reports_by s lim values f fs p (Reading t n) b bytes state h = reading_reports s lim values f fs p t n b (goes_unbroken s lim b (λ k. subst (λ (z : State). HasStopped z.mode) state k)) h
-reports_by s lim values f fs p (Stopped rule place t) b bytes state h = stopped_reports s lim values f fs p rule place t b bytes state h
+reports_by s lim values f fs p (Stopped rule offset t) b bytes state h = stopped_reports s lim values f fs p rule offset t b bytes state h
 
 -- after any bytes the machine reports what is to be reported
 pub reports : (s : Coding) (lim : Limits) (b : List ℕ) → IsBytes b → Reports s lim b (reported_in lim (run lim (start s) b) (keeps lim (start s) [] b))
 reports s lim b bytes =
     let st = run lim (start s) b in
-    reports_by s lim (keeps lim (start s) [] b) st.top st.below st.place st.mode b bytes refl (stands s lim b bytes)
+    reports_by s lim (keeps lim (start s) [] b) st.top st.below st.offset st.mode b bytes refl (stands s lim b bytes)

@@ -26,7 +26,7 @@ use Rattle.sequence.proofs.MachineStands.SoundHeader.{if_some}
 use Rattle.sequence.proofs.MachineStands.UnbrokenHeader.{BreaksNone, unbroken_is}
 use Rattle.sequence.proofs.GrammarLeads.FrontsRun.{stop_at, top_over, below_over}
 use Rattle.sequence.proofs.GrammarLeads.LevelsArePaths.{IsFront, plug, level_is, entry_scope}
-use Rattle.sequence.proofs.MachineStands.HeaderTaken.{set_of}
+use Rattle.sequence.proofs.MachineStands.HeaderConsumed.{set_of}
 use Rattle.sequence.proofs.MachineStands.HeaderDue.{no_header}
 
 -- a path from its levels

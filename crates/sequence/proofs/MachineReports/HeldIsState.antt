@@ -24,7 +24,7 @@ use Rattle.sequence.specs.machine.Keeping.{keeps, with_value}
 use Rattle.sequence.specs.Stored.{wants_of, values_of}
 use Rattle.sequence.specs.Holding.{scope_at, levels_at, with_started, header_started, value_due, pending_of, values_at, Holding, holding_of, Holds, of_all, before_fault}
 use Rattle.sequence.specs.Fields.{scope_of, scopes_in, pending_by}
-use Rattle.sequence.specs.Taken.{holding_by}
+use Rattle.sequence.specs.Consumed.{holding_by}
 use Rattle.sequence.specs.machine.Scopes.{top_of, below_of}
 use Rattle.sequence.specs.machine.Spare.{head_room}
 use Rattle.sequence.specs.machine.Holding.{IsIn}
@@ -56,19 +56,19 @@ value_at lim (f ∷ fs) (e ∷ path) h v es same = refl
 fault_breaks : {s : Coding} {lim : Limits} {b p u : List ℕ} {rule : ℕ} {tag : Tag} → FirstFault s lim b p u rule tag → IsUnbroken s lim b → ⊥
 fault_breaks {p = p} {u = u} {rule = rule} {tag = tag} f ok = ok p u f.rest rule tag f.text f.breaks
 
-pub record IsReported (reported : Report) (fault-is : Option Fault) (place-is : ℕ) : Type 0 where
+pub record IsReported (reported : Report) (fault-is : Option Fault) (offset-is : ℕ) : Type 0 where
   pub fault : reported.fault ≡ fault-is
-  pub place : reported.place ≡ place-is
+  pub offset : reported.offset ≡ offset-is
 
 pub reports_going : (s : Coding) (lim : Limits) (b : List ℕ) (reported : Report) → IsUnbroken s lim b → Reports s lim b reported → IsReported reported None (length b)
-reports_going s lim b reported ok (going fine o) = record { fault = refl; place = refl }
+reports_going s lim b reported ok (going fine o) = record { fault = refl; offset = refl }
 reports_going s lim b reported ok (refused f o) = absurd (fault_breaks f ok)
 
-pub reports_refused : (s : Coding) (lim : Limits) (b p u : List ℕ) (rule : ℕ) (tag : Tag) (reported : Report) → FirstFault s lim b p u rule tag → Reports s lim b reported → IsReported reported (Some (record { number = rule; place = length p; tag = tag })) (length (p ++ u))
+pub reports_refused : (s : Coding) (lim : Limits) (b p u : List ℕ) (rule : ℕ) (tag : Tag) (reported : Report) → FirstFault s lim b p u rule tag → Reports s lim b reported → IsReported reported (Some (record { number = rule; offset = length p; tag = tag })) (length (p ++ u))
 reports_refused s lim b p u rule tag reported f (going ok o) = absurd (fault_breaks f ok)
 reports_refused s lim b p u rule tag reported f (refused {p = p2} {u = u2} {rule = rule2} {tag = tag2} g o) =
     let k = one_fault s lim b p2 p u2 u rule2 rule tag2 tag g f in
-    record { fault = λ i. Some (record { number = k.2 i; place = length (k.0 i); tag = k.3 i }); place = λ i. length (k.0 i ++ k.1 i) }
+    record { fault = λ i. Some (record { number = k.2 i; offset = length (k.0 i); tag = k.3 i }); offset = λ i. length (k.0 i ++ k.1 i) }
 
 -- a walker whose fields are the machine's at the bytes b
 pub record Walks {V D : ℕ} (w : Walker V D) (b : List ℕ) : Type 0 where
@@ -87,13 +87,13 @@ no_header_kept [] few = refl
 no_header_kept (x ∷ header) few = absurd (omega (arith, few))
 
 module _ {V D : ℕ} (w : Walker V D) (b : List ℕ) (h : Walks w b) where
-  run_is : (stage : Stage) → w.stage ≡ stage → run (limits_of w) (start (walker_syntax w)) b ≡ at (top w) (below w) w.place (mode_of stage w.place w.header.items)
-  run_is stage e = sym h.state ∙ ap (λ z. at (top w) (below w) w.place (mode_of z w.place w.header.items)) e
+  run_is : (stage : Stage) → w.stage ≡ stage → run (limits_of w) (start (walker_syntax w)) b ≡ at (top w) (below w) w.offset (mode_of stage w.offset w.header.items)
+  run_is stage e = sym h.state ∙ ap (λ z. at (top w) (below w) w.offset (mode_of z w.offset w.header.items)) e
 
-  stands_in : (stage : Stage) → w.stage ≡ stage → StandsIn (walker_syntax w) (limits_of w) (keeps (limits_of w) (start (walker_syntax w)) [] b) (top w) (below w) w.place (mode_of stage w.place w.header.items) b
+  stands_in : (stage : Stage) → w.stage ≡ stage → StandsIn (walker_syntax w) (limits_of w) (keeps (limits_of w) (start (walker_syntax w)) [] b) (top w) (below w) w.offset (mode_of stage w.offset w.header.items) b
   stands_in stage e = subst (λ (z : State). Stands (walker_syntax w) (limits_of w) z (keeps (limits_of w) (start (walker_syntax w)) [] b) b) (run_is stage e) (stands (walker_syntax w) (limits_of w) b h.bytes)
 
-  not_stopped : (stage : Stage) → w.stage ≡ stage → (HasStopped (mode_of stage w.place w.header.items) → ⊥) → IsUnbroken (walker_syntax w) (limits_of w) b
+  not_stopped : (stage : Stage) → w.stage ≡ stage → (HasStopped (mode_of stage w.offset w.header.items) → ⊥) → IsUnbroken (walker_syntax w) (limits_of w) b
   not_stopped stage e on = goes_unbroken (walker_syntax w) (limits_of w) b (λ k. on (subst (λ (z : State). HasStopped z.mode) (run_is stage e) k))
 
   levels_are : scopes_in (w.root ∷ []) w.levels.items ≡ top w ∷ below w
@@ -123,8 +123,8 @@ module _ {V D : ℕ} (w : Walker V D) (b : List ℕ) (h : Walks w b) where
       pending_is (stages.Value t n kept) e ∙ (λ i. record { levels = levels i; pending = value_due (tag i) (remaining i); values = values i }) in
       subst (λ z. Holds (walker_syntax w) (limits_of w) b z) (sym same) (of_all (not_stopped (stages.Value t n kept) e (λ z. z)) y.is_open)
   holds_by (stages.Stopped fault) e =
-      let k : IsStopped (walker_syntax w) (limits_of w) (keeps (limits_of w) (start (walker_syntax w)) [] b) (top w) (below w) w.place fault.number fault.place fault.tag b = stands_in (stages.Stopped fault) e in
-      let first = stop_first (walker_syntax w) (limits_of w) (keeps (limits_of w) (start (walker_syntax w)) [] b) (top w) (below w) w.place fault.number fault.place fault.tag b h.bytes (run_is (stages.Stopped fault) e) k in
+      let k : IsStopped (walker_syntax w) (limits_of w) (keeps (limits_of w) (start (walker_syntax w)) [] b) (top w) (below w) w.offset fault.number fault.offset fault.tag b = stands_in (stages.Stopped fault) e in
+      let first = stop_first (walker_syntax w) (limits_of w) (keeps (limits_of w) (start (walker_syntax w)) [] b) (top w) (below w) w.offset fault.number fault.offset fault.tag b h.bytes (run_is (stages.Stopped fault) e) k in
       let x = open_due (walker_syntax w) (limits_of w) (keeps (limits_of w) (start (walker_syntax w)) [] b) (top w) (below w) k.before k.due in
       let due = due_open (walker_syntax w) (limits_of w) (keeps (limits_of w) (start (walker_syntax w)) [] b) (top w) (below w) k.before k.due in
       let levels = front_levels x in
@@ -195,26 +195,26 @@ record SameLevels (f g : Scope) (fs gs : List Scope) : Type 0 where
 same_levels : (f g : Scope) (fs gs : List Scope) → f ∷ fs ≡ g ∷ gs → SameLevels f g fs gs
 same_levels f g fs gs e = record { first = cc; rest = cc }
 
-mode_heading : (stage : Stage) (place : ℕ) (header before t b : List ℕ) → IsIn stage header (in_header t) → place ≡ length b → b ≡ before ++ t → mode_of stage place header ≡ Heading (length before) t
-mode_heading (stages.Value tag n kept) place header before t b h p e = absurd h
-mode_heading (stages.Stopped fault) place header before t b h p e = absurd h
-mode_heading stages.Heading place header before t b h p e =
+mode_heading : (stage : Stage) (offset : ℕ) (header before t b : List ℕ) → IsIn stage header (in_header t) → offset ≡ length b → b ≡ before ++ t → mode_of stage offset header ≡ Heading (length before) t
+mode_heading (stages.Value tag n kept) offset header before t b h p e = absurd h
+mode_heading (stages.Stopped fault) offset header before t b h p e = absurd h
+mode_heading stages.Heading offset header before t b h p e =
     let same : t ≡ header = cc in
-    let begin : place - length header ≡ length before = omega (arith, p, ap length e, length-append before t, ap length same) in
+    let begin : offset - length header ≡ length before = omega (arith, p, ap length e, length-append before t, ap length same) in
     λ i. Heading (begin i) (sym same i)
 
-mode_reading : (stage : Stage) (place : ℕ) (header v : List ℕ) (h : Header) (t : Tag) (n : ℕ) → IsIn stage header (in_value h v) → t ≡ h.tag → length v + n ≡ h.length → mode_of stage place header ≡ Reading t n
-mode_reading stages.Heading place header v h t n k e size = absurd cc
-mode_reading (stages.Stopped fault) place header v h t n k e size = absurd k
-mode_reading (stages.Value tag remaining kept) place header v h t n k e size =
+mode_reading : (stage : Stage) (offset : ℕ) (header v : List ℕ) (h : Header) (t : Tag) (n : ℕ) → IsIn stage header (in_value h v) → t ≡ h.tag → length v + n ≡ h.length → mode_of stage offset header ≡ Reading t n
+mode_reading stages.Heading offset header v h t n k e size = absurd cc
+mode_reading (stages.Stopped fault) offset header v h t n k e size = absurd k
+mode_reading (stages.Value tag remaining kept) offset header v h t n k e size =
     let tags : tag ≡ t = k.0 ∙ sym e in
     let lefts : remaining ≡ n = omega (arith, k.1, size) in
     λ i. Reading (tags i) (lefts i)
 
-mode_stopped : (stage : Stage) (place : ℕ) (header : List ℕ) (fault : Fault) → fault_by stage ≡ Some fault → mode_of stage place header ≡ Stopped fault.number fault.place fault.tag
-mode_stopped stages.Heading place header fault e = absurd cc
-mode_stopped (stages.Value tag n kept) place header fault e = absurd cc
-mode_stopped (stages.Stopped other) place header fault e = let same : other ≡ fault = cc in λ i. Stopped (same i).number (same i).place (same i).tag
+mode_stopped : (stage : Stage) (offset : ℕ) (header : List ℕ) (fault : Fault) → fault_by stage ≡ Some fault → mode_of stage offset header ≡ Stopped fault.number fault.offset fault.tag
+mode_stopped stages.Heading offset header fault e = absurd cc
+mode_stopped (stages.Value tag n kept) offset header fault e = absurd cc
+mode_stopped (stages.Stopped other) offset header fault e = let same : other ≡ fault = cc in λ i. Stopped (same i).number (same i).offset (same i).tag
 
 record IsState {V D : ℕ} (w : Walker V D) (st : State) (values : Values) : Type 0 where
   state : state_of w ≡ st
@@ -228,9 +228,9 @@ module _ {V D : ℕ} (w : Walker V D) (b : List ℕ) (h : StandsAt w b) where
       let y = heading_at (walker_syntax w) (limits_of w) (keeps (limits_of w) (start (walker_syntax w)) [] b) f fs begin t b k.1 in
       let g = stands_going w b h y.front.elements y.front.path y.front.last (in_header t) reported.fault y.is_open in
       let levels = same_levels (top w) f (below w) fs (g.0.levels ∙ sym (front_levels y.front)) in
-      let mode = mode_heading w.stage w.place w.header.items k.1.before t b g.1 reported.place k.1.text ∙ ap (λ z. Heading z t) (sym k.1.place) in
-      let place : w.place ≡ p = reported.place ∙ sym k.0 in
-      record { state = λ i. at (levels.first i) (levels.rest i) (place i) (mode i); kept = g.0.values ∙ sym y.front.kept }
+      let mode = mode_heading w.stage w.offset w.header.items k.1.before t b g.1 reported.offset k.1.text ∙ ap (λ z. Heading z t) (sym k.1.offset) in
+      let offset : w.offset ≡ p = reported.offset ∙ sym k.0 in
+      record { state = λ i. at (levels.first i) (levels.rest i) (offset i) (mode i); kept = g.0.values ∙ sym y.front.kept }
   state_by f fs p (Reading t n) e k =
       let r = k.1 in
       let ok = goes_unbroken (walker_syntax w) (limits_of w) b (λ z. subst (λ (st : State). HasStopped st.mode) e z) in
@@ -238,26 +238,26 @@ module _ {V D : ℕ} (w : Walker V D) (b : List ℕ) (h : StandsAt w b) where
       let y = reading_at (walker_syntax w) (limits_of w) (keeps (limits_of w) (start (walker_syntax w)) [] b) f fs t n b k.1 in
       let g = stands_going w b h y.front.elements y.front.path y.front.last (in_value r.h r.v) reported.fault y.is_open in
       let levels = same_levels (top w) f (below w) fs (g.0.levels ∙ ap (with_started (in_value r.h r.v)) (sym (front_levels y.front)) ∙ ap (λ z. z ∷ fs) (sym r.top)) in
-      let mode = mode_reading w.stage w.place w.header.items r.v r.h t n g.1 r.tagged r.size in
-      let place : w.place ≡ p = reported.place ∙ sym k.0 in
+      let mode = mode_reading w.stage w.offset w.header.items r.v r.h t n g.1 r.tagged r.size in
+      let offset : w.offset ≡ p = reported.offset ∙ sym k.0 in
       record {
-        state = λ i. at (levels.first i) (levels.rest i) (place i) (mode i);
+        state = λ i. at (levels.first i) (levels.rest i) (offset i) (mode i);
         kept = g.0.values ∙ sym (r.kept ∙ ap (λ z. with_value (limits_of w) fs (number r.h.tag) r.v z) y.front.kept ∙ value_at (limits_of w) fs y.front.path r.h r.v y.front.elements (levels_is y.front));
       }
-  state_by f fs p (Stopped rule place t) e k =
+  state_by f fs p (Stopped rule offset t) e k =
       let values = keeps (limits_of w) (start (walker_syntax w)) [] b in
-      let first = stop_first (walker_syntax w) (limits_of w) (keeps (limits_of w) (start (walker_syntax w)) [] b) f fs p rule place t b h.bytes e k in
+      let first = stop_first (walker_syntax w) (limits_of w) (keeps (limits_of w) (start (walker_syntax w)) [] b) f fs p rule offset t b h.bytes e k in
       let reported = reports_refused (walker_syntax w) (limits_of w) b k.before k.u rule t (reported_by w) first h.reports in
       let x = open_due (walker_syntax w) (limits_of w) (keeps (limits_of w) (start (walker_syntax w)) [] b) f fs k.before k.due in
       let due = due_open (walker_syntax w) (limits_of w) (keeps (limits_of w) (start (walker_syntax w)) [] b) f fs k.before k.due in
       let g = stands_refused w b h k.before k.u rule t x.elements x.path x.last first due in
       let levels = same_levels (top w) f (below w) fs (g.levels ∙ sym (front_levels x)) in
-      let mode = mode_stopped w.stage w.place w.header.items (record { number = rule; place = length k.before; tag = t }) reported.fault ∙ ap (λ z. Stopped rule z t) (sym k.place-is) in
-      let place-is : w.place ≡ p = reported.place ∙ sym k.received in
-      record { state = λ i. at (levels.first i) (levels.rest i) (place-is i) (mode i); kept = g.values ∙ sym x.kept }
+      let mode = mode_stopped w.stage w.offset w.header.items (record { number = rule; offset = length k.before; tag = t }) reported.fault ∙ ap (λ z. Stopped rule z t) (sym k.offset-is) in
+      let offset-is : w.offset ≡ p = reported.offset ∙ sym k.received in
+      record { state = λ i. at (levels.first i) (levels.rest i) (offset-is i) (mode i); kept = g.values ∙ sym x.kept }
 
   pub walks : Walks w b
   walks =
       let st = run (limits_of w) (start (walker_syntax w)) b in
-      let k = state_by st.top st.below st.place st.mode refl (stands (walker_syntax w) (limits_of w) b h.bytes) in
+      let k = state_by st.top st.below st.offset st.mode refl (stands (walker_syntax w) (limits_of w) b h.bytes) in
       record { bytes = h.bytes; state = k.state; values = k.kept }

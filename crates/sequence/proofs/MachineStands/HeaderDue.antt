@@ -12,7 +12,7 @@ use Rattle.sequence.specs.Rules.{Limits, Broken, broken_due, ◌or_else◌, brok
 use Rattle.sequence.specs.machine.Machine.{State, spot_of, nearer, nearest, stops_at, arrive, due, due_by}
 use Rattle.sequence.specs.machine.Standing.{IsBytes, Reaches, at_root, AreNested, LastsTo, AllLastTo, AreLevels, IsDue, Stands}
 use Rattle.sequence.proofs.MachineStands.ReachedLevels.{level_ends}
-use Rattle.sequence.proofs.MachineStands.NestedLevels.{levels_end, IsTaken}
+use Rattle.sequence.proofs.MachineStands.NestedLevels.{levels_end, IsConsumed}
 
 no_bytes : IsBytes []
 no_bytes i = lit< tt
@@ -40,7 +40,7 @@ due_stands s lim values f fs b None e d = (
   record {
     before = b;
     due = d;
-    place = refl;
+    offset = refl;
     text = sym (append-nil b);
     tail = no_header f.syntax;
     unbroken = λ u v same. rw (nil_front u v same) (none_none (broken_due (spot_of f fs (length b))) ∙ e);
@@ -52,7 +52,7 @@ due_stands s lim values f fs b (Some x) e d = record {
   u = [];
   rest = [];
   due = d;
-  place-is = refl;
+  offset-is = refl;
   received = ap length (sym (append-nil b));
   text = sym (append-nil (b ++ []) ∙ append-nil b);
   breaks = none_none (broken_due (spot_of f fs (length b))) ∙ e;
@@ -60,7 +60,7 @@ due_stands s lim values f fs b (Some x) e d = record {
   one_header = λ w y z same. absurd (no_cons w y z same);
 }
 
--- a place where a header is due: the levels, and the machine's state there
+-- an offset where a header is due: the levels, and the machine's state there
 pub record Lands (s : Coding) (lim : Limits) (values : Values) (st : State) (p : List ℕ) : Type 0 where
   pub top : Scope
   pub below : List Scope
@@ -94,5 +94,5 @@ arrive_stands {s = s} {values = values} {f = f} {fs = fs} {b = b} lim p e r l = 
 same_levels : {lim : Limits} {f : Scope} {fs : List Scope} {n : ℕ} (g : Scope) → f.stop ≡ g.stop → AreLevels lim f fs n → AreLevels lim g fs n
 same_levels {lim} {f} {fs} {n} g e l = record { nested = subst (λ o. IsRemaining o None × AreNested (if is_some o then o else None) fs) e l.nested; hold = subst (λ o. LastsTo o n × AllLastTo fs n) e l.hold; deep = l.deep; short = l.short }
 
-pub same_taken : {lim : Limits} {f : Scope} {fs : List Scope} {p : ℕ} {h : Header} (g : Scope) → f.stop ≡ g.stop → IsTaken lim f fs p h → IsTaken lim g fs p h
-same_taken {lim} {f} {fs} {p} {h} g e t = record { levels = same_levels g e t.levels; ends = λ d. subst (λ o. LastsTo (nearer o (nearest fs)) (p + h.length)) e (t.ends d); far = t.far }
+pub same_consumed : {lim : Limits} {f : Scope} {fs : List Scope} {p : ℕ} {h : Header} (g : Scope) → f.stop ≡ g.stop → IsConsumed lim f fs p h → IsConsumed lim g fs p h
+same_consumed {lim} {f} {fs} {p} {h} g e t = record { levels = same_levels g e t.levels; ends = λ d. subst (λ o. LastsTo (nearer o (nearest fs)) (p + h.length)) e (t.ends d); far = t.far }

@@ -69,7 +69,7 @@ pub levels_end : (lim : Limits) (f g : Scope) (gs : List Scope) (n : ℕ) → Ar
 levels_end lim f g gs n l = record { nested = weaken (if is_some f.stop then f.stop else None) (g ∷ gs) l.nested.1; hold = l.hold.1; deep = (let d = l.deep in omega (arith, d)); short = l.short }
 
 -- after a header
-pub record IsTaken (lim : Limits) (f : Scope) (fs : List Scope) (p : ℕ) (h : Header) : Type 0 where
+pub record IsConsumed (lim : Limits) (f : Scope) (fs : List Scope) (p : ℕ) (h : Header) : Type 0 where
   pub levels : AreLevels lim f fs p
   pub ends : h.length ≢ undefined_length → LastsTo (nearest (f ∷ fs)) (p + h.length)
   pub far : p + counted_length h.length ≤ lim.bytes
@@ -95,8 +95,8 @@ size_passes {s = s} {t = t} lim spot sp s-is ok = by (is_plain (layout spot.synt
         let n : broken_need spot (Size (length t)) (tag_at t) ≡ None = ap (λ z. broken_need spot z (tag_at t)) (sym need-is) ∙ ok.vr_ok (omega (arith, long)) p in
         (if_some (passes spot.near (length t)) _ n).0
 
-pub taken : (lim : Limits) (f : Scope) (fs : List Scope) (begin p : ℕ) (h : Header) (t : List ℕ) → AreLevels lim f fs begin → SpellsHeader (layout f.syntax) h t → BreaksNone lim (spot_of f fs begin) t → broken_header lim (spot_of f fs begin) (length t) h ≡ None → p ≡ begin + length t → IsTaken lim f fs p h
-taken lim f fs begin p h t l sp ok header-ok p-is =
+pub consumed : (lim : Limits) (f : Scope) (fs : List Scope) (begin p : ℕ) (h : Header) (t : List ℕ) → AreLevels lim f fs begin → SpellsHeader (layout f.syntax) h t → BreaksNone lim (spot_of f fs begin) t → broken_header lim (spot_of f fs begin) (length t) h ≡ None → p ≡ begin + length t → IsConsumed lim f fs p h
+consumed lim f fs begin p h t l sp ok header-ok p-is =
     let sound = is_sound lim (spot_of f fs begin) (length t) h header-ok in
     let near = nearest_lasts begin (f ∷ fs) l.hold in
     let here : LastsTo (nearest (f ∷ fs)) p = lasts_on (nearest (f ∷ fs)) begin p (length t) near (size_passes lim (spot_of f fs begin) sp refl ok) p-is in
@@ -116,7 +116,7 @@ lasts_by true n p = tt
 lasts_by false n p = omega arith
 
 -- a level that opens after it
-pub levels_open : (lim : Limits) (f g : Scope) (fs : List Scope) (p : ℕ) (h : Header) → IsTaken lim f fs p h → g.stop ≡ stop_of p h.length → suc (length fs) ≤ lim.depth → AreLevels lim g (f ∷ fs) p
+pub levels_open : (lim : Limits) (f g : Scope) (fs : List Scope) (p : ℕ) (h : Header) → IsConsumed lim f fs p h → g.stop ≡ stop_of p h.length → suc (length fs) ≤ lim.depth → AreLevels lim g (f ∷ fs) p
 levels_open lim f g fs p h t stop-is deep = record {
   nested = subst (λ o. IsRemaining o None × AreNested (if is_some o then o else None) (f ∷ fs)) (sym stop-is) (level_by (is_undefined h.length) h.length p (f ∷ fs) refl t.ends t.levels.nested);
   hold = (subst (λ o. LastsTo o p) (sym stop-is) (lasts_by (is_undefined h.length) h.length p), t.levels.hold);
@@ -125,7 +125,7 @@ levels_open lim f g fs p h t stop-is deep = record {
 }
 
 -- a value that begins after it
-pub levels_read : (lim : Limits) (f : Scope) (fs : List Scope) (p : ℕ) (h : Header) → IsTaken lim f fs p h → h.length ≢ undefined_length → AreLevels lim f fs (p + h.length)
+pub levels_read : (lim : Limits) (f : Scope) (fs : List Scope) (p : ℕ) (h : Header) → IsConsumed lim f fs p h → h.length ≢ undefined_length → AreLevels lim f fs (p + h.length)
 levels_read lim f fs p h t defined =
     let counted : counted_length h.length ≡ h.length = counted_is (is_undefined h.length) (ne_eqb h.length undefined_length defined) in
     let far = t.far in

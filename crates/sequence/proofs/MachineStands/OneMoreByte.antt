@@ -1,5 +1,5 @@
 -- A machine that stands at a text stands at it with one byte more (`next_stands`): in a header, a value, or stopped. Stands
--- on HeaderDue, HeaderParts, HeaderTaken, NestedLevels, SoundHeader, UnbrokenHeader and the laws of `element`.
+-- on HeaderDue, HeaderParts, HeaderConsumed, NestedLevels, SoundHeader, UnbrokenHeader and the laws of `element`.
 use Rattle.std.proofs.Common.{◌≡◌, ℕ, suc, ◌+◌, ◌-◌, ◌<◌, ◌≤◌, Bool, true, false, List, [], ◌∷◌, ◌++◌, length, zero, Some, None, nat_le, refl, sym, ap, subst, ◌∙◌, arith, append_assoc, append-nil, length-append, if◌then◌else◌, lit<, leb-true, leb-false}
 use Rattle.sequence.specs.Coding.{layout}
 use Rattle.sequence.specs.declared.coding.Coding.{Coding}
@@ -18,9 +18,9 @@ use Rattle.sequence.specs.machine.Standing.{IsBytes, Reaches, AreLevels, Unbroke
 use Rattle.sequence.proofs.MachineStands.HeaderParts.{whole_spells, unfinished_front}
 use Rattle.sequence.proofs.MachineStands.SoundHeader.{IsSound, is_sound}
 use Rattle.sequence.proofs.MachineStands.UnbrokenHeader.{unbroken_is, on_tail}
-use Rattle.sequence.proofs.MachineStands.NestedLevels.{taken}
+use Rattle.sequence.proofs.MachineStands.NestedLevels.{consumed}
 use Rattle.sequence.proofs.MachineStands.HeaderDue.{arrive_stands, no_cons}
-use Rattle.sequence.proofs.MachineStands.HeaderTaken.{started_ends, header_stands}
+use Rattle.sequence.proofs.MachineStands.HeaderConsumed.{started_ends, header_stands}
 
 front_of : (t w : List ℕ) (x y : ℕ) (z : List ℕ) → t ++ x ∷ [] ≡ w ++ y ∷ z → (v : List ℕ) × (t ≡ w ++ v)
 front_of t [] x y z e = (t, refl)
@@ -51,7 +51,7 @@ headed_stands s lim values f fs p begin t x b p-is h lt (Some y) e =
       u = t ++ x ∷ [];
       rest = [];
       due = h.due;
-      place-is = h.place;
+      offset-is = h.offset;
       received = p-is ∙ ap length regrouped;
       text = regrouped ∙ sym (append-nil (h.before ++ (t ++ x ∷ [])));
       breaks = e;
@@ -71,18 +71,18 @@ headed_stands s lim values f fs p begin t x b p-is h lt None e = by (is_whole (l
         let tag-ok : broken_tag (spot_of f fs begin) (header_at (layout f.syntax) (t ++ x ∷ [])).tag ≡ None = ap (λ z. broken_tag (spot_of f fs begin) z) (tag_read (layout f.syntax) (t ++ x ∷ [])) ∙ fine.tag_ok (omega (arith, long)) in
         let header-ok = fine.whole_ok w in
         let sound = is_sound lim (spot_of f fs begin) (length (t ++ x ∷ [])) (header_at (layout f.syntax) (t ++ x ∷ [])) header-ok in
-        let size : p + 1 ≡ begin + length (t ++ x ∷ []) = omega (arith, p-is, ap length regrouped, length-append h.before (t ++ x ∷ []), h.place) in
-        let got = taken lim f fs begin (p + 1) (header_at (layout f.syntax) (t ++ x ∷ [])) (t ++ x ∷ []) (subst (AreLevels lim f fs) (sym h.place) h.due.levels) sp fine header-ok size in
+        let size : p + 1 ≡ begin + length (t ++ x ∷ []) = omega (arith, p-is, ap length regrouped, length-append h.before (t ++ x ∷ []), h.offset) in
+        let got = consumed lim f fs begin (p + 1) (header_at (layout f.syntax) (t ++ x ∷ [])) (t ++ x ∷ []) (subst (AreLevels lim f fs) (sym h.offset) h.due.levels) sp fine header-ok size in
         subst (λ z. Stands s lim (take_header (p + 1) f fs (header_at (layout f.syntax) (t ++ x ∷ []))) (keep_header lim f fs (header_at (layout f.syntax) (t ++ x ∷ [])) values) z) (sym regrouped)
         (header_stands f fs (t ++ x ∷ []) (header_at (layout f.syntax) (t ++ x ∷ [])) lim (p + 1) (p-is ∙ ap length regrouped) h.due.reaches sp
-        (subst (λ z. broken_tag (spot_of f fs z) (header_at (layout f.syntax) (t ++ x ∷ [])).tag ≡ None) h.place tag-ok)
-        (subst (λ z. IsSound lim (spot_of f fs z) (length (t ++ x ∷ [])) (header_at (layout f.syntax) (t ++ x ∷ []))) h.place sound) got)
+        (subst (λ z. broken_tag (spot_of f fs z) (header_at (layout f.syntax) (t ++ x ∷ [])).tag ≡ None) h.offset tag-ok)
+        (subst (λ z. IsSound lim (spot_of f fs z) (length (t ++ x ∷ [])) (header_at (layout f.syntax) (t ++ x ∷ []))) h.offset sound) got)
     by false w = (
       p-is,
       record {
         before = h.before;
         due = h.due;
-        place = h.place;
+        offset = h.offset;
         text = regrouped;
         tail = on_tail lim (spot_of f fs begin) (t ++ x ∷ []) e w;
         unbroken = more_unbroken lim (spot_of f fs begin) t x h.unbroken e;
@@ -148,12 +148,12 @@ mode_stands : (s : Coding) (lim : Limits) (values : Values) (f : Scope) (fs : Li
 unfolding headed
 mode_stands s lim values f fs p (Heading begin t) b x h lt = headed_stands s lim values f fs p begin t x b (omega (arith, h.0, length-append b (x ∷ []))) h.1 lt (broken lim (spot_of f fs begin) (t ++ x ∷ [])) refl
 mode_stands s lim values f fs p (Reading t n) b x h lt = read_stands s lim values f fs p t n x b (omega (arith, h.0, length-append b (x ∷ []))) h.1
-mode_stands s lim values f fs p (Stopped n place t) b x h lt = record {
+mode_stands s lim values f fs p (Stopped n offset t) b x h lt = record {
   before = h.before;
   u = h.u;
   rest = h.rest ++ x ∷ [];
   due = h.due;
-  place-is = h.place-is;
+  offset-is = h.offset-is;
   received = h.received;
   text = ap (λ z. z ++ x ∷ []) h.text ∙ append_assoc (h.before ++ h.u) h.rest (x ∷ []);
   breaks = h.breaks;
@@ -162,4 +162,4 @@ mode_stands s lim values f fs p (Stopped n place t) b x h lt = record {
 }
 
 pub next_stands : (s : Coding) (lim : Limits) (st : State) (values : Values) (b : List ℕ) (x : ℕ) → Stands s lim st values b → x < 256 → Stands s lim (next lim st x) (keep lim st values x) (b ++ x ∷ [])
-next_stands s lim st values b x h lt = mode_stands s lim values st.top st.below st.place st.mode b x h lt
+next_stands s lim st values b x h lt = mode_stands s lim values st.top st.below st.offset st.mode b x h lt

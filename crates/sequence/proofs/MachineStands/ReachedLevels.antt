@@ -140,7 +140,7 @@ stop_none p n h = stop_by (is_undefined n) refl h
     stop_by true g h = eqb-true n undefined_length g
     stop_by false g h = absurd (let k : Some (p + n) ≡ None = rw g at h in cc)
 
--- the text b after a header at the place p, and its end
+-- the text b after a header at the offset p, and its end
 abbrev pub IsEnd : Tag → Option ℕ → ℕ → List ℕ → Type 0
 IsEnd t stop now e = ((stop ≡ Some now) × (e ≡ [])) ⊎ ((stop ≡ None) × (e ≡ delimitation t))
 

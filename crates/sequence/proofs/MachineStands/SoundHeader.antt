@@ -92,7 +92,7 @@ pub record IsSound (lim : Limits) (spot : Spot) (size : ℕ) (h : Header) : Type
   pub bounded : is_endless spot h ≡ false
   pub counted : not (is_undefined h.length) && nat_eq (h.length % 2) 1 ≡ false
   pub within : not (is_undefined h.length) && passes spot.near (size + h.length) ≡ false
-  pub short : nat_lt lim.bytes (spot.place + size + counted_length h.length) ≡ false
+  pub short : nat_lt lim.bytes (spot.offset + size + counted_length h.length) ≡ false
   pub fits : is_too_long lim spot h ≡ false
   pub shallow : opens spot h && nat_le lim.depth spot.depth ≡ false
 
@@ -104,7 +104,7 @@ is_sound lim spot size h ok =
     let o = if_some (is_endless spot h) (14, h.tag) b.1 in
     let c = if_some (not (is_undefined h.length) && nat_eq (h.length % 2) 1) (11, h.tag) o.1 in
     let d = if_some (not (is_undefined h.length) && passes spot.near (size + h.length)) (17, h.tag) c.1 in
-    let e = if_some (nat_lt lim.bytes (spot.place + size + counted_length h.length)) (19, h.tag) d.1 in
+    let e = if_some (nat_lt lim.bytes (spot.offset + size + counted_length h.length)) (19, h.tag) d.1 in
     let f = if_some (is_too_long lim spot h) (21, h.tag) e.1 in
     let g = if_some (opens spot h && nat_le lim.depth spot.depth) (18, h.tag) f.1 in
     record { mark = a.0; allowed = b.0; bounded = o.0; counted = c.0; within = d.0; short = e.0; fits = f.0; shallow = g.0 }

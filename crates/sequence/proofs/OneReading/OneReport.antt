@@ -31,7 +31,7 @@ one_fault s lim b p p2 u u2 rule rule2 tag tag2 f g =
     let near = f.first p2 u2 g.rest rule2 tag2 g.text g.breaks in
     let far = g.first p u f.rest rule tag f.text f.breaks in
     let fronts = same_front (p ++ u) (p2 ++ u2) f.rest g.rest (sym f.text ∙ g.text) (omega (arith, near.end, far.end)) in
-    let parts = same_front p p2 u u2 fronts.0 (omega (arith, near.place, far.place)) in
+    let parts = same_front p p2 u u2 fronts.0 (omega (arith, near.offset, far.offset)) in
     let there : Breaks s lim p u rule2 tag2 = subst (λ z. Breaks s lim z u rule2 tag2) (sym parts.0) (subst (λ z. Breaks s lim p2 z rule2 tag2) (sym parts.1) g.breaks) in
     let rules = breaks_once s lim p u rule rule2 tag tag2 f.breaks there in
     (parts.0, parts.1, rules.0, rules.1)
@@ -39,13 +39,13 @@ one_fault s lim b p p2 u u2 rule rule2 tag tag2 f g =
 pub one_telling : (s : Coding) (lim : Limits) (b : List ℕ) (reported reported2 : Report) → Reports s lim b reported → Reports s lim b reported2 → reported ≡ reported2
 one_telling s lim b reported reported2 (going {es = es} {path = path} {last = last} {tail = tail} ok front) (going {es = es2} {path = path2} {last = last2} {tail = tail2} ok2 front2) =
     let k = one_path s b es es2 path path2 last last2 tail tail2 front front2 in
-    λ i. record { fault = None; levels = length (k.1 i); place = length b; held = held_of lim.wanted (k.0 i) (k.1 i) (k.3 i); kept = kept_of lim.wanted (k.0 i) }
+    λ i. record { fault = None; levels = length (k.1 i); offset = length b; held = held_of lim.wanted (k.0 i) (k.1 i) (k.3 i); kept = kept_of lim.wanted (k.0 i) }
 one_telling s lim b reported reported2 (going ok front) (refused {p = p} {u = u} {rule = rule} {tag = tag} f front2) = absurd (ok p u f.rest rule tag f.text f.breaks)
 one_telling s lim b reported reported2 (refused {p = p} {u = u} {rule = rule} {tag = tag} f front) (going ok front2) = absurd (ok p u f.rest rule tag f.text f.breaks)
 one_telling s lim b reported reported2 (refused {p = p} {u = u} {rule = rule} {tag = tag} {es = es} {path = path} {last = last} f front) (refused {p = p2} {u = u2} {rule = rule2} {tag = tag2} {es = es2} {path = path2} {last = last2} g front2) =
     let k = one_fault s lim b p p2 u u2 rule rule2 tag tag2 f g in
     let m = one_path s p es es2 path path2 last last2 (in_header []) (in_header []) front (subst (λ z. Open s z es2 path2 last2 (in_header [])) (sym k.0) front2) in
-    λ i. record { fault = Some (record { number = k.2 i; place = length (k.0 i); tag = k.3 i }); levels = length (m.1 i); place = length (k.0 i ++ k.1 i); held = held_of lim.wanted (m.0 i) (m.1 i) (in_header []); kept = kept_of lim.wanted (m.0 i) }
+    λ i. record { fault = Some (record { number = k.2 i; offset = length (k.0 i); tag = k.3 i }); levels = length (m.1 i); offset = length (k.0 i ++ k.1 i); held = held_of lim.wanted (m.0 i) (m.1 i) (in_header []); kept = kept_of lim.wanted (m.0 i) }
 
 pub one_holding : (s : Coding) (lim : Limits) (b : List ℕ) (held held2 : Holding) → Holds s lim b held → Holds s lim b held2 → held ≡ held2
 one_holding s lim b held held2 (of_all {es = es} {path = path} {last = last} {tail = tail} ok front) (of_all {es = es2} {path = path2} {last = last2} {tail = tail2} ok2 front2) =

@@ -51,19 +51,19 @@ same_first s lim b more p u before w rule rule2 tag tag2 f g =
       rest = f.rest ++ more;
       text = fault_text more f;
       breaks = f.breaks;
-      first = λ q v rest n t e breaks. let k = g.first q v rest n t e breaks in record { place = omega (arith, near.place, k.place); end = omega (arith, near.end, k.end) };
+      first = λ q v rest n t e breaks. let k = g.first q v rest n t e breaks in record { offset = omega (arith, near.offset, k.offset); end = omega (arith, near.end, k.end) };
     }
 
 pub fault_stays : (s : Coding) (lim : Limits) (b more p u : List ℕ) (rule : ℕ) (tag : Tag) → IsBytes (b ++ more) → FirstFault s lim b p u rule tag → FirstFault s lim (b ++ more) p u rule tag
 fault_stays s lim b more p u rule tag bytes f =
     let st = run lim (start s) (b ++ more) in
-    by st.top st.below st.place st.mode refl (fault_stops s lim b more p u rule tag f) (stands s lim (b ++ more) bytes)
+    by st.top st.below st.offset st.mode refl (fault_stops s lim b more p u rule tag f) (stands s lim (b ++ more) bytes)
   where
     by : (g : Scope) (gs : List Scope) (n : ℕ) (m : Mode) → run lim (start s) (b ++ more) ≡ at g gs n m → HasStopped m → StandsIn s lim (keeps lim (start s) [] (b ++ more)) g gs n m (b ++ more) → FirstFault s lim (b ++ more) p u rule tag
     by g gs n (Heading begin t) e h k = absurd h
     by g gs n (Reading t remaining) e h k = absurd h
-    by g gs n (Stopped rule2 place tag2) e h k =
-        same_first s lim b more p u k.before k.u rule rule2 tag tag2 f (stop_first s lim (keeps lim (start s) [] (b ++ more)) g gs n rule2 place tag2 (b ++ more) bytes e k)
+    by g gs n (Stopped rule2 offset tag2) e h k =
+        same_first s lim b more p u k.before k.u rule rule2 tag tag2 f (stop_first s lim (keeps lim (start s) [] (b ++ more)) g gs n rule2 offset tag2 (b ++ more) bytes e k)
 
 pub refusal_stays : (s : Coding) (lim : Limits) (b more : List ℕ) (reported : Report) (fault : Fault) → IsBytes (b ++ more) → reported.fault ≡ Some fault → Reports s lim b reported → Reports s lim (b ++ more) reported
 refusal_stays s lim b more reported fault bytes e (going ok front) = absurd cc

@@ -26,33 +26,33 @@ use Rattle.sequence.proofs.MachineReports.AnyText.{reports}
 use Rattle.sequence.proofs.MachineReports.HeldIsState.{walker_holds}
 
 abbrev reported_of : Stage → List Level → ℕ → List ℕ → Values → Report
-reported_of stage levels place header values = record {
+reported_of stage levels offset header values = record {
   fault = fault_by stage;
   levels = length levels;
-  place = place;
+  offset = offset;
   held = length header + size_of_values values + 16 * length levels;
   kept = reported_values (is_kept stage) values;
 }
 
-reported_is : (lim : Limits) (root : Scope) (levels : List Level) (stage : Stage) (place : ℕ) (header : List ℕ) (values : Values) → length header ≤ head_room stage → is_kept stage ≡ is_wanted_in lim.wanted levels stage
-    → reported_of stage levels place header values ≡ reported_in lim (at (top_of root levels) (below_of root [] levels) place (mode_of stage place header)) values
-reported_is lim root levels stages.Heading place header values few flag =
+reported_is : (lim : Limits) (root : Scope) (levels : List Level) (stage : Stage) (offset : ℕ) (header : List ℕ) (values : Values) → length header ≤ head_room stage → is_kept stage ≡ is_wanted_in lim.wanted levels stage
+    → reported_of stage levels offset header values ≡ reported_in lim (at (top_of root levels) (below_of root [] levels) offset (mode_of stage offset header)) values
+reported_is lim root levels stages.Heading offset header values few flag =
     let same : length levels ≡ length (below_of root [] levels) = omega (arith, below_length root [] levels) in
-    λ i. record { fault = None; levels = same i; place = place; held = length header + size_of_values values + 16 * same i; kept = values }
-reported_is lim root levels (stages.Value tag remaining kept) place header values few flag =
+    λ i. record { fault = None; levels = same i; offset = offset; held = length header + size_of_values values + 16 * same i; kept = values }
+reported_is lim root levels (stages.Value tag remaining kept) offset header values few flag =
     let same : length levels ≡ length (below_of root [] levels) = omega (arith, below_length root [] levels) in
     let none : length header ≡ 0 = omega (arith, few) in
     let wanted : kept ≡ wanted_at lim (below_of root [] levels) (number tag) = flag ∙ wanted_is lim root levels (number tag) in
-    λ i. record { fault = None; levels = same i; place = place; held = none i + size_of_values values + 16 * same i; kept = if wanted i then but_last values else values }
-reported_is lim root levels (stages.Stopped fault) place header values few flag =
+    λ i. record { fault = None; levels = same i; offset = offset; held = none i + size_of_values values + 16 * same i; kept = if wanted i then but_last values else values }
+reported_is lim root levels (stages.Stopped fault) offset header values few flag =
     let same : length levels ≡ length (below_of root [] levels) = omega (arith, below_length root [] levels) in
     let none : length header ≡ 0 = omega (arith, few) in
-    λ i. record { fault = Some fault; levels = same i; place = place; held = none i + size_of_values values + 16 * same i; kept = values }
+    λ i. record { fault = Some fault; levels = same i; offset = offset; held = none i + size_of_values values + 16 * same i; kept = values }
 
 pub walker_stands : {V D : ℕ} (w : Walker V D) (b : List ℕ) → IsBytes b → state_of w ≡ run (limits_of w) (start (walker_syntax w)) b → values_of w.kept ≡ keeps (limits_of w) (start (walker_syntax w)) [] b → StandsAt w b
 walker_stands w b bytes state values =
     let reported = subst (Reports (walker_syntax w) (limits_of w) b)
-    (sym (reported_is (limits_of w) w.root w.levels.items w.stage w.place w.header.items (values_of w.kept) w.few w.flag
+    (sym (reported_is (limits_of w) w.root w.levels.items w.stage w.offset w.header.items (values_of w.kept) w.few w.flag
     ∙ ap (λ z. reported_in (limits_of w) z (values_of w.kept)) state
     ∙ ap (λ z. reported_in (limits_of w) (run (limits_of w) (start (walker_syntax w)) b) z) values))
     (reports (walker_syntax w) (limits_of w) b bytes) in

@@ -5,7 +5,7 @@ use Rattle.std.proofs.lemmas.List.{take-append-le, drop-append-le, length-drop, 
 use Rattle.sequence.specs.declared.wanted.Want.{Want}
 use Rattle.element.specs.Header.{number}
 use Rattle.sequence.specs.Wanted.{Values, value_of, size_of_values, rooms, room_of, are_rising}
-use Rattle.sequence.specs.machine.Keeping.{with_byte, counts, are_stored, all_absent, is_latest, remaining_at, place_from}
+use Rattle.sequence.specs.machine.Keeping.{with_byte, counts, are_stored, all_absent, is_latest, remaining_at, offset_from}
 use Rattle.sequence.specs.Fields.{absent, is_absent, stored, but_last, reported_values}
 
 both : (a b : Bool) → (a && b) ≡ true → (a ≡ true) × (b ≡ true)
@@ -138,29 +138,29 @@ fit_remaining (suc i) (w ∷ ws) (n ∷ ns) last s =
 
 -- a value that begins
 
-abbrev pub IsPlace : ℕ → List Want → ℕ → Type 0
-IsPlace i [] t = ⊥
-IsPlace zero (w ∷ ws) t = number w.tag ≡ t
-IsPlace (suc i) (w ∷ ws) t = (number w.tag ≢ t) × IsPlace i ws t
+abbrev pub IsOffset : ℕ → List Want → ℕ → Type 0
+IsOffset i [] t = ⊥
+IsOffset zero (w ∷ ws) t = number w.tag ≡ t
+IsOffset (suc i) (w ∷ ws) t = (number w.tag ≢ t) × IsOffset i ws t
 
 pub record Found (k : ℕ) (ws : List Want) (t i : ℕ) : Type 0 where
   pub at : ℕ
   pub i-is : i ≡ k + at
-  pub place : IsPlace at ws t
+  pub offset : IsOffset at ws t
 
-found_by : (b : Bool) (k : ℕ) (w : Want) (ws : List Want) (t i : ℕ) → nat_eq (number w.tag) t ≡ b → (if b then Some k else place_from (k + 1) ws t) ≡ Some i → (place_from (k + 1) ws t ≡ Some i → Found (k + 1) ws t i) → Found k (w ∷ ws) t i
-found_by true k w ws t i e h more = record { at = 0; i-is = let same : k ≡ i = cc in omega (arith, same); place = eqb-true (number w.tag) t e }
-found_by false k w ws t i e h more = let f = more h in record { at = suc f.at; i-is = omega (arith, f.i-is); place = (false-eqb (number w.tag) t (sym e), f.place) }
+found_by : (b : Bool) (k : ℕ) (w : Want) (ws : List Want) (t i : ℕ) → nat_eq (number w.tag) t ≡ b → (if b then Some k else offset_from (k + 1) ws t) ≡ Some i → (offset_from (k + 1) ws t ≡ Some i → Found (k + 1) ws t i) → Found k (w ∷ ws) t i
+found_by true k w ws t i e h more = record { at = 0; i-is = let same : k ≡ i = cc in omega (arith, same); offset = eqb-true (number w.tag) t e }
+found_by false k w ws t i e h more = let f = more h in record { at = suc f.at; i-is = omega (arith, f.i-is); offset = (false-eqb (number w.tag) t (sym e), f.offset) }
 
-pub found : (k : ℕ) (ws : List Want) (t i : ℕ) → place_from k ws t ≡ Some i → Found k ws t i
+pub found : (k : ℕ) (ws : List Want) (t i : ℕ) → offset_from k ws t ≡ Some i → Found k ws t i
 found k [] t i e = absurd cc
 found k (w ∷ ws) t i e = found_by (nat_eq (number w.tag) t) k w ws t i refl e (found (k + 1) ws t i)
 
-not_by : (b : Bool) (k : ℕ) (w : Want) (ws : List Want) (t : ℕ) → nat_eq (number w.tag) t ≡ b → (if b then Some k else place_from (k + 1) ws t) ≡ None → (place_from (k + 1) ws t ≡ None → room_of ws t ≡ None) → (if b then Some w.room else room_of ws t) ≡ None
+not_by : (b : Bool) (k : ℕ) (w : Want) (ws : List Want) (t : ℕ) → nat_eq (number w.tag) t ≡ b → (if b then Some k else offset_from (k + 1) ws t) ≡ None → (offset_from (k + 1) ws t ≡ None → room_of ws t ≡ None) → (if b then Some w.room else room_of ws t) ≡ None
 not_by true k w ws t e h more = absurd cc
 not_by false k w ws t e h more = more h
 
-pub not_found : (k : ℕ) (ws : List Want) (t : ℕ) → place_from k ws t ≡ None → room_of ws t ≡ None
+pub not_found : (k : ℕ) (ws : List Want) (t : ℕ) → offset_from k ws t ≡ None → room_of ws t ≡ None
 not_found k [] t e = refl
 not_found k (w ∷ ws) t e = not_by (nat_eq (number w.tag) t) k w ws t refl e (not_found (k + 1) ws t)
 
@@ -208,32 +208,32 @@ same_by false n k m e = ap (λ z. n + z) e
 whole_room : (n : ℕ) → n ≡ n - 0
 whole_room n = omega arith
 
-pub started : (i above : ℕ) (ws : List Want) (ns bytes : List ℕ) (t last : ℕ) → IsPlace i ws t → are_rising above ws ≡ true → are_stored ws ns last ≡ true → last < t → length ws ≤ length ns → Started i ws ns bytes t
-started i above [] ns bytes t last place r s lt long = absurd place
-started i above (w ∷ ws) [] bytes t last place r s lt long = absurd (omega arith)
-started zero above (w ∷ ws) (n ∷ ns) bytes t last place r s lt long =
+pub started : (i above : ℕ) (ws : List Want) (ns bytes : List ℕ) (t last : ℕ) → IsOffset i ws t → are_rising above ws ≡ true → are_stored ws ns last ≡ true → last < t → length ws ≤ length ns → Started i ws ns bytes t
+started i above [] ns bytes t last offset r s lt long = absurd offset
+started i above (w ∷ ws) [] bytes t last offset r s lt long = absurd (omega arith)
+started zero above (w ∷ ws) (n ∷ ns) bytes t last offset r s lt long =
     let p = both (is_absent n || (nat_le n w.room && nat_le (number w.tag) last)) (are_stored ws ns last) s in
     let q = both (nat_lt above (number w.tag)) (are_rising (number w.tag) ws) r in
-    let gone : is_absent n ≡ true = absent_by (is_absent n) n w.room (number w.tag) last (are_stored ws ns last) s (omega (arith, place, lt)) in
-    let rest : all_absent ws ns ≡ true = above_absent (number w.tag) ws ns last q.1 (omega (arith, place, lt)) p.1 in
-    let le : nat_le (number w.tag) t ≡ true = le-leb (number w.tag) t (omega (arith, place)) in
+    let gone : is_absent n ≡ true = absent_by (is_absent n) n w.room (number w.tag) last (are_stored ws ns last) s (omega (arith, offset, lt)) in
+    let rest : all_absent ws ns ≡ true = above_absent (number w.tag) ws ns last q.1 (omega (arith, offset, lt)) p.1 in
+    let le : nat_le (number w.tag) t ≡ true = le-leb (number w.tag) t (omega (arith, offset)) in
     let kept : are_stored ws ns t ≡ true = stored_mono ws ns last t (omega (arith, lt)) p.1 in
-    let same : nat_eq (number w.tag) t ≡ true = eq-eqb (number w.tag) t place in
+    let same : nat_eq (number w.tag) t ≡ true = eq-eqb (number w.tag) t offset in
     let none = absent_stored ws ns bytes rest in
     record {
-      values = rw (gone, none) (ap (λ z. (z, []) ∷ []) place);
+      values = rw (gone, none) (ap (λ z. (z, []) ∷ []) offset);
       size = rw gone (omega arith);
       fit = rw (le-leb 0 w.room (omega arith), le, kept) refl;
       latest = rest;
       remaining = rw same (ap Some (whole_room w.room));
       within = omega arith;
     }
-started (suc i) above (w ∷ ws) (n ∷ ns) bytes t last place r s lt long =
+started (suc i) above (w ∷ ws) (n ∷ ns) bytes t last offset r s lt long =
     let p = both (is_absent n || (nat_le n w.room && nat_le (number w.tag) last)) (are_stored ws ns last) s in
     let q = both (nat_lt above (number w.tag)) (are_rising (number w.tag) ws) r in
-    let f = started i (number w.tag) ws ns bytes t last place.1 q.1 p.1 lt (omega arith) in
-    let g = started i (number w.tag) ws ns (drop n bytes) t last place.1 q.1 p.1 lt (omega arith) in
-    let other : nat_eq (number w.tag) t ≡ false = ne_eqb (number w.tag) t place.0 in
+    let f = started i (number w.tag) ws ns bytes t last offset.1 q.1 p.1 lt (omega arith) in
+    let g = started i (number w.tag) ws ns (drop n bytes) t last offset.1 q.1 p.1 lt (omega arith) in
+    let other : nat_eq (number w.tag) t ≡ false = ne_eqb (number w.tag) t offset.0 in
     let mono : (is_absent n || (nat_le n w.room && nat_le (number w.tag) t)) ≡ true = mono_by (is_absent n) n w.room (number w.tag) last t p.0 (omega (arith, lt)) in
     record {
       values = append_by (is_absent n) (number w.tag, take n bytes) (t, []) _ _ _ _ f.values g.values;
@@ -269,11 +269,11 @@ new_latest (w ∷ ws) (suc n) = new_absent ws n
 pub all_new : (ws : List Want) (n : ℕ) → New ws (replicate n absent)
 all_new ws n = record { all = new_absent ws n; size = absent_counts ws (replicate n absent) (new_absent ws n); fit = new_fit ws n; latest = new_latest ws n }
 
-pub started_at : (i : ℕ) (ws : List Want) (ns bytes : List ℕ) (t last : ℕ) → place_from 0 ws t ≡ Some i → are_rising 0 ws ≡ true → are_stored ws ns last ≡ true → last < t → length ws ≤ length ns → Started i ws ns bytes t
+pub started_at : (i : ℕ) (ws : List Want) (ns bytes : List ℕ) (t last : ℕ) → offset_from 0 ws t ≡ Some i → are_rising 0 ws ≡ true → are_stored ws ns last ≡ true → last < t → length ws ≤ length ns → Started i ws ns bytes t
 started_at i ws ns bytes t last e r s lt long =
     let f = found 0 ws t i e in
     let same : f.at ≡ i = omega (arith, f.i-is) in
-    subst (λ z. Started z ws ns bytes t) same (started f.at 0 ws ns bytes t last f.place r s lt long)
+    subst (λ z. Started z ws ns bytes t) same (started f.at 0 ws ns bytes t last f.offset r s lt long)
 
 -- the values that are reported
 
@@ -346,8 +346,8 @@ counts_at (v ∷ ws) [] i lt lt2 = absurd (omega arith)
 counts_at (v ∷ ws) (n ∷ ns) zero lt lt2 = refl
 counts_at (v ∷ ws) (n ∷ ns) (suc i) lt lt2 = counts_at ws ns i (omega arith) (omega arith)
 
-next_place : (i : ℕ) → i + 1 ≡ suc i
-next_place i = omega arith
+next_offset : (i : ℕ) → i + 1 ≡ suc i
+next_offset i = omega arith
 
 if_yes : {A : Type 0} (b : Bool) (x y : A) → b ≡ true → (if b then x else y) ≡ x
 if_yes true x y e = refl
@@ -362,7 +362,7 @@ if_no false x y e = refl
 pub look_absent : (ws : List Want) (ns bytes : List ℕ) (i t : ℕ) → i < length ws → i < length ns → get_or ns i 0 ≡ absent → value_of (stored (drop (i + 1) ws) (drop (i + 1) ns) bytes) t ≡ value_of (stored (drop i ws) (drop i ns) bytes) t
 look_absent [] ns bytes i t lt lt2 e = absurd (omega arith)
 look_absent (w ∷ ws) ns bytes i t lt lt2 e =
-    ap (λ k. value_of (stored (drop k (w ∷ ws)) (drop k ns) bytes) t) (next_place i)
+    ap (λ k. value_of (stored (drop k (w ∷ ws)) (drop k ns) bytes) t) (next_offset i)
     ∙ ap (λ z. value_of z t) (sym (stored_at (w ∷ ws) ns bytes i w lt lt2 ∙ if_yes (is_absent (get_or ns i 0)) _ _ (eq-eqb (get_or ns i 0) absent e)))
 
 pub look_here : (ws : List Want) (ns bytes : List ℕ) (i t : ℕ) (w : Want) → i < length ws → i < length ns → get_or ns i 0 ≢ absent → number (get_or ws i w).tag ≡ t → Some (take (get_or ns i 0) bytes) ≡ value_of (stored (drop i ws) (drop i ns) bytes) t
@@ -371,19 +371,19 @@ look_here ws ns bytes i t w lt lt2 e same =
 
 pub look_on : (ws : List Want) (ns bytes : List ℕ) (i t : ℕ) (w : Want) → i < length ws → i < length ns → get_or ns i 0 ≢ absent → number (get_or ws i w).tag ≢ t → value_of (stored (drop (i + 1) ws) (drop (i + 1) ns) (drop (get_or ns i 0) bytes)) t ≡ value_of (stored (drop i ws) (drop i ns) bytes) t
 look_on ws ns bytes i t w lt lt2 e other =
-    ap (λ k. value_of (stored (drop k ws) (drop k ns) (drop (get_or ns i 0) bytes)) t) (next_place i)
+    ap (λ k. value_of (stored (drop k ws) (drop k ns) (drop (get_or ns i 0) bytes)) t) (next_offset i)
     ∙ sym (ap (λ z. value_of z t) (stored_at ws ns bytes i w lt lt2 ∙ if_no (is_absent (get_or ns i 0)) _ _ (ne_eqb (get_or ns i 0) absent e)) ∙ if_no (nat_eq (number (get_or ws i w).tag) t) _ _ (ne_eqb (number (get_or ws i w).tag) t other))
 
 pub size_absent : (ws : List Want) (ns : List ℕ) (i k : ℕ) → i < length ws → i < length ns → get_or ns i 0 ≡ absent → counts (drop i ws) (drop i ns) ≤ k → counts (drop (i + 1) ws) (drop (i + 1) ns) ≤ k
 size_absent ws ns i k lt lt2 e le =
     let same = counts_at ws ns i lt lt2 ∙ if_yes (is_absent (get_or ns i 0)) _ _ (eq-eqb (get_or ns i 0) absent e) in
-    let next = ap (λ j. counts (drop j ws) (drop j ns)) (next_place i) in
+    let next = ap (λ j. counts (drop j ws) (drop j ns)) (next_offset i) in
     omega (arith, same, le, next)
 
 pub size_on : (ws : List Want) (ns : List ℕ) (i k : ℕ) → i < length ws → i < length ns → get_or ns i 0 ≢ absent → counts (drop i ws) (drop i ns) ≤ k → get_or ns i 0 + counts (drop (i + 1) ws) (drop (i + 1) ns) ≤ k
 size_on ws ns i k lt lt2 e le =
     let same = counts_at ws ns i lt lt2 ∙ if_no (is_absent (get_or ns i 0)) _ _ (ne_eqb (get_or ns i 0) absent e) in
-    let next = ap (λ j. counts (drop j ws) (drop j ns)) (next_place i) in
+    let next = ap (λ j. counts (drop j ws) (drop j ns)) (next_offset i) in
     omega (arith, same, le, next)
 
 none_past : (ws : List Want) (i : ℕ) → length ws ≤ i → drop i ws ≡ []

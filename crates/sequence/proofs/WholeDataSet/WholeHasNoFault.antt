@@ -1,5 +1,5 @@
 -- A whole data set within its limits breaks no rule (`whole_breaks_no_rule`) and has no fault (`whole_has_no_fault`). Stands
--- on PlacesInside, SoundHeaderPasses, GrammarLeads/TreesRun, MachineReports and MachineStands/ReachedLevels.
+-- on OffsetsInside, SoundHeaderPasses, GrammarLeads/TreesRun, MachineReports and MachineStands/ReachedLevels.
 use Rattle.std.proofs.Common.{◌≡◌, ℕ, suc, ◌+◌, ◌<◌, ◌≤◌, ◌≢◌, Bool, true, false, not, ◌&&◌, ◌||◌, List, [], ◌∷◌, ◌++◌, length, Option, Some, None, nat_eq, nat_le, nat_lt, refl, sym, ap, subst, ◌∙◌, arith, append_assoc, append-nil, length-append, false-eqb, eqb-true, ne_eqb, lit<, if◌then◌else◌}
 use Rattle.std.proofs.lemmas.Bool.Decides.{nat_tests}
 use Rattle.sequence.specs.declared.coding.Coding.{Coding}
@@ -19,12 +19,12 @@ use Rattle.sequence.specs.Rules.{Limits, broken_tag, same_tag, passes, is_value,
 use Rattle.sequence.specs.Ending.{IsWholeDataSet, breaks_rule, ends_early, WholeBreaksNoRule, WholeHasNoFault}
 use Rattle.sequence.specs.machine.Machine.{set_scope, sequence_scope, spot_of, stop_of, State, at, Heading, start, due, arrive, begin_level, run}
 use Rattle.sequence.specs.machine.Standing.{at_root, into_sequence, into_item, LastsTo, AllLastTo}
-use Rattle.sequence.proofs.GrammarLeads.TreesRun.{HasStopped, run_append, arrive_stopped, value_on, IsMark, sequence_end_mark, item_end_mark, taken_value, taken_sequence, taken_item, taken_fragment}
+use Rattle.sequence.proofs.GrammarLeads.TreesRun.{HasStopped, run_append, arrive_stopped, value_on, IsMark, sequence_end_mark, item_end_mark, consumed_value, consumed_sequence, consumed_item, consumed_fragment}
 use Rattle.sequence.proofs.MachineStands.ReachedLevels.{FitIn, more_elements, more_sequence, more_items}
 use Rattle.sequence.proofs.MachineReports.FrontAtText.{less_all}
 use Rattle.sequence.proofs.MachineReports.AnyText.{goes_unbroken}
 use Rattle.sequence.proofs.WholeDataSet.SoundHeaderPasses.{else_none, HasRoom, keeps, header_goes}
-use Rattle.sequence.proofs.WholeDataSet.PlacesInside.{closed_is, opened_stays, IsShallow, IsBefore, deep_at, ends_within, inside, behind}
+use Rattle.sequence.proofs.WholeDataSet.OffsetsInside.{closed_is, opened_stays, IsShallow, IsBefore, deep_at, ends_within, inside, behind}
 
 -- one run after another
 then_run : (lim : Limits) (st mid want : State) (a b : List ℕ) → run lim st a ≡ mid → run lim mid b ≡ want → run lim st (a ++ b) ≡ want
@@ -168,13 +168,13 @@ module _ (s : Coding) (lim : Limits) (whole : List ℕ) (short : length whole �
       (ap (λ z. (z && has_fragments s1) && is_undefined h.length) el.no_marker)
       (fits_room lim s1 stop last p fs h v es val.size fit)
       (ap (λ z. (((z && not (has_fragments s1)) || is_sequence (shape s1 h)) && not (nat_eq h.length 0)) && nat_le lim.depth (length fs)) el.no_marker ∙ ap (λ z. (is_sequence z && not (nat_eq h.length 0)) && nat_le lim.depth (length fs)) sh) in
-      let first = header_goes lim (set_scope s1 stop last) fs p (p + length hb) h hb el.spelled ok (less_all (set_scope s1 stop last ∷ fs) (p + length hb) q here.hold (omega (arith, size))).0 refl ∙ taken_value (p + length hb) s1 stop last fs h el.no_marker sh in
+      let first = header_goes lim (set_scope s1 stop last) fs p (p + length hb) h hb el.spelled ok (less_all (set_scope s1 stop last ∷ fs) (p + length hb) q here.hold (omega (arith, size))).0 refl ∙ consumed_value (p + length hb) s1 stop last fs h el.no_marker sh in
       let second = value_on lim (set_scope s1 stop (number h.tag)) fs h.tag (p + length hb) (p + length hb + length v) h.length v (nat_eq h.length 0) refl val.size (omega (arith, val.size)) in
       let one : DataSet s1 last (value h v no_elements) (hb ++ v) = subst (λ z. DataSet s1 last (value h v no_elements) (hb ++ z)) (append-nil v) (value_then el sh val nothing) in
       let grouped = subst (λ z. IsBefore s lim whole (set_scope s1 stop last) fs before z p q) (sym (append_assoc hb v b)) here in
       let next = behind (hb ++ v) b _ grouped here.nested here.hold (more_elements here.reaches one (fit_one lim.wanted fs h v es fit)) in
-      let place : p + length (hb ++ v) ≡ p + length hb + length v = omega (arith, length-append hb v) in
-      then_run lim _ _ _ hb (v ++ b) first (then_run lim _ _ _ v b second (rest stop fs (before ++ (hb ++ v)) (p + length hb + length v) q (subst (λ z. IsBefore s lim whole (set_scope s1 stop (number h.tag)) fs (before ++ (hb ++ v)) b z q) place next) (fit_rest lim.wanted fs h v es fit)))
+      let offset : p + length (hb ++ v) ≡ p + length hb + length v = omega (arith, length-append hb v) in
+      then_run lim _ _ _ hb (v ++ b) first (then_run lim _ _ _ v b second (rest stop fs (before ++ (hb ++ v)) (p + length hb + length v) q (subst (λ z. IsBefore s lim whole (set_scope s1 stop (number h.tag)) fs (before ++ (hb ++ v)) b z q) offset next) (fit_rest lim.wanted fs h v es fit)))
 
   sequence_goes : (s1 : Coding) (last : ℕ) (h : Header) (hb ib cb b : List ℕ) (inner : Coding) (is : Items) (es : Elements) → IsElement s1 last h hb → shape s1 h ≡ Sequence inner → ItemList inner is ib → Ended sequence_end_tag h.length ib cb
       → GoesItems inner ib → GoesSet s1 (number h.tag) es b → GoesSet s1 last (sequence h is es) (hb ++ (cb ++ b))
@@ -183,23 +183,23 @@ module _ (s : Coding) (lim : Limits) (whole : List ℕ) (short : length whole �
       let far = ends_within here in
       let c = closed_is closed in
       let counts = c.counts in
-      let in-place : h.length ≢ 0 → IsBefore s lim whole (sequence_scope inner (stop_of (p + length hb) h.length)) (set_scope s1 stop (number h.tag) ∷ fs) (before ++ hb) ib (p + length hb) (p + length hb + length ib) =
+      let in-offset : h.length ≢ 0 → IsBefore s lim whole (sequence_scope inner (stop_of (p + length hb) h.length)) (set_scope s1 stop (number h.tag) ∷ fs) (before ++ hb) ib (p + length hb) (p + length hb + length ib) =
       λ some. inside hb ib cb b (sequence_scope inner (stop_of (p + length hb) h.length)) (set_scope s1 stop (number h.tag)) here c here.nested here.hold refl
-      (into_sequence here.reaches el sh c.even some no_more (ap (λ z. stop_of z h.length) (omega (arith, here.place, length-append before hb))) refl (ap (λ z. before ++ z) (sym (append-nil hb)))) in
+      (into_sequence here.reaches el sh c.even some no_more (ap (λ z. stop_of z h.length) (omega (arith, here.offset, length-append before hb))) refl (ap (λ z. before ++ z) (sym (append-nil hb)))) in
       let room : HasRoom lim (set_scope s1 stop last) fs p q (length hb) h = record { hold = here.hold; short = omega (arith, far, short); counts = omega (arith, counts, size); even = c.even } in
       let ok = keeps lim (set_scope s1 stop last) fs p q (length hb) h room (element_tagged s1 stop last p fs h hb el) (no_mark h el.no_marker) (ap (λ z. not (is_marker h.tag) && is_not_allowed z) sh ∙ and_false (not (is_marker h.tag)))
       (ap (λ z. (z && has_fragments s1) && is_undefined h.length) el.no_marker)
       (ap (λ z. ((nat_eq (length fs) 0 && not (is_marker h.tag)) && is_value z) && passes (room_of lim.wanted (number h.tag)) h.length) sh ∙ ap (λ z. z && passes (room_of lim.wanted (number h.tag)) h.length) (and_false (nat_eq (length fs) 0 && not (is_marker h.tag))))
-      (opens_room ((is_marker h.tag && not (has_fragments s1)) || is_sequence (shape s1 h)) h.length lim fs (λ some. deep_at shallow (in-place some) (opened_stays (p + length hb) h.length some))) in
-      let first = header_goes lim (set_scope s1 stop last) fs p (p + length hb) h hb el.spelled ok (less_all (set_scope s1 stop last ∷ fs) (p + length hb) q here.hold (omega (arith, size))).0 refl ∙ taken_sequence (p + length hb) s1 stop last fs h inner el.no_marker sh in
+      (opens_room ((is_marker h.tag && not (has_fragments s1)) || is_sequence (shape s1 h)) h.length lim fs (λ some. deep_at shallow (in-offset some) (opened_stays (p + length hb) h.length some))) in
+      let first = header_goes lim (set_scope s1 stop last) fs p (p + length hb) h hb el.spelled ok (less_all (set_scope s1 stop last ∷ fs) (p + length hb) q here.hold (omega (arith, size))).0 refl ∙ consumed_sequence (p + length hb) s1 stop last fs h inner el.no_marker sh in
       let second = level_goes lim (sequence_scope inner) (sequence_scope inner) (set_scope s1 stop (number h.tag)) fs (p + length hb) (p + length hb + length cb) closed sequence_end_mark refl (sequence_end_tagged inner (p + length hb + length ib) (set_scope s1 stop (number h.tag)) fs) (λ o. refl)
       (less_all (set_scope s1 stop last ∷ fs) (p + length hb + length cb) q here.hold (omega (arith, size))) (omega (arith, size, far, short)) refl
-      (λ some. in-it (stop_of (p + length hb) h.length) (set_scope s1 stop (number h.tag) ∷ fs) (before ++ hb) (p + length hb) (p + length hb + length ib) (in-place some)) in
+      (λ some. in-it (stop_of (p + length hb) h.length) (set_scope s1 stop (number h.tag) ∷ fs) (before ++ hb) (p + length hb) (p + length hb + length ib) (in-offset some)) in
       let one : DataSet s1 last (sequence h is no_elements) (hb ++ cb) = subst (λ z. DataSet s1 last (sequence h is no_elements) (hb ++ z)) (append-nil cb) (sequence_then el sh items closed nothing) in
       let grouped = subst (λ z. IsBefore s lim whole (set_scope s1 stop last) fs before z p q) (sym (append_assoc hb cb b)) here in
       let next = behind (hb ++ cb) b _ grouped here.nested here.hold (more_sequence h is here.reaches one) in
-      let place : p + length (hb ++ cb) ≡ p + length hb + length cb = omega (arith, length-append hb cb) in
-      then_run lim _ _ _ hb (cb ++ b) first (then_run lim _ _ _ cb b second (rest stop fs (before ++ (hb ++ cb)) (p + length hb + length cb) q (subst (λ z. IsBefore s lim whole (set_scope s1 stop (number h.tag)) fs (before ++ (hb ++ cb)) b z q) place next) (fit_behind lim.wanted fs h is es fit)))
+      let offset : p + length (hb ++ cb) ≡ p + length hb + length cb = omega (arith, length-append hb cb) in
+      then_run lim _ _ _ hb (cb ++ b) first (then_run lim _ _ _ cb b second (rest stop fs (before ++ (hb ++ cb)) (p + length hb + length cb) q (subst (λ z. IsBefore s lim whole (set_scope s1 stop (number h.tag)) fs (before ++ (hb ++ cb)) b z q) offset next) (fit_behind lim.wanted fs h is es fit)))
 
   item_goes : (s1 : Coding) (h : Header) (hb eb cb b : List ℕ) (es : Elements) → IsItem s1 h hb → DataSet s1 0 es eb → Ended item_end_tag h.length eb cb
       → GoesSet s1 0 es eb → GoesItems s1 b → GoesItems s1 (hb ++ (cb ++ b))
@@ -209,25 +209,25 @@ module _ (s : Coding) (lim : Limits) (whole : List ℕ) (short : length whole �
       let c = closed_is closed in
       let counts = c.counts in
       let marked : is_marker h.tag ≡ true = ap (λ z. is_marker z) it.tagged in
-      let in-place : h.length ≢ 0 → IsBefore s lim whole (set_scope s1 (stop_of (p + length hb) h.length) 0) (sequence_scope s1 stop ∷ fs) (before ++ hb) eb (p + length hb) (p + length hb + length eb) =
+      let in-offset : h.length ≢ 0 → IsBefore s lim whole (set_scope s1 (stop_of (p + length hb) h.length) 0) (sequence_scope s1 stop ∷ fs) (before ++ hb) eb (p + length hb) (p + length hb + length eb) =
       λ some. inside hb eb cb b (set_scope s1 (stop_of (p + length hb) h.length) 0) (sequence_scope s1 stop) here c here.nested here.hold refl
-      (into_item here.reaches it c.even some nothing (ap (λ z. stop_of z h.length) (omega (arith, here.place, length-append before hb))) refl (ap (λ z. before ++ z) (sym (append-nil hb)))) in
+      (into_item here.reaches it c.even some nothing (ap (λ z. stop_of z h.length) (omega (arith, here.offset, length-append before hb))) refl (ap (λ z. before ++ z) (sym (append-nil hb)))) in
       let room : HasRoom lim (sequence_scope s1 stop) fs p q (length hb) h = record { hold = here.hold; short = omega (arith, far, short); counts = omega (arith, counts, size); even = c.even } in
       let ok = keeps lim (sequence_scope s1 stop) fs p q (length hb) h room (item_tagged s1 stop p fs h.tag it.tagged)
       (ap (λ z. (is_marker z && not (same_tag z item_tag)) && not (nat_eq h.length 0)) it.tagged)
       (ap (λ z. not z && is_not_allowed (shape s1 h)) marked)
       (ap (λ z. (is_marker h.tag && z) && is_undefined h.length) it.nests ∙ ap (λ z. z && is_undefined h.length) (and_false (is_marker h.tag)))
       (ap (λ z. ((nat_eq (length fs) 0 && not z) && is_value (shape s1 h)) && passes (room_of lim.wanted (number h.tag)) h.length) marked ∙ ap (λ z. (z && is_value (shape s1 h)) && passes (room_of lim.wanted (number h.tag)) h.length) (and_false (nat_eq (length fs) 0)))
-      (opens_room ((is_marker h.tag && not (has_fragments s1)) || is_sequence (shape s1 h)) h.length lim fs (λ some. deep_at shallow (in-place some) (opened_stays (p + length hb) h.length some))) in
-      let first = header_goes lim (sequence_scope s1 stop) fs p (p + length hb) h hb it.spelled ok (less_all (sequence_scope s1 stop ∷ fs) (p + length hb) q here.hold (omega (arith, size))).0 refl ∙ taken_item (p + length hb) (sequence_scope s1 stop) fs h it.tagged it.nests in
+      (opens_room ((is_marker h.tag && not (has_fragments s1)) || is_sequence (shape s1 h)) h.length lim fs (λ some. deep_at shallow (in-offset some) (opened_stays (p + length hb) h.length some))) in
+      let first = header_goes lim (sequence_scope s1 stop) fs p (p + length hb) h hb it.spelled ok (less_all (sequence_scope s1 stop ∷ fs) (p + length hb) q here.hold (omega (arith, size))).0 refl ∙ consumed_item (p + length hb) (sequence_scope s1 stop) fs h it.tagged it.nests in
       let second = level_goes lim (λ o. set_scope s1 o 0) (λ o. set_scope s1 o (last_of 0 es)) (sequence_scope s1 stop) fs (p + length hb) (p + length hb + length cb) closed item_end_mark refl (item_end_tagged s1 (last_of 0 es) (p + length hb + length eb) (sequence_scope s1 stop) fs) (λ o. refl)
       (less_all (sequence_scope s1 stop ∷ fs) (p + length hb + length cb) q here.hold (omega (arith, size))) (omega (arith, size, far, short)) refl
-      (λ some. in-it (stop_of (p + length hb) h.length) (sequence_scope s1 stop ∷ fs) (before ++ hb) (p + length hb) (p + length hb + length eb) (in-place some) tt) in
+      (λ some. in-it (stop_of (p + length hb) h.length) (sequence_scope s1 stop ∷ fs) (before ++ hb) (p + length hb) (p + length hb + length eb) (in-offset some) tt) in
       let one : ItemList s1 (item h es no_items) (hb ++ cb) = subst (λ z. ItemList s1 (item h es no_items) (hb ++ z)) (append-nil cb) (item_then it set closed no_more) in
       let grouped = subst (λ z. IsBefore s lim whole (sequence_scope s1 stop) fs before z p q) (sym (append_assoc hb cb b)) here in
       let next = behind (hb ++ cb) b _ grouped here.nested here.hold (more_items here.reaches one) in
-      let place : p + length (hb ++ cb) ≡ p + length hb + length cb = omega (arith, length-append hb cb) in
-      then_run lim _ _ _ hb (cb ++ b) first (then_run lim _ _ _ cb b second (rest stop fs (before ++ (hb ++ cb)) (p + length hb + length cb) q (subst (λ z. IsBefore s lim whole (sequence_scope s1 stop) fs (before ++ (hb ++ cb)) b z q) place next)))
+      let offset : p + length (hb ++ cb) ≡ p + length hb + length cb = omega (arith, length-append hb cb) in
+      then_run lim _ _ _ hb (cb ++ b) first (then_run lim _ _ _ cb b second (rest stop fs (before ++ (hb ++ cb)) (p + length hb + length cb) q (subst (λ z. IsBefore s lim whole (sequence_scope s1 stop) fs (before ++ (hb ++ cb)) b z q) offset next)))
 
   fragment_goes : (s1 : Coding) (h : Header) (hb v b : List ℕ) → IsFragmentItem s1 h hb → IsValue h.length v → GoesItems s1 b → GoesItems s1 (hb ++ (v ++ b))
   fragment_goes s1 h hb v b it val rest stop fs before p q here =
@@ -242,13 +242,13 @@ module _ (s : Coding) (lim : Limits) (whole : List ℕ) (short : length whole �
       (ap (λ z. (is_marker h.tag && has_fragments s1) && z) (ne_eqb h.length undefined_length it.defined) ∙ and_false (is_marker h.tag && has_fragments s1))
       (ap (λ z. ((nat_eq (length fs) 0 && not z) && is_value (shape s1 h)) && passes (room_of lim.wanted (number h.tag)) h.length) marked ∙ ap (λ z. (z && is_value (shape s1 h)) && passes (room_of lim.wanted (number h.tag)) h.length) (and_false (nat_eq (length fs) 0)))
       (ap (λ z. (((is_marker h.tag && not z) || is_sequence (shape s1 h)) && not (nat_eq h.length 0)) && nat_le lim.depth (length fs)) it.holds ∙ ap (λ z. ((z || is_sequence (shape s1 h)) && not (nat_eq h.length 0)) && nat_le lim.depth (length fs)) (and_false (is_marker h.tag)) ∙ ap (λ z. (z && not (nat_eq h.length 0)) && nat_le lim.depth (length fs)) (fragments_nest s1 h it.holds)) in
-      let first = header_goes lim (sequence_scope s1 stop) fs p (p + length hb) h hb it.spelled ok (less_all (sequence_scope s1 stop ∷ fs) (p + length hb) q here.hold (omega (arith, size))).0 refl ∙ taken_fragment (p + length hb) (sequence_scope s1 stop) fs h it.tagged it.holds in
+      let first = header_goes lim (sequence_scope s1 stop) fs p (p + length hb) h hb it.spelled ok (less_all (sequence_scope s1 stop ∷ fs) (p + length hb) q here.hold (omega (arith, size))).0 refl ∙ consumed_fragment (p + length hb) (sequence_scope s1 stop) fs h it.tagged it.holds in
       let second = value_on lim (sequence_scope s1 stop) fs h.tag (p + length hb) (p + length hb + length v) h.length v (nat_eq h.length 0) refl val.size (omega (arith, val.size)) in
       let one : ItemList s1 (fragment h v no_items) (hb ++ v) = subst (λ z. ItemList s1 (fragment h v no_items) (hb ++ z)) (append-nil v) (fragment_then it val no_more) in
       let grouped = subst (λ z. IsBefore s lim whole (sequence_scope s1 stop) fs before z p q) (sym (append_assoc hb v b)) here in
       let next = behind (hb ++ v) b _ grouped here.nested here.hold (more_items here.reaches one) in
-      let place : p + length (hb ++ v) ≡ p + length hb + length v = omega (arith, length-append hb v) in
-      then_run lim _ _ _ hb (v ++ b) first (then_run lim _ _ _ v b second (rest stop fs (before ++ (hb ++ v)) (p + length hb + length v) q (subst (λ z. IsBefore s lim whole (sequence_scope s1 stop) fs (before ++ (hb ++ v)) b z q) place next)))
+      let offset : p + length (hb ++ v) ≡ p + length hb + length v = omega (arith, length-append hb v) in
+      then_run lim _ _ _ hb (v ++ b) first (then_run lim _ _ _ v b second (rest stop fs (before ++ (hb ++ v)) (p + length hb + length v) q (subst (λ z. IsBefore s lim whole (sequence_scope s1 stop) fs (before ++ (hb ++ v)) b z q) offset next)))
 
   nothing_goes : (s1 : Coding) (last : ℕ) → GoesSet s1 last no_elements []
   unfolding run
@@ -275,7 +275,7 @@ start_goes : (s : Coding) (lim : Limits) (b : List ℕ) (w : IsWholeDataSet s li
 unfolding arrive due
 start_goes s lim b w =
     elements_go s lim b w.within.bytes w.within.depth w.text None [] [] 0 (length b)
-    (record { values = []; after = []; reaches = at_root nothing refl refl tt; nested = (tt, tt); hold = (tt, tt); text = sym (append-nil b); place = refl; size = omega arith })
+    (record { values = []; after = []; reaches = at_root nothing refl refl tt; nested = (tt, tt); hold = (tt, tt); text = sym (append-nil b); offset = refl; size = omega arith })
     w.within.rooms
 
 -- a whole data set within its limits breaks no rule

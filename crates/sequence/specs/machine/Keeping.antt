@@ -46,7 +46,7 @@ keep_read lim fs t values x = if wanted_at lim fs t then with_byte values x else
 abbrev pub keep_by : Limits → Scope → List Scope → Mode → Values → ℕ → Values
 keep_by lim f fs (Heading start t) values x = keep_headed lim (broken lim (spot_of f fs start) (t ++ x ∷ [])) f fs (t ++ x ∷ []) values
 keep_by lim f fs (Reading t n) values x = keep_read lim fs (number t) values x
-keep_by lim f fs (Stopped n place t) values x = values
+keep_by lim f fs (Stopped n offset t) values x = values
 
 -- the values after one more byte of the data set
 abbrev pub keep : Limits → State → Values → ℕ → Values
@@ -60,7 +60,7 @@ keeps lim st values (x ∷ xs) = keeps lim (next lim st x) (keep lim st values x
 abbrev pub whole_by : Limits → List Scope → Mode → Values → Values
 whole_by lim fs (Heading start t) values = values
 whole_by lim fs (Reading t n) values = if wanted_at lim fs (number t) then but_last values else values
-whole_by lim fs (Stopped n place t) values = values
+whole_by lim fs (Stopped n offset t) values = values
 
 -- ---- the lengths of the wanted values, in the order of their tags
 
@@ -96,6 +96,6 @@ remaining_at zero (w ∷ ws) (n ∷ lengths) = if is_absent n then 0 else w.room
 remaining_at (suc i) (w ∷ ws) (n ∷ lengths) = remaining_at i ws lengths
 
 -- the index of the first wanted tag with this number, where the first index is k
-abbrev pub place_from : ℕ → List Want → ℕ → Option ℕ
-place_from k [] t = None
-place_from k (w ∷ ws) t = if nat_eq (number w.tag) t then Some k else place_from (k + 1) ws t
+abbrev pub offset_from : ℕ → List Want → ℕ → Option ℕ
+offset_from k [] t = None
+offset_from k (w ∷ ws) t = if nat_eq (number w.tag) t then Some k else offset_from (k + 1) ws t

@@ -30,11 +30,11 @@ pub data Mode : Type 0 where
 pub record State : Type 0 where
   pub top : Scope
   pub below : List Scope
-  pub place : ℕ
+  pub offset : ℕ
   pub mode : Mode
 
 abbrev pub at : Scope → List Scope → ℕ → Mode → State
-at f fs p m = record { top = f; below = fs; place = p; mode = m }
+at f fs p m = record { top = f; below = fs; offset = p; mode = m }
 
 abbrev pub nearer : Option ℕ → Option ℕ → Option ℕ
 nearer (Some e) o = Some e
@@ -65,7 +65,7 @@ spot_of f fs p = record {
   near = less (nearer f.stop (nearest fs)) p;
   last = f.last;
   depth = length fs;
-  place = p;
+  offset = p;
 }
 
 abbrev pub stops_at : Option ℕ → ℕ → Bool
@@ -135,11 +135,11 @@ read f fs p t n = if nat_le n 1 then arrive p f fs else at f fs p (Reading t (n 
 abbrev pub next_by : Limits → Scope → List Scope → ℕ → Mode → ℕ → State
 next_by lim f fs p (Heading start t) x = headed lim f fs (p + 1) start (t ++ x ∷ [])
 next_by lim f fs p (Reading t n) x = read f fs (p + 1) t n
-next_by lim f fs p (Stopped n place t) x = at f fs p (Stopped n place t)
+next_by lim f fs p (Stopped n offset t) x = at f fs p (Stopped n offset t)
 
 -- the state after one more byte
 abbrev pub next : Limits → State → ℕ → State
-next lim st x = next_by lim st.top st.below st.place st.mode x
+next lim st x = next_by lim st.top st.below st.offset st.mode x
 
 unfoldable pub run : Limits → State → List ℕ → State
 run lim st [] = st
@@ -152,4 +152,4 @@ start s = at (set_scope s None 0) [] 0 (Heading 0 [])
 abbrev pub ArrivesAt : Mode → ℕ → Type 0
 ArrivesAt (Heading begin t) p = t ≡ []
 ArrivesAt (Reading t n) p = Unit {0}
-ArrivesAt (Stopped n place t) p = place ≡ p
+ArrivesAt (Stopped n offset t) p = offset ≡ p

@@ -10,18 +10,18 @@ use Rattle.sequence.specs.machine.Keeping.{whole_by}
 abbrev pub fault_in : Mode → Option Fault
 fault_in (Heading begin t) = None
 fault_in (Reading t n) = None
-fault_in (Stopped rule place t) = Some (record { number = rule; place = place; tag = t })
+fault_in (Stopped rule offset t) = Some (record { number = rule; offset = offset; tag = t })
 
 abbrev pub header_in : Mode → ℕ
 header_in (Heading begin t) = length t
 header_in (Reading t n) = 0
-header_in (Stopped rule place t) = 0
+header_in (Stopped rule offset t) = 0
 
 abbrev pub reported_in : Limits → State → Values → Report
 reported_in lim st values = record {
   fault = fault_in st.mode;
   levels = length st.below;
-  place = st.place;
+  offset = st.offset;
   held = header_in st.mode + size_of_values values + level_size * length st.below;
   kept = whole_by lim st.below st.mode values;
 }

@@ -22,5 +22,5 @@ nearest_from near (l ∷ ls) = nearest_from (nearer (scope_of l).stop near) ls
 
 -- the new levels are the old ones without those that end at this position
 abbrev pub LeavesEnded : ℕ → List Level → List Level → Type 0
-LeavesEnded place old new = (root : Scope) → root.stop ≡ None
-    → arrive place (top_of root old) (below_of root [] old) ≡ due (top_of root new) (below_of root [] new) place
+LeavesEnded offset old new = (root : Scope) → root.stop ≡ None
+    → arrive offset (top_of root old) (below_of root [] old) ≡ due (top_of root new) (below_of root [] new) offset

@@ -23,8 +23,8 @@ spare (Stopped fault) n = 12
 
 -- the stage at a position where a header follows, or after the rule that is broken there
 abbrev pub stage_by : Option (ℕ × Tag) → ℕ → Stage
-stage_by None place = Heading
-stage_by (Some x) place = Stopped (record { number = x.0; place = place; tag = x.1 })
+stage_by None offset = Heading
+stage_by (Some x) offset = Stopped (record { number = x.0; offset = offset; tag = x.1 })
 
 -- the greatest number of held bytes of an unfinished header
 abbrev pub head_room : Stage → ℕ

@@ -71,7 +71,7 @@ Unbroken lim spot t = (u v : List ℕ) → t ≡ u ++ v → broken lim spot u �
 pub record IsHeading (s : Coding) (lim : Limits) (values : Values) (f : Scope) (fs : List Scope) (begin : ℕ) (t b : List ℕ) : Type 0 where
   pub before : List ℕ
   pub due : IsDue s lim values f fs before
-  pub place : begin ≡ length before
+  pub offset : begin ≡ length before
   pub text : b ≡ before ++ t
   pub tail : IsUnfinishedHeader f.syntax t
   pub unbroken : Unbroken lim (spot_of f fs begin) t
@@ -108,24 +108,24 @@ pub record IsReading (s : Coding) (lim : Limits) (values : Values) (f : Scope) (
   pub kept : values ≡ with_value lim fs (number h.tag) v whole
 
 -- the bytes u of a header have broken a rule
-pub record IsStopped (s : Coding) (lim : Limits) (values : Values) (f : Scope) (fs : List Scope) (p rule place : ℕ) (t : Tag) (b : List ℕ) : Type 0 where
+pub record IsStopped (s : Coding) (lim : Limits) (values : Values) (f : Scope) (fs : List Scope) (p rule offset : ℕ) (t : Tag) (b : List ℕ) : Type 0 where
   pub before : List ℕ
   pub u : List ℕ
   pub rest : List ℕ
   pub due : IsDue s lim values f fs before
-  pub place-is : place ≡ length before
+  pub offset-is : offset ≡ length before
   pub received : p ≡ length (before ++ u)
   pub text : b ≡ (before ++ u) ++ rest
-  pub breaks : broken lim (spot_of f fs place) u ≡ Some (rule, t)
-  pub unbroken : (w : List ℕ) (x : ℕ) (z : List ℕ) → u ≡ w ++ x ∷ z → broken lim (spot_of f fs place) w ≡ None
+  pub breaks : broken lim (spot_of f fs offset) u ≡ Some (rule, t)
+  pub unbroken : (w : List ℕ) (x : ℕ) (z : List ℕ) → u ≡ w ++ x ∷ z → broken lim (spot_of f fs offset) w ≡ None
   -- without their last byte they are an unfinished header
   pub one_header : (w : List ℕ) (x : ℕ) (z : List ℕ) → u ≡ w ++ x ∷ z → IsUnfinishedHeader f.syntax w
 
 abbrev pub StandsIn : Coding → Limits → Values → Scope → List Scope → ℕ → Mode → List ℕ → Type 0
 StandsIn s lim values f fs p (Heading begin t) b = (p ≡ length b) × IsHeading s lim values f fs begin t b
 StandsIn s lim values f fs p (Reading t n) b = (p ≡ length b) × IsReading s lim values f fs t n b
-StandsIn s lim values f fs p (Stopped rule place t) b = IsStopped s lim values f fs p rule place t b
+StandsIn s lim values f fs p (Stopped rule offset t) b = IsStopped s lim values f fs p rule offset t b
 
 -- the bytes b lead to this state of the machine and to these wanted values
 abbrev pub Stands : Coding → Limits → State → Values → List ℕ → Type 0
-Stands s lim st values b = StandsIn s lim values st.top st.below st.place st.mode b
+Stands s lim st values b = StandsIn s lim values st.top st.below st.offset st.mode b

@@ -15,15 +15,15 @@ use Rattle.sequence.specs.Rules.{is_sequence, is_value, passes}
 use Rattle.sequence.specs.machine.Machine.{State, at, Mode, Heading, Reading, Stopped}
 use Rattle.sequence.specs.machine.Scopes.{top_of, below_of}
 use Rattle.sequence.specs.Stored.{wants_of, values_of}
-pub use Rattle.sequence.specs.Taken.{limits_of, walker_syntax, fault_of, reported_by}
+pub use Rattle.sequence.specs.Consumed.{limits_of, walker_syntax, fault_of, reported_by}
 pub use Rattle.sequence.specs.Fields.{fault_by}
 pub use Rattle.sequence.specs.machine.Holding.{HoldsFront}
-pub use Rattle.sequence.specs.Taken.{StandsAt}
+pub use Rattle.sequence.specs.Consumed.{StandsAt}
 
 abbrev pub mode_of : Stage → ℕ → List ℕ → Mode
-mode_of stages.Heading place header = Heading (place - length header) header
-mode_of (stages.Value tag remaining kept) place header = Reading tag remaining
-mode_of (stages.Stopped fault) place header = Stopped fault.number fault.place fault.tag
+mode_of stages.Heading offset header = Heading (offset - length header) header
+mode_of (stages.Value tag remaining kept) offset header = Reading tag remaining
+mode_of (stages.Stopped fault) offset header = Stopped fault.number fault.offset fault.tag
 
 abbrev pub top : {V D : ℕ} → Walker V D → Scope
 top w = top_of w.root w.levels.items
@@ -32,7 +32,7 @@ abbrev pub below : {V D : ℕ} → Walker V D → List Scope
 below w = below_of w.root [] w.levels.items
 
 abbrev pub state_of : {V D : ℕ} → Walker V D → State
-state_of w = at (top w) (below w) w.place (mode_of w.stage w.place w.header.items)
+state_of w = at (top w) (below w) w.offset (mode_of w.stage w.offset w.header.items)
 
 abbrev pub kept_values : {V D : ℕ} → Walker V D → Values
 kept_values w = values_of w.kept

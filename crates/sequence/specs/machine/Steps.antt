@@ -15,21 +15,21 @@ abbrev pub with_bytes : Values → List ℕ → Values
 with_bytes values [] = values
 with_bytes values (x ∷ xs) = with_bytes (with_byte values x) xs
 
--- t is the beginning of the header h in encoding s, and the bytes `taken` are the rest of it
-pub record IsMade (s : Coding) (t taken : List ℕ) (h : Header) : Type 0 where
+-- t is the beginning of the header h in encoding s, and the bytes `consumed` are the rest of it
+pub record IsMade (s : Coding) (t consumed : List ℕ) (h : Header) : Type 0 where
   pub front : List ℕ
   pub byte : ℕ
-  pub text : taken ≡ front ++ byte ∷ []
+  pub text : consumed ≡ front ++ byte ∷ []
   pub part : IsUnfinishedHeader s (t ++ front)
-  pub whole : is_whole (layout s) (t ++ taken) ≡ true
-  pub read : header_at (layout s) (t ++ taken) ≡ h
+  pub whole : is_whole (layout s) (t ++ consumed) ≡ true
+  pub read : header_at (layout s) (t ++ consumed) ≡ h
 
 -- after t, the beginning of a header in encoding s that ends at this position, n bytes of the piece are consumed: those
 -- up to a fault or the end of the header, else the whole piece
-abbrev pub IsTaken : Coding → List ℕ → List ℕ → ℕ → ℕ → Stage → List ℕ → Option Header → Type 0
-IsTaken s t piece place n (stages.Stopped fault) header (Some h) = IsMade s t (take n piece) h × (fault.place ≡ place + n)
-IsTaken s t piece place n (stages.Stopped fault) header None = (fault.place + length t ≡ place) × (0 < n)
-IsTaken s t piece place n stages.Heading header (Some h) = IsMade s t (take n piece) h × (header ≡ [])
-IsTaken s t piece place n (stages.Value tag remaining kept) header (Some h) = IsMade s t (take n piece) h
-IsTaken s t piece place n stages.Heading header None = (n ≡ length piece) × (header ≡ t ++ piece) × IsUnfinishedHeader s (t ++ piece)
-IsTaken s t piece place n (stages.Value tag remaining kept) header None = ⊥
+abbrev pub IsConsumed : Coding → List ℕ → List ℕ → ℕ → ℕ → Stage → List ℕ → Option Header → Type 0
+IsConsumed s t piece offset n (stages.Stopped fault) header (Some h) = IsMade s t (take n piece) h × (fault.offset ≡ offset + n)
+IsConsumed s t piece offset n (stages.Stopped fault) header None = (fault.offset + length t ≡ offset) × (0 < n)
+IsConsumed s t piece offset n stages.Heading header (Some h) = IsMade s t (take n piece) h × (header ≡ [])
+IsConsumed s t piece offset n (stages.Value tag remaining kept) header (Some h) = IsMade s t (take n piece) h
+IsConsumed s t piece offset n stages.Heading header None = (n ≡ length piece) × (header ≡ t ++ piece) × IsUnfinishedHeader s (t ++ piece)
+IsConsumed s t piece offset n (stages.Value tag remaining kept) header None = ⊥

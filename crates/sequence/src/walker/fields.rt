@@ -15,14 +15,14 @@ fn fields<const V: usize, const D: usize>(walker: &Walker<V, D>) {
     let Walker {
         root,
         limit,
-        place,
+        offset,
         header,
         kept,
         levels,
         stage,
     } = walker;
     let _: &u64 = limit;
-    let _: &u64 = place;
+    let _: &u64 = offset;
     let _: &ArrayVec<u8, 12> = header;
     let _: &Keep<V> = kept;
     let _: &ArrayVec<Level, D> = levels;
@@ -79,9 +79,13 @@ fn stage_fields(stage: &Stage) {
 }
 
 fn fault_fields(fault: &Fault) {
-    let Fault { number, place, tag } = fault;
+    let Fault {
+        number,
+        offset,
+        tag,
+    } = fault;
     let _: &u8 = number;
-    let _: &u64 = place;
+    let _: &u64 = offset;
     tag_fields(tag);
 }
 

@@ -22,7 +22,7 @@ impl<const V: usize, const D: usize> Walker<V, D> {
     ghost use Rattle.std.specs.Prelude.{◌≡◌, ◌≤◌, ◌+◌, ◌*◌, option_map};
     ghost use Rattle.element.specs.Header.{number};
     ghost use Rattle.sequence.specs.Wanted.{value_of};
-    ghost use Rattle.sequence.specs.Taken.{reported_by};
+    ghost use Rattle.sequence.specs.Consumed.{reported_by};
 
     /// Returns the number of open levels: unfinished sequences and items.
     pub fn levels(&self) -> usize
@@ -33,10 +33,10 @@ impl<const V: usize, const D: usize> Walker<V, D> {
 
     /// Returns the number of bytes read; after a fault, up to and including the byte that showed
     /// it.
-    pub fn place(&self) -> u64
-        ensures { result ≡ (reported_by self.now).place }
+    pub fn offset(&self) -> u64
+        ensures { result ≡ (reported_by self.now).offset }
     {
-        self.place
+        self.offset
     }
 
     /// Returns the number of bytes held: those of an unfinished header and of the wanted values,

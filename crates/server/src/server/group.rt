@@ -54,7 +54,7 @@ pub(super) struct Group {
     is_busy: bool,
     /// How long the last settling took. It costs more to wait longer for another file than to
     /// settle this one alone.
-    took: Duration,
+    lasted: Duration,
 }
 
 impl Group {
@@ -63,15 +63,15 @@ impl Group {
         Group {
             since: None,
             is_busy: false,
-            took: Duration::ZERO,
+            lasted: Duration::ZERO,
         }
     }
 
     /// Records how long a settling took.
-    pub(super) fn settled(&mut self, took: Duration)
-        ensures took { self.new.took ≡ took }
+    pub(super) fn settled(&mut self, lasted: Duration)
+        ensures lasted { self.new.lasted ≡ lasted }
     {
-        self.took = took;
+        self.lasted = lasted;
     }
 
     /// Records whether a poll reported an event.
@@ -87,7 +87,7 @@ impl Group {
         ensures all { waiting.files ≢ 0 → waiting.has_others ≡ false → result ≡ true }
         ensures idle { waiting.files ≢ 0 → self.old.since ≢ None → self.old.is_busy ≡ false → waiting.is_ready ≡ false → result ≡ true }
         ensures late { (since : Instant) → waiting.files ≢ 0 → self.old.since ≡ Some since → 20000000 ≤ instant_nanos now - instant_nanos since → result ≡ true }
-        ensures cheap { (since : Instant) → waiting.files ≢ 0 → self.old.since ≡ Some since → as_nanos self.old.took ≤ instant_nanos now - instant_nanos since → result ≡ true }
+        ensures cheap { (since : Instant) → waiting.files ≢ 0 → self.old.since ≡ Some since → as_nanos self.old.lasted ≤ instant_nanos now - instant_nanos since → result ≡ true }
         ensures noted { waiting.files ≢ 0 → result ≡ false → self.new.since ≢ None }
     {
         let since = self.since;
@@ -99,7 +99,7 @@ impl Group {
             Some(first) => {
                 let waited = now.duration_since(first);
                 let is_late = waited >= Duration::from_millis(GATHERING_MILLISECONDS);
-                is_late || waited >= self.took || !(self.is_busy || waiting.is_ready)
+                is_late || waited >= self.lasted || !(self.is_busy || waiting.is_ready)
             }
             None => false,
         };

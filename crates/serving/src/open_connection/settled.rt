@@ -10,7 +10,7 @@ use std::io::Write;
 use std::time::Instant;
 
 impl<'c, S, F: Settling, B: Observer> Connection<'c, S, F, B> {
-    ghost use Rattle.serving.specs.Connections.{initial_of, filing_of, inputs_at, moments_at, opening_of, settings_at, socket_of, state_at, untaken_at, waiting_at};
+    ghost use Rattle.serving.specs.Connections.{initial_of, filing_of, inputs_at, moments_at, opening_of, settings_at, socket_of, state_at, unconsumed_at, waiting_at};
 
     /// Returns whether the last file of the filing waits to be settled, or was lost before that.
     /// Then nothing is read or sent.
@@ -33,7 +33,7 @@ impl<'c, S, F: Settling, B: Observer> Connection<'c, S, F, B> {
         ensures quiet { socket_of self.new ≡ socket_of self.old }
         ensures same_state { state_at self.new ≡ state_at self.old }
         ensures same_waiting { waiting_at self.new ≡ waiting_at self.old }
-        ensures same_untaken { untaken_at self.new ≡ untaken_at self.old }
+        ensures same_unconsumed { unconsumed_at self.new ≡ unconsumed_at self.old }
         ensures same_inputs { inputs_at self.new ≡ inputs_at self.old }
         ensures same_moments { moments_at self.new ≡ moments_at self.old }
         ensures same_start { initial_of self.new ≡ initial_of self.old }

@@ -185,7 +185,7 @@ impl<'c, S: Write, F: Settling, B: Observer> Connection<'c, S, F, B> {
         match self.socket.flush(&self.observer) {
             Ok(all) => {
                 if self.socket.outbox.pending().len() < before {
-                    self.deadlines.note_taken(now);
+                    self.deadlines.note_consumed(now);
                 }
                 if all { Flush::All } else { Flush::Blocked }
             }
@@ -200,7 +200,7 @@ impl<'c, S: Write, F: Settling, B: Observer> Connection<'c, S, F, B> {
 
 impl<'c, S: Read + Write, F: Settling, B: Observer> Connection<'c, S, F, B> {
     ghost use Rattle.engine.specs.Held.{is_ended};
-    ghost use Rattle.serving.specs.Connections.{aborted_at, initial_of, filing_of, inputs_at, moments_at, settings_at, opening_of, state_at, stopped_at, untaken_at, waiting_at};
+    ghost use Rattle.serving.specs.Connections.{aborted_at, initial_of, filing_of, inputs_at, moments_at, settings_at, opening_of, state_at, stopped_at, unconsumed_at, waiting_at};
 
     /// Reads from the socket if necessary, and passes a portion of the inbox to the association, at
     /// most `most` bytes.
@@ -210,7 +210,7 @@ impl<'c, S: Read + Write, F: Settling, B: Observer> Connection<'c, S, F, B> {
         requires some { 0 < most }
         ensures settings { settings_at self.new ≡ settings_at self.old }
         ensures opening { opening_of self.new ≡ opening_of self.old }
-        ensures nothing { result ≡ Arrival.Nothing → untaken_at self.new ≡ [] }
+        ensures nothing { result ≡ Arrival.Nothing → unconsumed_at self.new ≡ [] }
         ensures peers { own_of (inputs_at self.new) ≡ own_of (inputs_at self.old) }
         ensures unasked { asked_at (moments_at self.new) ≡ asked_at (moments_at self.old) }
         ensures same_start { initial_of self.new ≡ initial_of self.old }
@@ -237,8 +237,8 @@ impl<'c, S: Read + Write, F: Settling, B: Observer> Connection<'c, S, F, B> {
                     is_complete,
                     is_held: self.filing.has_pending(),
                 };
-                let taken = self.socket.taken(portion, &self.association);
-                self.observer.took(&taken);
+                let consumed = self.socket.consumed(portion, &self.association);
+                self.observer.consumed(&consumed);
                 self.socket.inbox.drop_front(len);
                 self.deadlines.hear(now);
                 self.deadlines.follow(now, self.association.state());
@@ -264,7 +264,7 @@ impl<'c, S: Read + Write, F: Settling, B: Observer> Connection<'c, S, F, B> {
         requires settled { F.has_pending (filing_of self.old) ≡ false }
         ensures settings { settings_at self.new ≡ settings_at self.old }
         ensures opening { opening_of self.new ≡ opening_of self.old }
-        ensures rests { result ≡ true → waiting_at self.new ≡ [] → untaken_at self.new ≡ [] }
+        ensures rests { result ≡ true → waiting_at self.new ≡ [] → unconsumed_at self.new ≡ [] }
         ensures peers { own_of (inputs_at self.new) ≡ own_of (inputs_at self.old) }
         ensures unasked { asked_at (moments_at self.new) ≡ asked_at (moments_at self.old) }
         ensures same_start { initial_of self.new ≡ initial_of self.old }
@@ -316,7 +316,7 @@ impl<'c, S: Read + Write, F: Settling, B: Observer> Connection<'c, S, F, B> {
         ensures settings { settings_at self.new ≡ settings_at self.old }
         ensures opening { opening_of self.new ≡ opening_of self.old }
         ensures over { (result ≡ Turn.Over) ↔ (is_ended (state_at self.new) ≡ true) }
-        ensures rests { result ≡ Turn.Socket → waiting_at self.new ≡ [] → untaken_at self.new ≡ [] }
+        ensures rests { result ≡ Turn.Socket → waiting_at self.new ≡ [] → unconsumed_at self.new ≡ [] }
         ensures has_pending { (result ≡ Turn.Filing) ↔ ((is_ended (state_at self.new) ≡ false) × (F.has_pending (filing_of self.new) ≡ true)) }
         ensures quiet { F.has_pending (filing_of self.old) ≡ true → self.new ≡ self.old }
         ensures peers { own_of (inputs_at self.new) ≡ own_of (inputs_at self.old) }

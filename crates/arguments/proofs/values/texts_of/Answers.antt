@@ -8,12 +8,12 @@ use Rattle.arguments.proofs.values.texts_of.Goals as goal
 pub returns-in_err-found-clause-none : goal.returns-in_err-found-clause-none
 returns-in_err-found-clause-none c =
     if_none c.from_residual.result _
-    (text_missing (rows_of (found_of c.args.matches.now)) c.args.ids.now c.loop-place.place _ c.loop-place-test.true (c.in_err-found.ensures ∙ first_value-rows (found_of c.args.matches.now) _))
+    (text_missing (rows_of (found_of c.args.matches.now)) c.args.ids.now c.loop-index.index _ c.loop-index-test.true (c.in_err-found.ensures ∙ first_value-rows (found_of c.args.matches.now) _))
 
-pub loop-place-preserved : goal.loop-place-preserved
-loop-place-preserved c = record {
-  places = length-set c.loop-place.found.0 c.loop-place.place c.in_ok-found.field-0 ∙ c.loop-place.invariant.places;
-  values = texts_more (rows_of (found_of c.args.matches.now)) c.args.ids.now c.loop-place.found.0 c.loop-place.place _ c.in_ok-found.field-0 c.loop-place-test.true
-      (omega (arith, c.loop-place-test.true, c.requires, c.loop-place.invariant.places))
-      (c.in_ok-found.ensures ∙ first_value-rows (found_of c.args.matches.now) _) c.loop-place.invariant.values;
+pub loop-index-preserved : goal.loop-index-preserved
+loop-index-preserved c = record {
+  indices = length-set c.loop-index.found.0 c.loop-index.index c.in_ok-found.field-0 ∙ c.loop-index.invariant.indices;
+  values = texts_more (rows_of (found_of c.args.matches.now)) c.args.ids.now c.loop-index.found.0 c.loop-index.index _ c.in_ok-found.field-0 c.loop-index-test.true
+      (omega (arith, c.loop-index-test.true, c.requires, c.loop-index.invariant.indices))
+      (c.in_ok-found.ensures ∙ first_value-rows (found_of c.args.matches.now) _) c.loop-index.invariant.values;
 }

@@ -13,6 +13,6 @@ returns-in-Some-2 c =
     let job = if_some_at c.in_ok-job.field-0 c.in-Some-2.job _ c.in-Some-2.is c.in_ok-job.ensures in
     let pair = found_pair _ _ _ (c.in-Some.ensures.name ∙ names_rows _) c.in-Some.ensures.rows in
     record {
-      taken = λ _. sym (ap₂ fault_of c.in_ok-command.ensures words_are) ∙ free;
+      accepted = λ _. sym (ap₂ fault_of c.in_ok-command.ensures words_are) ∙ free;
       named = subst (Names c.in-Some-2.job) (sym pair ∙ sub) job;
     }

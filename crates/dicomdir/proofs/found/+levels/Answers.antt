@@ -7,11 +7,11 @@ use Rattle.dicomdir.proofs.found.+levels.Goals as goal
 use Rattle.std.proofs.lemmas.Grind.{common_steps}
 
 pub after_content-returns-then-header-clause-after : goal.after_content-returns-then-header-clause-after
-after_content-returns-then-header-clause-after t c place f content rest is whole = grind (arith, common_steps, content_drop c.args.syntax c.args.header place f content rest c.args.text.now c.if-header.true is whole)
+after_content-returns-then-header-clause-after t c offset f content rest is whole = grind (arith, common_steps, content_drop c.args.syntax c.args.header offset f content rest c.args.text.now c.if-header.true is whole)
 
 pub after_content-returns-in-Sequence-clause-after : goal.after_content-returns-in-Sequence-clause-after
-after_content-returns-in-Sequence-clause-after t c place f content rest is whole =
-    let some = content_items c.args.syntax c.in-Sequence.inner c.args.header place f content rest c.args.text.now c.if-header.false (sym c.shape_of.ensures ∙ c.in-Sequence.is) is whole in
+after_content-returns-in-Sequence-clause-after t c offset f content rest is whole =
+    let some = content_items c.args.syntax c.in-Sequence.inner c.args.header offset f content rest c.args.text.now c.if-header.false (sym c.shape_of.ensures ∙ c.in-Sequence.is) is whole in
     c.after_items.ensures.after some.items rest some.spelled
 
 pub after_elements-returns-then-is_marker-clause-after : goal.after_elements-returns-then-is_marker-clause-after
@@ -42,7 +42,7 @@ after_elements-loop-head-preserved t c =
       remaining = λ es rest is.
           next_elements c.args.syntax c.in-Some.head rest c.after_content-rest.result.now c.loop-head.rest.now (c.loop-head.invariant.remaining es rest is)
           (sym c.head_of.ensures.value ∙ c.in-Some.is) (sym c.is_marker.ensures ∙ c.if-is_marker.false)
-          (λ place f content more i w. c.after_content-rest.ensures.after place f content more i (c.after-next.ensures ∙ w));
+          (λ offset f content more i w. c.after_content-rest.ensures.after offset f content more i (c.after-next.ensures ∙ w));
     }
 
 pub after_items-loop-head-preserved : goal.after_items-loop-head-preserved

@@ -8,7 +8,7 @@ use Rattle.dicomdir.proofs.found.find.Given as goal
 abbrev pub invariant-loop-head : goal.invariant-loop-head
 invariant-loop-head l = record {
   fits : length l.rest ≤ length l.text;
-  remaining : (es : Elements) → HasElements l.syntax es l.text → RemainingOf l.syntax (number l.tag) l.place es l.text l.rest;
+  remaining : (es : Elements) → HasElements l.syntax es l.text → RemainingOf l.syntax (number l.tag) l.offset es l.text l.rest;
 }
 
 abbrev pub decreases-loop-head : goal.decreases-loop-head

@@ -6,15 +6,15 @@ use Rattle.dicomdir.proofs.links.all_reached.Goals as goal
 use Rattle.dicomdir.proofs.links.all_reached.Goals.{else-entry-via-then-entry+else-not-reached-at, else-entry-via-else-entry}
 
 pub returns-then-not-reached-at-clause-fault : goal.returns-then-not-reached-at-clause-fault
-returns-then-not-reached-at-clause-fault c records places flagged =
+returns-then-not-reached-at-clause-fault c records positions flagged =
     let e = c.index-entries-at.result in
-    sym (c.loop-at.invariant records places flagged)
-    ∙ (remaining_at c.args.entries.now c.args.reached.now records places e c.loop-at.at flagged c.index-entries-at.is c.loop-at-test.true
-    ∙ ((λ i. if not (c.if-entry.true i) || c.if-not-reached-at.true i then unreached_fault places (drop (suc c.loop-at.at) records) else fault 63 e.place)
-    ∙ ap (λ f. Some (record { number = f.number; place = f.place })) (sym c.at.ensures)))
+    sym (c.loop-at.invariant records positions flagged)
+    ∙ (remaining_at c.args.entries.now c.args.reached.now records positions e c.loop-at.at flagged c.index-entries-at.is c.loop-at-test.true
+    ∙ ((λ i. if not (c.if-entry.true i) || c.if-not-reached-at.true i then unreached_fault positions (drop (suc c.loop-at.at) records) else fault 63 e.offset)
+    ∙ ap (λ f. Some (record { number = f.number; offset = f.offset })) (sym c.at.ensures)))
 
 pub loop-at-preserved : goal.loop-at-preserved
-loop-at-preserved c records places flagged =
+loop-at-preserved c records positions flagged =
     let e = c.index-entries-at.result in
     let flag : Bool = get_or c.args.reached.now c.loop-at.at false in
     let passed : (not e.in_use || flag) ≡ true = elim c.else-entry.branch [
@@ -22,7 +22,7 @@ loop-at-preserved c records places flagged =
       | else-entry-via-else-entry w ↦ passes e.in_use flag (inl w.if-entry.false)
     ] in
     let next : c.loop-at.at + 1 ≡ suc c.loop-at.at = omega arith in
-    ap (λ z. unreached_fault places (drop z records)) next
-    ∙ (sym (remaining_at c.args.entries.now c.args.reached.now records places e c.loop-at.at flagged c.index-entries-at.is c.loop-at-test.true
-    ∙ cond-true (not e.in_use || flag) (unreached_fault places (drop (suc c.loop-at.at) records)) (fault 63 e.place) passed)
-    ∙ c.loop-at.invariant records places flagged)
+    ap (λ z. unreached_fault positions (drop z records)) next
+    ∙ (sym (remaining_at c.args.entries.now c.args.reached.now records positions e c.loop-at.at flagged c.index-entries-at.is c.loop-at-test.true
+    ∙ cond-true (not e.in_use || flag) (unreached_fault positions (drop (suc c.loop-at.at) records)) (fault 63 e.offset) passed)
+    ∙ c.loop-at.invariant records positions flagged)

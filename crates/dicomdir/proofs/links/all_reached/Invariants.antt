@@ -6,5 +6,5 @@ use Rattle.dicomdir.proofs.links.all_reached.Given as goal
 
 abbrev pub invariant-loop-at : goal.invariant-loop-at
 invariant-loop-at l =
-    (records : List Record) (places : List ℕ) → AreFlagged l.entries l.reached records places
-    → unreached_fault places (drop l.at records) ≡ unreached_fault places records
+    (records : List Record) (positions : List ℕ) → AreFlagged l.entries l.reached records positions
+    → unreached_fault positions (drop l.at records) ≡ unreached_fault positions records

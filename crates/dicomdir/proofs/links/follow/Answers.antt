@@ -25,7 +25,7 @@ returns-in_err-at-clause-fails g c =
     rw (p.1, p.2) (fault_fails c.args.root.now c.args.entries.now f links.tag (λ is. absurd (omega (arith, is, links.to)))
     (λ start es records read.
     let at = rw c.in-Some.is at (c.loop-pending.invariant.following start es records read) in
-    stops start es _ _ _ _ _ _ _ _ (record { number = f.number; place = f.place }) at (faults (links_of start es records) at.reached read.first_place at.flagged at.step)))
+    stops start es _ _ _ _ _ _ _ _ (record { number = f.number; offset = f.offset }) at (faults (links_of start es records) at.reached read.first_position at.flagged at.step)))
 
 pub loop-pending-preserved : goal.loop-pending-preserved
 loop-pending-preserved g c =

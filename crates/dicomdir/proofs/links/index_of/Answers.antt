@@ -1,12 +1,12 @@
 use Rattle.std.proofs.Common.{rules, ◌∙◌}
 use Rattle.std.proofs.lemmas.List.Sorted.{answers_always}
-use Rattle.dicomdir.proofs.Trails.{place_found, place_absent}
+use Rattle.dicomdir.proofs.Trails.{offset_found, offset_absent}
 use Rattle.dicomdir.proofs.links.index_of.Goals as goal
 
 pub returns-in-Ok-clause-found : goal.returns-in-Ok-clause-found
 returns-in-Ok-clause-found c d =
-    place_found c.args.entries.now c.from-place.result c.in-Ok.at (c.in-Ok.ensures.position (λ e. e.place) (answers_always _ _ _ (λ f a r g called. search rules))) d ∙ c.from-place.ensures
+    offset_found c.args.entries.now c.from-offset.result c.in-Ok.at (c.in-Ok.ensures.position (λ e. e.offset) (answers_always _ _ _ (λ f a r g called. search rules))) d ∙ c.from-offset.ensures
 
 pub returns-in-Err-clause-absent : goal.returns-in-Err-clause-absent
 returns-in-Err-clause-absent c =
-    rw (← c.from-place.ensures) (place_absent c.args.entries.now c.from-place.result c.in-Err.field-0 (c.in-Err.ensures.position (λ e. e.place) (answers_always _ _ _ (λ f a r g called. search rules))))
+    rw (← c.from-offset.ensures) (offset_absent c.args.entries.now c.from-offset.result c.in-Err.field-0 (c.in-Err.ensures.position (λ e. e.offset) (answers_always _ _ _ (λ f a r g called. search rules))))

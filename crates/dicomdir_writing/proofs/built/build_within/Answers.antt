@@ -1,6 +1,6 @@
 use Rattle.std.proofs.Common.{◌∙◌, length, ap, arith}
 use Rattle.dicomdir_writing.specs.TreeOf.{rows_at}
-use Rattle.dicomdir_writing.specs.Places.{greatest_size}
+use Rattle.dicomdir_writing.specs.Positions.{greatest_size}
 use Rattle.dicomdir_writing.specs.Built.{file_is_too_large, too_large}
 use Rattle.dicomdir_writing.proofs.DirectoryHasItsText.{stopped, stop_is_large, file_too_large, file_fits, fits_more, fits_not, lays_tree, size_with}
 use Rattle.dicomdir_writing.proofs.WrittenLinked.{written_is_linked}

@@ -15,14 +15,14 @@ returns-in_err-write_all-clause-front g c =
 pub returns-in_err-write_all-2-clause-front : goal.returns-in_err-write_all-2-clause-front
 returns-in_err-write_all-2-clause-front g c =
     let p = err_from_is_err_and c.from_residual-in_err-write_all-2.result c.from_residual-in_err-write_all-2.ensures.1 in
-    let root = c.as_slice-2.ensures.value ∙ c.root_bytes-root.ensures ∙ ap₂ (λ (x y : ℕ). root_text x y c.built.inside.plan.size) c.place_of-first.ensures c.place_of-last.ensures in
+    let root = c.as_slice-2.ensures.value ∙ c.root_bytes-root.ensures ∙ ap₂ (λ (x y : ℕ). root_text x y c.built.inside.plan.size) c.offset_of-first.ensures c.offset_of-last.ensures in
     let whole = ap directory_file (sym c.built.view_is) ∙ file_text c.built.invariant (c.as_slice.ensures.value ∙ c.file_header-header.ensures.bytes) root in
     rw (p.1, whole)
     (front_after _ _ _ c.as_slice.result.now _ c.in_ok-write_all.ensures.all (front_more _ _ c.as_slice-2.result.now _ c.in_err-write_all-2.ensures.front))
 
 pub returns-clause-all : goal.returns-clause-all
 returns-clause-all g c =
-    let root = c.as_slice-2.ensures.value ∙ c.root_bytes-root.ensures ∙ ap₂ (λ (x y : ℕ). root_text x y c.built.inside.plan.size) c.place_of-first.ensures c.place_of-last.ensures in
+    let root = c.as_slice-2.ensures.value ∙ c.root_bytes-root.ensures ∙ ap₂ (λ (x y : ℕ). root_text x y c.built.inside.plan.size) c.offset_of-first.ensures c.offset_of-last.ensures in
     let whole = ap directory_file (sym c.built.view_is) ∙ file_text c.built.invariant (c.as_slice.ensures.value ∙ c.file_header-header.ensures.bytes) root in
     let last = c.as_slice-3.ensures.value in
     rw whole
@@ -32,7 +32,7 @@ returns-clause-all g c =
 
 pub returns-clause-front : goal.returns-clause-front
 returns-clause-front g c =
-    let root = c.as_slice-2.ensures.value ∙ c.root_bytes-root.ensures ∙ ap₂ (λ (x y : ℕ). root_text x y c.built.inside.plan.size) c.place_of-first.ensures c.place_of-last.ensures in
+    let root = c.as_slice-2.ensures.value ∙ c.root_bytes-root.ensures ∙ ap₂ (λ (x y : ℕ). root_text x y c.built.inside.plan.size) c.offset_of-first.ensures c.offset_of-last.ensures in
     let whole = ap directory_file (sym c.built.view_is) ∙ file_text c.built.invariant (c.as_slice.ensures.value ∙ c.file_header-header.ensures.bytes) root in
     let last = c.as_slice-3.ensures.value in
     rw whole

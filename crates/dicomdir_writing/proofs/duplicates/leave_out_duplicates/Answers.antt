@@ -2,7 +2,7 @@ use Rattle.std.proofs.Common.{arith}
 use Rattle.dicomdir_writing.specs.TreeOf.{rows_at}
 use Rattle.dicomdir_writing.specs.Keys.{IsRow}
 use Rattle.dicomdir_writing.specs.machine.FirstSeen.{texts}
-use Rattle.dicomdir_writing.proofs.GroupsKeepSeenOrder.{leaves_next, leaves_all, all_more, all_taken}
+use Rattle.dicomdir_writing.proofs.GroupsKeepSeenOrder.{leaves_next, leaves_all, all_more, all_consumed}
 use Rattle.dicomdir_writing.proofs.duplicates.leave_out_duplicates.Goals as goal
 use Rattle.std.proofs.lemmas.Grind.{common_steps}
 
@@ -16,4 +16,4 @@ pub returns-clause-duplicates : goal.returns-clause-duplicates
 returns-clause-duplicates g c = (leaves_all c.args.rows.now c.loop-at.at _ _ _ c.loop-at-test.false c.loop-at.invariant.leaves).1
 
 pub returns-clause-valid : goal.returns-clause-valid
-returns-clause-valid g c = all_taken IsRow c.args.rows.now c.loop-at.at c.loop-at-test.false c.loop-at.invariant.valid
+returns-clause-valid g c = all_consumed IsRow c.args.rows.now c.loop-at.at c.loop-at-test.false c.loop-at.invariant.valid

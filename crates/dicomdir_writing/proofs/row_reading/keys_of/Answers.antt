@@ -1,6 +1,6 @@
 use Rattle.std.proofs.Common.{sym, ◌∙◌}
 use Rattle.dicomdir_writing.specs.Keys.{key_values}
-use Rattle.sequence.specs.Taken.{reported_by}
+use Rattle.sequence.specs.Consumed.{reported_by}
 use Rattle.dicomdir_writing.proofs.RowLaws.{values_more, values_skip}
 use Rattle.dicomdir_writing.proofs.row_reading.keys_of.Goals.{then-has+in_ok-copy_key, else-has}
 use Rattle.dicomdir_writing.proofs.row_reading.keys_of.Goals as goal

@@ -1,6 +1,6 @@
 use Rattle.std.proofs.Common.{◌≡◌, ◌++◌, drop}
 use Rattle.std.specs.Prelude.{filter}
-use Rattle.sequence.specs.Taken.{reported_by}
+use Rattle.sequence.specs.Consumed.{reported_by}
 use Rattle.dicomdir_writing.specs.Keys.{key_values}
 use Rattle.dicomdir_writing.specs.RecordTable.{is_read}
 use Rattle.dicomdir_writing.specs.RowOf.{values_for}

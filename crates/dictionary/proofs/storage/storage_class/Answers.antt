@@ -7,5 +7,5 @@ use Rattle.dictionary.proofs.storage.storage_class.Goals as goal
 pub returns : goal.returns
 returns c =
     c.class_in.ensures
-    ∙ ap (λ rows. slice_get rows c.args.place)
+    ∙ ap (λ rows. slice_get rows c.args.index)
     (sym (flat_map-map (λ rows. rows) (λ rows. map storage_row rows.now) c.table_parts.result) ∙ ap (flat_map (λ rows. rows)) c.table_parts.ensures)

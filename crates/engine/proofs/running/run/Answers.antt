@@ -6,7 +6,7 @@ use Rattle.engine.specs.Fields.{state_of}
 use Rattle.engine.specs.Held.{is_ended}
 use Rattle.engine.specs.Run.{rooms_of}
 use Rattle.engine.proofs.FieldsShow.ByState.{ended_is}
-use Rattle.engine.proofs.WholeRun.OneTurnMore.{turns_begin, one_turn_more, turns_are_a_run, took_set, reports_set}
+use Rattle.engine.proofs.WholeRun.OneTurnMore.{turns_begin, one_turn_more, turns_are_a_run, consumed_set, reports_set}
 use Rattle.engine.proofs.AssociationSize.{association_small}
 use Rattle.engine.proofs.running.run.Goals as goal
 use Rattle.engine.proofs.running.run.Goals.{else-loop-turn-test, then-loop-turn-test+then-over}
@@ -15,7 +15,7 @@ pub loop-turn-init : goal.loop-turn-init
 loop-turn-init g c = record {
   settings = c.open-association.ensures.settings;
   there = λ e. absurd (let wrong : true ≡ false = sym e ∙ c.open-association.ensures.no_draft in cc);
-  took = turns_begin (rooms_of g.row.A g.row.C g.row.V g.row.D) (settings_of c.args.config.now) _ _ _ (c.open-association.ensures.stands _);
+  consumes = turns_begin (rooms_of g.row.A g.row.C g.row.V g.row.D) (settings_of c.args.config.now) _ _ _ (c.open-association.ensures.stands _);
 }
 
 pub loop-turn-preserved : goal.loop-turn-preserved
@@ -27,7 +27,7 @@ loop-turn-preserved g c =
     record {
       settings = c.take_next.ensures.settings ∙ i.settings;
       there = c.take_next.ensures.draft;
-      took = one_turn_more rooms s _ _ _ _ _ _ _ _ _ open_still i.took (took_set rooms _ s _ _ _ _ _ _ i.settings c.take_next.ensures.took);
+      consumes = one_turn_more rooms s _ _ _ _ _ _ _ _ _ open_still i.consumes (consumed_set rooms _ s _ _ _ _ _ _ i.settings c.take_next.ensures.consumes);
     }
 
 pub returns-clause-ran : goal.returns-clause-ran
@@ -35,7 +35,7 @@ returns-clause-ran g c =
     let rooms = rooms_of g.row.A g.row.C g.row.V g.row.D in
     let s = settings_of c.args.config.now in
     let i = c.loop-turn.invariant in
-    turns_are_a_run rooms s _ _ _ _ _ _ _ _ _ i.took (omega (arith, c.loop-turn.auto))
+    turns_are_a_run rooms s _ _ _ _ _ _ _ _ _ i.consumes (omega (arith, c.loop-turn.auto))
     (λ lt. elim c.loop-turn-test.branch [
       | else-loop-turn-test w ↦ absurd (omega (arith, lt, w.loop-turn-test.false))
       | then-loop-turn-test+then-over w ↦ ended_is _ (sym w.is_ended-over.ensures.ended ∙ w.if-over.true)

@@ -4,7 +4,7 @@ use Rattle.negotiate.specs.Settings.{settings_of}
 use Rattle.engine.specs.Devices.{devices}
 use Rattle.engine.specs.Drafts.{IsThere}
 use Rattle.engine.specs.Fields.{drafting_of, fields_of, settings_in}
-use Rattle.engine.specs.Turns.{TookTurns}
+use Rattle.engine.specs.Turns.{ConsumedTurns}
 use Rattle.engine.specs.Run.{rooms_of}
 use Rattle.engine.proofs.running.run.Given as goal
 
@@ -12,6 +12,6 @@ abbrev pub invariant-loop-turn : goal.invariant-loop-turn
 invariant-loop-turn g l = record {
   settings : settings_in l.association ≡ settings_of l.fn.config;
   there : IsThere (drafting_of l.association) (g.F.Filing.store l.filing);
-  took : TookTurns (rooms_of g.row.A g.row.C g.row.V g.row.D) (settings_of l.fn.config) l._turn (g.S.Source.supply l.fn.source) (g.S.Source.supply l.source) (fields_of l.association)
+  consumes : ConsumedTurns (rooms_of g.row.A g.row.C g.row.V g.row.D) (settings_of l.fn.config) l._turn (g.S.Source.supply l.fn.source) (g.S.Source.supply l.source) (fields_of l.association)
       (devices (g.W.Wire.line l.fn.wire) (g.F.Filing.store l.fn.filing)) (devices (g.W.Wire.line l.wire) (g.F.Filing.store l.filing));
 }

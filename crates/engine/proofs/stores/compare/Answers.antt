@@ -1,5 +1,5 @@
 use Rattle.std.proofs.Common.{sym, subst}
-use Rattle.sequence.specs.Taken.{reported_by}
+use Rattle.sequence.specs.Consumed.{reported_by}
 use Rattle.engine.specs.declared.stores.StoreStatus.{StoreStatus}
 use Rattle.engine.specs.Stores.{NamesUid, class_tag}
 use Rattle.engine.specs.machine.Storing.{finding_of}

@@ -4,4 +4,4 @@ use Rattle.keyed_files.proofs.FrontsAreSame.{before}
 use Rattle.keyed_files.proofs.same_bytes.give_the_same.Goals as goal
 
 pub loop-preserved : goal.loop-preserved
-loop-preserved g c = λ same. c.loop.invariant (before _ _ _ _ _ _ c.in_ok-count.ensures.took c.in-Ok.ensures.bytes (search rules) same)
+loop-preserved g c = λ same. c.loop.invariant (before _ _ _ _ _ _ c.in_ok-count.ensures.consumes c.in-Ok.ensures.bytes (search rules) same)

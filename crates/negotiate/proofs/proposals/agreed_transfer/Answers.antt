@@ -10,5 +10,5 @@ returns-in-Some c =
 
 pub returns-in-None : goal.returns-in-None
 returns-in-None c =
-    c.first_taken.ensures
+    c.first_allowed.ensures
     ∙ sym (agreed_additional (settings_of c.args.config.now).additional.transfers c.args.proposal.now.transfer_syntaxes (sym c.chosen_syntax.ensures ∙ c.in-None.is))

@@ -17,5 +17,5 @@ loop-at-preserved g c =
     record {
       size = simp (length-append, length-take, length-drop) (omega (arith, same, length-take (length c.loop-at.room - c.loop-at.at) (drop c.loop-at.at c.loop-at.room), length-drop c.loop-at.at c.loop-at.room, c.loop-at.invariant.within, c.loop-at.invariant.size));
       within = simp (length-append, length-take) (omega (arith, bound, c.loop-at.invariant.within));
-      took = rw (take_past at c.in-Ok.n c.loop-at.room c.read_retrying.new.room _ c.loop-at.invariant.within bound) (Consumes-trans _ _ _ _ _ c.loop-at.invariant.took c.in-Ok.ensures.took);
+      consumes = rw (take_past at c.in-Ok.n c.loop-at.room c.read_retrying.new.room _ c.loop-at.invariant.within bound) (Consumes-trans _ _ _ _ _ c.loop-at.invariant.consumes c.in-Ok.ensures.consumes);
     }

@@ -6,7 +6,7 @@ abbrev pub invariant-loop-at : goal.invariant-loop-at
 invariant-loop-at g l = record {
   size : length l.room ≡ length l.fn.room;
   within : l.at ≤ length l.room;
-  took : Consumes (g.R.Read.remaining l.fn.input) (g.R.Read.remaining l.input) (take l.at l.room);
+  consumes : Consumes (g.R.Read.remaining l.fn.input) (g.R.Read.remaining l.input) (take l.at l.room);
 }
 
 abbrev pub decreases-loop-at : goal.decreases-loop-at

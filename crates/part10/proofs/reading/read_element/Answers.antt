@@ -19,7 +19,7 @@ returns-then-not-is_next g c =
     record {
       read = tt;
       none = let read = c.in_ok-header.ensures.read in
-          bad_after _ _ _ (NoElement c.args.last c.args.remaining) read.taken (λ rest. not_next c.args.last c.args.remaining c.in_ok-header.header read.bytes rest read.spells c.if-not-is_next.ensures);
+          bad_after _ _ _ (NoElement c.args.last c.args.remaining) read.consumed (λ rest. not_next c.args.last c.args.remaining c.in_ok-header.header read.bytes rest read.spells c.if-not-is_next.ensures);
     }
 
 pub returns-then-length-remaining : goal.returns-then-length-remaining
@@ -27,7 +27,7 @@ returns-then-length-remaining g c =
     record {
       read = tt;
       none = let read = c.in_ok-header.ensures.read in
-          bad_after _ _ _ (NoElement c.args.last c.args.remaining) read.taken
+          bad_after _ _ _ (NoElement c.args.last c.args.remaining) read.consumed
           (λ rest. long_value c.args.last c.args.remaining c.in_ok-header.size c.in_ok-header.header read.bytes rest read.spells read.counted (omega (arith, c.if-length-remaining.true, read.within)));
     }
 
@@ -37,7 +37,7 @@ returns-in_err-uid g c =
       read = rw (err_from_is_err_and c.from_residual-in_err-uid.result c.from_residual-in_err-uid.ensures.1).1 tt;
       none = let read = c.in_ok-header.ensures.read in
           let p = err_from_is_err_and c.from_residual-in_err-uid.result c.from_residual-in_err-uid.ensures.1 in
-          rw (p.1, p.2) (breaks_after _ _ _ _ _ (NoElement c.args.last c.args.remaining) read.taken c.in_err-uid.ensures.short
+          rw (p.1, p.2) (breaks_after _ _ _ _ _ (NoElement c.args.last c.args.remaining) read.consumed c.in_err-uid.ensures.short
           (λ rest few. short_value c.args.last c.args.remaining c.in_ok-header.header read.bytes rest read.spells few));
     }
 
@@ -52,7 +52,7 @@ returns g c =
         bytes = read.bytes;
         value = value.0;
         is = record { spells = read.spells; group = next.0; rises = next.1; even = next.2; size = value.2.0 };
-        taken = Consumes-trans _ _ _ _ _ read.taken value.1;
+        consumed = Consumes-trans _ _ _ _ _ read.consumed value.1;
         number = refl;
         uid = value.2.1;
         counted = omega (arith, read.counted, value.2.0);

@@ -13,7 +13,7 @@ loop-remaining-init g c =
     record {
       text = [];
       elements = [];
-      taken = Consumes-nil _;
+      consumed = Consumes-nil _;
       counted = omega arith;
       spelled = no_more;
       ends = omega arith;
@@ -25,7 +25,7 @@ returns-in_err-element g c =
     record {
       read = rw (err_from_is_err_and c.from_residual.result c.from_residual.ensures.1).1 tt;
       none = let p = err_from_is_err_and c.from_residual.result c.from_residual.ensures.1 in
-          rw (p.1, p.2) (breaks_after _ _ _ _ _ (NoGroup c.args.size) c.loop-remaining.invariant.taken c.in_err-element.ensures.none
+          rw (p.1, p.2) (breaks_after _ _ _ _ _ (NoGroup c.args.size) c.loop-remaining.invariant.consumed c.in_err-element.ensures.none
           (λ rest none. no_group c.args.size c.loop-remaining.remaining c.loop-remaining.last c.loop-remaining.found _ _ c.loop-remaining.invariant rest c.loop-remaining-test.true none));
     }
 
@@ -41,7 +41,7 @@ returns g c =
       read = record {
         group = all.text;
         elements = all.elements;
-        taken = all.taken;
+        consumed = all.consumed;
         counted = omega (arith, all.counted, c.loop-remaining-test.false);
         spelled = all.spelled;
         is = all.is;

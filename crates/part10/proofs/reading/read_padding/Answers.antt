@@ -9,7 +9,7 @@ loop-remaining-preserved g c =
     let filled = c.in_ok-read_whole.ensures in
     record {
       text = so_far.text ++ c.read_whole.new.room;
-      taken = Consumes-trans _ _ _ _ _ so_far.taken filled.took;
+      consumed = Consumes-trans _ _ _ _ _ so_far.consumed filled.consumes;
       counted = rw length-append (omega (arith, filled.size, length-take c.min-part.result c.loop-remaining.room, c.min-part.array_long, c.min-part.ensures, so_far.counted));
       is = rw (so_far.is, c.are_padding-is_padding.ensures) (sym (both_padding so_far.text c.read_whole.new.room));
     }
@@ -18,6 +18,6 @@ pub returns : goal.returns
 returns g c =
     let all = c.loop-remaining.invariant in
     record {
-      read = (all.text, all.taken, (omega (arith, all.counted, c.loop-remaining-test.false), all.is));
+      read = (all.text, all.consumed, (omega (arith, all.counted, c.loop-remaining-test.false), all.is));
       short = tt;
     }

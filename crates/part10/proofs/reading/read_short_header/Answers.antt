@@ -12,7 +12,7 @@ returns-in_default g c =
     let filled = c.in_ok-read_whole.ensures in
     record {
       read = tt;
-      none = bad_after _ _ _ (NoHeader c.args.remaining) filled.took (λ rest. no_front c.args.remaining c.read_whole.new.room rest filled.size (λ size e. c.in_default.not-Size size (c.need.ensures ∙ e)));
+      none = bad_after _ _ _ (NoHeader c.args.remaining) filled.consumes (λ rest. no_front c.args.remaining c.read_whole.new.room rest filled.size (λ size e. c.in_default.not-Size size (c.need.ensures ∙ e)));
     }
 
 pub returns-then-size-remaining : goal.returns-then-size-remaining
@@ -20,7 +20,7 @@ returns-then-size-remaining g c =
     record {
       read = tt;
       none = let filled = c.in_ok-read_whole.ensures in
-          bad_after _ _ _ (NoHeader c.args.remaining) filled.took (λ rest. long_front c.args.remaining c.in-Size.size c.read_whole.new.room rest filled.size (sym c.in-Size.ensures) c.if-size-remaining.true);
+          bad_after _ _ _ (NoHeader c.args.remaining) filled.consumes (λ rest. long_front c.args.remaining c.in-Size.size c.read_whole.new.room rest filled.size (sym c.in-Size.ensures) c.if-size-remaining.true);
     }
 
 pub slice_bounds-back-length : goal.slice_bounds-back-length
@@ -36,7 +36,7 @@ returns-in_err-read_whole-2 g c =
           let bounds = need_bounds Explicit c.read_whole.new.room c.in-Size.size (sym c.in-Size.ensures) in
           let room : length c.read_whole-2.new.room ≡ c.in-Size.size - 8 = omega (arith, c.in_err-read_whole-2.ensures.size, length-take {A = ℕ} (c.in-Size.size - 8) (0 ∷ 0 ∷ 0 ∷ 0 ∷ []), bounds.0, bounds.1) in
           let p = err_from_is_err_and c.from_residual-in_err-read_whole-2.result c.from_residual-in_err-read_whole-2.ensures.1 in
-          rw (p.1, p.2) (breaks_after _ _ _ _ _ (NoHeader c.args.remaining) filled.took c.in_err-read_whole-2.ensures.short
+          rw (p.1, p.2) (breaks_after _ _ _ _ _ (NoHeader c.args.remaining) filled.consumes c.in_err-read_whole-2.ensures.short
           (λ rest few. short_back c.args.remaining c.in-Size.size c.read_whole.new.room rest filled.size (sym c.in-Size.ensures) (omega (arith, few, room, bounds.0))));
     }
 
@@ -56,7 +56,7 @@ returns g c =
           record {
             bytes = c.read_whole.new.room ++ c.read_whole-2.new.room;
             spells = whole_spells c.read_whole.new.room c.read_whole-2.new.room c.as_slice.result.now c.in-Size.size c.read_header.result text (sym c.in-Size.ensures) count c.read_header.ensures.spelled;
-            taken = Consumes-trans _ _ _ _ _ c.in_ok-read_whole.ensures.took c.in_ok-read_whole-2.ensures.took;
+            consumed = Consumes-trans _ _ _ _ _ c.in_ok-read_whole.ensures.consumes c.in_ok-read_whole-2.ensures.consumes;
             counted = count;
             within = c.if-size-remaining.false;
           };

@@ -13,7 +13,7 @@ returns-then-not-is_padding g c =
           let front : length c.read_whole.new.room ≡ min c.min-first.result 64 = filled.size ∙ length-take {A = ℕ} c.min-first.result (replicate 64 0) in
           let full : 64 ≤ length c.read_whole.new.room = omega (arith, some, front, c.min-first.ensures, after.2.0) in
           let all : length (c.read_whole.new.room ++ after.0) ≡ c.args.size = rw length-append (omega (arith, front, c.min-first.ensures, after.2.0)) in
-          (c.read_whole.new.room ++ after.0, Consumes-trans _ _ _ _ _ filled.took after.1, (all, sym (no_uid c.read_whole.new.room after.0 full none)));
+          (c.read_whole.new.room ++ after.0, Consumes-trans _ _ _ _ _ filled.consumes after.1, (all, sym (no_uid c.read_whole.new.room after.0 full none)));
       short = tt;
     }
 
@@ -24,6 +24,6 @@ returns g c =
           let after = c.in_ok-is_padding.ensures.read in
           let front : length c.read_whole.new.room ≡ min c.min-first.result 64 = filled.size ∙ length-take {A = ℕ} c.min-first.result (replicate 64 0) in
           let all : length (c.read_whole.new.room ++ after.0) ≡ c.args.size = rw length-append (omega (arith, front, c.min-first.ensures, after.2.0)) in
-          (c.read_whole.new.room ++ after.0, Consumes-trans _ _ _ _ _ filled.took after.1, (all, c.read.ensures ∙ sym (uid_in_front c.read_whole.new.room after.0 (sym c.if-not-is_padding.false ∙ after.2.1))));
+          (c.read_whole.new.room ++ after.0, Consumes-trans _ _ _ _ _ filled.consumes after.1, (all, c.read.ensures ∙ sym (uid_in_front c.read_whole.new.room after.0 (sym c.if-not-is_padding.false ∙ after.2.1))));
       short = tt;
     }

@@ -1,7 +1,7 @@
 use Rattle.std.proofs.Common.{ℕ, ◌<◌, List, ◌++◌, length, take, sym, subst}
 use Rattle.pdu.specs.Deframing.{AtHead}
 use Rattle.pdu.proofs.DeframerFollowsTheStream.{head_continues}
-use Rattle.pdu.proofs.CallFollowsTheMarks.{head_is_reported, took_silent}
+use Rattle.pdu.proofs.CallFollowsTheMarks.{head_is_reported, consumed_silent}
 use Rattle.pdu.proofs.position.take_head.Goals as goal
 
 pub returns-in-Some-clause-finds : goal.returns-in-Some-clause-finds
@@ -15,4 +15,4 @@ returns-in-None-clause-finds c r due a =
     let bytes = c.args.bytes.now.items in
     let fills = c.fill-count.ensures.fills in
     let short : length (bytes ++ part) < 6 = subst (λ (v : List ℕ). length v < 6) fills c.in-None.ensures in
-    took_silent _ (AtHead (bytes ++ part)) r due part a.none_due (head_continues bytes r part due a short) (λ t later h. subst (λ (v : List ℕ). AtHead v t later) (sym fills) h)
+    consumed_silent _ (AtHead (bytes ++ part)) r due part a.none_due (head_continues bytes r part due a short) (λ t later h. subst (λ (v : List ℕ). AtHead v t later) (sym fills) h)

@@ -2,7 +2,7 @@ use Rattle.std.proofs.Common.{◌≡◌, ℕ, ◌-◌, ◌<◌, List, ◌++◌, 
 use Rattle.std.proofs.lemmas.List.{length-take}
 use Rattle.pdu.specs.Deframing.{AtPdvHead}
 use Rattle.pdu.proofs.DeframerFollowsTheStream.{pdv_head_continues}
-use Rattle.pdu.proofs.CallFollowsTheMarks.{pdv_is_reported, pdv_head_ended, empty_at, took_silent}
+use Rattle.pdu.proofs.CallFollowsTheMarks.{pdv_is_reported, pdv_head_ended, empty_at, consumed_silent}
 use Rattle.pdu.proofs.position.take_pdv_head.Goals as goal
 
 pub returns-in-Some-clause-finds : goal.returns-in-Some-clause-finds
@@ -28,5 +28,5 @@ returns-clause-finds c r due a =
     let size : length part ≡ c.fill-count.result = omega (arith, length-take c.fill-count.result c.args.piece.now, c.fill-count.ensures.within) in
     let short : length (bytes ++ part) < 6 = subst (λ (v : List ℕ). length v < 6) fills c.in_default.ensures in
     let some : length part < remaining = omega (arith, size, c.if-rest-eq0.false, c.fill-count.ensures.fits) in
-    took_silent _ (AtPdvHead (remaining - length part) (bytes ++ part)) r due part a.none_due (pdv_head_continues remaining bytes r part due a short some)
+    consumed_silent _ (AtPdvHead (remaining - length part) (bytes ++ part)) r due part a.none_due (pdv_head_continues remaining bytes r part due a short some)
     (λ t later h. subst (λ (v : List ℕ). AtPdvHead (remaining - c.fill-count.result) v t later) (sym fills) (subst (λ (n : ℕ). AtPdvHead (remaining - n) (bytes ++ part) t later) size h))

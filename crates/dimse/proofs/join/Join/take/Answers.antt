@@ -1,7 +1,7 @@
 use Rattle.std.proofs.Common.{◌+◌, ◌≤◌, length, sym, subst, arith}
 use Rattle.arrayvec.specs.ArrayVec.{array_vec_len}
 use Rattle.dimse.specs.Joining.{Joining, ShowsMessage}
-use Rattle.dimse.proofs.JoinShowsTheMessage.{part_shown, command_part, other_part, taken}
+use Rattle.dimse.proofs.JoinShowsTheMessage.{part_shown, command_part, other_part, consumed}
 use Rattle.dimse.proofs.join.Join.take.Goals as goal
 use Rattle.dimse.proofs.join.Join.take.Goals.{in-Command, in_default}
 
@@ -14,7 +14,7 @@ returns-clause-shows g c first started h =
     elim c.match-self.branch [
       | in-Command w ↦
           let room : array_vec_len was.command + length c.args.part.now ≤ g.row.C = omega (arith, c.self.invariant w.in-Command.is) in
-          let all = taken w.try_extend_from_slice-taken.result (w.try_extend_from_slice-taken.ensures.variant.1 room) w.try_extend_from_slice-taken.ensures.ok in
+          let all = consumed w.try_extend_from_slice-consumed.result (w.try_extend_from_slice-consumed.ensures.variant.1 room) w.try_extend_from_slice-consumed.ensures.ok in
           rw (w.self-inside-is, all) (rw (command_part was.stage was.command.items c.args.part.now w.in-Command.is) at part)
       | in_default w ↦ rw w.self-inside-is (rw (other_part was.stage was.command.items c.args.part.now w.in_default.not-Command) at part)
     ]

@@ -10,7 +10,7 @@ returns-then-is_ended-clause-moved g c inputs story failed h = moved_still _ _ i
 pub returns-clause-moved : goal.returns-clause-moved
 returns-clause-moved g c inputs story failed h =
     let dropped = c.drop_heads.ensures in
-    moved_feed _ _ inputs story failed c.args.piece.now _ _ _ _ _ h (sym c.is_ended.ensures.ended ∙ c.if-is_ended.false) c.take_all.ensures.took
+    moved_feed _ _ inputs story failed c.args.piece.now _ _ _ _ _ h (sym c.is_ended.ensures.ended ∙ c.if-is_ended.false) c.take_all.ensures.consumes
     (record { kept = dropped.kept; same = dropped.same; headless = dropped.headless }) c.take_all.ensures.drafts
 
 pub is_ended-requires : goal.is_ended-requires

@@ -20,4 +20,4 @@ no_body (position.Leftover remaining) is_at one = refl
 no_body (position.Skipped kind remaining) is_at one = absurd (let x = is_at.due_is in cc)
 
 pub invariant_of-result-clause-body_fits : goal.invariant_of-result-clause-body_fits
-invariant_of-result-clause-body_fits g c = λ due taken one. omega (arith, ap length c.open.ensures.body, no_body _ c.new.ensures one, c.requires.least)
+invariant_of-result-clause-body_fits g c = λ due consumed one. omega (arith, ap length c.open.ensures.body, no_body _ c.new.ensures one, c.requires.least)

@@ -3,12 +3,12 @@ use Rattle.std.proofs.lemmas.List.{take_all, length-drop}
 use Rattle.engine.specs.Run.{Rooms, rooms_of}
 use Rattle.negotiate.specs.Settings.{Settings}
 use Rattle.engine.specs.Kept.{settings_in}
-use Rattle.engine.proofs.PiecesAreDone.PieceIsDone.{handled_start, handled_then, took_all}
+use Rattle.engine.proofs.PiecesAreDone.PieceIsDone.{handled_start, handled_then, consumed_all}
 use Rattle.engine.proofs.StoresAreKept.DraftAndWalk.{drafts_then}
 use Rattle.engine.proofs.association.Association.take_all.Goals as goal
 
 pub loop-more-init : goal.loop-more-init
-loop-more-init g c = record { within = omega arith; used_up = λ wrong. absurd cc; settings = refl; drafts = record { there = c.requires.draft; own = λ mine. mine }; took = λ p r rest still h. handled_start _ _ _ p r _ rest still h }
+loop-more-init g c = record { within = omega arith; used_up = λ wrong. absurd cc; settings = refl; drafts = record { there = c.requires.draft; own = λ mine. mine }; consumes = λ p r rest still h. handled_start _ _ _ p r _ rest still h }
 
 pub loop-more-preserved : goal.loop-more-preserved
 loop-more-preserved g c =
@@ -22,8 +22,8 @@ loop-more-preserved g c =
       used_up = λ none. let k = c.take_event-count.ensures.used_up none in omega (arith, rw tail at k, length-drop at piece, c.loop-more.invariant.within);
       settings = c.take_event-count.ensures.settings ∙ c.loop-more.invariant.settings;
       drafts = drafts_then _ _ _ _ _ _ c.loop-more.invariant.drafts c.take_event-count.ensures.drafts;
-      took = λ p r rest still h.
-          let before = c.loop-more.invariant.took p r rest still h in
+      consumes = λ p r rest still h.
+          let before = c.loop-more.invariant.consumes p r rest still h in
           let more = rw (c.loop-more.invariant.settings, tail) at c.take_event-count.ensures.does in
           rw take-add (handled_then rooms s _ _ p r [] _ _ _ _ _ _ _ before more);
     }
@@ -31,8 +31,8 @@ loop-more-preserved g c =
 pub returns-clause-settings : goal.returns-clause-settings
 returns-clause-settings g c = c.loop-more.invariant.settings
 
-pub returns-clause-took : goal.returns-clause-took
-returns-clause-took g c p r rest still h =
+pub returns-clause-consumes : goal.returns-clause-consumes
+returns-clause-consumes g c p r rest still h =
     let piece = c.args.piece.now in
     let all : take c.loop-more.at piece ≡ piece = take_all c.loop-more.at piece (omega (arith, c.loop-more.invariant.used_up c.loop-more-test.false)) in
-    took_all _ _ _ p r _ _ _ (rw (all, c.loop-more-test.false) at (c.loop-more.invariant.took p r rest still h))
+    consumed_all _ _ _ p r _ _ _ (rw (all, c.loop-more-test.false) at (c.loop-more.invariant.consumes p r rest still h))

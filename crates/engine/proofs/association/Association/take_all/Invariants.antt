@@ -19,7 +19,7 @@ invariant-loop-more g l = record {
   used_up : l.more ≡ false → l.at ≡ length l.piece;
   settings : settings_in l.self.provider ≡ settings_in l.fn.self.provider;
   drafts : KeepsDraft (kept_of l.fn.self.provider) (kept_of l.self.provider) (g.F.Filing.store l.fn.devices.filing.now) (g.F.Filing.store l.filing);
-  took : (p : Progress) (r : List ℕ) → IsRest r → is_ended p.state ≡ false → ShowsFrame (fields_of l.fn.self) (g.F.Filing.store l.fn.devices.filing.now) p r
+  consumes : (p : Progress) (r : List ℕ) → IsRest r → is_ended p.state ≡ false → ShowsFrame (fields_of l.fn.self) (g.F.Filing.store l.fn.devices.filing.now) p r
       → Handles (rooms_of g.row.A g.row.C g.row.V g.row.D) (settings_in l.fn.self.provider) (fields_of l.self) p r [] (take l.at l.piece) l.more
       (before g.W.Wire.line g.F.Filing.store l.fn.devices) (devices (g.W.Wire.line l.wire) (g.F.Filing.store l.filing));
 }

@@ -32,7 +32,7 @@ returns-in_default-clause-does g c p r due h =
     let size : length part ≡ n = omega (arith, length-take n c.args.piece.now, c.next-count.ensures.within) in
     let steps : Steps q n part None new = rw c.in_default.is at c.next-count.ensures.steps in
     elim h.is_at [
-      | reads a ↦ handled_none _ _ q new n part _ p r due _ size steps a (rw c.in_default.is at (c.next-count.ensures.took r due a)) h
+      | reads a ↦ handled_none _ _ q new n part _ p r due _ size steps a (rw c.in_default.is at (c.next-count.ensures.consumes r due a)) h
       | skips x u none ↦ passed_none _ _ q new part _ p r due _ x u none (rw c.in_default.is at (c.next-count.ensures.skipped r x)) h.body h.started h.pending h.pends
     ]
 
@@ -60,10 +60,10 @@ returns-clause-does g c p r due h =
     let new = position_of c.next-count.new.self in
     let size : length part ≡ n = omega (arith, length-take n c.args.piece.now, c.next-count.ensures.within) in
     let steps : Steps q n part (Some c.in-Some.event) new = rw c.in-Some.is at c.next-count.ensures.steps in
-    let takes = rw c.kind-kind.ensures at c.on_event.ensures.takes in
+    let accepts = rw c.kind-kind.ensures at c.on_event.ensures.accepts in
     let handled : Handles (rooms_of g.row.A g.row.C g.row.V g.row.D) (settings_in was.provider) (record { position = new; kept = kept_of c.on_event.new.self }) p r due part true _ _ = elim h.is_at [
-      | reads a ↦ handled_event _ _ q new n part c.in-Some.event _ _ p r due _ _ size (shaped q n part c.in-Some.event new steps) a (rw c.in-Some.is at (c.next-count.ensures.took r due a)) takes h
-      | skips x u none ↦ passed_event _ _ q new part c.in-Some.event _ _ p r due _ _ x u none (rw c.in-Some.is at (c.next-count.ensures.skipped r x)) takes h.body h.started h.pending h.pends
+      | reads a ↦ handled_event _ _ q new n part c.in-Some.event _ _ p r due _ _ size (shaped q n part c.in-Some.event new steps) a (rw c.in-Some.is at (c.next-count.ensures.consumes r due a)) accepts h
+      | skips x u none ↦ passed_event _ _ q new part c.in-Some.event _ _ p r due _ _ x u none (rw c.in-Some.is at (c.next-count.ensures.skipped r x)) accepts h.body h.started h.pending h.pends
     ] in
     rw c.skip_uncounted.ensures.passes (handled_passed _ _ new (kept_of c.on_event.new.self) p r due part true _ _ handled)
 

@@ -6,7 +6,7 @@ returns g c = record {
   draft = c.take.ensures.draft;
   settings = c.take.ensures.settings;
   shown = rw c.state.ensures at c.next-input.ensures.shown;
-  took = record { bytes = _; kind = _; gives = c.next-input.ensures.gives; moved = rw c.piece.ensures at c.take.ensures.moved };
+  consumes = record { bytes = _; kind = _; gives = c.next-input.ensures.gives; moved = rw c.piece.ensures at c.take.ensures.moved };
 }
 
 pub state-requires : goal.state-requires

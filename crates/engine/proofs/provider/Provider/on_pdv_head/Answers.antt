@@ -16,11 +16,11 @@ use Rattle.engine.proofs.FieldsShow.AfterAnEvent.{pends_decided}
 use Rattle.engine.specs.Kept.{Pends, kept_of, settings_in}
 use Rattle.engine.specs.machine.Messages.{with_join}
 use Rattle.engine.specs.Run.{rooms_of}
-use Rattle.engine.proofs.FieldsShow.NothingCounts.{takes_shown}
+use Rattle.engine.proofs.FieldsShow.NothingCounts.{accepts_shown}
 use Rattle.engine.proofs.FieldsShow.TriedIsDone.{stays_invalid, stays_aborts}
 use Rattle.engine.proofs.FieldsShow.ReactionIsPerformed.{leaves_due, leaves_refused}
-use Rattle.engine.proofs.MarksAreDone.PdvJoined.{head_taken, head_dropped, head_unaccepted, head_accepted, pends_dropped, context_shown, join_between, judged_none, judged_some, pends_headed}
-use Rattle.engine.proofs.MarksAreDone.StoreAsked.{not_taking}
+use Rattle.engine.proofs.MarksAreDone.PdvJoined.{head_consumed, head_dropped, head_unaccepted, head_accepted, pends_dropped, context_shown, join_between, judged_none, judged_some, pends_headed}
+use Rattle.engine.proofs.MarksAreDone.StoreAsked.{not_accepting}
 use Rattle.engine.proofs.FieldsShow.KeptInPhases.{refused_pdvs, kept_by, unestablished}
 use Rattle.engine.proofs.provider.Provider.on_pdv_head.Goals as goal
 
@@ -28,7 +28,7 @@ pub returns-then-self-clause-due : goal.returns-then-self-clause-due
 returns-then-self-clause-due g c = λ store p started six head h.
     let rooms = rooms_of g.row.A g.row.C g.row.V g.row.D in
     let k = kept_of c.args.self.now in
-    let dropped = sym (takes_shown k _ p [] [] h) ∙ refused_pdvs k c.if-self.true in
+    let dropped = sym (accepts_shown k _ p [] [] h) ∙ refused_pdvs k c.if-self.true in
     leaves_due p _ _ k store _ _ (head_dropped rooms (settings_in c.args.self.now) p _ _ _ dropped) (pends_dropped k _ p [] [] started dropped h)
 
 pub returns-in_default : goal.returns-in_default
@@ -39,10 +39,10 @@ returns-in_default g c =
       settings = refl;
       storing = refl;
       stays = tt;
-      fits = λ six kept. not_taking k (ap (λ (t : Bool). t && not k.refused) none) six kept;
+      fits = λ six kept. not_accepting k (ap (λ (t : Bool). t && not k.refused) none) six kept;
       due = λ store p started six head h.
           let rooms = rooms_of g.row.A g.row.C g.row.V g.row.D in
-          let dropped = sym (takes_shown k _ p [] [] h) ∙ ap (λ (t : Bool). t && not k.refused) none in
+          let dropped = sym (accepts_shown k _ p [] [] h) ∙ ap (λ (t : Bool). t && not k.refused) none in
           leaves_due p _ _ k store _ _ (head_dropped rooms (settings_in c.args.self.now) p _ _ _ dropped) (pends_dropped k _ p [] [] started dropped h);
     }
 
@@ -50,39 +50,39 @@ pub returns-in_default-context-clause-due : goal.returns-in_default-context-clau
 returns-in_default-context-clause-due g c = rw c.in-Established.is (λ store p started six head h.
     let rooms = rooms_of g.row.A g.row.C g.row.V g.row.D in
     let k = kept_by c.args.self.now c.in-Established.peer c.in-Established.message in
-    let taken = sym (takes_shown k _ p [] [] h) ∙ ap not c.if-self.false in
+    let consumed = sym (accepts_shown k _ p [] [] h) ∙ ap not c.if-self.false in
     let id : c.args.head.context ≡ get_or started 4 0 = ap (λ (x : PdvHead). x.context) head in
     let none : context_of (request_record p.request) (get_or started 4 0) ≡ None =
-    sym (context_shown k _ p [] [] (get_or started 4 0) h taken) ∙ ap (context_in k.additional k.table) (sym id) ∙ sym c.context.ensures ∙ c.in_default-context.is in
+    sym (context_shown k _ p [] [] (get_or started 4 0) h consumed) ∙ ap (context_in k.additional k.table) (sym id) ∙ sym c.context.ensures ∙ c.in_default-context.is in
     let d = decision.ContextRefused c.args.head in
     leaves_refused (deciding d p) _ (answering.Abort 6) event.Invalid (record k { decided = d }) store _ _
-    (head_taken rooms (settings_in c.args.self.now) p _ _ _ taken ∙ head_unaccepted g.row.C p _ (get_or started 4 0) _ none ∙ ap (λ (x : PdvHead). invalid (deciding (decision.ContextRefused x) p)) (sym head)) (pends_decided d k store p [] [] h))
+    (head_consumed rooms (settings_in c.args.self.now) p _ _ _ consumed ∙ head_unaccepted g.row.C p _ (get_or started 4 0) _ none ∙ ap (λ (x : PdvHead). invalid (deciding (decision.ContextRefused x) p)) (sym head)) (pends_decided d k store p [] [] h))
 
 pub returns-in-Err-clause-due : goal.returns-in-Err-clause-due
 returns-in-Err-clause-due g c = rw c.in-Established.is (λ store p started six head h.
     let rooms = rooms_of g.row.A g.row.C g.row.V g.row.D in
     let k = kept_by c.args.self.now c.in-Established.peer c.in-Established.message in
-    let taken = sym (takes_shown k _ p [] [] h) ∙ ap not c.if-self.false in
+    let consumed = sym (accepts_shown k _ p [] [] h) ∙ ap not c.if-self.false in
     let id : c.args.head.context ≡ get_or started 4 0 = ap (λ (x : PdvHead). x.context) head in
     let some : context_of (request_record p.request) (get_or started 4 0) ≡ Some c.in-Some.field-0 =
-    sym (context_shown k _ p [] [] (get_or started 4 0) h taken) ∙ ap (context_in k.additional k.table) (sym id) ∙ sym c.context.ensures ∙ c.in-Some.is in
+    sym (context_shown k _ p [] [] (get_or started 4 0) h consumed) ∙ ap (context_in k.additional k.table) (sym id) ∙ sym c.context.ensures ∙ c.in-Some.is in
     let message = join_between k _ p [] h in
     let wrong : head_refusal g.row.C p.message (pdv_head_of started) ≡ Some c.in-Err.fault =
     ap (head_refusal g.row.C p.message) (sym head) ∙ judged_some (head_refusal g.row.C p.message c.args.head) c.in-Err.fault (sym (c.head.ensures.judged p.message message) ∙ c.in-Err.is) in
     let pends : Pends (with_join c.head.new.self k) store p [] [] = subst (λ (j : Joining). Pends (with_join j k) store p [] []) (sym c.in-Err.ensures.refused) h in
     let d = decision.FragmentRefused c.args.head c.in-Err.fault in
     leaves_refused (deciding d p) _ answering.Nothing event.UserAborts (record (with_join c.head.new.self k) { decided = d }) store _ _
-    (head_taken rooms (settings_in c.args.self.now) p _ _ _ taken ∙ head_accepted g.row.C p _ (get_or started 4 0) _ c.in-Some.field-0 (Some c.in-Err.fault) some wrong
+    (head_consumed rooms (settings_in c.args.self.now) p _ _ _ consumed ∙ head_accepted g.row.C p _ (get_or started 4 0) _ c.in-Some.field-0 (Some c.in-Err.fault) some wrong
     ∙ ap (λ (x : PdvHead). user_aborts (deciding (decision.FragmentRefused x c.in-Err.fault) p)) (sym head)) (pends_decided d (with_join c.head.new.self k) store p [] [] pends))
 
 pub returns-in-Ok-clause-due : goal.returns-in-Ok-clause-due
 returns-in-Ok-clause-due g c = rw c.in-Established.is (λ store p started six head h.
     let rooms = rooms_of g.row.A g.row.C g.row.V g.row.D in
     let k = kept_by c.args.self.now c.in-Established.peer c.in-Established.message in
-    let taken = sym (takes_shown k _ p [] [] h) ∙ ap not c.if-self.false in
+    let consumed = sym (accepts_shown k _ p [] [] h) ∙ ap not c.if-self.false in
     let id : c.args.head.context ≡ get_or started 4 0 = ap (λ (x : PdvHead). x.context) head in
     let some : context_of (request_record p.request) (get_or started 4 0) ≡ Some c.in-Some.field-0 =
-    sym (context_shown k _ p [] [] (get_or started 4 0) h taken) ∙ ap (context_in k.additional k.table) (sym id) ∙ sym c.context.ensures ∙ c.in-Some.is in
+    sym (context_shown k _ p [] [] (get_or started 4 0) h consumed) ∙ ap (context_in k.additional k.table) (sym id) ∙ sym c.context.ensures ∙ c.in-Some.is in
     let message = join_between k _ p [] h in
     let fine : head_refusal g.row.C p.message (pdv_head_of started) ≡ None =
     ap (head_refusal g.row.C p.message) (sym head) ∙ judged_none (head_refusal g.row.C p.message c.args.head) c.in-Ok.field-0 (sym (c.head.ensures.judged p.message message) ∙ c.in-Ok.is) in
@@ -90,8 +90,8 @@ returns-in-Ok-clause-due g c = rw c.in-Established.is (λ store p started six he
     let j = c.head.new.self in
     let d = decision.Fragment c.args.head in
     leaves_due (deciding d p) _ _ (record (with_join j k) { decided = d }) store _ _
-    (head_taken rooms (settings_in c.args.self.now) p _ _ _ taken ∙ head_accepted g.row.C p _ (get_or started 4 0) _ c.in-Some.field-0 None some fine ∙ ap (λ (x : PdvHead). nothing (deciding (decision.Fragment x) p)) (sym head))
-    (pends_decided d (with_join j k) store p [] started (pends_headed k _ p j started six taken h shows)))
+    (head_consumed rooms (settings_in c.args.self.now) p _ _ _ consumed ∙ head_accepted g.row.C p _ (get_or started 4 0) _ c.in-Some.field-0 None some fine ∙ ap (λ (x : PdvHead). nothing (deciding (decision.Fragment x) p)) (sym head))
+    (pends_decided d (with_join j k) store p [] started (pends_headed k _ p j started six consumed h shows)))
 
 pub returns-in_default-context-clause-stays : goal.returns-in_default-context-clause-stays
 returns-in_default-context-clause-stays g c = stays_invalid _

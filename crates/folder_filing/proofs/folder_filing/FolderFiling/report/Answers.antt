@@ -10,9 +10,9 @@ use Rattle.folder_filing.proofs.folder_filing.FolderFiling.report.Goals as goal
 
 pub report-requires-clause-synced : goal.report-requires-clause-synced
 report-requires-clause-synced g c =
-    let newest = is_newest _ c.args.place _ (ap (λ z. z.pending) c.self.view_is ∙ c.requires.named) c.self.invariant.1 in
-    let now = subst (λ z. ∥ IsNewest c.args.place (standing z.names.calls) ∥₁) (sym c.self-inside.view_is) newest in
-    λ has. subst IsNameSynced (sym (c.has_synced-has.ensures.has c.if-has.true)) (in_its_folder c.args.place _ now)
+    let newest = is_newest _ c.args.location _ (ap (λ z. z.pending) c.self.view_is ∙ c.requires.named) c.self.invariant.1 in
+    let now = subst (λ z. ∥ IsNewest c.args.location (standing z.names.calls) ∥₁) (sym c.self-inside.view_is) newest in
+    λ has. subst IsNameSynced (sym (c.has_synced-has.ensures.has c.if-has.true)) (in_its_folder c.args.location _ now)
 
 pub invariant_of-self : goal.invariant_of-self
 invariant_of-self g c =
@@ -21,7 +21,7 @@ invariant_of-self g c =
     let counted = subst (λ z. AreReported (length (map (λ t. t.bytes) z.kept)) z.pending z.names) (sym c.self-inside.view_is) c.self.invariant.2 in
     let has = c.has_synced-has.ensures.has c.if-has.true in
     let orderly = c.report.ensures.orderly (∥∥₁_map was (continues _ _ refl (omega arith) (keeps_same _) (rw has refl) (λ h. rw has h))) in
-    (orderly, ∣ tt ∣₁, one_reported _ _ c.args.place _ _ named counted (ap (λ z. z.own.reported) c.report.ensures.reported))
+    (orderly, ∣ tt ∣₁, one_reported _ _ c.args.location _ _ named counted (ap (λ z. z.own.reported) c.report.ensures.reported))
 
 pub returns-then-has-clause-on_disk : goal.returns-then-has-clause-on_disk
 returns-then-has-clause-on_disk g c =
@@ -30,4 +30,4 @@ returns-then-has-clause-on_disk g c =
     let counted = subst (λ z. AreReported (length (map (λ t. t.bytes) z.kept)) z.pending z.names) (sym c.self-inside.view_is) c.self.invariant.2 in
     let has = c.has_synced-has.ensures.has c.if-has.true in
     let orderly = c.report.ensures.orderly (∥∥₁_map was (continues _ _ refl (omega arith) (keeps_same _) (rw has refl) (λ h. rw has h))) in
-    λ _. waits_as _ Settled _ orderly (one_reported _ _ c.args.place _ _ named counted (ap (λ z. z.own.reported) c.report.ensures.reported))
+    λ _. waits_as _ Settled _ orderly (one_reported _ _ c.args.location _ _ named counted (ap (λ z. z.own.reported) c.report.ensures.reported))

@@ -16,7 +16,7 @@ invariant_of-self g c =
 
 pub invariant_of-self-in-None : goal.invariant_of-self-in-None
 invariant_of-self-in-None g c =
-    let asked = passed_on _ _ _ c.passed.ensures.taken c.passed.ensures.refused in
+    let asked = passed_on _ _ _ c.passed.ensures.unchanged c.passed.ensures.refused in
     let was = subst (λ z. ∥ IsOrderly z.names ∥₁) (sym c.self-inside.view_is) c.self.invariant.0 in
     let last = subst (λ z. ∥ IsNamedLast z.pending (standing z.names.calls) ∥₁) (sym c.self-inside.view_is) c.self.invariant.1 in
     let counted = subst (λ z. AreReported (length (map (λ t. t.bytes) z.kept)) z.pending z.names) (sym c.self-inside.view_is) c.self.invariant.2 in

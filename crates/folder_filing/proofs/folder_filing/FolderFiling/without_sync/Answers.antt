@@ -11,12 +11,12 @@ loses_without : (has_sync : Bool) (own : Own) (calls : List Call) → LosesNone 
 loses_without has_sync own [] loses = loses
 loses_without has_sync own (Created draft ∷ before) loses = (loses.0, loses_without has_sync own before loses.1)
 loses_without has_sync own (Written ∷ before) loses = loses_without has_sync own before loses
-loses_without has_sync own (Linked draft place ∷ before) loses = (loses.0, (λ synced. absurd cc), loses_without has_sync own before loses.2)
-loses_without has_sync own (SeenFree place ∷ before) loses = loses_without has_sync own before loses
-loses_without has_sync own (Renamed draft place ∷ before) loses = (loses.0, loses.1, (λ synced. absurd cc), loses_without has_sync own before loses.3)
-loses_without has_sync own (Removed place ∷ before) loses = (loses.0, loses_without has_sync own before loses.1)
+loses_without has_sync own (Linked draft location ∷ before) loses = (loses.0, (λ synced. absurd cc), loses_without has_sync own before loses.2)
+loses_without has_sync own (SeenFree location ∷ before) loses = loses_without has_sync own before loses
+loses_without has_sync own (Renamed draft location ∷ before) loses = (loses.0, loses.1, (λ synced. absurd cc), loses_without has_sync own before loses.3)
+loses_without has_sync own (Removed location ∷ before) loses = (loses.0, loses_without has_sync own before loses.1)
 loses_without has_sync own (Synced folder ∷ before) loses = loses_without has_sync own before loses
-loses_without has_sync own (Reported place ∷ before) loses =
+loses_without has_sync own (Reported location ∷ before) loses =
     (loses.0, (λ synced. absurd cc), loses.2, loses_without has_sync (record own { reported = drop 1 own.reported }) before loses.3)
 loses_without has_sync own (Refused ∷ before) loses = loses_without has_sync own before loses
 loses_without has_sync own (Replaced ∷ before) loses = loses_without has_sync own before loses

@@ -14,7 +14,7 @@ invariant_of-self g c =
     let counted = subst (λ z. AreReported (length (map (λ t. t.bytes) z.kept)) z.pending z.names) (sym c.self-inside.view_is) c.self.invariant.2 in
     elim c.match-self.branch [
       | in-Some w ↦
-          let asked = passed_on _ _ _ w.write_all-written.ensures.taken w.write_all-written.ensures.refused in
+          let asked = passed_on _ _ _ w.write_all-written.ensures.unchanged w.write_all-written.ensures.refused in
           rw w.self-inside-is (∥∥₁_map was (continues _ _ refl (omega arith) (keeps_same _) asked.0 (asked.1 _ _)), same_last _ _ _ asked.0 last, counted)
       | in-None w ↦ rw w.self-inside-is (was, last, counted)
     ]

@@ -15,43 +15,43 @@ returns-in_err-check_group-clause-orderly g c = λ h.
 pub loop-turn-init : goal.loop-turn-init
 loop-turn-init g c =
     let is = c.names.view_is in
-    search_begins c.args.names.now _ (ap (λ n. n.layout) is, ap (λ n. n.kept) is, ap (λ n. n.has_sync) is, ap (λ n. n.own) is) (c.in_ok-check_group.ensures.taken ∙ ap (λ n. n.calls) is)
+    search_begins c.args.names.now _ (ap (λ n. n.layout) is, ap (λ n. n.kept) is, ap (λ n. n.has_sync) is, ap (λ n. n.own) is) (c.in_ok-check_group.ensures.unchanged ∙ ap (λ n. n.calls) is)
     (subst (λ z. order z ≤ order c.later-names-inside.result) (ap (λ n. n.last) is) c.later-names-inside.ensures.own) c.requires.written
 
 pub loop-turn-preserved : goal.loop-turn-preserved
 loop-turn-preserved g c =
-    let next = c.in_ok-place.ensures in
+    let next = c.in_ok-location.ensures in
     let tried = c.in_ok-name_at.ensures in
-    search_continues _ _ _ _ _ c.in_ok-place.place _ c.in_ok-name_at.field-0 c.in-Met.obstacle c.in-Met.is c.loop-turn.invariant
+    search_continues _ _ _ _ _ c.in_ok-location.location _ c.in_ok-name_at.field-0 c.in-Met.obstacle c.in-Met.is c.loop-turn.invariant
     (record { calls = next.calls; sync = next.sync; own = next.own; rises = next.rises; behind = next.behind; kept = next.kept; orderly = next.orderly })
     (record { remaining = tried.remaining; same = tried.same; loses = tried.loses })
     c.pass_over.ensures.calls c.pass_over.ensures.same c.pass_over.ensures.behind
 
-pub returns-in_err-place : goal.returns-in_err-place
-returns-in_err-place g c =
-    let next = c.in_err-place.ensures in
+pub returns-in_err-location : goal.returns-in_err-location
+returns-in_err-location g c =
+    let next = c.in_err-location.ensures in
     let sync = next.sync ∙ c.loop-turn.invariant.sync in
     let own = next.own ∙ c.loop-turn.invariant.own in
     let all = search_is_refused _ _ _ _ c.loop-turn.invariant next.names next.refused next.orderly in
-    rw (err_from_is_err_and c.from_residual-in_err-place.result c.from_residual-in_err-place.ensures.1).1 (record { sync = sync; own = own; named = tt; settled = tt; remaining = all.0; refused = all.1; orderly = all.2; synced = λ has apart. tt })
+    rw (err_from_is_err_and c.from_residual-in_err-location.result c.from_residual-in_err-location.ensures.1).1 (record { sync = sync; own = own; named = tt; settled = tt; remaining = all.0; refused = all.1; orderly = all.2; synced = λ has apart. tt })
 
 pub returns-in_err-name_at : goal.returns-in_err-name_at
 returns-in_err-name_at g c =
-    let next = c.in_ok-place.ensures in
+    let next = c.in_ok-location.ensures in
     let tried = c.in_err-name_at.ensures in
-    let all = search_fails _ _ _ _ c.in_ok-place.place _ c.in_err-name_at.field-0.0 c.loop-turn.invariant
+    let all = search_fails _ _ _ _ c.in_ok-location.location _ c.in_err-name_at.field-0.0 c.loop-turn.invariant
     (record { calls = next.calls; sync = next.sync; own = next.own; rises = next.rises; behind = next.behind; kept = next.kept; orderly = next.orderly })
     (record { remaining = tried.remaining; same = tried.same; loses = tried.loses }) in
     rw (err_from_is_err_and c.from_residual-in_err-name_at.result c.from_residual-in_err-name_at.ensures.1).1 (record { sync = tried.same.2 ∙ next.sync ∙ c.loop-turn.invariant.sync; own = tried.same.3 ∙ next.own ∙ c.loop-turn.invariant.own; named = tt; settled = tt; remaining = all.0; refused = all.1; orderly = all.2; synced = λ has apart. tt })
 
 pub returns-in-Named : goal.returns-in-Named
 returns-in-Named g c =
-    let next = c.in_ok-place.ensures in
+    let next = c.in_ok-location.ensures in
     let tried = c.in_ok-name_at.ensures in
-    let all = search_ends _ _ _ _ c.in_ok-place.place _ c.in_ok-name_at.field-0 c.in-Named.field-0 c.in-Named.is c.loop-turn.invariant
+    let all = search_ends _ _ _ _ c.in_ok-location.location _ c.in_ok-name_at.field-0 c.in-Named.field-0 c.in-Named.is c.loop-turn.invariant
     (record { calls = next.calls; sync = next.sync; own = next.own; rises = next.rises; behind = next.behind; kept = next.kept; orderly = next.orderly })
     (record { remaining = tried.remaining; same = tried.same; loses = tried.loses }) in
-    let synced = search_syncs _ _ _ _ c.in_ok-place.place _ c.in_ok-name_at.field-0 c.in-Named.field-0 c.in-Named.is c.loop-turn.invariant
+    let synced = search_syncs _ _ _ _ c.in_ok-location.location _ c.in_ok-name_at.field-0 c.in-Named.field-0 c.in-Named.is c.loop-turn.invariant
     (record { calls = next.calls; sync = next.sync; own = next.own; rises = next.rises; behind = next.behind; kept = next.kept; orderly = next.orderly }) in
     record { sync = tried.same.2 ∙ next.sync ∙ c.loop-turn.invariant.sync; own = tried.same.3 ∙ next.own ∙ c.loop-turn.invariant.own; named = all.0; settled = all.1; remaining = tt; refused = tt; orderly = all.2; synced = λ has apart. synced (λ h. tried.synced h apart) has }
 

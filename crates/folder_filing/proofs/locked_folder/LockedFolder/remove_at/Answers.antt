@@ -14,14 +14,14 @@ returns-in_err-check_path-clause-orderly g c = λ h.
 pub returns-in_err-path-clause-orderly : goal.returns-in_err-path-clause-orderly
 returns-in_err-path-clause-orderly g c = λ h.
     let was = subst (λ z. ∥ IsOrderly z ∥₁) (sym c.names.view_is) h in
-    let taken = c.in_ok-check_path.ensures.taken in
+    let unchanged = c.in_ok-check_path.ensures.unchanged in
     let refused = c.in_err-path.ensures.refused in
-    ∥∥₁_map was (continues _ _ refl (omega arith) (keeps_same _) (rw (refused, taken) refl) (λ l. rw (refused, taken) l))
+    ∥∥₁_map was (continues _ _ refl (omega arith) (keeps_same _) (rw (refused, unchanged) refl) (λ l. rw (refused, unchanged) l))
 
 pub returns-clause-orderly : goal.returns-clause-orderly
 returns-clause-orderly g c = λ h.
     let was = subst (λ z. ∥ IsOrderly z ∥₁) (sym c.names.view_is) h in
-    let newest = subst (λ z. ∥ IsNewest c.args.place (standing z.calls) ∥₁) (sym c.names.view_is) c.requires.newest in
-    let same = c.in_ok-path.ensures.taken ∙ c.in_ok-check_path.ensures.taken in
+    let newest = subst (λ z. ∥ IsNewest c.args.location (standing z.calls) ∥₁) (sym c.names.view_is) c.requires.newest in
+    let same = c.in_ok-path.ensures.unchanged ∙ c.in_ok-check_path.ensures.unchanged in
     ∥∥₁_elim newest ∥∥₁_prop (λ n.
-    ∥∥₁_map was (takes_back_or_fails c.remove.result _ _ c.args.place _ (refl, refl, refl, refl) refl same c.remove.ensures.removed c.remove.ensures.refused n))
+    ∥∥₁_map was (takes_back_or_fails c.remove.result _ _ c.args.location _ (refl, refl, refl, refl) refl same c.remove.ensures.removed c.remove.ensures.refused n))

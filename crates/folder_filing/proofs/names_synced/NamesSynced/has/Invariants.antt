@@ -5,4 +5,4 @@ use Rattle.folder_filing.specs.Synced.{is_synced_in}
 use Rattle.folder_filing.proofs.names_synced.NamesSynced.has.Given as goal
 
 abbrev pub invariant-loop-folder : goal.invariant-loop-folder
-invariant-loop-folder g l = list_any (is_synced_in l.place) (take l.folder-index l.folder-items) ≡ false
+invariant-loop-folder g l = list_any (is_synced_in l.location) (take l.folder-index l.folder-items) ≡ false

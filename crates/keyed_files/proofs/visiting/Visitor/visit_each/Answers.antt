@@ -9,7 +9,7 @@ loop-dir-init g c = none
 
 pub loop-dir-preserved : goal.loop-dir-preserved
 loop-dir-preserved g c = elim c.match-visit_folders.branch [
-  | in-Ok w ↦ rw w.self-is (visited_then g.T.Taking.took c.loop-dir.invariant w.in-Ok.ensures.visited)
+  | in-Ok w ↦ rw w.self-is (visited_then g.T.Consumer.consumed c.loop-dir.invariant w.in-Ok.ensures.visited)
   | in-Err+in_ok-report_failure-in-Err w ↦
-      rw w.self-is (counted_after g.T.Taking.took c.loop-dir.invariant w.in-Err.ensures.stops w.in_ok-report_failure-in-Err.ensures.counted)
+      rw w.self-is (counted_after g.T.Consumer.consumed c.loop-dir.invariant w.in-Err.ensures.stops w.in_ok-report_failure-in-Err.ensures.counted)
 ]

@@ -6,7 +6,7 @@ use Rattle.list_command.proofs.FirstFilesAreShown.{found, added_at_end}
 use Rattle.list_command.proofs.grouping.Grouping.study_of.Goals as goal
 
 pub returns-in-Some-clause-shown : goal.returns-in-Some-clause-shown
-returns-in-Some-clause-shown g c = found shown_study c.args.uid.now (first_of_study c.args.keys.now c.args.self.now.columns.now) c.args.self.now.studies.entries c.in-Some.place c.in-Some.ensures.at
+returns-in-Some-clause-shown g c = found shown_study c.args.uid.now (first_of_study c.args.keys.now c.args.self.now.columns.now) c.args.self.now.studies.entries c.in-Some.index c.in-Some.ensures.at
 
 pub returns-clause-same : goal.returns-clause-same
 returns-clause-same g c = OnOk-map c.add_new.result _ _

@@ -6,7 +6,7 @@ use Rattle.list_command.proofs.studies.Study.series_of.Goals as goal
 
 pub returns-in-Some-clause-shown : goal.returns-in-Some-clause-shown
 returns-in-Some-clause-shown g c = ap (λ (series : List (List ℕ × ShownSeries)). record (shown_study c.args.self.now) { series = series })
-    (found shown_series c.args.uid.now (first_of_series c.args.keys.now c.args.columns.now) c.args.self.now.series.entries c.in-Some.place c.in-Some.ensures.at)
+    (found shown_series c.args.uid.now (first_of_series c.args.keys.now c.args.columns.now) c.args.self.now.series.entries c.in-Some.index c.in-Some.ensures.at)
 
 pub returns-clause-shown : goal.returns-clause-shown
 returns-clause-shown g c = OnOk-map c.add_new.result _ _

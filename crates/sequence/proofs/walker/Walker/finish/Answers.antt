@@ -1,6 +1,6 @@
 use Rattle.std.proofs.Common.{◌∙◌, sym, subst}
 use Rattle.sequence.specs.Ending.{Fails}
-use Rattle.sequence.specs.Taken.{walker_syntax, limits_of}
+use Rattle.sequence.specs.Consumed.{walker_syntax, limits_of}
 use Rattle.sequence.proofs.MachineReports.HeldIsState.{walks}
 use Rattle.sequence.proofs.WholeDataSet.FinishIsExact.{stopped_fails, reading_fails, between_ok, between_fails}
 use Rattle.sequence.proofs.WholeDataSet.WholeHasNoFault.{whole_has_no_fault}

@@ -11,8 +11,8 @@ returns-in-Ok-clause-reads g c =
     let bound = c.in-Ok.ensures.bound in (
       take c.in-Ok.len room,
       sym bound.1,
-      read_behind c.deref_mut.result.now room inbox.taken inbox.read _ c.in-Ok.len inbox.ordered within bound.0
-          ∙ (ap (λ (bytes : List ℕ). slice_range bytes inbox.taken inbox.read ++ take c.in-Ok.len room) c.deref_mut.ensures.value ∙ ap (λ (xs : List ℕ). xs ++ take c.in-Ok.len room) c.make_room.ensures.same),
+      read_behind c.deref_mut.result.now room inbox.consumed inbox.read _ c.in-Ok.len inbox.ordered within bound.0
+          ∙ (ap (λ (bytes : List ℕ). slice_range bytes inbox.consumed inbox.read ++ take c.in-Ok.len room) c.deref_mut.ensures.value ∙ ap (λ (xs : List ℕ). xs ++ take c.in-Ok.len room) c.make_room.ensures.same),
       c.in-Ok.ensures.traced,
     )
 
@@ -20,8 +20,8 @@ pub returns-in-Ok-eq0-clause-reads : goal.returns-in-Ok-eq0-clause-reads
 returns-in-Ok-eq0-clause-reads g c =
     let inbox = c.make_room.new.self in
     let within : inbox.read ≤ length c.deref_mut.result.now = omega arith in (
-      nothing_behind c.deref_mut.result.now c.read.new.room inbox.taken inbox.read _ inbox.ordered within
-          ∙ (ap (λ (bytes : List ℕ). slice_range bytes inbox.taken inbox.read) c.deref_mut.ensures.value ∙ c.make_room.ensures.same),
+      nothing_behind c.deref_mut.result.now c.read.new.room inbox.consumed inbox.read _ inbox.ordered within
+          ∙ (ap (λ (bytes : List ℕ). slice_range bytes inbox.consumed inbox.read) c.deref_mut.ensures.value ∙ c.make_room.ensures.same),
       search rules,
     )
 
@@ -29,8 +29,8 @@ pub returns-then-eq-clause-reads : goal.returns-then-eq-clause-reads
 returns-then-eq-clause-reads g c =
     let inbox = c.make_room.new.self in
     let within : inbox.read ≤ length c.deref_mut.result.now = omega arith in (
-      nothing_behind c.deref_mut.result.now c.read.new.room inbox.taken inbox.read _ inbox.ordered within
-          ∙ (ap (λ (bytes : List ℕ). slice_range bytes inbox.taken inbox.read) c.deref_mut.ensures.value ∙ c.make_room.ensures.same),
+      nothing_behind c.deref_mut.result.now c.read.new.room inbox.consumed inbox.read _ inbox.ordered within
+          ∙ (ap (λ (bytes : List ℕ). slice_range bytes inbox.consumed inbox.read) c.deref_mut.ensures.value ∙ c.make_room.ensures.same),
       search rules,
     )
 
@@ -38,7 +38,7 @@ pub returns-else-eq-clause-reads : goal.returns-else-eq-clause-reads
 returns-else-eq-clause-reads g c =
     let inbox = c.make_room.new.self in
     let within : inbox.read ≤ length c.deref_mut.result.now = omega arith in (
-      nothing_behind c.deref_mut.result.now c.read.new.room inbox.taken inbox.read _ inbox.ordered within
-          ∙ (ap (λ (bytes : List ℕ). slice_range bytes inbox.taken inbox.read) c.deref_mut.ensures.value ∙ c.make_room.ensures.same),
+      nothing_behind c.deref_mut.result.now c.read.new.room inbox.consumed inbox.read _ inbox.ordered within
+          ∙ (ap (λ (bytes : List ℕ). slice_range bytes inbox.consumed inbox.read) c.deref_mut.ensures.value ∙ c.make_room.ensures.same),
       search rules,
     )

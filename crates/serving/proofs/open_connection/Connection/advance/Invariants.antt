@@ -1,4 +1,4 @@
--- The connection is of the same settings and opened over the same filing, no more is left than may be taken, and no file waits;
+-- The connection is of the same settings and opened over the same filing, no more is left than may be consumed, and no file waits;
 -- of the server's own inputs none was given.
 use Rattle.std.proofs.Common.{◌≡◌, ◌≤◌, false}
 use Rattle.serving.specs.Connections.{aborted_at, initial_of, filing_of, inputs_at, moments_at, settings_at, opening_of, stopped_at}

@@ -8,7 +8,7 @@ use Rattle.serving.proofs.AskedForAReason.{asked_for_a_reason, asked_once, still
 use Rattle.serving.proofs.EachPieceIsReported.{reported_without}
 use Rattle.serving.proofs.InputsAddTheirPieces.{inputs_more}
 use Rattle.serving.proofs.SentIsSettledFirst.{sent_before}
-use Rattle.serving.proofs.TakenInputsAreARun.{Keeps, keeps_closed, keeps_other, keeps_spare}
+use Rattle.serving.proofs.ConsumedInputsAreARun.{Keeps, keeps_closed, keeps_other, keeps_spare}
 use Rattle.serving.proofs.InputsAreTimed.{asked_more, asked_same, due_now, follows_state, hears_none, none_asked, own_more, own_same, timed_more}
 use Rattle.serving.specs.Own.{own_of}
 use Rattle.serving.specs.declared.moment.Moment.{Moment}
@@ -18,7 +18,7 @@ pub invariant_of-self : goal.invariant_of-self
 invariant_of-self g c =
     let was = c.args.self.now in
     let moment : Moment = record { is_asked = c.args.is_asked; remaining = c.of-remaining.result; now = c.args.now } in
-    let before : Keeps _ _ _ _ _ _ _ _ _ = record { never = was.never; fits = was.fits; whole = refl; taken = was.taken } in
+    let before : Keeps _ _ _ _ _ _ _ _ _ = record { never = was.never; fits = was.fits; whole = refl; consumed = was.consumed } in
     let k = keeps_other _ _ _ _ _ _ _ _ _ _ _ _ _ _ _ _ _ c.take.ensures.settings c.push.ensures c.requires.open c.take.new.wire.full c.take.ensures.moved before c.requires.no_piece c.requires.room in
     record {
       there = c.take.ensures.draft;
@@ -30,7 +30,7 @@ invariant_of-self g c =
       followed = rw (← c.deref.ensures) (c.follow.ensures.state ∙ c.state.ensures);
       whole = rw k.whole was.whole;
       heard = reported_without _ _ _ _ _ c.requires.no_piece c.push.ensures was.heard;
-      taken = k.taken;
+      consumed = k.consumed;
       sent = ∥∥₁_map was.sent (λ h. sent_before _ _ _ _ _ _ _ _ _ c.take.ensures.settings c.push.ensures h);
       rested = was.rested;
       timed = ∥∥₁_map was.timed (λ h. rw (c.push.ensures, inputs_more was.given.named c.args.input [], c.push-2.ensures)

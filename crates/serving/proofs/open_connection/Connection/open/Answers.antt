@@ -1,4 +1,4 @@
--- Nothing was taken yet.
+-- Nothing was consumed yet.
 use Rattle.std.proofs.Common.{◌≡◌, List, refl, true, false, length, subst, sym, ap, ◌∙◌, arith, lit<}
 use Rattle.element.specs.Numbers.{IsBytes}
 use Rattle.serving.specs.Timed.{asked_at}
@@ -11,7 +11,7 @@ use Rattle.serving.proofs.EachPieceIsReported.{none_reported}
 use Rattle.serving.proofs.InboxLosesNothing.{nothing_read}
 use Rattle.serving.proofs.InputsAreTimed.{nothing_timed}
 use Rattle.serving.proofs.SentIsSettledFirst.{nothing_sent}
-use Rattle.serving.proofs.TakenInputsAreARun.{begins_due, opens}
+use Rattle.serving.proofs.ConsumedInputsAreARun.{begins_due, opens}
 use Rattle.serving.proofs.open_connection.Connection.open.Goals as goal
 
 pub invariant_of-result : goal.invariant_of-result
@@ -24,9 +24,9 @@ invariant_of-result g c =
       spare = λ _. omega (arith, ap length c.new.ensures.nothing_waits);
       bytes = subst IsBytes (sym k.whole) (λ i. lit< tt);
       followed = ap (λ (w : TimeLimits). w.state) c.new-deadlines.ensures ∙ begins_due _ _ _ (c.open-inbox.ensures.stands (g.F.Filing.store c.args.parts.1));
-      whole = nothing_read _ _ _ k.whole c.new.ensures.nothing_untaken c.new.ensures.nothing_read;
+      whole = nothing_read _ _ _ k.whole c.new.ensures.nothing_unconsumed c.new.ensures.nothing_read;
       heard = none_reported _ _ c.requires.nothing_heard c.new-2.ensures;
-      taken = k.taken;
+      consumed = k.consumed;
       sent = ∣ nothing_sent _ _ _ _ _ _ _ c.new-2.ensures c.new.ensures.nothing_sent (ap g.F.Filing.store (c.of-opened.ensures ∙ sym c.of-settled.ensures)) c.open-inbox.ensures.settings c.open-inbox.ensures.stands ∣₁;
       rested = λ some. absurd (some c.new.ensures.nothing_sent);
       timed = ∣ nothing_timed _ _ _ _ (ap inputs_of c.new-2.ensures) c.new-3.ensures c.of.ensures ∣₁;

@@ -5,11 +5,11 @@ use Rattle.element.specs.Numbers.{IsBytes}
 use Rattle.serving.specs.declared.outbox.Outbox.{Outbox}
 use Rattle.serving.proofs.ClosesWithItsSocket.{one_more_closes, still_closes}
 use Rattle.serving.proofs.EachPieceIsReported.{reported_with_piece}
-use Rattle.serving.proofs.InboxLosesNothing.{front_taken, nothing_more, within_portion}
+use Rattle.serving.proofs.InboxLosesNothing.{front_consumed, nothing_more, within_portion}
 use Rattle.serving.proofs.InputsAddTheirPieces.{inputs_more}
 use Rattle.serving.proofs.InputsAreTimed.{asked_same, heard_then, own_same, timed_more}
 use Rattle.serving.proofs.SentIsSettledFirst.{sent_before}
-use Rattle.serving.proofs.TakenInputsAreARun.{keeps_piece, more_bytes, same_link}
+use Rattle.serving.proofs.ConsumedInputsAreARun.{keeps_piece, more_bytes, same_link}
 use Rattle.engine.specs.Inputs.{inputs_of}
 use Rattle.serving.specs.TimeLimits.{TimeLimits}
 use Rattle.serving.specs.declared.moment.Moment.{Moment}
@@ -22,7 +22,7 @@ invariant_of-self-in-Bytes g c =
     let moment : Moment = record { is_asked = false; remaining = c.of-remaining.result; now = c.args.now } in
     let lent = c.in-Bytes.ensures in
     let are = more_bytes _ _ _ refl was.bytes c.is_of_bytes.ensures in
-    let kept = same_link _ _ _ _ _ _ _ _ _ _ lent.same_written lent.same_outbox (record { never = was.never; fits = was.fits; whole = refl; taken = was.taken }) in
+    let kept = same_link _ _ _ _ _ _ _ _ _ _ lent.same_written lent.same_outbox (record { never = was.never; fits = was.fits; whole = refl; consumed = was.consumed }) in
     let none = ap (λ (o : Outbox). o.bytes.items) lent.same_outbox ∙ c.requires.flushed in
     let keeps = keeps_piece _ _ _ _ _ _ _ _ _ _ _ _ _ _ _ _ _ c.take_portion-is_complete.ensures.settings c.push.ensures c.requires.open c.take_portion-is_complete.new.wire.full c.take_portion-is_complete.ensures.moved kept c.input_limit-limit.result _ refl none (within_portion _ _ _ _ _ c.min.ensures lent.arrives.1) refl are
     (λ inputs story failed h. rw (← c.deref.ensures) (c.input_limit-limit.ensures.few inputs story failed (g.F.Filing.store was.filing) (rw c.deref.ensures h))) in
@@ -34,9 +34,9 @@ invariant_of-self-in-Bytes g c =
       spare = λ _. keeps.1;
       bytes = subst IsBytes (sym k.whole) are;
       followed = rw (← c.deref-in-Bytes-2.ensures) (c.follow.ensures.state ∙ c.state.ensures);
-      whole = rw k.whole (front_taken _ _ _ _ _ _ c.pending.ensures c.drop_front.ensures (lent.arrives.2 _ was.whole));
-      heard = reported_with_piece _ _ _ _ _ _ _ (c.took.ensures.heard ∙ ap (λ (xs : List ℕ). g.B.Observer.heard was.observer ++ xs ∷ []) c.taken-taken.ensures.bytes) c.pending.ensures c.push.ensures was.heard;
-      taken = k.taken;
+      whole = rw k.whole (front_consumed _ _ _ _ _ _ c.pending.ensures c.drop_front.ensures (lent.arrives.2 _ was.whole));
+      heard = reported_with_piece _ _ _ _ _ _ _ (c.consumed.ensures.heard ∙ ap (λ (xs : List ℕ). g.B.Observer.heard was.observer ++ xs ∷ []) c.consumed-consumed.ensures.bytes) c.pending.ensures c.push.ensures was.heard;
+      consumed = k.consumed;
       sent = ∥∥₁_map was.sent (λ h. rw lent.same_written (sent_before _ _ _ _ _ _ _ _ _ c.take_portion-is_complete.ensures.settings c.push.ensures h));
       rested = rw lent.same_written was.rested;
       timed = ∥∥₁_map was.timed (λ h. rw (c.push.ensures, inputs_more was.given.named Piece _, c.push-in-Bytes.ensures)
@@ -58,8 +58,8 @@ invariant_of-self-clause-closed g c =
 pub invariant_of-self-clause-whole : goal.invariant_of-self-clause-whole
 invariant_of-self-clause-whole g c = let lent = c.in-Nothing.ensures.arrives in nothing_more _ _ _ _ _ lent.0 lent.1 lent.2 c.args.self.now.whole
 
-pub invariant_of-self-clause-taken : goal.invariant_of-self-clause-taken
-invariant_of-self-clause-taken g c = let lent = c.in-Nothing.ensures in rw (lent.same_written, lent.same_outbox) c.args.self.now.taken
+pub invariant_of-self-clause-consumed : goal.invariant_of-self-clause-consumed
+invariant_of-self-clause-consumed g c = let lent = c.in-Nothing.ensures in rw (lent.same_written, lent.same_outbox) c.args.self.now.consumed
 
 pub invariant_of-self-clause-sent : goal.invariant_of-self-clause-sent
 invariant_of-self-clause-sent g c = rw c.in-Nothing.ensures.same_written c.args.self.now.sent
@@ -91,7 +91,7 @@ invariant_of-self-in-End-1 g c =
       followed = was.followed;
       whole = nothing_more _ _ _ _ _ lent.arrives.0 lent.arrives.1 lent.arrives.2 was.whole;
       heard = was.heard;
-      taken = rw (lent.same_written, lent.same_outbox) was.taken;
+      consumed = rw (lent.same_written, lent.same_outbox) was.consumed;
       sent = rw lent.same_written was.sent;
       rested = rw lent.same_written was.rested;
       timed = was.timed;

@@ -1,9 +1,0 @@
-use Rattle.std.proofs.Common.{◌≡◌, drop}
-use Rattle.std.specs.List.{position_from}
-use Rattle.negotiate.specs.Contexts.{is_text}
-use Rattle.negotiate.specs.Settings.{settings_of}
-use Rattle.negotiate.proofs.config.Config.place.Given as goal
-
-abbrev pub invariant-loop-place : goal.invariant-loop-place
-invariant-loop-place l =
-    position_from (is_text l.uid) 0 (settings_of l.self).additional.classes ≡ position_from (is_text l.uid) l.place (drop l.place (settings_of l.self).additional.classes)
