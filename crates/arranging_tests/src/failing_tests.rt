@@ -1,7 +1,8 @@
 //! What `arrange` leaves behind if a system call fails or memory runs out.
-use crate::failing::{Ask, CallCount, FailingFiles};
+use crate::failing::CallCount;
 use crate::trees::{Folders, arranged};
 use failures::{Failure, ProgramError};
+use fixtures::hooked::{FileCall, Hooked};
 use fixtures::refusing::Refusing;
 use inspection::Outcome;
 use std::test::Fail;
@@ -55,15 +56,15 @@ fn is_completed(
 
 /// Arranges the two images while the call after `passed` others fails, and then without a failure.
 /// Returns the kind of the failed call, if any.
-fn failed_after(rt: &HostRuntime, way: Way<'_>, passed: u64) -> Result<Option<Ask>, Fail> {
+fn failed_after(rt: &HostRuntime, way: Way<'_>, passed: u64) -> Result<Option<FileCall>, Fail> {
     let folders = Folders::below(rt, way.base)?;
     folders.fill(rt)?;
     let calls = CallCount::new(passed, way.has_links);
-    let failing = FailingFiles { rt, calls: &calls };
+    let failing = Hooked { rt, hooks: &calls };
     let (mut out, mut err) = (Vec::new(rt.alloc()), Vec::new(rt.alloc()));
     let received = arranged(&failing, &folders, way.copy, &mut out, &mut err);
     let failed = calls.failed();
-    let has_draft = failed == Some(Ask::Remove);
+    let has_draft = failed == Some(FileCall::RemoveFile);
     let placed = folders
         .placed(rt, has_draft)?
         .ok_or("something else is there")?;
@@ -81,14 +82,14 @@ fn failed_after(rt: &HostRuntime, way: Way<'_>, passed: u64) -> Result<Option<As
 
 /// Fails each call in turn, until a run meets no failure. Returns whether all wanted kinds of calls
 /// failed.
-fn all_fail(rt: &HostRuntime, way: Way<'_>, wanted: &[Ask]) -> Result<bool, Fail> {
+fn all_fail(rt: &HostRuntime, way: Way<'_>, wanted: &[FileCall]) -> Result<bool, Fail> {
     let mut failed = Vec::new(rt.alloc());
     for passed in 0..1000u64 {
         match failed_after(rt, way, passed)? {
-            Some(ask) => failed.push(ask)?,
+            Some(call) => failed.push(call)?,
             None => {
                 let failed = failed.as_slice();
-                return Ok(wanted.iter().all(|ask| failed.contains(ask)));
+                return Ok(wanted.iter().all(|call| failed.contains(call)));
             }
         }
     }
@@ -103,12 +104,12 @@ fn each_call_fails_where_files_are_linked(rt: HostRuntime) -> Result<(), Fail> {
         has_links: true,
     };
     let wanted = [
-        Ask::Open,
-        Ask::List,
-        Ask::Look,
-        Ask::Read,
-        Ask::Link,
-        Ask::MakeFolder,
+        FileCall::Open,
+        FileCall::List,
+        FileCall::Metadata,
+        FileCall::Read,
+        FileCall::Link,
+        FileCall::CreateFolder,
     ];
     assert!(rt; all_fail(&rt, way, &wanted)?);
     Ok(())
@@ -122,13 +123,13 @@ fn each_call_fails_where_files_are_copied(rt: HostRuntime) -> Result<(), Fail> {
         has_links: true,
     };
     let wanted = [
-        Ask::Lock,
-        Ask::Create,
-        Ask::Write,
-        Ask::Sync,
-        Ask::Link,
-        Ask::Remove,
-        Ask::MakeFolder,
+        FileCall::Lock,
+        FileCall::Create,
+        FileCall::Write,
+        FileCall::SyncAll,
+        FileCall::Link,
+        FileCall::RemoveFile,
+        FileCall::CreateFolder,
     ];
     assert!(rt; all_fail(&rt, way, &wanted)?);
     Ok(())
@@ -142,7 +143,13 @@ fn each_call_fails_where_there_are_no_links(rt: HostRuntime) -> Result<(), Fail>
         copy: true,
         has_links: false,
     };
-    let wanted = [Ask::Lock, Ask::Write, Ask::Sync, Ask::Link, Ask::Rename];
+    let wanted = [
+        FileCall::Lock,
+        FileCall::Write,
+        FileCall::SyncAll,
+        FileCall::Link,
+        FileCall::Rename,
+    ];
     assert!(rt; all_fail(&rt, way, &wanted)?);
     Ok(())
 }

@@ -1,9 +1,10 @@
 //! What `list` prints if a system call fails, its output is full, or memory runs out.
-use crate::failing::{Ask, CallCount, FailingFiles};
+use crate::failing::CallCount;
 use crate::images::{FIRST, put_image};
 use crate::list_tests::{LINES, listed, printed, put_four};
 use failures::{Failure, ProgramError};
 use fixtures::folders::fresh;
+use fixtures::hooked::{FileCall, Hooked};
 use fixtures::refusing::Refusing;
 use fixtures::writers::SlowWriter;
 use inspection::{Outcome, OutputForm};
@@ -24,9 +25,9 @@ const ALL_JSON: ListOptions<'static> = ListOptions {
 
 /// Returns whether the number of printed bytes fits the failure: fewer than all if a file could not
 /// be read, at most all if listing a folder failed.
-fn is_less(failed: Option<Ask>, printed: usize, whole: usize) -> bool {
+fn is_less(failed: Option<FileCall>, printed: usize, whole: usize) -> bool {
     match failed {
-        Some(Ask::List) => printed <= whole,
+        Some(FileCall::List) => printed <= whole,
         Some(_) => printed < whole,
         None => false,
     }
@@ -35,9 +36,9 @@ fn is_less(failed: Option<Ask>, printed: usize, whole: usize) -> bool {
 /// Lists four images while the call after `passed` others fails. Returns the kind of the failed
 /// call, if any. Either one line on standard error names the unreadable file or folder and the
 /// others are listed, or listing the main folder fails.
-fn failed_after(rt: &HostRuntime, whole: &[u8], passed: u64) -> Result<Option<Ask>, Fail> {
+fn failed_after(rt: &HostRuntime, whole: &[u8], passed: u64) -> Result<Option<FileCall>, Fail> {
     let calls = CallCount::new(passed, true);
-    let failing = FailingFiles { rt, calls: &calls };
+    let failing = Hooked { rt, hooks: &calls };
     let (mut out, mut err) = (Vec::new(rt.alloc()), Vec::new(rt.alloc()));
     let received = listed(&failing, "unread", ALL_LINES, &mut out, &mut err);
     let is_due = match received {
@@ -73,13 +74,18 @@ fn each_call_fails(rt: HostRuntime) -> Result<(), Fail> {
     let mut failed = Vec::new(rt.alloc());
     for passed in 0..1000u64 {
         match failed_after(&rt, whole.as_slice(), passed)? {
-            Some(ask) => failed.push(ask)?,
+            Some(call) => failed.push(call)?,
             None => break,
         }
     }
     let failed = failed.as_slice();
-    let asks = [Ask::List, Ask::Look, Ask::Open, Ask::Read];
-    assert!(rt; asks.iter().all(|ask| failed.contains(ask)));
+    let wanted = [
+        FileCall::List,
+        FileCall::Metadata,
+        FileCall::Open,
+        FileCall::Read,
+    ];
+    assert!(rt; wanted.iter().all(|call| failed.contains(call)));
     assert!(rt; 15 < failed.len() && failed.len() < 1000);
     Ok(())
 }

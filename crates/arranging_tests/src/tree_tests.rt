@@ -1,9 +1,10 @@
 //! The tree that `arrange` creates from a folder.
-use crate::failing::{CallCount, FailingFiles};
+use crate::failing::CallCount;
 use crate::images::{FIRST, SECOND, file, has_bytes, has_image, is_free, put_image};
 use crate::trees::{Folders, arranged};
 use arrange_command::{ArrangeOptions, BY_UIDS, arrange_folders};
 use fixtures::folders::count;
+use fixtures::hooked::Hooked;
 use inspection::{Outcome, OutputForm};
 use keyed_files::{Counter, NodeId};
 use std::fs;
@@ -116,7 +117,7 @@ fn paths_that_have_something_else(rt: HostRuntime) -> Result<(), Fail> {
 /// changes the disk.
 fn reports(rt: &HostRuntime, folders: &Folders, copy: bool, lines: &[u8]) -> Result<bool, Fail> {
     let calls = CallCount::new(u64::MAX, true);
-    let failing = FailingFiles { rt, calls: &calls };
+    let failing = Hooked { rt, hooks: &calls };
     let options = ArrangeOptions {
         tree: folders.tree.as_str(),
         pattern: BY_UIDS,
