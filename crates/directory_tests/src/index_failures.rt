@@ -1,9 +1,10 @@
 //! What `index` leaves in a folder if a disk call fails or memory runs out.
 use crate::index_tests::{FIRST, SECOND, WITHOUT_STUDY_ID, file, put_images, replacing, settings};
-use crate::recorded::{Call, Recorded, Stage, Watched};
+use crate::recorded::{Stage, Watched};
 use arguments::Index;
 use failures::{Failure, ProgramError};
 use fixtures::folders::{count, holds};
+use fixtures::hooked::Hooked;
 use fixtures::refusing::Refusing;
 use index_command::index_dir;
 use inspection::Outcome;
@@ -11,16 +12,16 @@ use std::cell::Cell;
 use std::fs;
 use std::test::Fail;
 
-/// The failing call, the stage that the directory reaches, and whether the directory is in place.
-type Failing = (Option<Call>, Stage, bool);
+/// The stage whose call fails, the stage that is reached, and whether the directory is in place.
+type Failing = (Option<Stage>, Stage, bool);
 
 const FAILING: [Failing; 6] = [
     (None, Stage::Durable, true),
-    (Some(Call::Create), Stage::Removed, false),
-    (Some(Call::Write), Stage::Removed, false),
-    (Some(Call::SyncDraft), Stage::Removed, false),
-    (Some(Call::Rename), Stage::Removed, false),
-    (Some(Call::SyncFolder), Stage::Renamed, true),
+    (Some(Stage::Created), Stage::Removed, false),
+    (Some(Stage::Written), Stage::Removed, false),
+    (Some(Stage::Synced), Stage::Removed, false),
+    (Some(Stage::Renamed), Stage::Removed, false),
+    (Some(Stage::Durable), Stage::Renamed, true),
 ];
 
 /// Runs `index` over a folder of one image while a call fails. Returns whether the outcome is as in
@@ -35,9 +36,9 @@ fn is_put(rt: &HostRuntime, row: Failing) -> Result<bool, Fail> {
         opened: Cell::new(None),
         stage: Cell::new(Stage::Nothing),
     };
-    let recorded = Recorded {
+    let recorded = Hooked {
         rt,
-        watched: &watched,
+        hooks: &watched,
     };
     let mut out = Vec::new(rt.alloc());
     let is_due = match index_dir(&recorded, &replacing("failing")?, &mut out) {

@@ -1,8 +1,9 @@
 //! What `index` reports on standard error about the files that it leaves out.
 use crate::index_tests::{FIRST, Image, SECOND, file, put_images, replacing, settings};
-use crate::recorded::{Recorded, Stage, Watched};
+use crate::recorded::{Stage, Watched};
 use failures::ProgramError;
 use fixtures::folders::holds;
+use fixtures::hooked::Hooked;
 use fixtures::refusing::Refusing;
 use index_command::{IndexCounts, Indexed, index_folder};
 use std::cell::Cell;
@@ -97,9 +98,9 @@ fn duplicates_that_are_not_compared(rt: HostRuntime) -> Result<(), Fail> {
             opened: Cell::new(Some(count)),
             stage: Cell::new(Stage::Nothing),
         };
-        let recorded = Recorded {
+        let recorded = Hooked {
             rt: &rt,
-            watched: &watched,
+            hooks: &watched,
         };
         let line = "dcmbox: opened/I0000002: a double of I0000001, which can't be compared\n";
         assert!(rt; reports(&recorded, ("opened", false), (line, ONE), (1, 1))?);

@@ -1,21 +1,9 @@
-//! A runtime that observes how a directory is written into a folder, and fails one of the calls.
+//! Hooks that observe how a directory is written into a folder, and fail one of the calls.
 
-use std::alloc::{AllocError, Allocator, Global};
+use fixtures::hooked::{FileCall, FileHooks};
 use std::cell::Cell;
-use std::fs::{File, Metadata, OpenFile, OpenOptions};
 use std::io;
-use std::io::{ErrorKind, Read, Seek, SeekFrom, Write};
-use std::rt::Files;
-
-/// A call that writes a directory into a folder.
-#[derive(Clone, Copy, Debug, PartialEq, Eq)]
-pub enum Call {
-    Create,
-    Write,
-    SyncDraft,
-    Rename,
-    SyncFolder,
-}
+use std::io::{Error, ErrorKind};
 
 /// How far the directory is written.
 #[derive(Clone, Copy, Debug, PartialEq, Eq)]
@@ -38,17 +26,18 @@ pub enum Stage {
 #[derive(Drop)]
 pub struct Watched<'a> {
     pub dir: &'a str,
-    pub fails: Option<Call>,
+    /// The stage that is not reached, since its call fails; `None` if none fails.
+    pub fails: Option<Stage>,
     /// How many files are opened for reading before opening one fails; `None` if none fails.
     pub opened: Cell<Option<usize>>,
     pub stage: Cell<Stage>,
 }
 
 impl Watched<'_> {
-    /// Moves from one of these stages to the next. Fails if the call is the one to fail.
-    fn step(&self, call: Call, from: &[Stage], to: Stage) -> io::Result<()> {
-        if self.fails == Some(call) {
-            return Err(io::Error::from(ErrorKind::Other));
+    /// Moves from one of these stages to the next. Fails if its call is the one to fail.
+    fn step(&self, from: &[Stage], to: Stage) -> io::Result<()> {
+        if self.fails == Some(to) {
+            return Err(Error::from(ErrorKind::Other));
         }
         let stage = self.stage.get();
         self.stage.set(if from.contains(&stage) {
@@ -59,163 +48,39 @@ impl Watched<'_> {
         Ok(())
     }
 
-    /// Observes opening a file.
-    fn open(&self, how: &OpenOptions) -> io::Result<()> {
-        if how.asks_write() {
-            return self.step(Call::Create, &[Stage::Cleared], Stage::Created);
-        }
-        match self.opened.get() {
-            None => Ok(()),
-            Some(0) => {
-                self.opened.set(None);
-                Err(io::Error::from(ErrorKind::NotFound))
-            }
-            Some(count) => {
-                self.opened.set(Some(count.saturating_sub(1)));
-                Ok(())
+    /// Observes opening a file for reading.
+    fn open(&self) -> io::Result<()> {
+        if let Some(count) = self.opened.get() {
+            self.opened.set(count.checked_sub(1));
+            if count == 0 {
+                return Err(Error::from(ErrorKind::NotFound));
             }
         }
+        Ok(())
     }
 
-    /// Observes a sync of the draft or of the folder.
-    fn sync(&self, is_draft: bool) -> io::Result<()> {
-        if is_draft {
-            self.step(Call::SyncDraft, &[Stage::Written], Stage::Synced)
-        } else {
-            self.step(Call::SyncFolder, &[Stage::Renamed], Stage::Durable)
-        }
-    }
-}
-
-/// An observed file. Each write accepts at most 100 bytes.
-#[derive(Drop)]
-pub struct WatchedFile<'a> {
-    file: File,
-    watched: &'a Watched<'a>,
-    is_draft: bool,
-}
-
-impl Read for WatchedFile<'_> {
-    fn read(&mut self, room: &mut [u8]) -> io::Result<usize> {
-        self.file.read(room)
-    }
-}
-
-impl Write for WatchedFile<'_> {
-    fn write(&mut self, bytes: &[u8]) -> io::Result<usize> {
-        let from = [Stage::Created, Stage::Written];
-        self.watched.step(Call::Write, &from, Stage::Written)?;
-        self.file.write(&bytes[..bytes.len().min(100)])
-    }
-
-    fn flush(&mut self) -> io::Result<()> {
-        self.file.flush()
-    }
-}
-
-impl Seek for WatchedFile<'_> {
-    fn seek(&mut self, to: SeekFrom) -> io::Result<u64> {
-        self.file.seek(to)
-    }
-}
-
-impl OpenFile for WatchedFile<'_> {
-    fn metadata(&self) -> io::Result<Metadata> {
-        self.file.metadata()
-    }
-
-    fn set_len(&self, size: u64) -> io::Result<()> {
-        self.file.set_len(size)
-    }
-
-    fn sync_all(&self) -> io::Result<()> {
-        self.watched.sync(self.is_draft)?;
-        self.file.sync_all()
-    }
-
-    fn sync_data(&self) -> io::Result<()> {
-        self.file.sync_data()
-    }
-}
-
-/// A runtime whose files are observed.
-#[derive(Drop)]
-pub struct Recorded<'a> {
-    pub rt: &'a HostRuntime,
-    pub watched: &'a Watched<'a>,
-}
-
-impl Clone for Recorded<'_> {
-    fn clone(&self) -> Result<Self, AllocError> {
-        Ok(Recorded {
-            rt: self.rt,
-            watched: self.watched,
-        })
-    }
-}
-
-impl Alloc for Recorded<'_> {
-    type A = Global;
-
-    fn alloc(&self) -> Global {
-        self.rt.alloc()
-    }
-}
-
-impl<'a> Files for Recorded<'a> {
-    type File = WatchedFile<'a>;
-
-    type Dir = <HostRuntime as Files>::Dir;
-
-    fn open_file(&self, how: &OpenOptions, path: &str) -> io::Result<WatchedFile<'a>> {
-        self.watched.open(how)?;
-        Ok(WatchedFile {
-            file: self.rt.open_file(how, path)?,
-            watched: self.watched,
-            is_draft: path != self.watched.dir,
-        })
-    }
-
-    fn open_dir(&self, path: &str) -> io::Result<Self::Dir> {
-        self.rt.open_dir(path)
-    }
-
-    fn metadata(&self, path: &str) -> io::Result<Metadata> {
-        self.rt.metadata(path)
-    }
-
-    fn symlink_metadata(&self, path: &str) -> io::Result<Metadata> {
-        self.rt.symlink_metadata(path)
-    }
-
-    fn copy(&self, from: &str, to: &str) -> io::Result<u64> {
-        self.rt.copy(from, to)
-    }
-
-    fn rename(&self, from: &str, to: &str) -> io::Result<()> {
-        self.watched
-            .step(Call::Rename, &[Stage::Synced], Stage::Renamed)?;
-        self.rt.rename(from, to)
-    }
-
-    fn remove_file(&self, path: &str) -> io::Result<()> {
-        let stage = &self.watched.stage;
-        stage.set(match stage.get() {
+    /// Observes removing a file.
+    fn remove(&self) -> io::Result<()> {
+        self.stage.set(match self.stage.get() {
             Stage::Nothing => Stage::Cleared,
             _ => Stage::Removed,
         });
-        self.rt.remove_file(path)
+        Ok(())
     }
+}
 
-    fn create_dir(&self, path: &str) -> io::Result<()> {
-        self.rt.create_dir(path)
-    }
-
-    fn remove_dir(&self, path: &str) -> io::Result<()> {
-        self.rt.remove_dir(path)
-    }
-
-    fn remove_dir_all<B: Allocator>(&self, alloc: B, path: &str) -> io::Result<()> {
-        self.rt.remove_dir_all(alloc, path)
+impl FileHooks for &Watched<'_> {
+    fn before(&self, call: FileCall, path: &str) -> io::Result<()> {
+        match call {
+            FileCall::Open => self.open(),
+            FileCall::Create => self.step(&[Stage::Cleared], Stage::Created),
+            FileCall::Write => self.step(&[Stage::Created, Stage::Written], Stage::Written),
+            FileCall::SyncAll if path == self.dir => self.step(&[Stage::Renamed], Stage::Durable),
+            FileCall::SyncAll => self.step(&[Stage::Written], Stage::Synced),
+            FileCall::Rename => self.step(&[Stage::Synced], Stage::Renamed),
+            FileCall::RemoveFile => self.remove(),
+            FileCall::Link => Err(Error::from(ErrorKind::Unsupported)),
+            _ => Ok(()),
+        }
     }
 }
