@@ -19,11 +19,11 @@ commit 1
 missing DRAFT
 holds DRAFT2 second
 commit 2
-place 1 I0000001
+location 1 I0000001
 holds I0000001 first
 error 1
 counted 1 1 0
-place 2 I0000002
+location 2 I0000002
 holds I0000002 second
 error 2
 counted 2 1 0
@@ -42,11 +42,11 @@ commit 2
 missing DRAFT2
 holds DRAFT first
 commit 1
-place 1 I0000002
+location 1 I0000002
 holds I0000002 first
 error 1
 counted 1 1 0
-place 2 I0000001
+location 2 I0000001
 holds I0000001 second
 error 2
 counted 2 1 0
@@ -65,11 +65,11 @@ commit 1
 missing DRAFT
 holds DRAFT2 second
 commit 2
-place 1 S0000001/I0000001
+location 1 S0000001/I0000001
 holds S0000001/I0000001 first
 error 1
 counted 1 1 0
-place 2 S0000002/I0000001
+location 2 S0000002/I0000001
 holds S0000002/I0000001 second
 error 2
 counted 2 1 0
@@ -88,11 +88,11 @@ commit 2
 missing DRAFT2
 holds DRAFT first
 commit 1
-place 1 S0000002/I0000001
+location 1 S0000002/I0000001
 holds S0000002/I0000001 first
 error 1
 counted 1 1 0
-place 2 S0000001/I0000001
+location 2 S0000001/I0000001
 holds S0000001/I0000001 second
 error 2
 counted 2 1 0
@@ -114,7 +114,7 @@ discard 1
 missing DRAFT
 holds DRAFT2 kept
 commit 2
-place 2 I0000001
+location 2 I0000001
 holds I0000001 kept
 error 2
 counted 2 1 0
@@ -130,7 +130,7 @@ discard 2
 missing DRAFT2
 holds DRAFT kept
 commit 1
-place 1 I0000001
+location 1 I0000001
 holds I0000001 kept
 error 1
 counted 1 1 0
@@ -158,7 +158,7 @@ counted 1 0 1
 missing DRAFT
 holds DRAFT2 other
 commit 2
-place 2 I0000002
+location 2 I0000002
 holds I0000002 other
 error 2
 counted 2 1 0
@@ -254,15 +254,16 @@ begin 1 first
 begin 2 second
 drop 1
 filing
-close
+drop writer
 begin 3 third
 holds DRAFT3 third
 holds DRAFT first
 holds DRAFT2 second
 drop 2
-locked
+not writer 0
+reports WouldBlock the folder is in use by another writer
 drop 3
-not locked
+writer 0
 count . 0";
 
 #[test]

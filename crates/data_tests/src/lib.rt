@@ -39,8 +39,6 @@ mod folder_filing_quarantine;
 #[cfg(test)]
 mod folder_filing_tests;
 #[cfg(test)]
-mod folder_steps;
-#[cfg(test)]
 mod fragment_tests;
 #[cfg(test)]
 mod images;
