@@ -1,110 +1,77 @@
 //! What `checkdir` prints for a directory, and for each beginning of it.
+use crate::play::play;
 use checkdir_command::checkdir_over;
-use failures::{Failure, ProgramError};
-use fixtures::devices::{Device, Gives};
+use failures::ProgramError;
 use fixtures::refusing::Refusing;
 use inspection::Outcome;
-use std::alloc::{AllocError, Global};
+use std::alloc::Global;
+use std::fs;
 use std::test::Fail;
 
-/// A directory of one image, without the preamble: the file header, the root, and the records of a
-/// patient, a study, a series and the image.
-const ONE_IMAGE: &[u8] = b"DICM\x02\0\0\0UL\x04\0z\0\0\0\x02\0\x01\0OB\0\0\x02\0\0\0\0\x01\
-\x02\0\x02\0UI\x14\01.2.840.10008.1.3.10\x02\0\x03\0UI\x06\02.25.1\
-\x02\0\x10\0UI\x14\01.2.840.10008.1.2.1\0\x02\0\x12\0UI\x0e\02.25.20260101\0\
-\x02\0\x13\0SH\x08\0DCMBOX_1\x04\00\x11CS\0\0\x04\0\0\x12UL\x04\0@\x01\0\0\
-\x04\0\x02\x12UL\x04\0@\x01\0\0\x04\0\x12\x12US\x02\0\0\0\x04\0 \x12SQ\0\0\xd4\x01\0\0\
-\xfe\xff\0\xe0L\0\0\0\x04\0\0\x14UL\x04\0\0\0\0\0\x04\0\x10\x14US\x02\0\xff\xff\
-\x04\0 \x14UL\x04\0\x94\x01\0\0\x04\00\x14CS\x08\0PATIENT \x10\0\x10\0PN\x08\0DOE^JANE\
-\x10\0 \0LO\x02\0P1\
-\xfe\xff\0\xe0z\0\0\0\x04\0\0\x14UL\x04\0\0\0\0\0\x04\0\x10\x14US\x02\0\xff\xff\
-\x04\0 \x14UL\x04\0\x16\x02\0\0\x04\00\x14CS\x06\0STUDY \x08\0 \0DA\x08\020260101\
-\x08\00\0TM\x06\0120000\x08\0P\0SH\0\0\x08\00\x10LO\x04\0HEAD \0\x0d\0UI\x06\01.2.3\0\
-\x20\0\x10\0SH\x02\0S1\
-\xfe\xff\0\xe0T\0\0\0\x04\0\0\x14UL\x04\0\0\0\0\0\x04\0\x10\x14US\x02\0\xff\xff\
-\x04\0 \x14UL\x04\0r\x02\0\0\x04\00\x14CS\x06\0SERIES\x08\0`\0CS\x02\0CT \0\x0e\0UI\x08\01.2.3.1\0\
-\x20\0\x11\0IS\x02\01 \
-\xfe\xff\0\xe0\x9a\0\0\0\x04\0\0\x14UL\x04\0\0\0\0\0\x04\0\x10\x14US\x02\0\xff\xff\
-\x04\0 \x14UL\x04\0\0\0\0\0\x04\00\x14CS\x06\0IMAGE \x04\0\0\x15CS\x08\0I0000001\
-\x04\0\x10\x15UI\x1a\01.2.840.10008.5.1.4.1.1.2\0\x04\0\x11\x15UI\x0a\01.2.3.1.1\0\
-\x04\0\x12\x15UI\x14\01.2.840.10008.1.2.1\0 \0\x13\0IS\x02\01 ";
+/// A directory of one image, of 788 bytes: the file header, the root, and the records of a patient,
+/// a study, a series and the image.
+static ONE_IMAGE: &str = "folder | checked
+let | front | 00*128 'DICM' 02000000 'UL' 0400 7a000000 02000100 'OB' 0000 02000000 0001 \
+02000200 'UI' 1400 '1.2.840.10008.1.3.10' 02000300 'UI' 0600 '2.25.1' \
+02001000 'UI' 1400 '1.2.840.10008.1.2.1' 00 02001200 'UI' 0e00 '2.25.20260101' 00 \
+02001300 'SH' 0800 'DCMBOX_1'
+let | root | 04003011 'CS' 0000 04000012 'UL' 0400 40010000 04000212 'UL' 0400 40010000 \
+04001212 'US' 0200 0000 04002012 'SQ' 0000 d4010000
+let | record | 04000014 'UL' 0400 00000000 04001014 'US' 0200 ffff 04002014 'UL' 0400
+let | patient | feff00e0 4c000000 record 94010000 04003014 'CS' 0800 'PATIENT ' \
+10001000 'PN' 0800 'DOE^JANE' 10002000 'LO' 0200 'P1'
+let | study | feff00e0 7a000000 record 16020000 04003014 'CS' 0600 'STUDY ' \
+08002000 'DA' 0800 '20260101' 08003000 'TM' 0600 '120000' 08005000 'SH' 0000 \
+08003010 'LO' 0400 'HEAD' 20000d00 'UI' 0600 '1.2.3' 00 20001000 'SH' 0200 'S1'
+let | series | feff00e0 54000000 record 72020000 04003014 'CS' 0600 'SERIES' \
+08006000 'CS' 0200 'CT' 20000e00 'UI' 0800 '1.2.3.1' 00 20001100 'IS' 0200 '1 '
+let | image | feff00e0 9a000000 record 00000000 04003014 'CS' 0600 'IMAGE ' \
+04000015 'CS' 0800 'I0000001' 04001015 'UI' 1a00 '1.2.840.10008.5.1.4.1.1.2' 00 \
+04001115 'UI' 0a00 '1.2.3.1.1' 00 04001215 'UI' 1400 '1.2.840.10008.1.2.1' 00 \
+20001300 'IS' 0200 '1 '
+put | DICOMDIR | front root patient study series image
+size | DICOMDIR | 788";
 
-const LISTED: &[u8] = b"0000000320 PATIENT
+static LISTED: &str = "no folder | checked
+checkdir | DICOMDIR | Good | 0000000320 PATIENT | 0000000404   STUDY | 0000000534     SERIES | \
+0000000626       IMAGE I0000001 | records 4
+checkdir by byte | DICOMDIR | Good | 0000000320 PATIENT | 0000000404   STUDY | \
+0000000534     SERIES | 0000000626       IMAGE I0000001 | records 4
+checkdir torn | DICOMDIR | Read";
+
+#[test]
+fn records_are_listed(rt: HostRuntime) -> Result<(), Fail> {
+    play(&rt, ONE_IMAGE)?;
+    play(&rt, LISTED)
+}
+
+/// Some beginnings end before an element of the root: its last elements are missing.
+static FRONTS: &str = "no folder | checked
+fronts | DICOMDIR | 0 132 | fault 50 NotPart10 at 128
+fronts | DICOMDIR | 132 266 | fault 51 BadMeta at 132
+fronts | DICOMDIR | 266 267 | fault 68 BadRecord at 266
+fronts | DICOMDIR | 267 274 | fault 20 Truncated at LENGTH tag TAG
+fronts | DICOMDIR | 274 275 | fault 68 BadRecord at 266
+fronts | DICOMDIR | 275 286 | fault 20 Truncated at LENGTH tag TAG
+fronts | DICOMDIR | 286 287 | fault 68 BadRecord at 266
+fronts | DICOMDIR | 287 298 | fault 20 Truncated at LENGTH tag TAG
+fronts | DICOMDIR | 298 299 | fault 68 BadRecord at 266
+fronts | DICOMDIR | 299 308 | fault 20 Truncated at LENGTH tag TAG
+fronts | DICOMDIR | 308 309 | fault 68 BadRecord at 266
+fronts | DICOMDIR | 309 788 | fault 20 Truncated at LENGTH tag TAG";
+
+#[test]
+fn every_front_of_a_directory_has_a_fault(rt: HostRuntime) -> Result<(), Fail> {
+    play(&rt, ONE_IMAGE)?;
+    play(&rt, FRONTS)
+}
+
+const RECORDS: &[u8] = b"0000000320 PATIENT
 0000000404   STUDY
 0000000534     SERIES
 0000000626       IMAGE I0000001
 records 4
 ";
-
-/// Returns the directory of one image, 788 bytes, with the preamble.
-fn one_image(alloc: Global) -> Result<Vec<u8>, AllocError> {
-    let mut file = Vec::new(alloc);
-    file.extend_from_slice(&[0; 128])?;
-    file.extend_from_slice(ONE_IMAGE)?;
-    Ok(file)
-}
-
-/// Returns the beginning of the line printed for the first `length` bytes of that directory.
-fn fault_of_front(alloc: Global, length: usize) -> Result<String, AllocError> {
-    if length < 132 {
-        return String::from_str(alloc, "fault 50 NotPart10 at 128\n");
-    }
-    if length < 266 {
-        return String::from_str(alloc, "fault 51 BadMeta at 132\n");
-    }
-    // The beginnings that end before an element of the root: its last elements are missing.
-    if [266, 274, 286, 298, 308].as_slice().contains(&length) {
-        return String::from_str(alloc, "fault 68 BadRecord at 266\n");
-    }
-    format!(in alloc; "fault 20 Truncated at {length} tag ")
-}
-
-/// Returns whether the records of the directory are listed.
-fn lists(alloc: Global, bytes: &[u8], gives: Gives) -> Result<bool, ProgramError> {
-    let mut out = Vec::new(alloc);
-    let outcome = checkdir_over(alloc, &mut Device { bytes, gives }, &mut out)?;
-    Ok(outcome == Outcome::Good && out.as_slice() == LISTED)
-}
-
-/// Returns whether the beginning is rejected with the expected line.
-fn refuses(alloc: Global, front: &[u8]) -> Result<bool, ProgramError> {
-    let mut out = Vec::new(alloc);
-    let mut input = Device {
-        bytes: front,
-        gives: Gives::All,
-    };
-    let outcome = checkdir_over(alloc, &mut input, &mut out)?;
-    let want = fault_of_front(alloc, front.len())?;
-    Ok(outcome == Outcome::Faulty && out.as_slice().starts_with(want.as_bytes()))
-}
-
-#[test]
-fn records_are_listed(rt: HostRuntime) -> Result<(), Fail> {
-    let alloc = rt.alloc();
-    let file = one_image(alloc)?;
-    let bytes = file.as_slice();
-    assert!(rt; bytes.len() == 788);
-    assert!(rt; lists(alloc, bytes, Gives::All)?);
-    assert!(rt; lists(alloc, bytes, Gives::One)?);
-    assert!(rt;
-        matches!(
-            lists(alloc, bytes, Gives::Torn),
-            Err(ProgramError::System(Failure::Read, _))
-        )
-    );
-    Ok(())
-}
-
-#[test]
-fn every_front_of_a_directory_has_a_fault(rt: HostRuntime) -> Result<(), Fail> {
-    let alloc = rt.alloc();
-    let file = one_image(alloc)?;
-    for length in 0..788usize {
-        let front = file.as_slice().get(..length).ok_or("no front")?;
-        assert!(rt; refuses(alloc, front)?);
-    }
-    Ok(())
-}
 
 /// Lists the records while the allocation after `passed` others is refused. Returns whether an
 /// allocation was refused; then memory must run out and nothing be printed, else the records be
@@ -114,7 +81,7 @@ fn is_refused(alloc: Global, mut bytes: &[u8], passed: u64) -> Result<bool, Fail
     let mut out = Vec::new(alloc);
     let outcome = checkdir_over(&refusing, &mut bytes, &mut out);
     match (outcome, refusing.has_refused()) {
-        (Ok(Outcome::Good), false) if out.as_slice() == LISTED => Ok(false),
+        (Ok(Outcome::Good), false) if out.as_slice() == RECORDS => Ok(false),
         (Err(ProgramError::Memory(_)), true) if out.is_empty() => Ok(true),
         _ => Err(Fail::from("neither listed nor out of memory")),
     }
@@ -124,10 +91,10 @@ fn is_refused(alloc: Global, mut bytes: &[u8], passed: u64) -> Result<bool, Fail
 /// because memory ran out.
 #[test]
 fn each_allocation_is_refused(rt: HostRuntime) -> Result<(), Fail> {
-    let alloc = rt.alloc();
-    let file = one_image(alloc)?;
+    play(&rt, ONE_IMAGE)?;
+    let file = fs::read(&rt, "checked/DICOMDIR")?;
     for passed in 0..1000u64 {
-        if !is_refused(alloc, file.as_slice(), passed)? {
+        if !is_refused(rt.alloc(), file.as_slice(), passed)? {
             assert!(rt; 5 < passed);
             return Ok(());
         }

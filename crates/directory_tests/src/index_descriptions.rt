@@ -1,65 +1,61 @@
 //! Series Description in the directory of a folder, which `index` adds with an option.
-use crate::index_tests::{FIRST, Image, put_images, settings};
-use index_command::index_dir;
-use std::fs;
+use crate::play::play;
 use std::test::Fail;
 
-/// Returns the directory of a folder with one image, whose Series Description is absent if empty.
-/// `index` must report four records.
-fn directory(
-    rt: &HostRuntime,
-    series_description: &[u8],
-    descriptions: bool,
-) -> Result<Vec<u8>, Fail> {
-    let image = Image {
-        series_description,
-        ..FIRST
-    };
-    put_images(rt, "described", &[("described/I0000001", image)])?;
-    let mut settings = settings("described", false)?;
-    settings.descriptions = descriptions;
-    let mut out = Vec::new(rt.alloc());
-    index_dir(rt, &settings, &mut out)?;
-    if out.as_slice() != b"records 4\n".as_slice() {
-        return Err("other lines")?;
-    }
-    Ok(fs::read(rt, "described/DICOMDIR")?)
-}
+static WITHOUT: &str = "let | before | first[..344] 08003e10 'LO'
+let | axial | before 0600 'AXIAL ' first[344..]
+let | longer | before 0201 31*258 first[344..]
+let | long | before 2c01 31*300 first[344..]
+folder | described
+put | I0000001 | first
+index | | Good | records 4
+size | DICOMDIR | 788
+read | DICOMDIR | plain
+folder | described
+put | I0000001 | axial
+index | | Good | records 4
+has | DICOMDIR | plain
+folder | described
+put | I0000001 | long
+index | | Good | records 4
+has | DICOMDIR | plain
+folder | described
+put | I0000001 | first
+index | descriptions | Good | records 4
+has | DICOMDIR | plain
+folder | described
+put | I0000001 | long
+index | descriptions | Good | records 4
+has | DICOMDIR | plain
+folder | described
+put | I0000001 | longer
+index | descriptions | Good | records 4
+has | DICOMDIR | plain";
 
 /// Without the option, the directory is byte for byte that of an image without Series Description;
 /// so is that of an image with a too long Series Description, with or without the option.
 #[test]
 fn directories_without_descriptions(rt: HostRuntime) -> Result<(), Fail> {
-    let plain = directory(&rt, b"", false)?;
-    assert!(rt; plain.len() == 788);
-    let long = [b'1'; 300];
-    for (description, descriptions) in [
-        (b"AXIAL ".as_slice(), false),
-        (&long, false),
-        (b"", true),
-        (&long, true),
-        (&long[..258], true),
-    ] {
-        let found = directory(&rt, description, descriptions)?;
-        assert!(rt; found.as_slice() == plain.as_slice());
-    }
-    Ok(())
+    play(&rt, WITHOUT)
 }
 
-/// Returns whether the directory has these bytes after the item and the offsets of its series.
-fn has_series(directory: &[u8], wanted: &[u8]) -> bool {
-    let end = wanted.len().saturating_add(590);
-    directory.get(590..end) == Some(wanted)
-}
+/// The record of the series has Modality at 590.
+static WITH: &str = "let | before | first[..344] 08003e10 'LO'
+folder | described
+put | I0000001 | before 0600 'AXIAL ' first[344..]
+index | descriptions | Good | records 4
+size | DICOMDIR | 802
+read | DICOMDIR | described
+has | DICOMDIR | described[..590] \
+08006000 'CS' 0200 'CT' 08003e10 'LO' 0600 'AXIAL ' 20000e00 'UI' described[620..]
+folder | described
+put | I0000001 | before 0001 31*256 first[344..]
+index | descriptions | Good | records 4
+size | DICOMDIR | 1052";
 
 /// With the option, the record of the series has Series Description after Modality and is longer by
 /// that.
 #[test]
 fn directories_with_descriptions(rt: HostRuntime) -> Result<(), Fail> {
-    let with = b"\x08\0\x60\0CS\x02\0CT\x08\0\x3e\x10LO\x06\0AXIAL \x20\0\x0e\0UI";
-    let described = directory(&rt, b"AXIAL ", true)?;
-    assert!(rt; described.len() == 802 && has_series(described.as_slice(), with));
-    let longest = directory(&rt, &[b'1'; 256], true)?;
-    assert!(rt; longest.len() == 788 + 8 + 256);
-    Ok(())
+    play(&rt, WITH)
 }

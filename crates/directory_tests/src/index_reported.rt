@@ -1,5 +1,6 @@
 //! What `index` reports on standard error about the files that it leaves out.
-use crate::index_tests::{FIRST, Image, SECOND, file, put_images, replacing, settings};
+use crate::index_tests::{FIRST, put_images, replacing, settings};
+use crate::play::play;
 use crate::recorded::{Stage, Watched};
 use failures::ProgramError;
 use fixtures::folders::holds;
@@ -29,60 +30,52 @@ where
     Ok(indexed == wanted && err.as_slice() == reported.as_str().as_bytes())
 }
 
-/// The first image with another series but the same SOP Instance UID.
-const CHANGED: Image = Image {
-    series: b"1.2.3.2\0",
-    ..FIRST
-};
-
-const DUPLICATES: &str = "dcmbox: doubles/I0000003: a double of I0000001, with the same bytes
-dcmbox: doubles/I0000004: a double of I0000002, with the same bytes
-dcmbox: doubles/I0000005: a double of I0000001, with other bytes
-";
-
-const THREE: &str = "left out: doubles 3\n";
-
 const ONE: &str = "left out: doubles 1\n";
+
+static DUPLICATES: &str = "folder | doubles
+put | I0000001 | first
+put | I0000002 | second
+put | I0000003 | first
+put | I0000004 | second
+put | I0000005 | changed
+index folder | | Written(IndexCounts { images: 2, omitted: 3 }) | \
+double I0000003 | double I0000004 | double I0000005 | records 5
+reports | dcmbox: doubles/I0000003: a double of I0000001, with the same bytes | \
+dcmbox: doubles/I0000004: a double of I0000002, with the same bytes | \
+dcmbox: doubles/I0000005: a double of I0000001, with other bytes | \
+images 2 left out 3 | left out: doubles 3
+remove | I0000003
+remove | I0000004
+remove | I0000005
+index folder | | Written(IndexCounts { images: 2, omitted: 0 }) | records 5
+reports | images 2 left out 0";
 
 #[test]
 fn duplicates_are_compared(rt: HostRuntime) -> Result<(), Fail> {
-    let images = [
-        ("doubles/I0000001", FIRST),
-        ("doubles/I0000002", SECOND),
-        ("doubles/I0000003", FIRST),
-        ("doubles/I0000004", SECOND),
-        ("doubles/I0000005", CHANGED),
-    ];
-    put_images(&rt, "doubles", &images)?;
-    assert!(rt; reports(&rt, ("doubles", false), (DUPLICATES, THREE), (2, 3))?);
-    fs::remove_file(&rt, "doubles/I0000003")?;
-    fs::remove_file(&rt, "doubles/I0000004")?;
-    fs::remove_file(&rt, "doubles/I0000005")?;
-    assert!(rt; reports(&rt, ("doubles", false), ("", ""), (2, 0))?);
-    Ok(())
+    play(&rt, DUPLICATES)
 }
+
+static LATE: &str = "folder | late
+let | large | first fcfffcff 'OB' 0000 00400000 07*16383
+put | I0000001 | large 07
+put | I0000002 | large 07
+index folder | | Written(IndexCounts { images: 1, omitted: 1 }) | double I0000002 | records 4
+reports | dcmbox: late/I0000002: a double of I0000001, with the same bytes | \
+images 1 left out 1 | left out: doubles 1
+put | I0000002 | large 08
+index folder | | Written(IndexCounts { images: 1, omitted: 1 }) | double I0000002 | records 4
+reports | dcmbox: late/I0000002: a double of I0000001, with other bytes | \
+images 1 left out 1 | left out: doubles 1
+put | I0000001 | first
+index folder | | Written(IndexCounts { images: 1, omitted: 1 }) | double I0000002 | records 4
+reports | dcmbox: late/I0000002: a double of I0000001, with other bytes | \
+images 1 left out 1 | left out: doubles 1";
 
 /// Two large files whose last bytes differ, and two of which one continues after the end of the
 /// other.
 #[test]
 fn duplicates_that_differ_late(rt: HostRuntime) -> Result<(), Fail> {
-    put_images(&rt, "late", &[("late/I0000001", FIRST)])?;
-    let mut bytes = fs::read(&rt, "late/I0000001")?;
-    bytes.extend_from_slice(b"\xfc\xff\xfc\xffOB\0\0\0\x40\0\0")?;
-    bytes.resize(bytes.len() + 16384, 7)?;
-    fs::write(&rt, "late/I0000001", bytes.as_slice())?;
-    fs::write(&rt, "late/I0000002", bytes.as_slice())?;
-    let same = "dcmbox: late/I0000002: a double of I0000001, with the same bytes\n";
-    assert!(rt; reports(&rt, ("late", false), (same, ONE), (1, 1))?);
-    if let Some(last) = bytes.as_mut_slice().last_mut() {
-        *last = 8;
-    }
-    fs::write(&rt, "late/I0000002", bytes.as_slice())?;
-    let other = "dcmbox: late/I0000002: a double of I0000001, with other bytes\n";
-    assert!(rt; reports(&rt, ("late", false), (other, ONE), (1, 1))?);
-    file(&rt, "late/I0000001", FIRST)?;
-    assert!(rt; reports(&rt, ("late", false), (other, ONE), (1, 1))?);
-    Ok(())
+    play(&rt, LATE)
 }
 
 /// A duplicate that can't be opened again, and the file before it.
@@ -109,24 +102,23 @@ fn duplicates_that_are_not_compared(rt: HostRuntime) -> Result<(), Fail> {
     Ok(())
 }
 
+static OTHER_TYPES: &str = "folder | kept
+put | I0000001 | first
+put | I0000002 | second
+index folder | | Written(IndexCounts { images: 2, omitted: 0 }) | records 5
+reports | images 2 left out 0
+read | DICOMDIR | whole
+put | DICOMDIR | whole[..676] 'RTDOSE' whole[682..]
+index folder | keep drop | Written(IndexCounts { images: 1, omitted: 1 }) | records 4
+reports | dcmbox: kept/I0000001: left out: its record is of type RTDOSE, not IMAGE | \
+images 1 left out 1 | left out: records of other types 1
+index folder | keep drop | Written(IndexCounts { images: 1, omitted: 0 }) | records 4
+reports | images 1 left out 0";
+
 /// A record of another type than IMAGE is reported, and its file is not read.
 #[test]
 fn records_of_other_types(rt: HostRuntime) -> Result<(), Fail> {
-    let images = [("kept/I0000001", FIRST), ("kept/I0000002", SECOND)];
-    put_images(&rt, "kept", &images)?;
-    assert!(rt; reports(&rt, ("kept", false), ("", ""), (2, 0))?);
-    let mut bytes = fs::read(&rt, "kept/DICOMDIR")?;
-    let offset = bytes
-        .windows(6)
-        .position(|part| part == b"IMAGE ".as_slice())
-        .ok_or("no record")?;
-    bytes.as_mut_slice()[offset..offset + 6].copy_from_slice(b"RTDOSE");
-    fs::write(&rt, "kept/DICOMDIR", bytes.as_slice())?;
-    let reported = "dcmbox: kept/I0000001: left out: its record is of type RTDOSE, not IMAGE\n";
-    let why = "left out: records of other types 1\n";
-    assert!(rt; reports(&rt, ("kept", true), (reported, why), (1, 1))?);
-    assert!(rt; reports(&rt, ("kept", true), ("", ""), (1, 0))?);
-    Ok(())
+    play(&rt, OTHER_TYPES)
 }
 
 /// What `index` reports for `little`.

@@ -21,4 +21,6 @@ mod index_sizes;
 #[cfg(test)]
 mod index_tests;
 #[cfg(test)]
+mod play;
+#[cfg(test)]
 mod recorded;
