@@ -34,7 +34,7 @@ fn faults_are_printed(rt: HostRuntime) -> Result<(), Fail> {
     prints(&rt, rt.alloc(), ValueFault::TooLongValue, "TooLongValue")?;
     let overrun = Fault {
         number: Fault::OVERRUN,
-        index: 26,
+        offset: 26,
         tag: TAG,
     };
     prints(&rt, rt.alloc(), overrun, "17 Overrun at 26 tag 0008,7fe0")
@@ -51,7 +51,7 @@ fn faults_of_a_directory_are_printed(rt: HostRuntime) -> Result<(), Fail> {
     ] {
         let fault = DirFault {
             number,
-            index: 346,
+            offset: 346,
             tag: TAG,
         };
         prints(&rt, rt.alloc(), fault, text)?;
