@@ -69,7 +69,7 @@ fn failed_after(rt: &HostRuntime, way: Way<'_>, passed: u64) -> Result<Option<Fi
         .placed(rt, has_draft)?
         .ok_or("something else is there")?;
     if !is_reported(&received, placed == 2, folders.dir.as_str(), err.as_slice()) {
-        return Err(Fail::from("it is not told what came of it"));
+        return Err(Fail::from("the result is not reported"));
     }
     if failed.is_none() && received.is_err() {
         return Err(Fail::from("it fails where no call does"));

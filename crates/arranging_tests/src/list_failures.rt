@@ -63,7 +63,7 @@ fn failed_after(rt: &HostRuntime, whole: &[u8], passed: u64) -> Result<Option<Fi
     if is_due {
         Ok(calls.failed())
     } else {
-        Err(Fail::from("neither listed nor told"))
+        Err(Fail::from("neither listed nor reported"))
     }
 }
 

@@ -55,27 +55,27 @@ fn a_full_quarantine_keeps_no_more(rt: HostRuntime) -> Result<(), Fail> {
     play(&rt, &rt, "quarantine_is_full", IS_FULL)
 }
 
-static GOES_ON: &str = "fresh; fresh ../quarantine_goes_on_aside
-put ../quarantine_goes_on_aside/000007.dcm found
-put ../quarantine_goes_on_aside/000009.txt found
-put ../quarantine_goes_on_aside/000008.part left
-put ../quarantine_goes_on_aside/99.dcm other
-put ../quarantine_goes_on_aside/0000099.dcm other
-put ../quarantine_goes_on_aside/+00099.dcm other
-writer 0; quarantine ../quarantine_goes_on_aside 2; filing
+static GOES_ON: &str = "fresh; fresh ../quarantine_continues_aside
+put ../quarantine_continues_aside/000007.dcm found
+put ../quarantine_continues_aside/000009.txt found
+put ../quarantine_continues_aside/000008.part left
+put ../quarantine_continues_aside/99.dcm other
+put ../quarantine_continues_aside/0000099.dcm other
+put ../quarantine_continues_aside/+00099.dcm other
+writer 0; quarantine ../quarantine_continues_aside 2; filing
 reports 1 not full
-count ../quarantine_goes_on_aside 5
+count ../quarantine_continues_aside 5
 begin 1 a; append 1 1; discard 1
 keep 1 10 full 1
-close; writer 0; quarantine ../quarantine_goes_on_aside 2; filing
+close; writer 0; quarantine ../quarantine_continues_aside 2; filing
 reports 0 full
-close; clear ../quarantine_goes_on_aside";
+close; clear ../quarantine_continues_aside";
 
 /// Numbers continue after the greatest that exists, and undecided drafts of an earlier run are
 /// removed.
 #[test]
 fn numbers_of_a_quarantine_continue(rt: HostRuntime) -> Result<(), Fail> {
-    play(&rt, &rt, "quarantine_goes_on", GOES_ON)
+    play(&rt, &rt, "quarantine_continues", GOES_ON)
 }
 
 static UNDECIDED: &str = "fresh; fresh ../quarantine_undecided_aside

@@ -27,7 +27,7 @@ count . 10";
 
 #[test]
 fn numbers_continue(rt: HostRuntime) -> Result<(), Fail> {
-    play(&rt, &rt, "numbers_go_on", NUMBERS_CONTINUE)
+    play(&rt, &rt, "numbers_continue", NUMBERS_CONTINUE)
 }
 
 static A_REMAINING_SECOND_NAME: &str = "fresh
