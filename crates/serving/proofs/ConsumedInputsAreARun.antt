@@ -71,7 +71,7 @@ module _ (s : Settings) (named : List (Input × List ℕ)) (kind : Input) (bytes
     stands : Stands served_rooms s inputs story failed seen old
     more : List Happened
     reported : entries_of more ≡ entries (stream_of inputs) (input_of kind bytes ∷ [])
-    has_pending : pending_new ≡ pending ++ sent_of served_rooms s (progress_of served_rooms s at_start story) more
+    pending_is : pending_new ≡ pending ++ sent_of served_rooms s (progress_of served_rooms s at_start story) more
 
   some_same : (xs ys : List Received) → Some xs ≡ Some ys → xs ≡ ys
   some_same xs ys e = cc
@@ -92,7 +92,7 @@ module _ (s : Settings) (named : List (Input × List ℕ)) (kind : Input) (bytes
         stands = b.stands;
         more = x.more;
         reported = entries_of_more served_rooms s t.consumed (input_of kind bytes) b.story x.more b.failed x.failed_then b.stands.story_is x.stands.story_is;
-        has_pending = bytes_same _ _ (ap (λ (l : Line). l.sent) x.gains.line);
+        pending_is = bytes_same _ _ (ap (λ (l : Line). l.sent) x.gains.line);
       }
 
   -- over the socket and the outbox together
@@ -100,7 +100,7 @@ module _ (s : Settings) (named : List (Input × List ℕ)) (kind : Input) (bytes
       → Moved served_rooms s inputs story failed (input_of kind bytes) seen seen_new (devices (unfailed_line (socket ++ pending)) old) (devices (unfailed_line (socket ++ pending_new)) new)
   over inputs story failed none x =
       let text = sent_of served_rooms s (progress_of served_rooms s at_start story) x.more in
-      let has_pending : pending_new ≡ pending ++ text = bytes_same _ _ (ap (λ (l : Line). l.sent) x.gains.line) in
+      let pending_is : pending_new ≡ pending ++ text = bytes_same _ _ (ap (λ (l : Line). l.sent) x.gains.line) in
       let fails : 0 ≡ wire_failures x.more = omega (arith, ap (λ (l : Line). l.failures) x.gains.line, none, never) in
       record {
         more = x.more;
@@ -108,7 +108,7 @@ module _ (s : Settings) (named : List (Input × List ℕ)) (kind : Input) (bytes
         charged = x.charged;
         stands = x.stands;
         gains = record {
-          line = rw (has_pending, sym (append_assoc socket pending text), sym fails) refl;
+          line = rw (pending_is, sym (append_assoc socket pending text), sym fails) refl;
           files = x.gains.files;
           count = x.gains.count;
         };
@@ -140,25 +140,25 @@ module _ (s : Settings) (named : List (Input × List ℕ)) (kind : Input) (bytes
       let input : input_of kind bytes ≡ Bytes bytes = ap (λ (k : Input). input_of k bytes) is in
       let reported : entries_of g.more ≡ entries (stream_of g.inputs) (Bytes bytes ∷ []) = g.reported ∙ ap (λ (x : Received). entries (stream_of g.inputs) (x ∷ [])) input in
       let sent = portion g.inputs g.story g.failed g.stands bytes g.more few (subst (λ (xs : List Received). IsBytes (stream_of xs ++ bytes)) (sym g.inputs_are) are) reported in
-      omega (arith, ap length g.has_pending, length-append pending (sent_of served_rooms s (progress_of served_rooms s at_start g.story) g.more), ap length none, sent)
+      omega (arith, ap length g.pending_is, length-append pending (sent_of served_rooms s (progress_of served_rooms s at_start g.story) g.more), ap length none, sent)
 
   -- of an input that has no bytes, an abort alone adds to what waits
   pub silent_adds : IsSilent (input_of kind bytes) → HasConsumed s named seen (socket ++ pending) opened old → length pending_new ≤ length pending
   silent_adds silent h =
       let g = grew h in
       let nothing = silent_sends_nothing served_rooms s (progress_of served_rooms s at_start g.story) (stream_of g.inputs) (input_of kind bytes) g.more silent g.reported in
-      omega (arith, ap length g.has_pending, length-append pending (sent_of served_rooms s (progress_of served_rooms s at_start g.story) g.more), ap length nothing)
+      omega (arith, ap length g.pending_is, length-append pending (sent_of served_rooms s (progress_of served_rooms s at_start g.story) g.more), ap length nothing)
 
   pub abort_adds : input_of kind bytes ≡ UserAbort → HasConsumed s named seen (socket ++ pending) opened old → length pending_new ≤ length pending + most_beside_answers
   abort_adds is h =
       let g = grew h in
       let reported : entries_of g.more ≡ entries (stream_of g.inputs) (UserAbort ∷ []) = g.reported ∙ ap (λ (x : Received). entries (stream_of g.inputs) (x ∷ [])) is in
       let sent = aborts_shortly served_rooms s (progress_of served_rooms s at_start g.story) (stream_of g.inputs) g.more reported in
-      omega (arith, ap length g.has_pending, length-append pending (sent_of served_rooms s (progress_of served_rooms s at_start g.story) g.more), sent)
+      omega (arith, ap length g.pending_is, length-append pending (sent_of served_rooms s (progress_of served_rooms s at_start g.story) g.more), sent)
 
   -- what waits still does
   pub still_waits : HasConsumed s named seen (socket ++ pending) opened old → pending ≢ [] → pending_new ≢ []
-  still_waits h some none = let g = grew h in some (nothing_before pending (sent_of served_rooms s (progress_of served_rooms s at_start g.story) g.more) (sym g.has_pending ∙ none))
+  still_waits h some none = let g = grew h in some (nothing_before pending (sent_of served_rooms s (progress_of served_rooms s at_start g.story) g.more) (sym g.pending_is ∙ none))
     where
       nothing_before : (xs ys : List ℕ) → xs ++ ys ≡ [] → xs ≡ []
       nothing_before [] ys e = refl

@@ -43,9 +43,9 @@ reported_without reported named named_new kind bytes none pushed was =
     ∙ sym (pieces_more named kind bytes) ∙ ap (λ (xs : List (Input × List ℕ)). pieces_of (inputs_of xs)) (sym pushed)
 
 -- a piece more, which is the front of what waits
-pub reported_with_piece : (reported reported_new : List (List ℕ)) (named named_new : List (Input × List ℕ)) (n : ℕ) (lent has_pending : List ℕ) → reported_new ≡ reported ++ take n has_pending ∷ [] → lent ≡ has_pending → named_new ≡ named ++ (Piece, take n lent) ∷ []
+pub reported_with_piece : (reported reported_new : List (List ℕ)) (named named_new : List (Input × List ℕ)) (n : ℕ) (lent pending : List ℕ) → reported_new ≡ reported ++ take n pending ∷ [] → lent ≡ pending → named_new ≡ named ++ (Piece, take n lent) ∷ []
     → reported ≡ pieces_of (inputs_of named) → reported_new ≡ pieces_of (inputs_of named_new)
-reported_with_piece reported reported_new named named_new n lent has_pending more same pushed was =
+reported_with_piece reported reported_new named named_new n lent pending more same pushed was =
     more ∙ ap (λ (xs : List ℕ). reported ++ take n xs ∷ []) (sym same) ∙ ap (λ (ps : List (List ℕ)). ps ++ take n lent ∷ []) was ∙ sym (pieces_more named Piece (take n lent))
     ∙ ap (λ (xs : List (Input × List ℕ)). pieces_of (inputs_of xs)) (sym pushed)
 

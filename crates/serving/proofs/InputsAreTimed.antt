@@ -62,18 +62,18 @@ module _ (moments moments_new : List Moment) (moment : Moment) (pushed : moments
 
 -- ---- moments
 
-same_times : (has_pending : TimeLimits) → SameTimes has_pending has_pending
-same_times has_pending = record { artim = refl; idle = refl; state = refl; started = refl; heard = refl }
+same_times : (limits : TimeLimits) → SameTimes limits limits
+same_times limits = record { artim = refl; idle = refl; state = refl; started = refl; heard = refl }
 
 times_then : (a b c : TimeLimits) → SameTimes a b → SameTimes b c → SameTimes a c
 times_then a b c h k = record { artim = k.artim ∙ h.artim; idle = k.idle ∙ h.idle; state = k.state ∙ h.state; started = k.started ∙ h.started; heard = k.heard ∙ h.heard }
 
 -- only when the peer last consumed anything has changed
-pub still_timed : (has_pending : TimeLimits) (inputs : List Received) (moments : List Moment) (last last_new : TimeLimits) → SameTimes last last_new → Timed has_pending inputs moments last → Timed has_pending inputs moments last_new
-still_timed has_pending [] [] last last_new same h = times_then has_pending last last_new h same
-still_timed has_pending [] (m ∷ moments) last last_new same h = absurd h
-still_timed has_pending (i ∷ inputs) [] last last_new same h = absurd h
-still_timed has_pending (i ∷ inputs) (m ∷ moments) last last_new same h = (h.0, h.1, still_timed m.remaining.value inputs moments last last_new same h.2)
+pub still_timed : (limits : TimeLimits) (inputs : List Received) (moments : List Moment) (last last_new : TimeLimits) → SameTimes last last_new → Timed limits inputs moments last → Timed limits inputs moments last_new
+still_timed limits [] [] last last_new same h = times_then limits last last_new h same
+still_timed limits [] (m ∷ moments) last last_new same h = absurd h
+still_timed limits (i ∷ inputs) [] last last_new same h = absurd h
+still_timed limits (i ∷ inputs) (m ∷ moments) last last_new same h = (h.0, h.1, still_timed m.remaining.value inputs moments last last_new same h.2)
 
 due_as : (input : Received) (a b : TimeLimits) (m : Moment) → SameTimes a b → IsDue input b m → IsDue input a m
 due_as (Bytes piece) a b m same h = tt
@@ -101,18 +101,18 @@ follows_as input a b new now same h = record {
 }
 
 -- an input more, which is due at its moment
-timed_one : (has_pending : TimeLimits) (inputs : List Received) (moments : List Moment) (last : TimeLimits) (input : Received) (moment : Moment) → IsDue input last moment → Follows input last moment.remaining.value (instant_nanos moment.now)
-    → Timed has_pending inputs moments last → Timed has_pending (inputs ++ input ∷ []) (moments ++ moment ∷ []) moment.remaining.value
-timed_one has_pending [] [] last input moment due follows h = (due_as input has_pending last moment h due, follows_as input has_pending last moment.remaining.value _ h follows, same_times moment.remaining.value)
-timed_one has_pending [] (m ∷ moments) last input moment due follows h = absurd h
-timed_one has_pending (i ∷ inputs) [] last input moment due follows h = absurd h
-timed_one has_pending (i ∷ inputs) (m ∷ moments) last input moment due follows h = (h.0, h.1, timed_one m.remaining.value inputs moments last input moment due follows h.2)
+timed_one : (limits : TimeLimits) (inputs : List Received) (moments : List Moment) (last : TimeLimits) (input : Received) (moment : Moment) → IsDue input last moment → Follows input last moment.remaining.value (instant_nanos moment.now)
+    → Timed limits inputs moments last → Timed limits (inputs ++ input ∷ []) (moments ++ moment ∷ []) moment.remaining.value
+timed_one limits [] [] last input moment due follows h = (due_as input limits last moment h due, follows_as input limits last moment.remaining.value _ h follows, same_times moment.remaining.value)
+timed_one limits [] (m ∷ moments) last input moment due follows h = absurd h
+timed_one limits (i ∷ inputs) [] last input moment due follows h = absurd h
+timed_one limits (i ∷ inputs) (m ∷ moments) last input moment due follows h = (h.0, h.1, timed_one m.remaining.value inputs moments last input moment due follows h.2)
 
 -- and leaves these times
-pub timed_more : (has_pending : TimeLimits) (inputs : List Received) (moments : List Moment) (last remaining : TimeLimits) (input : Received) (moment : Moment) → moment.remaining.value ≡ remaining → IsDue input last moment → Follows input last remaining (instant_nanos moment.now)
-    → Timed has_pending inputs moments last → Timed has_pending (inputs ++ input ∷ []) (moments ++ moment ∷ []) remaining
-timed_more has_pending inputs moments last remaining input moment is due follows h =
-    subst (Timed has_pending (inputs ++ input ∷ []) (moments ++ moment ∷ [])) is (timed_one has_pending inputs moments last input moment due (subst (λ (w : TimeLimits). Follows input last w (instant_nanos moment.now)) (sym is) follows) h)
+pub timed_more : (limits : TimeLimits) (inputs : List Received) (moments : List Moment) (last remaining : TimeLimits) (input : Received) (moment : Moment) → moment.remaining.value ≡ remaining → IsDue input last moment → Follows input last remaining (instant_nanos moment.now)
+    → Timed limits inputs moments last → Timed limits (inputs ++ input ∷ []) (moments ++ moment ∷ []) remaining
+timed_more limits inputs moments last remaining input moment is due follows h =
+    subst (Timed limits (inputs ++ input ∷ []) (moments ++ moment ∷ [])) is (timed_one limits inputs moments last input moment due (subst (λ (w : TimeLimits). Follows input last w (instant_nanos moment.now)) (sym is) follows) h)
 
 -- what follows an input, from what is noted of it
 pub follows_state : (input : Received) (old new : TimeLimits) (state : State) (now : ℕ) → (state ≡ old.state → new ≡ old) → new.state ≡ state → (state ≢ old.state → new ≡ record old { state = state; started = started_anew (timer_runs state) now })
@@ -138,8 +138,8 @@ due_now LocalAbort old remaining moment no_piece is idle same expired silent = �
     silent_as old new now None e f k h = rw (e, f, k) h
 
 -- nothing was given yet
-pub nothing_timed : (has_pending initial : TimeLimits) (inputs : List Received) (moments : List Moment) → inputs ≡ [] → moments ≡ [] → initial ≡ has_pending → Timed initial inputs moments has_pending
-nothing_timed has_pending initial inputs moments e f g = rw (e, f, g) (same_times has_pending)
+pub nothing_timed : (limits initial : TimeLimits) (inputs : List Received) (moments : List Moment) → inputs ≡ [] → moments ≡ [] → initial ≡ limits → Timed initial inputs moments limits
+nothing_timed limits initial inputs moments e f g = rw (e, f, g) (same_times limits)
 
 -- the peer consumed something
 pub only_consumed : (old new : TimeLimits) (now : ℕ) → new ≡ record old { consumed = Some now } → SameTimes old new

@@ -44,18 +44,18 @@ Remaining over remaining wait.Silent = (over ≡ wait.Silent) × (remaining ≡ 
 
 -- what is waited for at this time
 abbrev pub WaitsUntil : TimeLimits → ℕ → Option ℕ → Wait → Type 0
-WaitsUntil has_pending now (Some started) = Remaining wait.Expired (has_pending.artim - (now - started))
-WaitsUntil has_pending now None = Remaining wait.Silent (has_pending.idle - (now - silent_since has_pending.consumed has_pending.heard))
+WaitsUntil limits now (Some started) = Remaining wait.Expired (limits.artim - (now - started))
+WaitsUntil limits now None = Remaining wait.Silent (limits.idle - (now - silent_since limits.consumed limits.heard))
 
 -- the timer has expired at this time
 abbrev pub HasExpired : TimeLimits → ℕ → Option ℕ → Type 0
-HasExpired has_pending now (Some started) = has_pending.artim ≤ now - started
-HasExpired has_pending now None = ⊥
+HasExpired limits now (Some started) = limits.artim ≤ now - started
+HasExpired limits now None = ⊥
 
 -- the timer does not run, and the peer was silent for the idle time
 abbrev pub IsSilent : TimeLimits → ℕ → Option ℕ → Type 0
-IsSilent has_pending now (Some started) = ⊥
-IsSilent has_pending now None = has_pending.idle ≤ now - silent_since has_pending.consumed has_pending.heard
+IsSilent limits now (Some started) = ⊥
+IsSilent limits now None = limits.idle ≤ now - silent_since limits.consumed limits.heard
 
 -- whether a connection that was opened at this time has lasted for the longest time, if that has a bound
 unfoldable pub has_lasted : Option ℕ → ℕ → ℕ → Bool

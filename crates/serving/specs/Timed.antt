@@ -38,17 +38,17 @@ pub record SameTimes (old new : TimeLimits) : Type 0 where
 -- With these times before it, an input was due at its moment: the expiry if the timer has expired, and an abort that
 -- was not requested if the peer has been silent for the idle time.
 abbrev pub IsDue : Received → TimeLimits → Moment → Type 0
-IsDue (Bytes piece) has_pending moment = Unit {0}
-IsDue Close has_pending moment = Unit {0}
-IsDue Expiry has_pending moment = HasExpired has_pending (instant_nanos moment.now) has_pending.started
-IsDue UserAbort has_pending moment = moment.is_asked ≡ false → IsSilent moment.remaining.value (instant_nanos moment.now) has_pending.started
+IsDue (Bytes piece) limits moment = Unit {0}
+IsDue Close limits moment = Unit {0}
+IsDue Expiry limits moment = HasExpired limits (instant_nanos moment.now) limits.started
+IsDue UserAbort limits moment = moment.is_asked ≡ false → IsSilent moment.remaining.value (instant_nanos moment.now) limits.started
 
 -- from the first of these times to the last, the inputs occurred at these moments, and each was due
 abbrev pub Timed : TimeLimits → List Received → List Moment → TimeLimits → Type 0
-Timed has_pending [] [] last = SameTimes has_pending last
-Timed has_pending [] (moment ∷ moments) last = ⊥
-Timed has_pending (input ∷ inputs) [] last = ⊥
-Timed has_pending (input ∷ inputs) (moment ∷ moments) last = IsDue input has_pending moment × Follows input has_pending moment.remaining.value (instant_nanos moment.now) × Timed moment.remaining.value inputs moments last
+Timed limits [] [] last = SameTimes limits last
+Timed limits [] (moment ∷ moments) last = ⊥
+Timed limits (input ∷ inputs) [] last = ⊥
+Timed limits (input ∷ inputs) (moment ∷ moments) last = IsDue input limits moment × Follows input limits moment.remaining.value (instant_nanos moment.now) × Timed moment.remaining.value inputs moments last
 
 -- these times, after this one if an abort was requested then
 abbrev pub with_asked : Bool → ℕ → List ℕ → List ℕ

@@ -39,9 +39,9 @@ ClosesWith inputs socket = ClosesWithSocket inputs (unconsumed_in socket.inbox) 
 
 -- the bytes that were read grow by those that arrived, and so do those that wait
 abbrev pub ReadsMore : Arrival → List ℕ → List ℕ → List ℕ → List ℕ → Type 0
-ReadsMore (arrival.Bytes n) has_pending waits_new old new = (more : List ℕ) × (length more ≡ n) × (waits_new ≡ has_pending ++ more) × (new ≡ old ++ more)
-ReadsMore arrival.Nothing has_pending waits_new old new = (waits_new ≡ has_pending) × (new ≡ old)
-ReadsMore (arrival.End end) has_pending waits_new old new = (waits_new ≡ has_pending) × (new ≡ old)
+ReadsMore (arrival.Bytes n) pending pending_new old new = (more : List ℕ) × (length more ≡ n) × (pending_new ≡ pending ++ more) × (new ≡ old ++ more)
+ReadsMore arrival.Nothing pending pending_new old new = (pending_new ≡ pending) × (new ≡ old)
+ReadsMore (arrival.End end) pending pending_new old new = (pending_new ≡ pending) × (new ≡ old)
 
 -- the socket reported its end at least once if no more bytes arrive, and no further time if nothing has arrived yet
 abbrev pub CountsEnd : Arrival → ℕ → ℕ → Type 0
