@@ -44,7 +44,7 @@ pub remaining_by : {F : Type 0} (store : F → Store) (has_pending : F → Bool)
     → ∥ SettlesFirst s e.exchange (store filing) (store e.settled.value) (store e.filing) ∥₁ → (sent_by e.exchange ≢ [] → has_pending e.settled.value ≡ false) → ∥ GivenInTime s e.exchange (store filing) (store e.filing) initial e.moments ∥₁
     → length (asked_at e.moments) ≤ 1 → had_reasons stopped initial.longest initial.opened (asked_at e.moments) ≡ true → ClosedBy store has_pending t e
 remaining_by store has_pending t e filing s initial stopped is opened from stop begins remaining sent rested in_time once reasons = subst (λ (u : Configuration). ClosedBy store has_pending u e) is (record {
-  remaining = rw opened remaining;
+  served = rw opened remaining;
   sent = rw opened sent;
   rested = rested;
   initial = rw from begins;
@@ -61,7 +61,7 @@ one_ended store has_pending t old new e filing opened ended over by =
     record {
       opened = opened;
       ended = ap (map opened_over) ended ∙ (map-append opened_over (ended_in old) (e ∷ []) ∙ ap (λ f. map opened_over (ended_in old) ++ f ∷ []) over);
-      remaining = λ was. ∥∥₁_map was (λ all. subst (All (ClosedBy store has_pending t)) (sym ended) (All-push (ClosedBy store has_pending t) (ended_in old) e all by));
+      closed = λ was. ∥∥₁_map was (λ all. subst (All (ClosedBy store has_pending t)) (sym ended) (All-push (ClosedBy store has_pending t) (ended_in old) e all by));
     }
 
 -- one connection more was opened, after the one before it has ended
@@ -78,7 +78,7 @@ opened_next see store has_pending t old noted new filing there had now connectio
 -- and each has left what the settings give
 pub still_remaining : {F : Type 0} (store : F → Store) (has_pending : F → Bool) (t : Configuration) (openings : List F) (old noted new : SlotHistory F)
     → ended_in noted ≡ ended_in old → HaveEnded store has_pending t openings noted new → ∥ All (ClosedBy store has_pending t) (ended_in old) ∥₁ → ∥ All (ClosedBy store has_pending t) (ended_in new) ∥₁
-still_remaining store has_pending t openings old noted new ended ends was = ends.remaining (subst (λ es. ∥ All (ClosedBy store has_pending t) es ∥₁) (sym ended) was)
+still_remaining store has_pending t openings old noted new ended ends was = ends.closed (subst (λ es. ∥ All (ClosedBy store has_pending t) es ∥₁) (sym ended) was)
 
 -- none is there any more, and the one that was has ended
 pub none_remaining : {F T : Type 0} (see : T → F) (store : F → Store) (has_pending : F → Bool) (t : Configuration) (old new : SlotHistory F) (there had now : Option T)

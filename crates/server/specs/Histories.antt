@@ -20,7 +20,7 @@ opened_over e = e.opened.value
 -- files of the inputs until then, and did not wait. Its times began when it was opened, and each of its inputs occurred
 -- when it was due. An abort was requested at most once, and for a reason.
 pub record ClosedBy {S F : Type 0} (store : F → Store) (has_pending : F → Bool) (t : Configuration) (e : ConnectionEnd S F) : Type 0 where
-  pub remaining : ∥ IsServed t.settings e.exchange (store e.opened.value) (store e.filing) ∥₁
+  pub served : ∥ IsServed t.settings e.exchange (store e.opened.value) (store e.filing) ∥₁
   pub sent : ∥ SettlesFirst t.settings e.exchange (store e.opened.value) (store e.settled.value) (store e.filing) ∥₁
   pub rested : sent_by e.exchange ≢ [] → has_pending e.settled.value ≡ false
   pub initial : e.initial.value ≡ opened_at t.artim t.idle t.longest e.initial.value.opened
@@ -40,7 +40,7 @@ ended_in slot = slot.ended
 -- kept the promise with these settings
 pub record AllEnded {F : Type 0} (store : F → Store) (has_pending : F → Bool) (t : Configuration) (slot : SlotHistory F) : Type 0 where
   pub none_missing : opened_in slot ≡ map opened_over (ended_in slot)
-  pub remaining : ∥ All (ClosedBy store has_pending t) (ended_in slot) ∥₁
+  pub closed : ∥ All (ClosedBy store has_pending t) (ended_in slot) ∥₁
 
 -- the slots of a server
 abbrev pub slots_in : {F : Type 0} → ServerHistory F → List (SlotHistory F)

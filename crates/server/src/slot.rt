@@ -53,7 +53,7 @@ where
     policy: PhantomData<P>,
     /// No file of the filing waits to be settled, or was lost before that.
     ghost rested: { ∥ IfSome filing (λ f. is_unsettled f ≡ false) ∥₁ },
-    ghost remaining: { ∥ All (ClosedBy folder_store is_unsettled P.configuration) (ended_in history) ∥₁ },
+    ghost closed: { ∥ All (ClosedBy folder_store is_unsettled P.configuration) (ended_in history) ∥₁ },
     /// The settings of the connection are those of `P`.
     ghost held: { seen_of connection (λ c. configuration_at c) ≡ seen_of connection (λ c. P.configuration) },
     /// Each connection that was opened has ended, except the current one.

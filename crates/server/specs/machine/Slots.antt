@@ -15,4 +15,4 @@ seen_of (Some connection) see = see connection ∷ []
 pub record HaveEnded {F : Type 0} (store : F → Store) (has_pending : F → Bool) (t : Configuration) (openings : List F) (old new : SlotHistory F) : Type 0 where
   pub opened : opened_in new ≡ opened_in old
   pub ended : map opened_over (ended_in new) ≡ map opened_over (ended_in old) ++ openings
-  pub remaining : ∥ All (ClosedBy store has_pending t) (ended_in old) ∥₁ → ∥ All (ClosedBy store has_pending t) (ended_in new) ∥₁
+  pub closed : ∥ All (ClosedBy store has_pending t) (ended_in old) ∥₁ → ∥ All (ClosedBy store has_pending t) (ended_in new) ∥₁

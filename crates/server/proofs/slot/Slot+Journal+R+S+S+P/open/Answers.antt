@@ -8,7 +8,7 @@ invariant_of-self-2 g c =
     let opened = c.open-connection.ensures in
     record {
       rested = was.rested;
-      remaining = still_remaining _ _ _ _ was.history c.open.new.self c.closed-remaining.new.history c.open.ensures.ended c.closed-remaining.ensures was.remaining;
+      closed = still_remaining _ _ _ _ was.history c.open.new.self c.closed-remaining.new.history c.open.ensures.ended c.closed-remaining.ensures was.closed;
       held = held_now _ _ _ _ c.replace-last.ensures.after (configuration_as _ _ _ _ _ _ _ _ opened.settings opened.initial c.requires.configuration);
       none_missing = opened_next _ _ _ _ was.history c.open.new.self c.closed-remaining.new.history _ was.connection c.replace-last.result c.replace-last.new.self c.open-connection.result was.none_missing c.replace-last.ensures.value c.open.ensures.opened c.open.ensures.ended c.closed-remaining.ensures c.replace-last.ensures.after opened.opening;
     }

@@ -4,5 +4,5 @@ use Rattle.server.proofs.server.settling.Server+R+S+P+Journal+R+S.settle_all.Goa
 pub invariant_of-slot-clause-rested : goal.invariant_of-slot-clause-rested
 invariant_of-slot-clause-rested g c = c.in-Some-get_mut.slot.now.rested
 
-pub invariant_of-slot-clause-remaining : goal.invariant_of-slot-clause-remaining
-invariant_of-slot-clause-remaining g c = c.in-Some-get_mut.slot.now.remaining
+pub invariant_of-slot-clause-closed : goal.invariant_of-slot-clause-closed
+invariant_of-slot-clause-closed g c = c.in-Some-get_mut.slot.now.closed
