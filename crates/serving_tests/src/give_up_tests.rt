@@ -17,7 +17,7 @@ wait | Expired
 expire
 over | yes
 why | Some(Timer)
-took |";
+accepted |";
 
 /// The timer starts with the release; bytes after it do not restart the timer.
 static FROM_THE_RELEASE: &str = "send | request
@@ -37,7 +37,7 @@ wait | Expired
 expire
 over | yes
 why | Some(Timer)
-took | accept released";
+accepted | accept released";
 
 #[test]
 fn the_timer_expires_after_its_time_and_not_before(rt: HostRuntime) -> Result<(), Fail> {
@@ -52,11 +52,11 @@ turn | 4096 | Socket
 at | 50
 round
 why | Some(Longest)
-took | accept abort
+accepted | accept abort
 wait | Remaining(30s)
 at | 60
 stop
-took | accept abort
+accepted | accept abort
 just before | 80
 wait | Remaining(1ns)
 expire
@@ -65,7 +65,7 @@ at | 80
 wait | Expired
 expire
 over | yes
-took | accept abort";
+accepted | accept abort";
 
 #[test]
 fn a_peer_that_was_aborted_has_the_time_of_the_timer(rt: HostRuntime) -> Result<(), Fail> {
@@ -82,21 +82,21 @@ just before | 700
 wait | Remaining(1ns)
 expire
 why | None
-took | accept reply
+accepted | accept reply
 at | 700
 wait | Silent
 expire
 over | no
 why | Some(Idle)
-took | accept reply abort
+accepted | accept reply abort
 wait | Remaining(30s)";
 
 /// The silence of the peer starts with the last byte that it accepted.
-static FROM_THE_LAST_BYTE: &str = "takes | 100
+static FROM_THE_LAST_BYTE: &str = "accepts | 100
 send | request
 turn | 4096 | Socket
 at | 500
-takes | 1
+accepts | 1
 turn | 4096 | Socket
 just before | 1100
 wait | Remaining(1ns)
@@ -108,7 +108,7 @@ wait | Silent
 expire
 over | yes
 failures | 1
-took | accept[..101]";
+accepted | accept[..101]";
 
 #[test]
 fn a_peer_is_idle_after_its_time_and_not_before(rt: HostRuntime) -> Result<(), Fail> {

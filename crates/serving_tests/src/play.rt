@@ -52,9 +52,10 @@ struct Times {
 /// - `received | NUMBER`, `reads`, `answered`, `ahead`, `failures`, `kept`, `lost`: the numbers of
 ///   bytes received, reads of the socket, bytes to be sent, most bytes that waited behind a chunk,
 ///   failed writes, and files kept and lost.
-/// - `over | yes`, `has_pending`, `held`: whether the connection is over, waits, or has its last answer
-///   held back. `wait | WAIT`, `why | END`: how long the peer is waited for, and why reading ended.
-/// - `consumes | BYTES`, `shown`, `sent`: the bytes that the peer accepted, and those observed as
+/// - `over | yes`, `waits`, `held`: whether the connection is over, has a file that waits, or has
+///   its last answer held back. `wait | WAIT`, `why | END`: how long the peer is waited for, and why
+///   reading ended.
+/// - `accepted | BYTES`, `shown`, `sent`: the bytes that the peer accepted, and those observed as
 ///   received and as sent.
 /// - `note`, `no read`, `no byte`: since `note`, the socket was not read, or no byte was received.
 /// - `end`: closes the connection; then checks what remains: `unsent | BYTES`, `unconsumed`,
@@ -206,7 +207,7 @@ fn moment(
 /// Returns the recorded bytes with this name.
 fn kept_of<'a>(sides: &'a Sides<'_>, name: &str) -> Option<&'a RefCell<Vec<u8>>> {
     match name {
-        "took" => Some(&sides.script.consumed),
+        "accepted" => Some(&sides.script.consumed),
         "shown" => Some(&sides.shown.received),
         "sent" => Some(&sides.shown.sent),
         _ => None,
@@ -319,7 +320,7 @@ fn look_at_end(
     let exchange = &end.exchange;
     match case.name {
         "unsent" => bytes_differ(alloc, exchange.unsent.pending(), parts, case),
-        "untaken" => bytes_differ(alloc, exchange.unconsumed.pending(), parts, case),
+        "unconsumed" => bytes_differ(alloc, exchange.unconsumed.pending(), parts, case),
         "unsent size" => count_differs(alloc, exchange.unsent.pending().len() as u64, case),
         "files" => count_differs(alloc, end.filing.files.files().len() as u64, case),
         "standing" => {
@@ -330,7 +331,7 @@ fn look_at_end(
             Ok(Some(standing))
         }
         "as alone" => alone_differs(alloc, end, parts, case),
-        "took" => kept_differs(alloc, &sides.script.consumed, parts, case),
+        "accepted" => kept_differs(alloc, &sides.script.consumed, parts, case),
         "lost" => count_differs(alloc, u64::from(sides.shown.lost.get()), case),
         _ => Err(case.fails("no such look")),
     }

@@ -110,7 +110,7 @@ fn a_store_that_is_cut_off_is_dropped(rt: HostRuntime) -> Result<(), Fail> {
 
 /// The peer accepts the A-ASSOCIATE-AC, of 171 bytes, and a part of the reply.
 static UNSENT: &str = "log | Info
-takes | 180
+accepts | 180
 send | ct_request store[..172]
 fails
 line | [WARN  filed, but not confirmed: the connection failed file I0000001 class CTImageStorage instance 1.2.3 \

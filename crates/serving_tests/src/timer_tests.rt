@@ -9,7 +9,7 @@ moment | 10 | Remaining(20s) | request[1..100]
 moment | 29 | Remaining(1s) | request[100..169]
 moment | 30 | Expired |
 over | yes
-took |";
+accepted |";
 
 #[test]
 fn an_unfinished_request_has_the_time_from_the_accept(rt: HostRuntime) -> Result<(), Fail> {
@@ -26,7 +26,7 @@ moment | 35 | Remaining(15s) | release
 moment | 45 | Remaining(5s) | request
 moment | 50 | Expired |
 over | yes
-took | 03 00 00 00 00 04 00 01 01 07 07000000000400000202*2";
+accepted | 03 00 00 00 00 04 00 01 01 07 07000000000400000202*2";
 
 /// The rejection (AE-6) restarts the timer; the A-ABORT to a peer that keeps sending (AA-7) and an
 /// ignored PDU (AA-6) do not.
@@ -44,13 +44,13 @@ moment | 510 | Remaining(20s) | echo
 moment | 529 | Remaining(1s) | echo
 moment | 530 | Expired |
 over | yes
-took | accept reply released";
+accepted | accept reply released";
 
 static RELEASED_AT_ONCE: &str = "moment | 0 | Remaining(30s) | request release
 moment | 29 | Remaining(1s) | echo
 moment | 30 | Expired |
 over | yes
-took | accept released";
+accepted | accept released";
 
 /// A release (AR-4) restarts the timer, even with the request in the same chunk.
 #[test]

@@ -9,10 +9,10 @@ static ANSWERED: &str = "turn | 1024 | Socket
 send | request
 send | echo
 turn | 1024 | Next
-took | accept
+accepted | accept
 received | 170
 turn | 1024 | Socket
-took | accept reply
+accepted | accept reply
 received | 250
 over | no
 shown | request echo
@@ -40,10 +40,10 @@ turn | 100 | Next
 received | 6
 turn | 100 | Next
 received | 106
-took |
+accepted |
 turn | 100 | Next
 received | 170
-took | accept
+accepted | accept
 turn | 100 | Socket
 received | 250";
 
@@ -75,7 +75,7 @@ fn what_was_received_is_one_read(rt: HostRuntime) -> Result<(), Fail> {
     play(&rt, ONE_READ)
 }
 
-static ANSWER_WAITS: &str = "takes | 3
+static ANSWER_WAITS: &str = "accepts | 3
 send | request
 send | echo*50
 turn | 4096 | Socket
@@ -83,8 +83,8 @@ note
 turn | 4096 | Socket
 no read
 received | 170
-took | accept[..3]
-takes | all
+accepted | accept[..3]
+accepts | all
 turns | 4096 | Socket
 received | 4170";
 
@@ -99,7 +99,7 @@ turns | 8192 | Socket
 reads | 2
 received | 1770
 end
-untaken |";
+unconsumed |";
 
 #[test]
 fn small_messages_are_read_together(rt: HostRuntime) -> Result<(), Fail> {
@@ -113,7 +113,7 @@ turns | 4096 | Over
 over | yes
 received | 180
 end
-untaken | echo";
+unconsumed | echo";
 
 #[test]
 fn what_follows_the_end_is_not_accepted(rt: HostRuntime) -> Result<(), Fail> {
@@ -133,7 +133,7 @@ wait | Expired
 expire
 over | yes
 why | Some(Timer)
-took |";
+accepted |";
 
 #[test]
 fn half_a_request_expires(rt: HostRuntime) -> Result<(), Fail> {
@@ -146,13 +146,13 @@ at | 10
 turns | 4096 | Socket
 at | 609
 expire
-took | ct_accept
+accepted | ct_accept
 at | 610
 wait | Silent
 expire
 over | no
 why | Some(Idle)
-took | ct_accept abort
+accepted | ct_accept abort
 at | 639
 expire
 over | no
@@ -167,7 +167,7 @@ fn a_stalled_store_is_aborted(rt: HostRuntime) -> Result<(), Fail> {
     play(&rt, STALLED)
 }
 
-static TAKES_NOTHING: &str = "takes | 100
+static ACCEPTS_NOTHING: &str = "accepts | 100
 send | request
 turn | 4096 | Socket
 at | 600
@@ -175,28 +175,28 @@ expire
 over | yes
 failures | 1
 end
-took | accept[..100]
+accepted | accept[..100]
 unsent size | 69";
 
 #[test]
 fn a_peer_that_accepts_nothing_is_closed(rt: HostRuntime) -> Result<(), Fail> {
-    play(&rt, TAKES_NOTHING)
+    play(&rt, ACCEPTS_NOTHING)
 }
 
 /// When its time is up, the peer accepts one more byte, and then all.
-static TAKES_AT_LAST: &str = "takes | 100
+static ACCEPTS_AT_LAST: &str = "accepts | 100
 send | request
 turn | 4096 | Socket
-takes | 1
+accepts | 1
 at | 600
 expire
 wait | Remaining(600s)
-takes | all
+accepts | all
 at | 1200
 expire
 over | no
 why | None
-took | accept
+accepted | accept
 at | 1800
 expire
 why | Some(Idle)
@@ -204,7 +204,7 @@ failures | 0";
 
 #[test]
 fn a_peer_that_accepts_at_last_is_not_closed(rt: HostRuntime) -> Result<(), Fail> {
-    play(&rt, TAKES_AT_LAST)
+    play(&rt, ACCEPTS_AT_LAST)
 }
 
 static FAILS: &str = "fails
@@ -225,16 +225,16 @@ fn a_write_that_fails_closes(rt: HostRuntime) -> Result<(), Fail> {
     play(&rt, FAILS)
 }
 
-static LOCAL_ABORT: &str = "takes | 0
+static LOCAL_ABORT: &str = "accepts | 0
 send | request
 turn | 4096 | Socket
 stop
 stop
 over | no
-takes | all
+accepts | all
 closes
 turn | 4096 | Over
-took | accept abort";
+accepted | accept abort";
 
 #[test]
 fn the_local_user_aborts_while_an_answer_waits(rt: HostRuntime) -> Result<(), Fail> {

@@ -12,22 +12,22 @@ turns | 65536 | Filing
 held | yes
 note
 waits | yes
-took | ct_accept
+accepted | ct_accept
 turn | 65536 | Filing
 start writing
 write out
-took | ct_accept
+accepted | ct_accept
 no read
 no byte
 settle | named | yes
 waits | no
 kept | 1
-took | ct_accept success
+accepted | ct_accept success
 turn | 65536 | Filing
 settle | named | yes
 turn | 65536 | Socket
 held | yes
-took | ct_accept success*2
+accepted | ct_accept success*2
 end
 files | 2
 lost | 0";
@@ -51,10 +51,10 @@ turn | 65536 | Filing
 stop
 at | 900
 expire
-took | ct_accept
+accepted | ct_accept
 end
 standing | Closing
-took | ct_accept
+accepted | ct_accept
 unsent | success abort";
 
 #[test]
@@ -71,10 +71,10 @@ turns | 65536 | Filing
 held | yes
 at | 50
 round
-took | ct_accept
+accepted | ct_accept
 why | Some(Longest)
 settle | named | yes
-took | ct_accept success abort";
+accepted | ct_accept success abort";
 
 #[test]
 fn an_abort_follows_the_reply(rt: HostRuntime) -> Result<(), Fail> {
@@ -91,7 +91,7 @@ at | 601
 wait | Silent
 expire
 why | None
-took | ct_accept";
+accepted | ct_accept";
 
 #[test]
 fn nobody_is_silent_whose_file_waits(rt: HostRuntime) -> Result<(), Fail> {

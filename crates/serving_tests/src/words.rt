@@ -116,7 +116,7 @@ fn replaced(parts: &Parts<'_>, case: &Case<'_>) -> Result<Vec<u8>, Fail> {
 pub fn peer_does(script: &Script, parts: &Parts<'_>, case: &Case<'_>) -> Result<bool, Fail> {
     match case.name {
         "send" => script.send(parts.bytes(case, 0)?.as_slice())?,
-        "takes" => script.accepts.set(number(case, 0)?),
+        "accepts" => script.accepts.set(number(case, 0)?),
         "fails" => script.fails.set(true),
         "closes" => script.is_closed.set(true),
         _ => return Ok(false),
