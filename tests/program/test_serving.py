@@ -1,4 +1,5 @@
 """The options of `serve` have their documented effects, also for several associations at once."""
+import json
 import os
 import re
 import shutil
@@ -196,6 +197,176 @@ class TestCallers:
     def test_of_a_file_without_end(self, expect):
         errors = "error: --callers names '/dev/zero', which has more than 65536 bytes"
         expect(2, "", errors, "serve", "--port", "11112", "--out", ".", "--callers", "/dev/zero")
+
+
+class TestRenewedCallers:
+    """A file of calling titles that has changed is read anew at the next connection."""
+
+    WAS = b"SCANNER2\n"
+
+    @pytest.fixture
+    def change(self, work):
+        """Puts another file in place of that of the titles, or removes it."""
+
+        def changed(listed):
+            path = work / "callers.txt"
+            if listed is None:
+                path.unlink()
+            else:
+                (work / "new.txt").write_bytes(listed)
+                (work / "new.txt").rename(path)
+
+        return changed
+
+    @pytest.fixture
+    def box(self, serve, form, change):
+        change(self.WAS)
+        box = serve("--callers", "callers.txt", "--verbose", *form)
+        assert not self.is_accepted(box)
+        return box
+
+    @staticmethod
+    def is_accepted(box):
+        """Returns whether SCANNER1 may call; if not, it is rejected for its title."""
+        rejected = bytes.fromhex("03000000000400010103")
+        with box.connect() as peer:
+            answer = peer.exchange(ECHO, len(rejected))
+            if answer != rejected:
+                answer += peer.receive(len(ECHO_ANSWER) - len(rejected))
+                assert answer == ECHO_ANSWER
+        return answer != rejected
+
+    @staticmethod
+    def logged(box):
+        """Returns the lines about the file, without their time."""
+        return [re.sub(r" 20\S+Z", "", line) for line in box.lines if "calling titles" in line]
+
+    @staticmethod
+    def read(count):
+        return f"[INFO  dcmbox::serve] the calling titles were read anew: {count} may call"
+
+    def test_a_title_that_was_added_may_call(self, box, change):
+        change(b"SCANNER1\nSCANNER2\n")
+        assert self.is_accepted(box) and self.is_accepted(box)
+        assert self.logged(box) == [self.read(2)]
+
+    def test_a_title_that_was_removed_may_not_call(self, box, change):
+        for listed, may_call in ((b"SCANNER1\n", True), (self.WAS, False), (b"SCANNER1\n", True)):
+            change(listed)
+            assert self.is_accepted(box) == may_call
+        assert self.logged(box) == [self.read(1)] * 3
+
+    def test_written_in_place_it_is_read_too(self, box, work):
+        with open(work / "callers.txt", "ab") as file:
+            file.write(b"SCANNER1")
+        assert self.is_accepted(box)
+
+    def test_the_same_titles_are_no_change(self, box, change, work):
+        change(self.WAS)
+        os.utime(work / "callers.txt")
+        assert not self.is_accepted(box)
+        assert self.logged(box) == []
+
+    def test_titles_of_options_stay(self, serve, change):
+        change(self.WAS)
+        box = serve("--callers", "callers.txt", "--caller", "SCANNER1")
+        change(b"SCANNER3\nSCANNER4\n")
+        assert self.is_accepted(box)
+        assert self.logged(box) == [self.read(3)]
+
+    def test_other_settings_stay(self, serve, change):
+        """The limits, classes and called titles are those of the options, as at the start."""
+        change(self.WAS)
+        options = ("--ae", "ARCHIVE", "--ae", "DCMBOX", "--max-pdu", "1024", "--max-data", "1024")
+        box = serve("--callers", "callers.txt", *options)
+        change(b"SCANNER1\n")
+        answer = box.exchange(ECHO, 269)
+        at = answer.index(b"\x51\0\0\4") + 4
+        assert struct.unpack(">L", answer[at : at + 4])[0] == 1024
+
+    def test_an_open_association_stays(self, serve, change):
+        change(b"SCANNER1\n")
+        box = serve("--callers", "callers.txt", "--at-once", "4")
+        with box.connect() as peer:
+            accepted = peer.exchange(ECHO_REQUEST, 6 + struct.unpack(">L", ECHO_ANSWER[2:6])[0])
+            change(self.WAS)
+            assert not self.is_accepted(box)
+            rest = peer.exchange(ECHO[len(ECHO_REQUEST) :], len(ECHO_ANSWER) - len(accepted))
+            assert accepted + rest == ECHO_ANSWER
+        assert not self.is_accepted(box)
+
+    @pytest.mark.parametrize(
+        "reason, listed",
+        cases(
+            ("an empty file", "--callers names 'callers.txt', which has no title", b""),
+            (
+                "a title that is too long",
+                "--callers names 'callers.txt', whose line 2 is no AE title of 1 to 16 characters:"
+                ' "SEVENTEENLETTERSX"',
+                b"SCANNER1\nSEVENTEENLETTERSX\n",
+            ),
+            (
+                "a longer file",
+                "--callers names 'callers.txt', which has more than 65536 bytes",
+                b"SCANNER1\n#" + b"-" * 65527,
+            ),
+            (
+                "no file",
+                "the file of titles can't be read: No such file or directory (os error 2);"
+                " check its name, and that you may read it",
+                None,
+            ),
+        ),
+    )
+    def test_a_wrong_file_keeps_the_titles_before(self, box, change, reason, listed):
+        """It is logged once, and a file that is mended is read."""
+        error = f"[ERROR dcmbox::serve] the calling titles stay as they were: {reason}"
+        change(listed)
+        assert not self.is_accepted(box) and not self.is_accepted(box)
+        assert self.logged(box) == [error]
+        change(b"SCANNER1\n")
+        assert self.is_accepted(box)
+        change(listed)
+        assert self.is_accepted(box)
+        change(self.WAS)
+        assert not self.is_accepted(box)
+        assert self.logged(box) == [error, self.read(1), error, self.read(1)]
+
+    def test_a_missing_file_that_is_there_again_is_logged(self, box, change):
+        change(None)
+        assert not self.is_accepted(box)
+        change(self.WAS)
+        assert not self.is_accepted(box)
+        assert self.logged(box)[1:] == [self.read(1)]
+
+    def test_in_json(self, serve, change):
+        change(self.WAS)
+        box = serve("--callers", "callers.txt", "--log", "json")
+        for listed in (b"", b"SCANNER1\n"):
+            change(listed)
+            self.is_accepted(box)
+        lines = [line for line in map(json.loads, box.lines) if line["event"].startswith("callers")]
+        assert [{**line, "time": None} for line in lines] == [
+            {
+                "time": None,
+                "level": "ERROR",
+                "event": "callers not read",
+                "reason": "--callers names 'callers.txt', which has no title",
+            },
+            {"time": None, "level": "INFO", "event": "callers read", "callers": 1},
+        ]
+
+    def test_many_changes_need_little_memory(self, serve, change):
+        """Replaced settings are kept, as associations use them: some 8 KB each, and 16 bytes a title."""
+        change(self.WAS)
+        box = serve("--callers", "callers.txt", memory=LITTLE)
+        box.echoes()
+        before = box.most_resident()
+        for count in range(200):
+            change(b"SCANNER%d\n" % (count + 3))
+            box.echoes()
+        assert len(self.logged(box)) == 200
+        assert box.most_resident() - before < 200 * 8
 
 
 @pytest.mark.parametrize(

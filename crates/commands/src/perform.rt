@@ -3,7 +3,7 @@ use arguments::{
     ArrangeArguments, CheckArguments, IndexArguments, Job, ListArguments, ReplayArguments,
     ServeArguments, ShowArguments, index_settings, replay_settings, serve_settings,
 };
-use arrange_command::{ArrangeOptions, Part, arrange, read_pattern};
+use arrange_command::{ArrangeOptions, BY_UIDS, Part, arrange, read_pattern};
 use element::{Tag, Uid, Vr, check_value};
 use failures::{ProgramError, WordsError};
 use file_commands::{Files, Inspection, inspect, inspect_files};
@@ -24,7 +24,7 @@ fn perform_serve(rt: &HostRuntime, arguments: &ServeArguments) -> Result<Outcome
     let _judged = serve_settings(rt.alloc(), arguments, ONE_TITLE)?;
     let listed = callers_text(rt, arguments.callers_file)?;
     let settings = serve_settings(rt.alloc(), arguments, listed.as_str())?;
-    serve_into(rt, &settings)?;
+    serve_into(rt, &settings, (arguments, listed))?;
     Ok(Outcome::Good)
 }
 
@@ -251,23 +251,21 @@ fn perform_list(rt: &HostRuntime, arguments: &ListArguments) -> Result<Outcome, 
     list(rt, arguments.dirs.as_slice(), options)
 }
 
-/// The pattern of `arrange` without the option `--pattern`.
-const BY_UIDS: &str = "{PatientID}/{StudyInstanceUID}/{SeriesInstanceUID}/{SOPInstanceUID}";
-
 /// Reads the pattern of the option `--pattern`, without `.dcm` at its end, which each path has.
 /// Fails with a text for the user if the pattern is invalid.
 fn pattern_of<'a>(alloc: Global, text: &'a str) -> Result<Vec<Part<'a>>, WordsError> {
     read_pattern(alloc, text.strip_suffix(".dcm").unwrap_or(text))
 }
 
-fn perform_arrange(
+/// Links or copies the files of these arguments into the paths of a pattern.
+fn arrange_by<'a>(
     rt: &HostRuntime,
-    arguments: &ArrangeArguments,
+    arguments: &ArrangeArguments<'a>,
+    pattern: &'a [Part<'a>],
 ) -> Result<Outcome, ProgramError> {
-    let pattern = pattern_of(rt.alloc(), arguments.pattern.unwrap_or(BY_UIDS))?;
     let options = ArrangeOptions {
         tree: arguments.to,
-        pattern: pattern.as_slice(),
+        pattern,
         copy: arguments.copy,
         dry_run: arguments.dry_run,
         ignore_others: arguments.ignore_others,
@@ -275,6 +273,19 @@ fn perform_arrange(
         unicode: is_unicode(rt),
     };
     arrange(rt, arguments.dirs.as_slice(), options)
+}
+
+fn perform_arrange(
+    rt: &HostRuntime,
+    arguments: &ArrangeArguments,
+) -> Result<Outcome, ProgramError> {
+    match arguments.pattern {
+        Some(text) => {
+            let pattern = pattern_of(rt.alloc(), text)?;
+            arrange_by(rt, arguments, pattern.as_slice())
+        }
+        None => arrange_by(rt, arguments, BY_UIDS),
+    }
 }
 
 /// Runs the command that the arguments name.

@@ -5,6 +5,7 @@
 mod accepted;
 mod asked;
 mod association_entries;
+mod caller_entries;
 mod cause;
 mod contexts;
 mod end;
@@ -34,6 +35,7 @@ mod text;
 mod words;
 
 pub use association_entries::Served;
+pub use caller_entries::{CallersNotRead, CallersRead};
 pub use form::LineForm;
 pub use journal::Journal;
 pub use line::{LINE, Line};

@@ -1,8 +1,19 @@
-//! Reads the file of the calling AE titles that are accepted.
+//! Reads the file of the calling AE titles that are accepted, at the start and when it changes.
+ghost use Rattle.std.specs.Prelude.{◌≡◌, IfOk, IfSome, string_bytes};
+ghost use Rattle.negotiate.specs.Settings.{settings_of};
+ghost use Rattle.serve_command.specs.Renewed.{AreRenewed, MayFollow};
+
+use arguments::{ServeArguments, serve_settings};
 use failures::{Failure, ProgramError, WordsError};
+use journal::{CallersNotRead, CallersRead, Logger};
+use log::Log;
+use negotiate::Config;
+use server::ConfigSource;
 use std::alloc::Global;
 use std::io::Read;
+use std::os::unix::fs::MetadataExt;
 use std::rt::Files;
+use std::time::Clock;
 use std::{fs, io};
 
 /// The maximum size of the file of titles in bytes.
@@ -38,4 +49,133 @@ pub fn callers_text<R: Files + Alloc<A = Global>>(
         return Err(ProgramError::Words(WordsError::Refused(refused)));
     }
     Ok(String::from_utf8_lossy(rt.alloc(), bytes.as_slice())?)
+}
+
+/// What changes when a file is written or another one takes its name.
+#[derive(Clone, Copy, PartialEq, Eq)]
+struct Stamp {
+    device: u64,
+    inode: u64,
+    size: u64,
+    seconds: i64,
+    nanoseconds: i64,
+}
+
+impl Stamp {
+    /// The stamp of no file.
+    const NONE: Stamp = Stamp {
+        device: 0,
+        inode: 0,
+        size: 0,
+        seconds: 0,
+        nanoseconds: 0,
+    };
+
+    /// Returns the stamp of the file at this path, or `NONE` if there is none.
+    fn of(rt: &HostRuntime, path: &str) -> Stamp {
+        match fs::metadata(rt, path) {
+            Ok(found) => Stamp {
+                device: found.dev(),
+                inode: found.ino(),
+                size: found.size(),
+                seconds: found.ctime(),
+                nanoseconds: found.ctime_nsec(),
+            },
+            Err(_) => Stamp::NONE,
+        }
+    }
+}
+
+/// The file of calling titles of a running server. When it has changed, the settings are read anew.
+#[derive(Drop)]
+pub(crate) struct CallersFile<'a, R> {
+    rt: &'a HostRuntime,
+    arguments: &'a ServeArguments<'a>,
+    logger: Logger<'a, R>,
+    /// The stamp of the file before it was last read, or `None` if that is not known.
+    seen: Option<Stamp>,
+    /// The text that was last read, or an empty one if the file could not be read.
+    text: String,
+}
+
+impl<'a, R: Log + Clock> CallersFile<'a, R> {
+    /// Creates the source of the settings that follow those of these arguments and this text of the
+    /// file.
+    pub(crate) fn new(
+        rt: &'a HostRuntime,
+        (arguments, text): (&'a ServeArguments<'a>, String),
+        logger: Logger<'a, R>,
+    ) -> CallersFile<'a, R> {
+        CallersFile {
+            rt,
+            arguments,
+            logger,
+            seen: None,
+            text,
+        }
+    }
+
+    /// Reads the file, and returns the settings with its titles, unless its text is that which was
+    /// read last.
+    ///
+    /// Fails if the file cannot be read, if its text is refused, or if memory runs out.
+    fn read(&mut self, path: &str) -> Result<Option<Box<Config>>, ProgramError>
+        ensures renewed { IfOk result (λ found. IfSome found (λ c. AreRenewed self.old.arguments.now (string_bytes self.new.text) (settings_of c.value))) }
+        ensures arguments { self.new.arguments ≡ self.old.arguments }
+    {
+        let alloc = self.rt.alloc();
+        let text = match callers_text(self.rt, Some(path)) {
+            Ok(text) => text,
+            Err(failure) => {
+                self.text.clear();
+                return Err(failure);
+            }
+        };
+        if text == self.text {
+            return Ok(None);
+        }
+        self.text = text;
+        let settings = serve_settings(alloc, self.arguments, self.text.as_str())?;
+        Ok(Some(Box::new(alloc, settings.config)?))
+    }
+
+    /// Logs why the file was not read.
+    fn report(&self, failure: &ProgramError) {
+        let Ok(text) = format!(in self.rt.alloc(); "{failure}") else {
+            return;
+        };
+        let text = text.as_str().trim_end();
+        let reason = match text.strip_prefix("error: ") {
+            Some(reason) => reason,
+            None => text,
+        };
+        self.logger.report(&CallersNotRead(reason));
+    }
+}
+
+impl<R: Log + Clock> ConfigSource for CallersFile<'_, R> {
+    ghost gives = { λ file s. MayFollow file.arguments.now s };
+
+    /// Returns the settings with the titles of the file, if they were read anew, which is logged.
+    /// If the file has changed and cannot be used, logs an error once.
+    fn renewed(&mut self) -> Option<Box<Config>> {
+        let path = self.arguments.callers_file?;
+        let stamp = Stamp::of(self.rt, path);
+        if self.seen == Some(stamp) {
+            return None;
+        }
+        self.seen = Some(stamp);
+        match self.read(path) {
+            Ok(Some(config)) => {
+                let callers = config.callers().len() as u64;
+                self.logger.report(&CallersRead(callers));
+                Some(config)
+            }
+            Ok(None) => None,
+            Err(failure) => {
+                self.report(&failure);
+                None
+            }
+        }
+    }
 }

@@ -1,6 +1,7 @@
 //! `dcmbox serve` into a folder.
+use crate::callers::CallersFile;
 use crate::serve::{form_of, serve};
-use arguments::{Serve, VERSION};
+use arguments::{Serve, ServeArguments, VERSION};
 use failures::{Failure, ProgramError, WordsError};
 use folder_filing::QuarantineFound;
 use folders::{numbered, open_writer, quarantined, try_draft};
@@ -121,8 +122,14 @@ fn lock_metrics(rt: &HostRuntime, path: Option<&str>) -> Result<Option<File>, Pr
 }
 
 /// Serves into the folder until the program is stopped, or only one association. Logs first its
-/// version and settings, and how many drafts it removed from the folder.
-pub fn serve_into(rt: &HostRuntime, settings: &Serve) -> Result<(), ProgramError> {
+/// version and settings, and how many drafts it removed from the folder. `read` is what the
+/// settings were read from: the arguments, and the text of the file of calling titles, which is
+/// read anew when it changes.
+pub fn serve_into(
+    rt: &HostRuntime,
+    settings: &Serve,
+    read: (&ServeArguments<'_>, String),
+) -> Result<(), ProgramError> {
     check_stop_file(rt, settings.service.stop_file)?;
     let _lock = lock_metrics(rt, settings.metrics)?;
     let drafts = drafts_in(rt, settings.out);
@@ -147,5 +154,6 @@ pub fn serve_into(rt: &HostRuntime, settings: &Serve) -> Result<(), ProgramError
     if let Some(found) = found {
         report_quarantine(&logger, found);
     }
-    serve(&logged, settings, rt, (writer, filing))
+    let source = CallersFile::new(rt, read, logger);
+    serve(&logged, settings, (rt, source), (writer, filing))
 }

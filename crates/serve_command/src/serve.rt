@@ -7,7 +7,7 @@ ghost use Rattle.journal.specs.declared.form.LineForm.TheVariants as form;
 ghost use Rattle.negotiate.specs.Settings.{settings_of};
 ghost use Rattle.folder_filing.specs.Settling.{is_unsettled};
 ghost use Rattle.server.specs.FolderStore.{folder_store};
-ghost use Rattle.server.specs.Histories.{AllEnded, slots_in};
+ghost use Rattle.server.specs.Histories.{AllEnded, IsFirstOr, slots_in};
 
 use arguments::{LogForm, Serve, VERSION};
 use failures::{Failure, ProgramError};
@@ -15,12 +15,10 @@ use folder_filing::{FolderFiling, FolderWriter};
 use journal::{LineForm, LineLimits};
 use log::Log;
 use metrics::MetricsFile;
-use server::{ServerConfiguration, ServerHistory, serve_many};
+use server::{ConfigSource, ServerConfiguration, ServerHistory, Unchanging, serve_many};
 use std::alloc::{AllocError, Global};
-use std::fs::File;
 use std::io;
 use std::net::{Net, TcpListener, TcpStream};
-use std::rt::Files;
 use std::time::Clock;
 
 /// Returns the form of the log in the settings.
@@ -63,18 +61,15 @@ fn configuration_of<'a>(
 /// out.
 ///
 /// `all`, `ended`: as those of `serve_many`.
-pub fn serve_one<
-    R: Log + Clock + Net + Alloc<A = Global>,
-    S: Files<File = File> + Alloc<A = Global> + Clone + Drop,
->(
+pub fn serve_one<R: Log + Clock + Net + Alloc<A = Global>>(
     rt: &R,
     listener: TcpListener,
     settings: &Serve,
-    files: &S,
-    folder: (FolderWriter<S>, FolderFiling<S>),
-) -> (ServerHistory<FolderFiling<S>>, io::Result<()>)
+    files: &HostRuntime,
+    folder: (FolderWriter<HostRuntime>, FolderFiling<HostRuntime>),
+) -> (ServerHistory<FolderFiling<HostRuntime>>, io::Result<()>)
     ensures all { OnOk result.1 (length (slots_in result.0) ≡ settings.now.service.associations) }
-    ensures ended { ∥ All (AllEnded folder_store is_unsettled (record {
+    ensures ended { ∥ All (AllEnded folder_store is_unsettled (IsFirstOr (settings_of settings.now.config) (λ _. ⊥)) (record {
       settings = settings_of settings.now.config;
       artim = as_nanos settings.now.service.timeouts.artim;
       idle = as_nanos settings.now.service.timeouts.idle;
@@ -88,7 +83,7 @@ pub fn serve_one<
     if listeners.push(listener).is_err() {
         return (ServerHistory::new(), Err(io::Error::from(AllocError)));
     }
-    serve_many(rt, listeners, configuration, files, folder)
+    serve_many(rt, listeners, configuration, (files, Unchanging), folder)
 }
 
 /// Creates the metrics file of the settings, if they name one. Fails if memory runs out.
@@ -125,20 +120,21 @@ fn listen<R: Net<Listener = TcpListener, Stream = TcpStream> + Alloc<A = Global>
 
 /// Listens on the port and the further addresses, and serves up to the configured number of
 /// associations at once until the program is stopped, or only one if `once` is set. Logs where it
-/// listens, and that it has stopped. The first slot uses the filing that is passed, each other slot
-/// a new one of the folder. With several slots, files that are complete at the same time are
-/// settled together; with one slot, each file is settled alone.
+/// listens, and that it has stopped. `watched` is the file system of the stop file and the metrics
+/// file, and the source of the settings of later connections. The first slot uses the filing that
+/// is passed, each other slot a new one of the folder. With several slots, files that are complete
+/// at the same time are settled together; with one slot, each file is settled alone.
 ///
 /// Fails if it cannot listen on an address or port, if the clock or the poll fails, or, at the
 /// start, if a system call fails or memory runs out.
 pub fn serve<
     R: Log + Clock + Net<Listener = TcpListener, Stream = TcpStream> + Alloc<A = Global>,
-    S: Files<File = File> + Alloc<A = Global> + Clone + Drop,
+    C: ConfigSource + Drop,
 >(
     rt: &R,
     settings: &Serve,
-    files: &S,
-    folder: (FolderWriter<S>, FolderFiling<S>),
+    watched: (&HostRuntime, C),
+    folder: (FolderWriter<HostRuntime>, FolderFiling<HostRuntime>),
 ) -> Result<(), ProgramError> {
     let listeners = listen(rt, settings)?;
     let metrics = metrics_of(rt, settings)?;
@@ -150,7 +146,7 @@ pub fn serve<
     } else {
         writer.in_groups()
     };
-    let (_history, served) = serve_many(rt, listeners, configuration, files, (writer, filing));
+    let (_history, served) = serve_many(rt, listeners, configuration, watched, (writer, filing));
     match served {
         Ok(()) => Ok(()),
         Err(error) => Err(ProgramError::System(Failure::Serve, error)),

@@ -1,9 +1,9 @@
 -- What a connection left that has ended is kept, once, beside what those before it left.
 use Rattle.std.proofs.Common.{◌≡◌, ◌≢◌, ℕ, ◌≤◌, Bool, true, false, refl, sym, ap, subst, ◌∙◌, List, [], ◌∷◌, ◌++◌, length, map, Option, None, Some}
-use Rattle.std.proofs.Math.Logic.{∥∥₁_map}
+use Rattle.std.proofs.Math.Logic.{∥∥₁_elim, ∥∥₁_map, ∥∥₁_prop}
 use Rattle.std.proofs.lemmas.List.{append-nil, map-append}
 use Rattle.std.proofs.lemmas.List.Elements.{All-push}
-use Rattle.std.specs.List.{All}
+use Rattle.std.specs.List.{All, AllZip}
 use Rattle.part10.specs.Store.{Store}
 use Rattle.negotiate.specs.Settings.{Settings}
 use Rattle.serving.specs.Served.{IsServed}
@@ -13,8 +13,8 @@ use Rattle.serving.specs.TimeLimits.{TimeLimits, had_reasons, opened_at}
 use Rattle.serving.specs.declared.open_connection.ConnectionEnd.{ConnectionEnd}
 use Rattle.server.specs.declared.socket.Socket.{Socket}
 use Rattle.server.specs.declared.server.opening.history.SlotHistory.{SlotHistory}
-use Rattle.server.specs.Configuration.{Configuration}
-use Rattle.server.specs.Histories.{ClosedBy, ended_in, opened_in, opened_over}
+use Rattle.server.specs.Configuration.{Configuration, with_settings}
+use Rattle.server.specs.Histories.{ClosedBy, EachClosed, ended_in, opened_in, opened_over, settings_in}
 use Rattle.server.specs.machine.Slots.{HaveEnded, seen_of}
 
 -- what is seen of the connection that is there
@@ -53,38 +53,58 @@ remaining_by store has_pending t e filing s initial stopped is opened from stop 
   reasons = rw (from, stop) reasons;
 })
 
+-- one pair more is related
+zip_more : {A B : Type 0} (R : A → B → Type 0) (xs : List A) (ys : List B) (x : A) (y : B) → AllZip R xs ys → R x y → AllZip R (xs ++ x ∷ []) (ys ++ y ∷ [])
+zip_more R [] [] x y zip r = (r, tt)
+zip_more R [] (b ∷ ys) x y zip r = absurd zip
+zip_more R (a ∷ xs) [] x y zip r = absurd zip
+zip_more R (a ∷ xs) (b ∷ ys) x y zip r = (zip.0, zip_more R xs ys x y zip.1 r)
+
 -- one connection has ended
-pub one_ended : {F : Type 0} (store : F → Store) (has_pending : F → Bool) (t : Configuration) (old new : SlotHistory F) (e : ConnectionEnd Socket F) (filing : F)
-    → opened_in new ≡ opened_in old → ended_in new ≡ ended_in old ++ e ∷ [] → e.opened.value ≡ filing
-    → ClosedBy store has_pending t e → HaveEnded store has_pending t (filing ∷ []) old new
-one_ended store has_pending t old new e filing opened ended over by =
+pub one_ended : {F : Type 0} (store : F → Store) (has_pending : F → Bool) (allows : Settings → Type 0) (t : Configuration) (old new : SlotHistory F) (s : Settings) (e : ConnectionEnd Socket F) (filing : F)
+    → opened_in new ≡ opened_in old → settings_in new ≡ settings_in old ++ s ∷ [] → ended_in new ≡ ended_in old ++ e ∷ [] → e.opened.value ≡ filing
+    → ∥ allows s ∥₁ → ClosedBy store has_pending (with_settings t s) e → HaveEnded store has_pending allows t (filing ∷ []) old new
+one_ended store has_pending allows t old new s e filing opened settings ended over may by =
+    let R : Settings → ConnectionEnd Socket _ → Type 0 = λ s e. ClosedBy store has_pending (with_settings t s) e in
     record {
       opened = opened;
       ended = ap (map opened_over) ended ∙ (map-append opened_over (ended_in old) (e ∷ []) ∙ ap (λ f. map opened_over (ended_in old) ++ f ∷ []) over);
-      closed = λ was. ∥∥₁_map was (λ all. subst (All (ClosedBy store has_pending t)) (sym ended) (All-push (ClosedBy store has_pending t) (ended_in old) e all by));
+      closed = λ was. ∥∥₁_map was (λ each. subst (λ es. AllZip R (settings_in new) es) (sym ended) (subst (λ ss. AllZip R ss (ended_in old ++ e ∷ [])) (sym settings) (zip_more R (settings_in old) (ended_in old) s e each by)));
+      allowed = λ was. ∥∥₁_elim may ∥∥₁_prop (λ m. ∥∥₁_map was (λ all. subst (All allows) (sym settings) (All-push allows (settings_in old) s all m)));
     }
 
 -- one connection more was opened, after the one before it has ended
-pub opened_next : {F T : Type 0} (see : T → F) (store : F → Store) (has_pending : F → Bool) (t : Configuration) (old noted new : SlotHistory F) (filing : F) (there had now : Option T) (connection : T)
+pub opened_next : {F T : Type 0} (see : T → F) (store : F → Store) (has_pending : F → Bool) (allows : Settings → Type 0) (t : Configuration) (old noted new : SlotHistory F) (filing : F) (there had now : Option T) (connection : T)
     → opened_in old ≡ map opened_over (ended_in old) ++ seen_of there see → had ≡ there
     → opened_in noted ≡ opened_in old ++ filing ∷ [] → ended_in noted ≡ ended_in old
-    → HaveEnded store has_pending t (seen_of had see) noted new → now ≡ Some connection → see connection ≡ filing → opened_in new ≡ map opened_over (ended_in new) ++ seen_of now see
-opened_next see store has_pending t old noted new filing there had now connection none same opened ended ends is over =
+    → HaveEnded store has_pending allows t (seen_of had see) noted new → now ≡ Some connection → see connection ≡ filing → opened_in new ≡ map opened_over (ended_in new) ++ seen_of now see
+opened_next see store has_pending allows t old noted new filing there had now connection none same opened ended ends is over =
     let before : seen_of there see ≡ seen_of had see = ap (λ o. seen_of o see) (sym same) in
     let all : opened_in old ≡ map opened_over (ended_in new) = none ∙ (ap (λ fs. map opened_over (ended_in old) ++ fs) before ∙ sym (ends.ended ∙ ap (λ es. map opened_over es ++ seen_of had see) ended)) in
     let last : seen_of now see ≡ filing ∷ [] = ap (λ o. seen_of o see) is ∙ ap (λ f. f ∷ []) over in
     ends.opened ∙ (opened ∙ (ap (λ fs. fs ++ filing ∷ []) all ∙ ap (λ fs. map opened_over (ended_in new) ++ fs) (sym last)))
 
--- and each has left what the settings give
-pub still_remaining : {F : Type 0} (store : F → Store) (has_pending : F → Bool) (t : Configuration) (openings : List F) (old noted new : SlotHistory F)
-    → ended_in noted ≡ ended_in old → HaveEnded store has_pending t openings noted new → ∥ All (ClosedBy store has_pending t) (ended_in old) ∥₁ → ∥ All (ClosedBy store has_pending t) (ended_in new) ∥₁
-still_remaining store has_pending t openings old noted new ended ends was = ends.closed (subst (λ es. ∥ All (ClosedBy store has_pending t) es ∥₁) (sym ended) was)
+-- and each has left what its settings give
+pub still_remaining : {F : Type 0} (store : F → Store) (has_pending : F → Bool) (allows : Settings → Type 0) (t : Configuration) (openings : List F) (old noted new : SlotHistory F)
+    → settings_in noted ≡ settings_in old → ended_in noted ≡ ended_in old → HaveEnded store has_pending allows t openings noted new → ∥ EachClosed store has_pending t old ∥₁ → ∥ EachClosed store has_pending t new ∥₁
+still_remaining store has_pending allows t openings old noted new settings ended ends was =
+    let R : Settings → ConnectionEnd Socket _ → Type 0 = λ s e. ClosedBy store has_pending (with_settings t s) e in
+    ends.closed (subst (λ es. ∥ AllZip R (settings_in noted) es ∥₁) (sym ended) (subst (λ ss. ∥ AllZip R ss (ended_in old) ∥₁) (sym settings) was))
+
+-- and each had settings that are allowed
+pub still_allowed : {F : Type 0} (store : F → Store) (has_pending : F → Bool) (allows : Settings → Type 0) (t : Configuration) (openings : List F) (old noted new : SlotHistory F)
+    → settings_in noted ≡ settings_in old → HaveEnded store has_pending allows t openings noted new → ∥ All allows (settings_in old) ∥₁ → ∥ All allows (settings_in new) ∥₁
+still_allowed store has_pending allows t openings old noted new settings ends was = ends.allowed (subst (λ ss. ∥ All allows ss ∥₁) (sym settings) was)
+
+-- the settings of an association can be replaced
+pub renewed : (c t : Configuration) (s new : Settings) → with_settings c s ≡ with_settings t s → with_settings c new ≡ with_settings t new
+renewed c t s new is = ap (λ (u : Configuration). with_settings u new) is
 
 -- none is there any more, and the one that was has ended
-pub none_remaining : {F T : Type 0} (see : T → F) (store : F → Store) (has_pending : F → Bool) (t : Configuration) (old new : SlotHistory F) (there had now : Option T)
-    → opened_in old ≡ map opened_over (ended_in old) ++ seen_of there see → had ≡ there → HaveEnded store has_pending t (seen_of had see) old new → now ≡ None
+pub none_remaining : {F T : Type 0} (see : T → F) (store : F → Store) (has_pending : F → Bool) (allows : Settings → Type 0) (t : Configuration) (old new : SlotHistory F) (there had now : Option T)
+    → opened_in old ≡ map opened_over (ended_in old) ++ seen_of there see → had ≡ there → HaveEnded store has_pending allows t (seen_of had see) old new → now ≡ None
     → opened_in new ≡ map opened_over (ended_in new) ++ seen_of now see
-none_remaining see store has_pending t old new there had now none same ends is =
+none_remaining see store has_pending allows t old new there had now none same ends is =
     let before : seen_of there see ≡ seen_of had see = ap (λ o. seen_of o see) (sym same) in
     let all : opened_in old ≡ map opened_over (ended_in new) = none ∙ (ap (λ fs. map opened_over (ended_in old) ++ fs) before ∙ sym ends.ended) in
     let empty : [] ≡ seen_of now see = ap (λ o. seen_of o see) (sym is) in

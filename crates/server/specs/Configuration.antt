@@ -17,6 +17,10 @@ pub record Configuration : Type 0 where
   pub idle : ℕ
   pub longest : Option ℕ
 
+-- the settings of a connection whose association has these
+abbrev pub with_settings : Configuration → Settings → Configuration
+with_settings t s = record t { settings = s }
+
 -- the settings of a server's connections
 abbrev pub configuration_of : ServerConfiguration → Configuration
 configuration_of configuration =

@@ -1,13 +1,14 @@
 -- The history of the connections of a server.
-use Rattle.std.specs.Prelude.{◌≡◌, ◌≢◌, ◌≤◌, Bool, List, [], length, map, true, false}
-use Rattle.std.specs.List.{All}
+use Rattle.std.specs.Prelude.{◌≡◌, ◌≢◌, ◌≤◌, ◌⊎◌, Bool, List, [], length, map, true, false}
+use Rattle.std.specs.List.{All, AllZip}
+use Rattle.negotiate.specs.Settings.{Settings, settings_of}
 use Rattle.part10.specs.Store.{Store}
 use Rattle.serving.specs.Served.{IsServed}
 use Rattle.serving.specs.Settled.{SettlesFirst, sent_by}
 use Rattle.serving.specs.Timed.{GivenInTime, asked_at}
 use Rattle.serving.specs.TimeLimits.{had_reasons, opened_at}
 use Rattle.serving.specs.declared.open_connection.ConnectionEnd.{ConnectionEnd}
-use Rattle.server.specs.Configuration.{Configuration}
+use Rattle.server.specs.Configuration.{Configuration, with_settings}
 use Rattle.server.specs.declared.socket.Socket.{Socket}
 use Rattle.server.specs.declared.server.opening.history.ServerHistory.{ServerHistory}
 use Rattle.server.specs.declared.server.opening.history.SlotHistory.{SlotHistory}
@@ -36,11 +37,24 @@ opened_in slot = slot.opened
 abbrev pub ended_in : {F : Type 0} → SlotHistory F → List (ConnectionEnd Socket F)
 ended_in slot = slot.ended
 
+-- the settings of the associations of these connections, as they were recorded
+abbrev pub settings_in : {F : Type 0} → SlotHistory F → List Settings
+settings_in slot = map settings_of slot.configs
+
+-- the connections that have ended in a slot kept the promise, each with the settings of its own association
+abbrev pub EachClosed : {F : Type 0} → (F → Store) → (F → Bool) → Configuration → SlotHistory F → Type 0
+EachClosed store has_pending t slot = AllZip (λ s e. ClosedBy store has_pending (with_settings t s) e) (settings_in slot) (ended_in slot)
+
 -- each connection that was opened in a slot of a server has ended, once and in the order in which they were opened, and
--- kept the promise with these settings
-pub record AllEnded {F : Type 0} (store : F → Store) (has_pending : F → Bool) (t : Configuration) (slot : SlotHistory F) : Type 0 where
+-- kept the promise with the settings of its association, which are allowed, and with these for the rest
+pub record AllEnded {F : Type 0} (store : F → Store) (has_pending : F → Bool) (allows : Settings → Type 0) (t : Configuration) (slot : SlotHistory F) : Type 0 where
   pub none_missing : opened_in slot ≡ map opened_over (ended_in slot)
-  pub closed : ∥ All (ClosedBy store has_pending t) (ended_in slot) ∥₁
+  pub closed : ∥ EachClosed store has_pending t slot ∥₁
+  pub allowed : ∥ All allows (settings_in slot) ∥₁
+
+-- settings are the first of a server, or of those that follow
+abbrev pub IsFirstOr : Settings → (Settings → Type 0) → Settings → Type 0
+IsFirstOr first follows s = (s ≡ first) ⊎ follows s
 
 -- the slots of a server
 abbrev pub slots_in : {F : Type 0} → ServerHistory F → List (SlotHistory F)

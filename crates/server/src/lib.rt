@@ -3,6 +3,7 @@
 #![tactic(auto)]
 
 mod arrivals;
+mod config_source;
 mod configuration;
 mod listeners;
 mod policy;
@@ -11,6 +12,7 @@ mod slot;
 mod socket;
 mod stopping;
 
+pub use config_source::{ConfigSource, Unchanging};
 pub use configuration::{MOST_AT_ONCE, ServerConfiguration};
 pub use policy::Policy;
 pub use server::{ServerHistory, SlotHistory, serve_many};

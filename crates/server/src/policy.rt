@@ -1,5 +1,6 @@
 //! For contracts: the settings of a server and all its connections.
 ghost use Rattle.std.specs.Prelude.{[], ℕ, None, false};
+ghost use Rattle.negotiate.specs.Settings.{Settings};
 ghost use Rattle.server.specs.Configuration.{Configuration};
 
 use std::marker::Brand;
@@ -8,8 +9,10 @@ use std::marker::Brand;
 /// only. A caller of a function that is generic in `P: Policy` passes the type `Brand`, and picks
 /// the settings in the proof.
 pub trait Policy {
-    /// The settings of each connection.
+    /// The settings of each connection, but for those of its association, which may change.
     ghost configuration: { Configuration };
+    /// The settings that an association may have.
+    ghost allows: { Settings → Type 0 };
     /// The number of slots: how many connections there can be at once.
     ghost at_once: { ℕ };
 }
@@ -28,6 +31,8 @@ impl Policy for Brand {
       idle = 0;
       longest = None;
     } };
+
+    ghost allows = { λ _. ⊥ };
 
     ghost at_once = { 0 };
 }

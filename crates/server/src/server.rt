@@ -1,7 +1,8 @@
 //! The event loop: it polls all sockets, and gives each connection its turn.
 ghost use Rattle.std.specs.Prelude.{◌≡◌, ◌+◌, length, vec_len};
+ghost use Rattle.negotiate.specs.Settings.{settings_of};
 ghost use Rattle.server.specs.Histories.{slots_in};
-ghost use Rattle.server.specs.Configuration.{configuration_of};
+ghost use Rattle.server.specs.Configuration.{configuration_of, with_settings};
 
 mod accepting;
 mod group;
@@ -11,6 +12,7 @@ mod settling;
 mod waiting;
 
 use crate::arrivals::Arrivals;
+use crate::config_source::{AllowedSource, ConfigSource};
 use crate::configuration::{MOST_AT_ONCE, ServerConfiguration};
 use crate::listeners::Listeners;
 use crate::policy::Policy;
@@ -26,13 +28,10 @@ use log::Log;
 use mio::{Events, Poll, Token};
 use opening::{ClosedSlots, close_all};
 pub use opening::{ServerHistory, SlotHistory, serve_many};
-use part10::Settling;
 use service::Observer;
 use serving::Stop;
 use std::alloc::Global;
-use std::fs::File;
 use std::io;
-use std::rt::Files;
 use std::time::{Clock, Duration, Instant};
 
 /// The token of all listeners. The token of a connection is the index of its slot.
@@ -50,26 +49,17 @@ const MOST_SECONDS: u64 = 60;
 const LOOK_MILLISECONDS: u64 = 200;
 
 /// A server and its connections. It is not `Drop`: only `close` consumes it.
-struct Server<
-    'a,
-    R: Log + Clock,
-    S: Files<File = File> + Alloc<A = Global> + Clone + Drop,
-    P: Policy,
-    B: Observer,
->
-where
-    FolderFiling<S>: Settling,
-{
+struct Server<'a, R: Log + Clock, P: Policy, B: Observer> {
     rt: &'a R,
     poll: Poll,
     listeners: Listeners,
     configuration: ServerConfiguration<'a>,
-    folder: FolderWriter<S>,
+    folder: FolderWriter<HostRuntime>,
     /// Which slots are occupied, and by which peers.
     occupancy: Slots<Global>,
     /// The slots, whose memory and filings are reused by later connections. The first slot has both
     /// from the start.
-    slots: Vec<Slot<'a, B, S, P>>,
+    slots: Vec<Slot<'a, B, P>>,
     /// The accepted connections that wait for a slot, as their peers may have no more.
     queue: Queue<AcceptedStream, Global>,
     /// The token of the next connection that waits for a slot.
@@ -96,17 +86,13 @@ where
     closed_reported: Notice,
     accept_reported: Notice,
     /// The settings of all connections are those of `P`.
-    ghost policed: { configuration_of configuration ≡ P.configuration },
+    ghost policed: { configuration_of configuration ≡ with_settings P.configuration (settings_of configuration.config.now) },
+    ghost allowed: { ∥ P.allows (settings_of configuration.config.now) ∥₁ },
     /// There is a slot for each connection that there can be at once.
     ghost all: { vec_len slots ≡ P.at_once },
 }
 
-impl<
-    'a,
-    R: Log + Clock,
-    S: Files<File = File> + Alloc<A = Global> + Clone + Drop,
-    P: Policy,
-> Server<'a, R, S, P, Journal<'a, R, S>> {
+impl<'a, R: Log + Clock, P: Policy> Server<'a, R, P, Journal<'a, R, HostRuntime>> {
     /// Returns how many slots have a connection.
     fn open_connections(&self) -> usize {
         let mut open: usize = 0;
@@ -149,10 +135,10 @@ impl<
 
     /// Prepares the memory of a slot. Returns the filing of its next connection: that of the last
     /// one, or a new one.
-    fn prepare(&mut self, index: usize) -> io::Result<FolderFiling<S>> {
+    fn prepare(&mut self, index: usize) -> io::Result<FolderFiling<HostRuntime>> {
         let alloc = *self.slots.allocator();
         match self.slots.get_mut(index) {
-            Some(slot) => slot.prepare(alloc, self.configuration.config, &mut self.folder),
+            Some(slot) => slot.prepare(alloc, &mut self.folder),
             None => self.folder.filing(),
         }
     }
@@ -284,7 +270,7 @@ impl<
 
     /// Looks for the stop file from time to time. If it is there, stops accepting, and drops the
     /// connections that wait.
-    fn look(&mut self, files: &S, now: Instant) {
+    fn look(&mut self, files: &HostRuntime, now: Instant) {
         let is_due = match self.looked {
             Some(looked) => {
                 now.duration_since(looked) >= Duration::from_millis(LOOK_MILLISECONDS)
@@ -314,7 +300,12 @@ impl<
     /// Runs the event loop until the server has stopped.
     ///
     /// Fails if the clock or the poll does.
-    fn serve(&mut self, files: &S, events: &mut Events) -> io::Result<()> {
+    fn serve<C: ConfigSource>(
+        &mut self,
+        files: &HostRuntime,
+        source: &mut AllowedSource<C, P>,
+        events: &mut Events,
+    ) -> io::Result<()> {
         for _ in 0..u64::MAX {
             let now = Instant::now(self.rt)?;
             self.now = now;
@@ -323,7 +314,7 @@ impl<
             self.turn_each(now);
             self.settle_due(now)?;
             // A free slot is assigned before the poll, which may block for long.
-            self.admit_all(now);
+            self.admit_all(source, now);
             self.measure(files, now);
             self.logger().report_omitted(Some(now));
             if self.is_done() {
@@ -338,7 +329,10 @@ impl<
 
     /// Settles the files that wait, and closes each connection. Returns `closed` with the histories
     /// of all slots added.
-    fn close(self, closed: ClosedSlots<FolderFiling<S>, P>) -> ClosedSlots<FolderFiling<S>, P>
+    fn close(
+        self,
+        closed: ClosedSlots<FolderFiling<HostRuntime>, P>,
+    ) -> ClosedSlots<FolderFiling<HostRuntime>, P>
         ensures { length (slots_in result.history) ≡ length (slots_in closed.history) + P.at_once }
     {
         let mut server = self;

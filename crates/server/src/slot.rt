@@ -2,11 +2,12 @@
 //! connections.
 ghost use Rattle.std.specs.Prelude.{◌≡◌, [], ◌++◌, map, IfSome, false};
 ghost use Rattle.std.specs.List.{All};
+ghost use Rattle.negotiate.specs.Settings.{settings_of};
 ghost use Rattle.serving.specs.Connections.{opening_of};
 ghost use Rattle.folder_filing.specs.Settling.{is_unsettled};
 ghost use Rattle.server.specs.FolderStore.{folder_store};
-ghost use Rattle.server.specs.Histories.{AllEnded, ClosedBy, ended_in, opened_in, opened_over};
-ghost use Rattle.server.specs.Configuration.{configuration_at, configuration_of};
+ghost use Rattle.server.specs.Histories.{AllEnded, EachClosed, ended_in, opened_in, opened_over, settings_in};
+ghost use Rattle.server.specs.Configuration.{configuration_at, configuration_of, with_settings};
 ghost use Rattle.server.specs.machine.Slots.{HaveEnded, seen_of};
 
 use crate::configuration::ServerConfiguration;
@@ -22,56 +23,51 @@ use part10::Settling;
 use service::Observer;
 use serving::{Connection, ConnectionConfiguration, ConnectionMemory};
 use std::alloc::{AllocError, Global};
-use std::fs::File;
 use std::io;
 use std::marker::PhantomData;
-use std::rt::Files;
 use std::time::{Clock, Instant};
 
 /// A slot for one connection at a time. It is not `Drop`: only `close` consumes it. Its connection
 /// is not `Drop` either, as its journal is not.
-pub(crate) struct Slot<
-    'a,
-    B: Observer,
-    S: Files<File = File> + Alloc<A = Global> + Clone + Drop,
-    P: Policy,
->
-where
-    FolderFiling<S>: Settling,
-{
+pub(crate) struct Slot<'a, B: Observer, P: Policy> {
     /// The connection that has the slot.
-    pub(crate) connection: Option<Connection<'a, Socket, FolderFiling<S>, B>>,
+    pub(crate) connection: Option<Connection<'a, Socket, FolderFiling<HostRuntime>, B>>,
     /// The round in which a connection of this slot had its last turn.
     pub(crate) turned: u64,
     /// How many files the filing had committed when the connection was opened.
     committed: u32,
+    /// The settings of the association of the connection, or of the last one.
+    config: &'a Config,
     /// The memory of the next connection, while there is no connection and once it is allocated.
     memory: Option<ConnectionMemory<'a>>,
     /// The filing of the next connection, while there is no connection, if there is a filing yet.
-    filing: Option<FolderFiling<S>>,
-    history: SlotHistory<FolderFiling<S>>,
+    filing: Option<FolderFiling<HostRuntime>>,
+    history: SlotHistory<FolderFiling<HostRuntime>>,
     policy: PhantomData<P>,
     /// No file of the filing waits to be settled, or was lost before that.
     ghost rested: { ∥ IfSome filing (λ f. is_unsettled f ≡ false) ∥₁ },
-    ghost closed: { ∥ All (ClosedBy folder_store is_unsettled P.configuration) (ended_in history) ∥₁ },
-    /// The settings of the connection are those of `P`.
-    ghost held: { seen_of connection (λ c. configuration_at c) ≡ seen_of connection (λ c. P.configuration) },
+    ghost closed: { ∥ EachClosed folder_store is_unsettled P.configuration history ∥₁ },
+    ghost allowed: { ∥ All P.allows (settings_in history) ∥₁ },
+    ghost next_allowed: { ∥ P.allows (settings_of config.now) ∥₁ },
+    /// The settings of the connection are those of `P` and `config`.
+    ghost held: { seen_of connection (λ c. configuration_at c) ≡ seen_of connection (λ c. with_settings P.configuration (settings_of config.now)) },
     /// Each connection that was opened has ended, except the current one.
     ghost none_missing: { opened_in history ≡ map opened_over (ended_in history) ++ seen_of connection (λ c. opening_of c) },
 }
 
-impl<'a, B: Observer, S: Files<File = File> + Alloc<A = Global> + Clone + Drop, P: Policy> Slot<
-    'a,
-    B,
-    S,
-    P,
-> {
+impl<'a, B: Observer, P: Policy> Slot<'a, B, P> {
     /// Creates a slot without memory. Its first connection uses this filing, if there is one.
-    pub(crate) fn new(filing: Option<FolderFiling<S>>) -> Slot<'a, B, S, P> {
+    pub(crate) fn new(
+        filing: Option<FolderFiling<HostRuntime>>,
+        config: &'a Config,
+    ) -> Slot<'a, B, P>
+        requires allowed { ∥ P.allows (settings_of config.now) ∥₁ }
+    {
         Slot {
             connection: None,
             turned: 0,
             committed: 0,
+            config,
             memory: None,
             filing: match filing {
                 Some(filing) => at_rest(filing),
@@ -90,11 +86,11 @@ impl<'a, B: Observer, S: Files<File = File> + Alloc<A = Global> + Clone + Drop, 
         }
     }
 
-    /// Allocates the memory for connections with this configuration, unless the slot has it or a
-    /// connection. Fails if memory runs out.
-    pub(crate) fn make(&mut self, alloc: Global, config: &'a Config) -> Result<(), AllocError> {
+    /// Allocates the memory of the slot, unless it has it or a connection. Fails if memory runs
+    /// out.
+    pub(crate) fn make(&mut self, alloc: Global) -> Result<(), AllocError> {
         if self.connection.is_none() && self.memory.is_none() {
-            self.memory = Some(ConnectionMemory::new(alloc, config)?);
+            self.memory = Some(ConnectionMemory::new(alloc, self.config)?);
         }
         Ok(())
     }
@@ -104,10 +100,9 @@ impl<'a, B: Observer, S: Files<File = File> + Alloc<A = Global> + Clone + Drop, 
     pub(crate) fn prepare(
         &mut self,
         alloc: Global,
-        config: &'a Config,
-        folder: &mut FolderWriter<S>,
-    ) -> io::Result<FolderFiling<S>> {
-        self.make(alloc, config)?;
+        folder: &mut FolderWriter<HostRuntime>,
+    ) -> io::Result<FolderFiling<HostRuntime>> {
+        self.make(alloc)?;
         match self.filing.take() {
             Some(filing) => Ok(filing),
             None => folder.filing(),
@@ -115,12 +110,7 @@ impl<'a, B: Observer, S: Files<File = File> + Alloc<A = Global> + Clone + Drop, 
     }
 }
 
-impl<'a, R: Log + Clock, S: Files<File = File> + Alloc<A = Global> + Clone + Drop, P: Policy> Slot<
-    'a,
-    Journal<'a, R, S>,
-    S,
-    P,
-> {
+impl<'a, R: Log + Clock, P: Policy> Slot<'a, Journal<'a, R, HostRuntime>, P> {
     /// Opens an association over a socket at `now`, if the slot has its memory. Its journal writes
     /// to `logger`. Fails if the notes of the filing cannot be shared.
     // Not inlined, like `closed`: its frame holds copies of a connection, and is released before
@@ -129,11 +119,12 @@ impl<'a, R: Log + Clock, S: Files<File = File> + Alloc<A = Global> + Clone + Dro
     pub(crate) fn open(
         &mut self,
         alloc: Global,
-        parts: (Socket, FolderFiling<S>, Logger<'a, R>),
+        parts: (Socket, FolderFiling<HostRuntime>, Logger<'a, R>),
         configuration: &ServerConfiguration<'a>,
         now: Instant,
     ) -> Result<(), AllocError>
-        requires configuration { configuration_of configuration.now ≡ P.configuration }
+        requires configuration { configuration_of configuration.now ≡ with_settings P.configuration (settings_of configuration.now.config.now) }
+        requires allowed { ∥ P.allows (settings_of configuration.now.config.now) ∥₁ }
     {
         let (socket, filing, logger) = parts;
         let notes = filing.notes()?;
@@ -146,12 +137,13 @@ impl<'a, R: Log + Clock, S: Files<File = File> + Alloc<A = Global> + Clone + Dro
             longest: configuration.service.longest,
         };
         let journal = Journal::new(alloc, logger, notes, configuration.config);
-        let before = self.committed;
+        let before = (self.config, self.committed);
+        self.config = configuration.config;
         self.committed = filing.committed();
         self.history.open(&filing);
         let connection = Connection::open(held, (socket, filing, journal), memory, now);
         let last = self.connection.replace(connection);
-        let _remaining = closed::<R, S, P>(last, before, &mut self.history, now);
+        let _remaining = closed::<R, P>(last, before, &mut self.history, now);
         Ok(())
     }
 
@@ -159,9 +151,9 @@ impl<'a, R: Log + Clock, S: Files<File = File> + Alloc<A = Global> + Clone + Dro
     /// was lost.
     pub(crate) fn close_connection(&mut self, now: Instant) {
         let last = self.connection.take();
-        if let Some((filing, memory)) = closed::<R, S, P>(
+        if let Some((filing, memory)) = closed::<R, P>(
             last,
-            self.committed,
+            (self.config, self.committed),
             &mut self.history,
             now,
         ) {
@@ -171,29 +163,28 @@ impl<'a, R: Log + Clock, S: Files<File = File> + Alloc<A = Global> + Clone + Dro
     }
 
     /// Closes the connection, if there is one. Returns the history of the slot.
-    pub(crate) fn close(self, now: Instant) -> SlotHistory<FolderFiling<S>>
-        ensures { AllEnded folder_store is_unsettled P.configuration result }
+    pub(crate) fn close(self, now: Instant) -> SlotHistory<FolderFiling<HostRuntime>>
+        ensures { AllEnded folder_store is_unsettled P.allows P.configuration result }
     {
         let Slot {
             connection,
             turned: _turned,
             committed,
+            config,
             memory: _memory,
             filing: _filing,
             history,
             policy: _policy,
         } = self;
         let mut history = history;
-        let _remaining = closed::<R, S, P>(connection, committed, &mut history, now);
+        let _remaining = closed::<R, P>(connection, (config, committed), &mut history, now);
         history
     }
 }
 
 /// Returns a filing for the next connection, or `None` if a file of it waits to be settled, or was
 /// lost before that.
-fn at_rest<S: Files<File = File> + Alloc<A = Global> + Clone + Drop>(
-    filing: FolderFiling<S>,
-) -> Option<FolderFiling<S>>
+fn at_rest(filing: FolderFiling<HostRuntime>) -> Option<FolderFiling<HostRuntime>>
     ensures { IfSome result (λ f. is_unsettled f ≡ false) }
 {
     if filing.has_pending() {
@@ -202,18 +193,23 @@ fn at_rest<S: Files<File = File> + Alloc<A = Global> + Clone + Drop>(
     Some(filing)
 }
 
-/// Closes a connection, if there is one, and logs its end. `committed` is how many files its filing
-/// had committed when it was opened. Returns its filing and memory.
+/// Closes a connection, if there is one, and logs its end. `start` is the settings of its
+/// association, and how many files its filing had committed when it was opened. Returns its filing
+/// and memory.
 #[inline(never)]
-fn closed<'a, R: Log + Clock, S: Files<File = File> + Alloc<A = Global> + Clone + Drop, P: Policy>(
-    connection: Option<Connection<'a, Socket, FolderFiling<S>, Journal<'a, R, S>>>,
-    committed: u32,
-    history: &mut SlotHistory<FolderFiling<S>>,
+fn closed<'a, R: Log + Clock, P: Policy>(
+    connection: Option<
+        Connection<'a, Socket, FolderFiling<HostRuntime>, Journal<'a, R, HostRuntime>>,
+    >,
+    start: (&Config, u32),
+    history: &mut SlotHistory<FolderFiling<HostRuntime>>,
     now: Instant,
-) -> Option<(FolderFiling<S>, ConnectionMemory<'a>)>
-    requires held { seen_of connection (λ c. configuration_at c) ≡ seen_of connection (λ c. P.configuration) }
-    ensures { HaveEnded folder_store is_unsettled P.configuration (seen_of connection.entry (λ c. opening_of c)) history.old history.new }
+) -> Option<(FolderFiling<HostRuntime>, ConnectionMemory<'a>)>
+    requires held { seen_of connection (λ c. configuration_at c) ≡ seen_of connection (λ c. with_settings P.configuration (settings_of start.0.now)) }
+    requires allowed { ∥ P.allows (settings_of start.0.now) ∥₁ }
+    ensures { HaveEnded folder_store is_unsettled P.allows P.configuration (seen_of connection.entry (λ c. opening_of c)) history.old history.new }
 {
+    let (config, committed) = start;
     match connection {
         Some(connection) => {
             let (remaining, journal, memory) = connection.close(now);
@@ -225,7 +221,7 @@ fn closed<'a, R: Log + Clock, S: Files<File = File> + Alloc<A = Global> + Clone 
                 received: remaining.exchange.received,
                 seconds: remaining.lasted.as_secs(),
             });
-            history.end(&remaining);
+            history.end(config, &remaining);
             Some(remaining.into_parts(memory))
         }
         None => None,

@@ -3,8 +3,9 @@ use Rattle.std.specs.Prelude.{◌≡◌, Bool, List, [], ◌∷◌, ◌++◌, ma
 use Rattle.std.specs.List.{All}
 use Rattle.part10.specs.Store.{Store}
 use Rattle.server.specs.declared.server.opening.history.SlotHistory.{SlotHistory}
+use Rattle.negotiate.specs.Settings.{Settings}
 use Rattle.server.specs.Configuration.{Configuration}
-use Rattle.server.specs.Histories.{ClosedBy, ended_in, opened_in, opened_over}
+use Rattle.server.specs.Histories.{EachClosed, ended_in, opened_in, opened_over, settings_in}
 
 -- what is seen of the connection in a slot, if there is one
 abbrev pub seen_of : {T F : Type 0} → Option T → (T → F) → List F
@@ -12,7 +13,8 @@ seen_of None see = []
 seen_of (Some connection) see = see connection ∷ []
 
 -- the connections that were opened over these filings have ended, and kept the promise with these settings
-pub record HaveEnded {F : Type 0} (store : F → Store) (has_pending : F → Bool) (t : Configuration) (openings : List F) (old new : SlotHistory F) : Type 0 where
+pub record HaveEnded {F : Type 0} (store : F → Store) (has_pending : F → Bool) (allows : Settings → Type 0) (t : Configuration) (openings : List F) (old new : SlotHistory F) : Type 0 where
   pub opened : opened_in new ≡ opened_in old
   pub ended : map opened_over (ended_in new) ≡ map opened_over (ended_in old) ++ openings
-  pub closed : ∥ All (ClosedBy store has_pending t) (ended_in old) ∥₁ → ∥ All (ClosedBy store has_pending t) (ended_in new) ∥₁
+  pub closed : ∥ EachClosed store has_pending t old ∥₁ → ∥ EachClosed store has_pending t new ∥₁
+  pub allowed : ∥ All allows (settings_in old) ∥₁ → ∥ All allows (settings_in new) ∥₁

@@ -1,5 +1,9 @@
 //! How a server accepts connections.
+ghost use Rattle.std.specs.Prelude.{◌≡◌};
+ghost use Rattle.negotiate.specs.Settings.{settings_of};
+
 use super::{LAST_WAITER, Server};
+use crate::config_source::{AllowedSource, ConfigSource};
 use crate::configuration::MOST_AT_ONCE;
 use crate::policy::Policy;
 use crate::socket::AcceptedStream;
@@ -7,22 +11,15 @@ use admitting::{Admission, Waiter, peer_number};
 use journal::{Journal, NotAccepted, PeerFull, TurnedAway};
 use log::Log;
 use mio::{Interest, Token};
-use std::alloc::Global;
-use std::fs::File;
+use negotiate::Config;
 use std::io::ErrorKind;
-use std::rt::Files;
 use std::time::{Clock, Duration, Instant};
 
 /// How long accepting pauses after it failed, in milliseconds, so that a lasting error does not
 /// keep the server busy.
 pub(super) const PAUSE_MILLISECONDS: u64 = 100;
 
-impl<
-    'a,
-    R: Log + Clock,
-    S: Files<File = File> + Alloc<A = Global> + Clone + Drop,
-    P: Policy,
-> Server<'a, R, S, P, Journal<'a, R, S>> {
+impl<'a, R: Log + Clock, P: Policy> Server<'a, R, P, Journal<'a, R, HostRuntime>> {
     /// Assigns a slot to an accepted connection, or queues it if its peer may have no more.
     fn admit(&mut self, accepted: AcceptedStream, now: Instant) {
         let logger = self.logger().about(accepted.peer);
@@ -62,8 +59,21 @@ impl<
         self.occupy_or_report(accepted, index, now);
     }
 
+    /// Uses these settings for the connections that are opened from now on.
+    fn renew(&mut self, config: Box<Config>)
+        requires allowed { ∥ P.allows (settings_of config.value) ∥₁ }
+        ensures { settings_of self.new.configuration.config.now ≡ settings_of config.value }
+    {
+        // Those before are not freed, as the connections that were opened with them borrow them.
+        self.configuration.config = Box::leak(config);
+    }
+
     /// Assigns free slots to queued connections, then to new ones.
-    pub(super) fn admit_all(&mut self, now: Instant) {
+    pub(super) fn admit_all<C: ConfigSource>(
+        &mut self,
+        source: &mut AllowedSource<C, P>,
+        now: Instant,
+    ) {
         for _ in 0..MOST_AT_ONCE {
             match self.queue.admit(&mut self.occupancy) {
                 Some((waiter, index)) => self.occupy_next(waiter, index, now),
@@ -78,7 +88,7 @@ impl<
                 self.note_full(now);
                 return;
             }
-            self.accept(now);
+            self.accept(source, now);
         }
     }
 
@@ -90,9 +100,12 @@ impl<
     }
 
     /// Accepts a connection, if a listener has one. Pauses accepting if that fails.
-    fn accept(&mut self, now: Instant) {
+    fn accept<C: ConfigSource>(&mut self, source: &mut AllowedSource<C, P>, now: Instant) {
         match self.listeners.accept() {
             Ok((stream, peer)) => {
+                if let Some(config) = source.renewed() {
+                    self.renew(config);
+                }
                 self.note_accepted(peer, now);
                 self.admit(AcceptedStream { stream, peer }, now);
                 self.is_open = !self.configuration.service.once;

@@ -28,8 +28,8 @@ impl Waiting {
         }
     }
 
-    /// Counts a connection: `has_pending` if it has a file that waits to be settled, `is_ready` if its
-    /// socket is ready.
+    /// Counts a connection: `has_pending` if it has a file that waits to be settled, `is_ready` if
+    /// its socket is ready.
     pub(super) fn count(&mut self, has_pending: bool, is_ready: bool) {
         if has_pending {
             self.files = self.files.saturating_add(1);

@@ -5,9 +5,6 @@ use crate::policy::Policy;
 use journal::{Journal, Logger, MetricsNotWritten, MetricsWritten};
 use log::Log;
 use metrics::WriteReport;
-use std::alloc::Global;
-use std::fs::File;
-use std::rt::Files;
 use std::time::{Clock, Instant};
 
 /// Logs the result of writing the metrics file, if there is anything to log.
@@ -20,9 +17,9 @@ fn report<R: Log + Clock>(logger: Logger<'_, R>, report: WriteReport) {
 }
 
 /// Writes the metrics file of a server that has stopped and has no open connection.
-pub(super) fn measure_end<R: Log + Clock, S: Files + Alloc>(
+pub(super) fn measure_end<R: Log + Clock>(
     rt: &R,
-    files: &S,
+    files: &HostRuntime,
     configuration: &ServerConfiguration<'_>,
 ) {
     if let Some(metrics) = configuration.metrics {
@@ -31,14 +28,9 @@ pub(super) fn measure_end<R: Log + Clock, S: Files + Alloc>(
     }
 }
 
-impl<
-    'a,
-    R: Log + Clock,
-    S: Files<File = File> + Alloc<A = Global> + Clone + Drop,
-    P: Policy,
-> Server<'a, R, S, P, Journal<'a, R, S>> {
+impl<'a, R: Log + Clock, P: Policy> Server<'a, R, P, Journal<'a, R, HostRuntime>> {
     /// Writes the metrics file, if there is one and it is due.
-    pub(super) fn measure(&self, files: &S, now: Instant) {
+    pub(super) fn measure(&self, files: &HostRuntime, now: Instant) {
         if let Some(metrics) = self.configuration.metrics {
             metrics.set_open(self.open_connections() as u64);
             report(self.logger(), metrics.write_due(files, now));

@@ -6,17 +6,10 @@ use folder_filing::NamesSynced;
 use journal::{Journal, Limited, NamesNotSynced};
 use log::Log;
 use std::alloc::Global;
-use std::fs::File;
 use std::io;
-use std::rt::Files;
 use std::time::{Clock, Instant};
 
-impl<
-    'a,
-    R: Log + Clock,
-    S: Files<File = File> + Alloc<A = Global> + Clone + Drop,
-    P: Policy,
-> Server<'a, R, S, P, Journal<'a, R, S>> {
+impl<'a, R: Log + Clock, P: Policy> Server<'a, R, P, Journal<'a, R, HostRuntime>> {
     /// Counts the connections that have a file to settle, and those that may have one soon.
     fn waiting(&self) -> Waiting {
         let mut waiting = Waiting::new();

@@ -5,18 +5,10 @@ use crate::policy::Policy;
 use journal::{Journal, SlotsFull};
 use log::Log;
 use mio::Token;
-use std::alloc::Global;
-use std::fs::File;
 use std::net::SocketAddr;
-use std::rt::Files;
 use std::time::{Clock, Instant};
 
-impl<
-    'a,
-    R: Log + Clock,
-    S: Files<File = File> + Alloc<A = Global> + Clone + Drop,
-    P: Policy,
-> Server<'a, R, S, P, Journal<'a, R, S>> {
+impl<'a, R: Log + Clock, P: Policy> Server<'a, R, P, Journal<'a, R, HostRuntime>> {
     /// Logs that every slot is occupied, if a connection is known to be queued; else, has the poll
     /// report whether one is. If associations are served one at a time, peers wait as a matter of
     /// course, and nothing is logged.

@@ -1,5 +1,5 @@
 -- What the connections before left is the same.
-use Rattle.server.proofs.server.settling.Server+R+S+P+Journal+R+S.settle_all.Goals as goal
+use Rattle.server.proofs.server.settling.Server+R+P+Journal+R+HostRuntime.settle_all.Goals as goal
 
 pub invariant_of-slot-clause-rested : goal.invariant_of-slot-clause-rested
 invariant_of-slot-clause-rested g c = c.in-Some-get_mut.slot.now.rested
