@@ -357,16 +357,17 @@ class TestRenewedCallers:
         ]
 
     def test_many_changes_need_little_memory(self, serve, change):
-        """Replaced settings are kept, as associations use them: some 8 KB each, and 16 bytes a title."""
+        """Replaced settings are kept, as associations use them: some 5 KB each, and 16 bytes a title."""
         change(self.WAS)
         box = serve("--callers", "callers.txt", memory=LITTLE)
-        box.echoes()
+        assert not self.is_accepted(box)
         before = box.most_resident()
         for count in range(200):
             change(b"SCANNER%d\n" % (count + 3))
-            box.echoes()
+            assert not self.is_accepted(box)
         assert len(self.logged(box)) == 200
-        assert box.most_resident() - before < 200 * 8
+        grown = box.most_resident() - before
+        assert grown < 200 * 8, grown
 
 
 @pytest.mark.parametrize(
