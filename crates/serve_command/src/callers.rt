@@ -51,6 +51,14 @@ pub fn callers_text<R: Files + Alloc<A = Global>>(
     Ok(String::from_utf8_lossy(rt.alloc(), bytes.as_slice())?)
 }
 
+/// Returns whether memory ran out.
+fn is_of_memory(failure: &ProgramError) -> bool {
+    matches!(
+        failure,
+        ProgramError::Memory(_) | ProgramError::Words(WordsError::Memory(_))
+    )
+}
+
 /// What changes when a file is written or another one takes its name.
 #[derive(Clone, Copy, PartialEq, Eq)]
 struct Stamp {
@@ -174,6 +182,11 @@ impl<R: Log + Clock> ConfigSource for CallersFile<'_, R> {
             Ok(None) => None,
             Err(failure) => {
                 self.report(&failure);
+                if is_of_memory(&failure) {
+                    // The next connection tries again.
+                    self.seen = None;
+                    self.text.clear();
+                }
                 None
             }
         }
