@@ -374,9 +374,8 @@ pub(crate) fn values<'a, const MOST: usize>(
     Some(values)
 }
 
-/// Returns the arguments of `serve`, or `None` if a required value is missing or there are more
-/// than 4 further addresses, 16 titles of the receiver, 64 titles of callers, 64 storage classes or
-/// 16 transfer syntaxes.
+/// Returns the arguments of `serve`, or `None` if a required value is missing, or `--listen` is
+/// given over 4, `--ae` or `--transfer-syntax` over 16, or another repeated one over 64 times.
 pub fn serve_arguments<'a>(matches: &ArgMatches<'a>) -> Option<ServeArguments<'a>>
     ensures some { IfSome result (λ a. IsServe a (rows_of (found_of matches.now))) }
     ensures none { IfNone result (fits_serve (rows_of (found_of matches.now)) ≡ false) }

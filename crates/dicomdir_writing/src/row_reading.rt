@@ -170,6 +170,8 @@ fn row_with<A: Allocator + Copy, R: Read>(
 /// allocated only for the keys; if it runs out, the error is `OutOfMemory`.
 ///
 /// After an error the position of the reader is unspecified.
+// The definitions are of readers that show their bytes: a part's fault is the file's only if bytes
+// follow.
 pub fn rows_of<A: Allocator + Copy, R: Read>(
     alloc: A,
     reader: &mut R,

@@ -51,8 +51,7 @@ const WAITS: &str = "the last file is not settled";
 /// name is free.
 ///
 /// With [`FolderWriter::in_groups`] a commit only hands the draft over, without a name, to be
-/// settled later (see [`Settling`](part10::Settling)). Until it is settled each `begin` and
-/// `commit` fails.
+/// settled later ([`Settling`](part10::Settling)). Until then each `begin` and `commit` fails.
 ///
 /// Its value in contracts: the bytes that were written to each committed file and to the draft;
 /// whether there is a draft; the number of failed calls; the names given, with the system calls

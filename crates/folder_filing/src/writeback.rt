@@ -21,6 +21,7 @@ struct Extent {
 /// The sync of a commit waits until the disk has every byte of the draft. So the system is advised
 /// to start writing the appended bytes each time they reach 4 MiB: then the sync of a large draft
 /// has little to write.
+// It stands beside the file: a type around the file would be in all goals up to `server`.
 #[derive(Drop)]
 pub(crate) struct Writeback {
     /// The descriptor of the draft's file, if it is a file of the system.

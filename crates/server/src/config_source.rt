@@ -12,7 +12,9 @@ pub trait ConfigSource {
     ghost gives: { Self → Settings → Type 0 };
 
     /// Returns the settings of the connections that are opened from now on, or `None` if they are
-    /// those of the connections before.
+    /// those of the connections before, also where the source cannot be read.
+    ///
+    /// `given`: they are among those that may follow. `fewer`: no others may follow later.
     fn renewed(&mut self) -> Option<Box<Config>>
         ensures given { IfSome result (λ c. gives self.old (settings_of c.value)) }
         ensures fewer { (s : Settings) → gives self.new s → gives self.old s };
