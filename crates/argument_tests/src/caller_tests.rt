@@ -1,4 +1,4 @@
-//! The titles of peers that may call `serve`: those of a file, then those of options.
+//! The titles of peers that may call `serve`: those of a file and those of options, in order.
 use crate::settings_tests::{are_titles, refuses, serve_listing};
 use arguments::WordsError;
 use std::alloc::{AllocError, Global};
@@ -40,7 +40,7 @@ fn lists(alloc: Global, text: &str, titles: &[&[u8; 16]]) -> Result<bool, WordsE
 }
 
 #[test]
-fn titles_of_a_file_are_first(rt: HostRuntime) -> Result<(), Fail> {
+fn titles_of_a_file_and_of_options_are_ordered(rt: HostRuntime) -> Result<(), Fail> {
     let alloc = rt.alloc();
     let option = b"OPTION          ";
     let (one, two) = (b"SCANNER1        ", b"SCANNER2        ");
@@ -50,11 +50,11 @@ fn titles_of_a_file_are_first(rt: HostRuntime) -> Result<(), Fail> {
         "SCANNER1\r\nSCANNER2\r\n",
         "\n# The first floor\n\nSCANNER1\n \t\r\n#SCANNER3\nSCANNER2\n\n",
     ] {
-        assert!(rt; lists(alloc, text, &[one, two, option])?);
+        assert!(rt; lists(alloc, text, &[option, one, two])?);
     }
     let (inner, padded) = (b"CT #2           ", b"  CT3           ");
     assert!(rt; lists(alloc, "CT #2\n  CT3  \n", &[inner, padded, option])?);
-    assert!(rt; lists(alloc, "SCANNER1\nSCANNER1\n", &[one, one, option])?);
+    assert!(rt; lists(alloc, "SCANNER1\nSCANNER1\n", &[option, one, one])?);
     Ok(())
 }
 

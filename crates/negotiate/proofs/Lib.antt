@@ -5,5 +5,6 @@ pub mod FrontIsItsParts
 pub mod DictionaryDecidesByDefault
 pub mod NativeSyntaxesArePreferred
 pub mod FurtherClassIsFound
+pub mod SortedTitlesAreFound
 pub mod TableHasAcceptedContexts
 pub mod AcceptancesAreShort

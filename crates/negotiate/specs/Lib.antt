@@ -1,6 +1,7 @@
 pub mod Settings
 pub mod Allowed
 pub mod Rejections
+pub mod TitleOrder
 pub mod Answer
 pub mod Contexts
 pub mod ContextRows

@@ -26,13 +26,6 @@ fn is_among(titles: &[AeTitle], title: AeTitle) -> bool
     titles.contains(&title)
 }
 
-/// Returns whether an application entity with this title may call.
-fn may_call(callers: &[AeTitle], calling: AeTitle) -> bool
-    ensures { result ≡ spelling.may_call (map (λ t. t.0) callers.now) calling.0 }
-{
-    callers.is_empty() || is_among(callers, calling)
-}
-
 /// Returns whether a peer may use this called title.
 fn may_be_called(config: &Config, called: AeTitle) -> bool
     ensures { result ≡ spelling.may_be_called (settings_of config.now) called.0 }
@@ -61,7 +54,7 @@ pub fn judge(config: &Config, request: &Request) -> Answer
     if !may_be_called(config, request.called()) {
         return user_rejection(rejection::CALLED_AE_TITLE_NOT_RECOGNIZED);
     }
-    if !may_call(config.callers(), request.calling()) {
+    if !config.may_call(request.calling()) {
         return user_rejection(rejection::CALLING_AE_TITLE_NOT_RECOGNIZED);
     }
     if (1..=7).contains(&request.maximum()) {

@@ -1,12 +1,16 @@
 //! The settings of the receiver.
-ghost use Rattle.std.specs.Prelude.{◌≡◌, ◌^◌, ◌≤◌, [], false, length, map, option_map, slice_get};
+ghost use Rattle.std.specs.Prelude.{◌≡◌, ◌^◌, ◌≤◌, [], false, IfSome, length, map, option_map, slice_get};
 ghost use Rattle.std.specs.List.{list_any};
+ghost use Rattle.std.specs.List.Sorted.{IsSorted};
+ghost use Rattle.std.proofs.Props.{props};
 ghost use Rattle.arrayvec.specs.ArrayVec.{array_vec_len};
 ghost use Rattle.dictionary.specs.Transfers.{is_text_of, transfer_uid};
+ghost use Rattle.negotiate.specs.TitleOrder.{title_order};
 
 use arrayvec::ArrayVec;
 use dictionary::{Transfer, storage_class};
 use element::{AeTitle, Uid};
+use std::cmp::Ordering;
 
 /// The greatest number of called titles that are accepted besides the receiver's own.
 pub const MOST_ALSO: usize = 15;
@@ -32,7 +36,7 @@ pub struct Config {
     pub also: ArrayVec<AeTitle, MOST_ALSO>,
     /// Whether any called title is accepted.
     pub any_called: bool,
-    /// The calling titles that are accepted; without any, every title is accepted.
+    /// The calling titles that are accepted, in order; without any, every title is accepted.
     callers: Option<Vec<AeTitle>>,
     /// The maximum length in bytes of a P-DATA-TF PDU that the receiver accepts and announces
     /// (PS3.8 annex D.1); at least 1024.
@@ -52,6 +56,14 @@ pub struct Config {
     pub ghost most_data: { max_data ≤ 2 ^ 48 },
     pub ghost few_named: { array_vec_len named ≤ 64 },
     pub ghost few_transfers: { array_vec_len transfers ≤ 24 },
+    pub ghost ordered: { IfSome callers (λ titles. IsSorted title_order titles.items) } by { Prim.hlevel props },
+}
+
+/// Compares titles by their texts without leading and trailing spaces.
+fn by_text(one: &AeTitle, other: &AeTitle) -> Ordering
+    ensures { result ≡ title_order one.now other.now }
+{
+    one.trimmed().cmp(other.trimmed())
 }
 
 /// Copies a text.
@@ -101,6 +113,8 @@ fn is_among(transfers: &[Transfer], transfer: Transfer) -> bool
 
 impl Config {
     ghost use Rattle.std.specs.Prelude.{◌++◌, ◌∷◌, Some};
+    ghost use Rattle.std.specs.List.Sorted.{IsPermutation};
+    ghost use Rattle.negotiate.specs.Answer.{may_call};
     ghost use Rattle.negotiate.specs.Contexts.{is_allowed};
     ghost use Rattle.negotiate.specs.ContextRows.{index_of};
     ghost use Rattle.negotiate.specs.Settings.{registered, settings_by_default, settings_of};
@@ -132,9 +146,11 @@ impl Config {
     }
 
     /// Returns the settings with only these calling titles accepted, or all if there are none.
-    pub fn with_callers(mut self, callers: Vec<AeTitle>) -> Config
-        ensures { settings_of result ≡ record (settings_of self) { callers = map (λ t. t.0) callers.items } }
+    pub fn with_callers(mut self, mut callers: Vec<AeTitle>) -> Config
+        ensures callers { IsPermutation (map (λ t. t.0) callers.items) (settings_of result).callers }
+        ensures others { settings_of result ≡ record (settings_of self) { callers = (settings_of result).callers } }
     {
+        callers.sort_unstable_by(by_text);
         self.callers = Some(callers);
         self
     }
@@ -170,14 +186,27 @@ impl Config {
         self
     }
 
-    /// Returns the calling titles that are accepted; without any, all are.
+    /// Returns the calling titles that are accepted, in the order of their texts; without any, all
+    /// are.
     pub fn callers(&self) -> &[AeTitle]
-        ensures { map (λ t. t.0) result.now ≡ (settings_of self.now).callers }
+        ensures callers { map (λ t. t.0) result.now ≡ (settings_of self.now).callers }
+        ensures ordered { IsSorted title_order result.now }
     {
         match &self.callers {
             Some(callers) => callers.as_slice(),
             None => &[],
         }
+    }
+
+    /// Returns whether an application entity with this title may call.
+    pub(crate) fn may_call(&self, calling: AeTitle) -> bool
+        ensures { result ≡ may_call (settings_of self.now).callers calling.0 }
+    {
+        let callers = self.callers();
+        callers.is_empty()
+            || callers
+                .binary_search_by(|title| by_text(title, &calling))
+                .is_ok()
     }
 
     /// Returns whether a transfer syntax is accepted.
