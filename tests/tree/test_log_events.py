@@ -19,7 +19,8 @@ def listed(manual):
 
 def in_code(code):
     """Returns the events and the names of fields in the code."""
-    events = re.findall(r'Event \{\s*key: "([^"]+)"', code) + re.findall(r'\\"event\\":\\"([^\\]+)\\"', code)
+    events = re.findall(r'const EVENT: Event = Event \{[^}]*key: "([^"]+)"', code)
+    events += re.findall(r'\\"event\\":\\"([^\\]+)\\"', code)
     return set(events), set(re.findall(r'(?:Name::new\(\s*|Name \{\s*key: )"([^"]+)"', code)) - OF_SHEETS
 
 

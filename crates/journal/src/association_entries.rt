@@ -29,16 +29,11 @@ pub(crate) struct Rejected<'a> {
 }
 
 impl Entry for Rejected<'_> {
-    fn level(&self) -> Level {
-        Level::Warn
-    }
-
-    fn event(&self) -> Event {
-        Event {
-            key: "rejected",
-            words: "rejected",
-        }
-    }
+    const EVENT: Event = Event {
+        level: Level::Warn,
+        key: "rejected",
+        words: "rejected",
+    };
 
     fn fields<F: Fields>(&self, out: &mut F) {
         let mut reason = Words::new();
@@ -59,16 +54,11 @@ pub(crate) struct Aborted<'a> {
 }
 
 impl Entry for Aborted<'_> {
-    fn level(&self) -> Level {
-        Level::Warn
-    }
-
-    fn event(&self) -> Event {
-        Event {
-            key: "aborted",
-            words: "",
-        }
-    }
+    const EVENT: Event = Event {
+        level: Level::Warn,
+        key: "aborted",
+        words: "",
+    };
 
     fn fields<F: Fields>(&self, out: &mut F) {
         out.text(Name::new("end", ""), end_words(self.end).as_str());
@@ -96,15 +86,14 @@ pub(crate) struct ClassesRefused<'a> {
 }
 
 impl Entry for ClassesRefused<'_> {
+    const EVENT: Event = Event {
+        level: Level::Warn,
+        key: "classes refused",
+        words: "classes refused",
+    };
+
     fn level(&self) -> Level {
         self.level
-    }
-
-    fn event(&self) -> Event {
-        Event {
-            key: "classes refused",
-            words: "classes refused",
-        }
     }
 
     fn fields<F: Fields>(&self, out: &mut F) {
@@ -135,16 +124,11 @@ pub(crate) struct SyntaxesRefused<'a> {
 }
 
 impl Entry for SyntaxesRefused<'_> {
-    fn level(&self) -> Level {
-        Level::Warn
-    }
-
-    fn event(&self) -> Event {
-        Event {
-            key: "syntaxes refused",
-            words: "syntaxes refused",
-        }
-    }
+    const EVENT: Event = Event {
+        level: Level::Warn,
+        key: "syntaxes refused",
+        words: "syntaxes refused",
+    };
 
     fn fields<F: Fields>(&self, out: &mut F) {
         give_refused(self.refused, out);
@@ -160,16 +144,11 @@ pub(crate) struct EchoRefused<'a> {
 }
 
 impl Entry for EchoRefused<'_> {
-    fn level(&self) -> Level {
-        Level::Warn
-    }
-
-    fn event(&self) -> Event {
-        Event {
-            key: "echo refused",
-            words: "an echo was refused:",
-        }
-    }
+    const EVENT: Event = Event {
+        level: Level::Warn,
+        key: "echo refused",
+        words: "an echo was refused:",
+    };
 
     fn fields<F: Fields>(&self, out: &mut F) {
         give_status(
@@ -194,16 +173,11 @@ pub(crate) struct ContextRefused<'a> {
 }
 
 impl Entry for ContextRefused<'_> {
-    fn level(&self) -> Level {
-        Level::Trace
-    }
-
-    fn event(&self) -> Event {
-        Event {
-            key: "context refused",
-            words: "context",
-        }
-    }
+    const EVENT: Event = Event {
+        level: Level::Trace,
+        key: "context refused",
+        words: "context",
+    };
 
     fn fields<F: Fields>(&self, out: &mut F) {
         out.number(Name::new("context", " "), u64::from(self.id));
@@ -245,16 +219,11 @@ fn give_counts<F: Fields>(counts: Counts, out: &mut F) {
 }
 
 impl Entry for Ended<'_> {
-    fn level(&self) -> Level {
-        Level::Info
-    }
-
-    fn event(&self) -> Event {
-        Event {
-            key: "association",
-            words: "",
-        }
-    }
+    const EVENT: Event = Event {
+        level: Level::Info,
+        key: "association",
+        words: "",
+    };
 
     fn fields<F: Fields>(&self, out: &mut F) {
         let Served {

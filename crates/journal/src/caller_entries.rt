@@ -8,16 +8,11 @@ use log::Level;
 pub struct CallersRead(pub u64);
 
 impl Entry for CallersRead {
-    fn level(&self) -> Level {
-        Level::Info
-    }
-
-    fn event(&self) -> Event {
-        Event {
-            key: "callers read",
-            words: "the calling titles were read anew:",
-        }
-    }
+    const EVENT: Event = Event {
+        level: Level::Info,
+        key: "callers read",
+        words: "the calling titles were read anew:",
+    };
 
     fn fields<F: Fields>(&self, out: &mut F) {
         let callers = Name {
@@ -35,16 +30,11 @@ impl Entry for CallersRead {
 pub struct CallersNotRead<'a>(pub &'a str);
 
 impl Entry for CallersNotRead<'_> {
-    fn level(&self) -> Level {
-        Level::Error
-    }
-
-    fn event(&self) -> Event {
-        Event {
-            key: "callers not read",
-            words: "the calling titles stay as they were",
-        }
-    }
+    const EVENT: Event = Event {
+        level: Level::Error,
+        key: "callers not read",
+        words: "the calling titles stay as they were",
+    };
 
     fn fields<F: Fields>(&self, out: &mut F) {
         let mut reason = Words::new();

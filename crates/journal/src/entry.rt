@@ -20,9 +20,10 @@ impl Name {
     }
 }
 
-/// The event of a line: its name in JSON, and its words in text.
+/// The event of a line: its level, its name in JSON, and its words in text.
 #[derive(Clone, Copy)]
 pub struct Event {
+    pub level: Level,
     pub key: &'static str,
     pub words: &'static str,
 }
@@ -39,11 +40,13 @@ pub trait Fields {
 
 /// The content of a log line.
 pub trait Entry {
-    /// Returns the level of the line.
-    fn level(&self) -> Level;
+    /// The event of the line.
+    const EVENT: Event;
 
-    /// Returns the event of the line.
-    fn event(&self) -> Event;
+    /// Returns the level of the line, that of its event unless it depends on the fields.
+    fn level(&self) -> Level {
+        Self::EVENT.level
+    }
 
     /// Writes the fields, in the order of the text form.
     fn fields<F: Fields>(&self, out: &mut F);

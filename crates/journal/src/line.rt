@@ -73,7 +73,7 @@ fn text_line<E: Entry>(head: Head, entry: &E) -> Line {
         line.add(shown_peer(peer).as_str().as_bytes());
         line.add(b" ");
     }
-    line.add(entry.event().words.as_bytes());
+    line.add(E::EVENT.words.as_bytes());
     entry.fields(&mut line);
     line
 }
@@ -139,7 +139,7 @@ fn object_of<E: Entry>(alloc: Global, head: Head, entry: &E) -> Object {
         object.put_text("time", shown_time(time).as_str());
     }
     object.put_text("level", entry.level().as_str());
-    object.put_text("event", entry.event().key);
+    object.put_text("event", E::EVENT.key);
     if let Some(peer) = head.peer {
         object.put_text("peer", shown_peer(peer).as_str());
     }

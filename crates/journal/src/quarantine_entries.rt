@@ -31,16 +31,11 @@ pub(crate) struct QuarantineSheet<'a> {
 }
 
 impl Entry for QuarantineSheet<'_> {
-    fn level(&self) -> Level {
-        Level::Info
-    }
-
-    fn event(&self) -> Event {
-        Event {
-            key: "quarantined",
-            words: "",
-        }
-    }
+    const EVENT: Event = Event {
+        level: Level::Info,
+        key: "quarantined",
+        words: "",
+    };
 
     fn fields<F: Fields>(&self, out: &mut F) {
         give_calling(self.calling, out);
@@ -70,16 +65,11 @@ pub(crate) struct Quarantined {
 }
 
 impl Entry for Quarantined {
-    fn level(&self) -> Level {
-        Level::Info
-    }
-
-    fn event(&self) -> Event {
-        Event {
-            key: "quarantined",
-            words: "kept in the quarantine:",
-        }
-    }
+    const EVENT: Event = Event {
+        level: Level::Info,
+        key: "quarantined",
+        words: "kept in the quarantine:",
+    };
 
     fn fields<F: Fields>(&self, out: &mut F) {
         let mut file = Words::new();
@@ -94,16 +84,11 @@ impl Entry for Quarantined {
 pub(crate) struct NotQuarantined<'a>(pub &'a io::Error);
 
 impl Entry for NotQuarantined<'_> {
-    fn level(&self) -> Level {
-        Level::Warn
-    }
-
-    fn event(&self) -> Event {
-        Event {
-            key: "not quarantined",
-            words: "a data set could not be kept in the quarantine",
-        }
-    }
+    const EVENT: Event = Event {
+        level: Level::Warn,
+        key: "not quarantined",
+        words: "a data set could not be kept in the quarantine",
+    };
 
     fn fields<F: Fields>(&self, out: &mut F) {
         give_error(self.0, out);
@@ -115,16 +100,11 @@ impl Entry for NotQuarantined<'_> {
 pub struct QuarantineFull;
 
 impl Entry for QuarantineFull {
-    fn level(&self) -> Level {
-        Level::Warn
-    }
-
-    fn event(&self) -> Event {
-        Event {
-            key: "quarantine full",
-            words: "the quarantine is full, and no further data set is kept there",
-        }
-    }
+    const EVENT: Event = Event {
+        level: Level::Warn,
+        key: "quarantine full",
+        words: "the quarantine is full, and no further data set is kept there",
+    };
 
     fn fields<F: Fields>(&self, _out: &mut F) {}
 }
@@ -134,16 +114,11 @@ impl Entry for QuarantineFull {
 pub struct QuarantineCleared(pub u64);
 
 impl Entry for QuarantineCleared {
-    fn level(&self) -> Level {
-        Level::Info
-    }
-
-    fn event(&self) -> Event {
-        Event {
-            key: "quarantine cleared",
-            words: "removed from the quarantine:",
-        }
-    }
+    const EVENT: Event = Event {
+        level: Level::Info,
+        key: "quarantine cleared",
+        words: "removed from the quarantine:",
+    };
 
     fn fields<F: Fields>(&self, out: &mut F) {
         let drafts = Name {

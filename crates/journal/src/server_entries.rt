@@ -31,16 +31,11 @@ const NATIVE_SYNTAXES: u64 = 2;
 pub struct Listening(pub SocketAddr);
 
 impl Entry for Listening {
-    fn level(&self) -> Level {
-        Level::Info
-    }
-
-    fn event(&self) -> Event {
-        Event {
-            key: "listening",
-            words: "listening",
-        }
-    }
+    const EVENT: Event = Event {
+        level: Level::Info,
+        key: "listening",
+        words: "listening",
+    };
 
     fn fields<F: Fields>(&self, out: &mut F) {
         let mut address = Words::new();
@@ -64,16 +59,11 @@ pub struct Started<'a> {
 }
 
 impl Entry for Started<'_> {
-    fn level(&self) -> Level {
-        Level::Info
-    }
-
-    fn event(&self) -> Event {
-        Event {
-            key: "started",
-            words: "dcmbox",
-        }
-    }
+    const EVENT: Event = Event {
+        level: Level::Info,
+        key: "started",
+        words: "dcmbox",
+    };
 
     fn fields<F: Fields>(&self, out: &mut F) {
         let config = self.config;
@@ -141,16 +131,11 @@ fn give_accepted<F: Fields>(config: &Config, out: &mut F) {
 pub struct Stopped;
 
 impl Entry for Stopped {
-    fn level(&self) -> Level {
-        Level::Info
-    }
-
-    fn event(&self) -> Event {
-        Event {
-            key: "stopped",
-            words: "stopped",
-        }
-    }
+    const EVENT: Event = Event {
+        level: Level::Info,
+        key: "stopped",
+        words: "stopped",
+    };
 
     fn fields<F: Fields>(&self, _out: &mut F) {}
 }
@@ -161,16 +146,11 @@ impl Entry for Stopped {
 pub struct NamesNotSynced<'a>(pub &'a io::Error);
 
 impl Entry for NamesNotSynced<'_> {
-    fn level(&self) -> Level {
-        Level::Error
-    }
-
-    fn event(&self) -> Event {
-        Event {
-            key: "folder not synced",
-            words: "the folder could not be synced",
-        }
-    }
+    const EVENT: Event = Event {
+        level: Level::Error,
+        key: "folder not synced",
+        words: "the folder could not be synced",
+    };
 
     fn fields<F: Fields>(&self, out: &mut F) {
         give_error(self.0, out);
@@ -182,16 +162,11 @@ impl Entry for NamesNotSynced<'_> {
 pub struct Stopping;
 
 impl Entry for Stopping {
-    fn level(&self) -> Level {
-        Level::Info
-    }
-
-    fn event(&self) -> Event {
-        Event {
-            key: "stopping",
-            words: "stopping",
-        }
-    }
+    const EVENT: Event = Event {
+        level: Level::Info,
+        key: "stopping",
+        words: "stopping",
+    };
 
     fn fields<F: Fields>(&self, _out: &mut F) {}
 }
@@ -201,16 +176,11 @@ impl Entry for Stopping {
 pub struct SlotsFull(pub u64);
 
 impl Entry for SlotsFull {
-    fn level(&self) -> Level {
-        Level::Warn
-    }
-
-    fn event(&self) -> Event {
-        Event {
-            key: "places full",
-            words: "all places are taken, and connections wait",
-        }
-    }
+    const EVENT: Event = Event {
+        level: Level::Warn,
+        key: "places full",
+        words: "all places are taken, and connections wait",
+    };
 
     fn fields<F: Fields>(&self, out: &mut F) {
         out.number(PLACES, self.0);
@@ -223,16 +193,11 @@ impl Entry for SlotsFull {
 pub struct PeerFull(pub u64);
 
 impl Entry for PeerFull {
-    fn level(&self) -> Level {
-        Level::Warn
-    }
-
-    fn event(&self) -> Event {
-        Event {
-            key: "peer full",
-            words: "the peer has as many places as it may have, and its connections wait",
-        }
-    }
+    const EVENT: Event = Event {
+        level: Level::Warn,
+        key: "peer full",
+        words: "the peer has as many places as it may have, and its connections wait",
+    };
 
     fn fields<F: Fields>(&self, out: &mut F) {
         out.number(PLACES, self.0);
@@ -244,16 +209,11 @@ impl Entry for PeerFull {
 pub struct TurnedAway;
 
 impl Entry for TurnedAway {
-    fn level(&self) -> Level {
-        Level::Warn
-    }
-
-    fn event(&self) -> Event {
-        Event {
-            key: "turned away",
-            words: "the connection was closed, since too many wait for a place",
-        }
-    }
+    const EVENT: Event = Event {
+        level: Level::Warn,
+        key: "turned away",
+        words: "the connection was closed, since too many wait for a place",
+    };
 
     fn fields<F: Fields>(&self, _out: &mut F) {}
 }
@@ -263,16 +223,11 @@ impl Entry for TurnedAway {
 pub struct Waited(pub u64);
 
 impl Entry for Waited {
-    fn level(&self) -> Level {
-        Level::Warn
-    }
-
-    fn event(&self) -> Event {
-        Event {
-            key: "waited",
-            words: "the connection waited",
-        }
-    }
+    const EVENT: Event = Event {
+        level: Level::Warn,
+        key: "waited",
+        words: "the connection waited",
+    };
 
     fn fields<F: Fields>(&self, out: &mut F) {
         let seconds = Name {
@@ -289,16 +244,11 @@ impl Entry for Waited {
 pub struct NotAccepted<'a>(pub &'a io::Error);
 
 impl Entry for NotAccepted<'_> {
-    fn level(&self) -> Level {
-        Level::Error
-    }
-
-    fn event(&self) -> Event {
-        Event {
-            key: "not accepted",
-            words: "a connection could not be accepted",
-        }
-    }
+    const EVENT: Event = Event {
+        level: Level::Error,
+        key: "not accepted",
+        words: "a connection could not be accepted",
+    };
 
     fn fields<F: Fields>(&self, out: &mut F) {
         give_error(self.0, out);
@@ -310,16 +260,11 @@ impl Entry for NotAccepted<'_> {
 pub struct MetricsNotWritten<'a>(pub &'a io::Error);
 
 impl Entry for MetricsNotWritten<'_> {
-    fn level(&self) -> Level {
-        Level::Warn
-    }
-
-    fn event(&self) -> Event {
-        Event {
-            key: "metrics not written",
-            words: "the metrics could not be written",
-        }
-    }
+    const EVENT: Event = Event {
+        level: Level::Warn,
+        key: "metrics not written",
+        words: "the metrics could not be written",
+    };
 
     fn fields<F: Fields>(&self, out: &mut F) {
         give_error(self.0, out);
@@ -331,16 +276,11 @@ impl Entry for MetricsNotWritten<'_> {
 pub struct MetricsWritten;
 
 impl Entry for MetricsWritten {
-    fn level(&self) -> Level {
-        Level::Info
-    }
-
-    fn event(&self) -> Event {
-        Event {
-            key: "metrics written",
-            words: "the metrics are written again",
-        }
-    }
+    const EVENT: Event = Event {
+        level: Level::Info,
+        key: "metrics written",
+        words: "the metrics are written again",
+    };
 
     fn fields<F: Fields>(&self, _out: &mut F) {}
 }
@@ -350,16 +290,11 @@ impl Entry for MetricsWritten {
 pub(crate) struct NumbersLow(pub Location);
 
 impl Entry for NumbersLow {
-    fn level(&self) -> Level {
-        Level::Warn
-    }
-
-    fn event(&self) -> Event {
-        Event {
-            key: "numbers low",
-            words: "few numbers are left, so file with --per, or start anew without the files and that of --numbers",
-        }
-    }
+    const EVENT: Event = Event {
+        level: Level::Warn,
+        key: "numbers low",
+        words: "few numbers are left, so file with --per, or start anew without the files and that of --numbers",
+    };
 
     fn fields<F: Fields>(&self, out: &mut F) {
         let mut file = Words::new();
@@ -373,16 +308,11 @@ impl Entry for NumbersLow {
 pub struct ConnectionFailed<'a>(pub &'a io::Error);
 
 impl Entry for ConnectionFailed<'_> {
-    fn level(&self) -> Level {
-        Level::Error
-    }
-
-    fn event(&self) -> Event {
-        Event {
-            key: "connection failed",
-            words: "the connection failed",
-        }
-    }
+    const EVENT: Event = Event {
+        level: Level::Error,
+        key: "connection failed",
+        words: "the connection failed",
+    };
 
     fn fields<F: Fields>(&self, out: &mut F) {
         give_error(self.0, out);
@@ -397,16 +327,11 @@ pub(crate) struct LinesOmitted {
 }
 
 impl Entry for LinesOmitted {
-    fn level(&self) -> Level {
-        Level::Warn
-    }
-
-    fn event(&self) -> Event {
-        Event {
-            key: "lines left out",
-            words: "lines left out:",
-        }
-    }
+    const EVENT: Event = Event {
+        level: Level::Warn,
+        key: "lines left out",
+        words: "lines left out:",
+    };
 
     fn fields<F: Fields>(&self, out: &mut F) {
         out.number(Name::new("lines", " "), self.count);

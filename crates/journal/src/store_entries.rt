@@ -39,16 +39,11 @@ pub(crate) struct FilingFailed<'a> {
 }
 
 impl Entry for FilingFailed<'_> {
-    fn level(&self) -> Level {
-        Level::Error
-    }
-
-    fn event(&self) -> Event {
-        Event {
-            key: "filing failed",
-            words: "a file could not be written",
-        }
-    }
+    const EVENT: Event = Event {
+        level: Level::Error,
+        key: "filing failed",
+        words: "a file could not be written",
+    };
 
     fn fields<F: Fields>(&self, out: &mut F) {
         give_error(self.error, out);
@@ -94,16 +89,11 @@ pub(crate) struct Answered<'a> {
 }
 
 impl Entry for Answered<'_> {
-    fn level(&self) -> Level {
-        Level::Debug
-    }
-
-    fn event(&self) -> Event {
-        Event {
-            key: "store",
-            words: "store",
-        }
-    }
+    const EVENT: Event = Event {
+        level: Level::Debug,
+        key: "store",
+        words: "store",
+    };
 
     fn fields<F: Fields>(&self, out: &mut F) {
         out.text(CLASS, self.class.as_str());
@@ -128,16 +118,11 @@ pub(crate) struct NotStored<'a> {
 }
 
 impl Entry for NotStored<'_> {
-    fn level(&self) -> Level {
-        Level::Warn
-    }
-
-    fn event(&self) -> Event {
-        Event {
-            key: "not stored",
-            words: "not stored:",
-        }
-    }
+    const EVENT: Event = Event {
+        level: Level::Warn,
+        key: "not stored",
+        words: "not stored:",
+    };
 
     fn fields<F: Fields>(&self, out: &mut F) {
         give_status(self.reply, out);
@@ -161,16 +146,11 @@ pub(crate) struct MoreNotStored<'a> {
 }
 
 impl Entry for MoreNotStored<'_> {
-    fn level(&self) -> Level {
-        Level::Warn
-    }
-
-    fn event(&self) -> Event {
-        Event {
-            key: "more not stored",
-            words: "not stored:",
-        }
-    }
+    const EVENT: Event = Event {
+        level: Level::Warn,
+        key: "more not stored",
+        words: "not stored:",
+    };
 
     fn fields<F: Fields>(&self, out: &mut F) {
         let stores = Name {
@@ -196,16 +176,11 @@ pub(crate) struct Unanswered<'a> {
 }
 
 impl Entry for Unanswered<'_> {
-    fn level(&self) -> Level {
-        Level::Warn
-    }
-
-    fn event(&self) -> Event {
-        Event {
-            key: "not answered",
-            words: "not stored: no reply,",
-        }
-    }
+    const EVENT: Event = Event {
+        level: Level::Warn,
+        key: "not answered",
+        words: "not stored: no reply,",
+    };
 
     fn fields<F: Fields>(&self, out: &mut F) {
         out.text(END, end_words(self.end).as_str());
@@ -226,16 +201,11 @@ pub(crate) struct NotConfirmed<'a> {
 }
 
 impl Entry for NotConfirmed<'_> {
-    fn level(&self) -> Level {
-        Level::Warn
-    }
-
-    fn event(&self) -> Event {
-        Event {
-            key: "not confirmed",
-            words: "filed, but not confirmed:",
-        }
-    }
+    const EVENT: Event = Event {
+        level: Level::Warn,
+        key: "not confirmed",
+        words: "filed, but not confirmed:",
+    };
 
     fn fields<F: Fields>(&self, out: &mut F) {
         out.text(END, end_words(self.end).as_str());
