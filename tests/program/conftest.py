@@ -144,6 +144,17 @@ def small_disk(work):
 
 
 @pytest.fixture
+def arrange(run):
+    """Runs `arrange`, and returns its status, its output and its errors."""
+
+    def arranged(*options, folder="in", **keywords):
+        done = run("arrange", folder, "--to", "tree", *options, **keywords)
+        return done.returncode, done.stdout, done.stderr
+
+    return arranged
+
+
+@pytest.fixture
 def tool(work):
     """Runs a tool in the working folder."""
     return functools.partial(call, work)

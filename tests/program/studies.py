@@ -48,6 +48,11 @@ def image(**values):
     )
 
 
+def counts(linked=0, passed=0, renamed=0, left_out=0, action="linked"):
+    """Returns the last line of `arrange`."""
+    return f"{action} {linked} passed over {passed} renamed {renamed} left out {left_out}\n"
+
+
 def folder_of_images(folder, count, per_series=100):
     """Writes `count` images of one study."""
     folder.mkdir(parents=True)

@@ -7,26 +7,11 @@ import re
 import pytest
 from images import need
 from samples import DIRECTORY, HEADER, cases
-from studies import folder_of_images, image, measured, tree_of
+from studies import counts, folder_of_images, image, measured, tree_of
 
 PATH = "P1/1.2.3/1.2.3.1/1.2.3.1.1.dcm"
 SECOND = "P1/1.2.3/1.2.3.1/1.2.3.1.1-2.dcm"
 THIRD = "P1/1.2.3/1.2.3.1/1.2.3.1.1-3.dcm"
-
-
-def counts(linked=0, passed=0, renamed=0, left_out=0, action="linked"):
-    return f"{action} {linked} passed over {passed} renamed {renamed} left out {left_out}\n"
-
-
-@pytest.fixture
-def arrange(run):
-    """Runs `arrange`, and returns its status, its output and its errors."""
-
-    def arranged(*options, folder="in", **keywords):
-        done = run("arrange", folder, "--to", "tree", *options, **keywords)
-        return done.returncode, done.stdout, done.stderr
-
-    return arranged
 
 
 def test_links(arrange, put, work):
@@ -78,6 +63,24 @@ def test_a_name_that_exists_already(arrange, put, work, kind):
     assert arrange() == (0, counts(0, 0, 1), "")
     assert (work / "tree" / SECOND).samefile(work / "in/a")
     assert os.lstat(path) == before and (work / "other").read_bytes() == b"x"
+
+
+def test_names_that_exist_already(arrange, put, work):
+    """Other bytes, other bytes of the same length, and a folder each keep their name; the image gets the fourth."""
+    before = {PATH: b"as it was", SECOND: image()[:-1] + b"3", THIRD + "/x": b"x"}
+    put({"in/a": image(), **{f"tree/{name}": data for name, data in before.items()}})
+    for expected in (counts(0, 0, 1), counts(0, 1)):
+        assert arrange() == (0, expected, "")
+        tree = {name: path.read_bytes() for name, path in tree_of(work / "tree").items()}
+        assert tree == {**before, THIRD.replace("-3", "-4"): image()}
+
+
+def test_a_name_that_has_the_same_bytes_already(arrange, put, work):
+    """The file is passed over, and both stay separate."""
+    put({"in/a": image(), "tree/" + PATH: image()})
+    assert arrange() == (0, counts(0, 1), "")
+    assert list(tree_of(work / "tree")) == [PATH]
+    assert not (work / "tree" / PATH).samefile(work / "in/a")
 
 
 @pytest.mark.parametrize(
@@ -357,93 +360,3 @@ def test_20000_files(program, shared):
     assert len(tree_of(work / "tree")) == 20_000
     assert max(ours[2], again[2]) <= few[2] + 1024
     assert ours[2] < dcmtk[2]
-
-
-@pytest.mark.parametrize("suffix", ["", ".dcm"])
-def test_a_pattern(arrange, put, work, suffix):
-    """Each element in braces is replaced by its value, and a run repeated changes nothing."""
-    pattern = "{PatientName}/{StudyDate}_{0008,0060}/{SeriesNumber}/Image {InstanceNumber}" + suffix
-    put({"in/a": image(), "in/b": image(number="2"), "in/c": image(modality="MR")})
-    paths = {
-        "DOE^JANE/20260101_CT/1/Image 1.dcm": "in/a",
-        "DOE^JANE/20260101_CT/1/Image 2.dcm": "in/b",
-        "DOE^JANE/20260101_MR/1/Image 1.dcm": "in/c",
-    }
-    status, out, err = arrange("--pattern", pattern, "--dry-run")
-    assert (status, err) == (0, "") and not (work / "tree").exists()
-    planned = {f"link\t{file}\ttree/{path}" for path, file in paths.items()}
-    assert set(out.splitlines()[:-1]) == planned
-    assert arrange("--pattern", pattern) == (0, counts(3), "")
-    tree = tree_of(work / "tree")
-    assert set(tree) == set(paths)
-    assert all(tree[path].samefile(work / file) for path, file in paths.items())
-    assert arrange("--pattern", pattern, "--copy") == (0, counts(0, 3, action="copied"), "")
-    found = json.loads(arrange("--pattern", pattern, "--json")[1])
-    assert found == {"linked": 0, "passed_over": 3, "renamed": 0, "left_out": 0}
-
-
-@pytest.mark.parametrize(
-    ("values", "pattern", "path"),
-    [
-        ({}, "{SOPInstanceUID}", "1.2.3.1.1"),
-        ({"patient": None}, "{PatientID}_{Modality}", "UNKNOWN_CT"),
-        ({"patient": "  "}, "{PatientID}_{Modality}", "__CT"),
-        ({"patient": "../../x"}, "{PatientID}", "_._.._x"),
-        ({"patient": ".."}, "a{PatientID}/{Modality}", "a_./CT"),
-        ({"patient": "x" * 230}, "{PatientID}/{PatientID}{Modality}", "x" * 230 + "/_"),
-        ({}, "a {Modality} /b- ", "a CT/b-"),
-    ],
-)
-def test_names_of_a_pattern(arrange, put, work, values, pattern, path):
-    put({"in/a": image(**values)})
-    assert arrange("--pattern", pattern) == (0, counts(1), "")
-    assert set(tree_of(work / "tree")) == {path + ".dcm"}
-
-
-@pytest.mark.parametrize("option", ["", "--copy"])
-def test_the_same_path_by_a_pattern(arrange, put, work, option):
-    put({"in/a": image(), "in/b": image(number="2"), "in/c": image()})
-    options = ["--pattern", "{PatientID}/x", *option.split()]
-    action = "copied" if option else "linked"
-    assert arrange(*options) == (0, counts(1, 1, 1, action=action), "")
-    tree = tree_of(work / "tree")
-    assert set(tree) == {"P1/x.dcm", "P1/x-2.dcm"}
-    assert {path.read_bytes() for path in tree.values()} == {image(), image(number="2")}
-    assert arrange(*options) == (0, counts(0, 3, action=action), "")
-
-
-NAMES = "names that are not empty and begin with no dot, with '/' between them"
-ELEMENT = "as 0010,0020 or PatientID, not"
-TEXT = "an element of the data set whose value is text,"
-LITERALS = "letters, digits, '_', '-', '.', ' ', '/' and elements in braces, not"
-
-
-@pytest.mark.parametrize(
-    ("pattern", "error"),
-    [
-        ("", NAMES),
-        (".dcm", NAMES),
-        ("/{PatientID}", NAMES),
-        ("{PatientID}/", NAMES),
-        ("{PatientID}//{Modality}", NAMES),
-        ("../{PatientID}", NAMES),
-        ("{PatientID}/..", NAMES),
-        ("a/b", "at least one element in braces, as {PatientID}"),
-        ("/".join(["{PatientID}"] * 9), "8 names and 16 elements at most"),
-        ("{PatientID}" * 17, "8 names and 16 elements at most"),
-        ("{PatientID", "a } after each {"),
-        ("{}", f"an element {ELEMENT} ''"),
-        ("{patientid}", f"an element {ELEMENT} 'patientid'"),
-        ("{PatientID/Modality}", f"an element {ELEMENT} 'PatientID/Modality'"),
-        ("{Rows}", f"{TEXT} {ELEMENT} 'Rows'"),
-        ("{0002,0010}", f"{TEXT} {ELEMENT} '0002,0010'"),
-        ("PatientID}", f"{LITERALS} '}}'"),
-        ("{PatientID}:", f"{LITERALS} ':'"),
-        ("M\u00fcller/{PatientID}", f"{LITERALS} '\u00fc'"),
-    ],
-)
-def test_a_rejected_pattern(expect, put, work, pattern, error):
-    put({"in/a": image()})
-    words = ["arrange", "in", "--to", "tree", "--pattern", pattern]
-    expect(2, "", re.escape(f"error: --pattern takes {error}"), *words)
-    assert not (work / "tree").exists()

@@ -49,22 +49,17 @@ def test_series_and_files(run, put, slash):
     other = "  1\tCT\tHEAD\t1\t1.2.4.1"
     lines = run("list", "in" + slash, "--series").stdout.splitlines()
     assert lines == [OTHER, other, STUDY, *series]
-    files = [
-        "    1\t1.2.3.1.1\tin/I0000001",
-        "    2\t1.2.3.1.2\tin/I0000002",
+    files = ["    1\t1.2.3.1.1\tin/I0000001", "    2\t1.2.3.1.2\tin/I0000002"]
+    assert run("list", "in" + slash, "--instances").stdout.splitlines() == [
+        *(OTHER, other, "    1\t1.2.4.1.1\tin/I0000003"),
+        *(STUDY, series[0], *files, series[1], "    1\t1.2.3.10.1\tin/S0000001/I0000001"),
     ]
-    lines = run("list", "in" + slash, "--instances").stdout.splitlines()
-    assert lines[4:] == [series[0], *files, series[1], "    1\t1.2.3.10.1\tin/S0000001/I0000001"]
 
 
 def test_one_object(run, put):
     put({**FOUR, "in/notes.txt": b"no image"})
     done = run("list", "in", "--json")
-    assert done.returncode == 1 and done.stdout.count("\n") == 1
-    found = json.loads(done.stdout)
-    assert found["left_out"] == 1
-    assert found["studies"][0]["patient_name"] is None
-    assert found["studies"][1] == {
+    study = {
         "study": "1.2.3",
         "date": "20260101",
         "patient_id": "P1",
@@ -73,7 +68,13 @@ def test_one_object(run, put):
         "series_count": 2,
         "image_count": 3,
     }
+    other = {**study, "study": "1.2.4", "date": "20251231", "patient_id": "P 2"}
+    other.update(patient_name=None, modalities=["CT"], series_count=1, image_count=1)
+    whole = json.dumps({"studies": [other, study], "left_out": 1}, separators=(",", ":")) + "\n"
+    assert (done.returncode, done.stdout) == (1, whole)
     found = json.loads(run("list", "in", "--json", "--instances").stdout)
+    assert list(found["studies"][1]) == [*study, "series"]
+    assert list(found["studies"][1]["series"][1]) == "series number modality description image_count instances".split()
     assert found["studies"][1]["series"][1] == {
         "series": "1.2.3.10",
         "number": "10",

@@ -339,12 +339,6 @@ class TestRenewedCallers:
         assert not self.is_accepted(box)
         assert self.logged(box)[1:] == [self.read(1)]
 
-    def test_a_missing_file_that_is_there_again_and_empty_is_logged_twice(self, box, change):
-        for listed in (None, b""):
-            change(listed)
-            assert not self.is_accepted(box) and not self.is_accepted(box)
-        assert ["No such file" in line for line in self.logged(box)] == [True, False]
-
     @pytest.mark.parametrize("letters", ("A", "T", "AT"))
     def test_one_of_4096_may_call(self, box, change, letters):
         """Titles are found wherever they are in the order of the others."""

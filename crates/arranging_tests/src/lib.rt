@@ -1,8 +1,9 @@
 //! Test cases of `arrange` and `list` on the public calls of `arrange_command` and `list_command`:
-//! what is printed, what a tree contains, and the result of each failure of system calls and of
-//! memory.
+//! the result of each failure of system calls and of memory, and of a dry run.
 #![tactic(auto)]
 
+#[cfg(test)]
+mod dry_run_tests;
 #[cfg(test)]
 mod failing;
 #[cfg(test)]
@@ -12,10 +13,6 @@ mod images;
 #[cfg(test)]
 mod list_failures;
 #[cfg(test)]
-mod list_tests;
-#[cfg(test)]
-mod pattern_tests;
-#[cfg(test)]
-mod tree_tests;
+mod lists;
 #[cfg(test)]
 mod trees;

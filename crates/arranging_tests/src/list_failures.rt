@@ -1,7 +1,7 @@
 //! What `list` prints if a system call fails, its output is full, or memory runs out.
 use crate::failing::CallCount;
 use crate::images::{FIRST, put_image};
-use crate::list_tests::{LINES, listed, printed, put_four};
+use crate::lists::{LINES, listed, printed, put_four};
 use failures::{Failure, ProgramError};
 use fixtures::folders::fresh;
 use fixtures::hooked::{FileCall, Hooked};

@@ -1,5 +1,5 @@
 //! Reads the file of the calling AE titles that are accepted, at the start and when it changes.
-ghost use Rattle.std.specs.Prelude.{◌≡◌, [], IfOk, IfSome, option_map, string_bytes, unwrap_or};
+ghost use Rattle.std.specs.Prelude.{◌≡◌, IfOk, IfSome, string_bytes};
 ghost use Rattle.negotiate.specs.Settings.{settings_of};
 ghost use Rattle.serve_command.specs.Renewed.{AreRenewed, MayFollow};
 
@@ -102,8 +102,8 @@ pub(crate) struct CallersFile<'a, R> {
     logger: Logger<'a, R>,
     /// The stamp of the file before it was last read, or `None` if that is not known.
     seen: Option<Stamp>,
-    /// The text that was last read, or `None` if the file could not be read.
-    text: Option<String>,
+    /// The text that was last read, or an empty one if the file could not be read.
+    text: String,
 }
 
 impl<'a, R: Log + Clock> CallersFile<'a, R> {
@@ -119,7 +119,7 @@ impl<'a, R: Log + Clock> CallersFile<'a, R> {
             arguments,
             logger,
             seen: None,
-            text: Some(text),
+            text,
         }
     }
 
@@ -128,19 +128,23 @@ impl<'a, R: Log + Clock> CallersFile<'a, R> {
     ///
     /// Fails if the file cannot be read, if its text is refused, or if memory runs out.
     fn read(&mut self, path: &str) -> Result<Option<Box<Config>>, ProgramError>
-        ensures renewed { IfOk result (λ found. IfSome found (λ c. AreRenewed self.old.arguments.now (unwrap_or (option_map string_bytes self.new.text) []) (settings_of c.value))) }
+        ensures renewed { IfOk result (λ found. IfSome found (λ c. AreRenewed self.old.arguments.now (string_bytes self.new.text) (settings_of c.value))) }
         ensures arguments { self.new.arguments ≡ self.old.arguments }
     {
         let alloc = self.rt.alloc();
-        let before = self.text.take();
-        let text = callers_text(self.rt, Some(path))?;
-        if before.as_ref() == Some(&text) {
-            self.text = before;
+        let text = match callers_text(self.rt, Some(path)) {
+            Ok(text) => text,
+            Err(failure) => {
+                self.text.clear();
+                return Err(failure);
+            }
+        };
+        if text == self.text {
             return Ok(None);
         }
-        let settings = serve_settings(alloc, self.arguments, text.as_str());
-        self.text = Some(text);
-        Ok(Some(Box::new(alloc, settings?.config)?))
+        self.text = text;
+        let settings = serve_settings(alloc, self.arguments, self.text.as_str())?;
+        Ok(Some(Box::new(alloc, settings.config)?))
     }
 
     /// Logs why the file was not read.
@@ -181,7 +185,7 @@ impl<R: Log + Clock> ConfigSource for CallersFile<'_, R> {
                 if is_of_memory(&failure) {
                     // The next connection tries again.
                     self.seen = None;
-                    self.text = None;
+                    self.text.clear();
                 }
                 None
             }
