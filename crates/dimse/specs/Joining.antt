@@ -1,12 +1,15 @@
 -- What the state of a `Join` says of a message (PS3.7 section 6.3; PS3.8 annex E): its fragments so far, the
 -- unfinished one included, except the bytes of its data set, which a join does not keep.
-use Rattle.std.specs.Prelude.{◌≡◌, ℕ, ◌-◌, ◌≤◌, Bool, false, List, [], length, Option, None, Some, Result, Ok, Err, nat_lt, if◌then◌else◌}
+use Rattle.std.specs.Prelude.{◌≡◌, ℕ, ◌-◌, ◌≤◌, Bool, true, false, List, [], length, Option, None, Some, Result, Ok, Err, nat_lt, if◌then◌else◌}
+use Rattle.std.specs.Result.{result_ok}
 use Rattle.pdu.specs.Heads.{is_last, pdv_head_of}
 use Rattle.pdu.specs.Sizes.{pdv_head_size}
 use Rattle.pdu.specs.Marks.{pdv_context, pdv_control, pdv_content, pdv_size}
 use Rattle.dimse.specs.declared.fault.DimseFault.{DimseFault}
 use Rattle.dimse.specs.declared.joined.Joined.{Joined}
 use Rattle.dimse.specs.declared.joined.Joined.TheVariants as joined
+use Rattle.dimse.specs.Command.{CommandRecord}
+use Rattle.dimse.specs.Reading.{command_in}
 use Rattle.dimse.specs.Messages.{Pdv, Started, NoMessage, InCommand, InSet, Brought, Goes, Ends, Refuses, head_refusal, with_fragment}
 
 -- ---- what a part of a fragment adds
@@ -87,6 +90,16 @@ abbrev pub Joins : ℕ → Started → Brought → Joining → Joining → Resul
 Joins room before (Goes later) old new result = (result ≡ Ok (continues before later)) × ShowsMessage room new later []
 Joins room before (Ends m) old new result = (result ≡ Ok joined.Message) × (new ≡ lending m.command)
 Joins room before (Refuses fault) old new result = (result ≡ Err fault) × (new ≡ old)
+
+-- the result of the end of a fragment without the command
+abbrev pub joined_in : Result (Joined × Option CommandRecord) DimseFault → Result Joined DimseFault
+joined_in (Ok (state, command)) = Ok state
+joined_in (Err fault) = Err fault
+
+-- the command that the end of a fragment completes, if it is the last of a command set
+abbrev pub completed_command : Started → Bool → Option CommandRecord
+completed_command (InCommand context command) true = result_ok (command_in command)
+completed_command other last = None
 
 -- the presentation context ID of the unfinished message
 abbrev pub InContext : Started → ℕ → Type 0

@@ -1,10 +1,14 @@
 //! Joins the fragments of DIMSE messages.
-ghost use Rattle.std.specs.Prelude.{◌≡◌, ◌-◌, ◌≤◌, ◌^◌, ◌++◌, [], List, ℕ, length, OnOk, OnErr};
+ghost use Rattle.std.specs.Prelude.{◌≡◌, ◌-◌, ◌≤◌, ◌^◌, ◌++◌, [], List, ℕ, length, Ok, Some, IfOk, OnOk, OnErr};
 ghost use Rattle.pdu.specs.Heads.{pdv_head_of};
 ghost use Rattle.dimse.specs.Messages.{Started, NoMessage, brought, head_refusal};
-ghost use Rattle.dimse.specs.Joining.{ShowsMessage, InContext, Joins, ok_unless, pdv_of, without_set};
+ghost use Rattle.dimse.specs.Command.{CommandRecord};
+ghost use Rattle.dimse.specs.Joining.{ShowsMessage, InContext, Joins, completed_command, joined_in, ok_unless, pdv_of, without_set};
 ghost use Rattle.dimse.specs.machine.Fields.{ended_as};
+ghost use Rattle.dimse.specs.Reading.{command_in};
+ghost use Rattle.dimse.specs.declared.joined.Joined.{Joined};
 
+use crate::command::Command;
 use crate::fault::DimseFault;
 use crate::joined::Joined;
 use crate::reading::read_command;
@@ -115,34 +119,37 @@ impl<const C: usize> Join<C> {
         self.remaining -= part.len() as u32;
     }
 
-    /// Returns the state of the message after the end of the fragment. Fails if the fragment
-    /// completes an invalid command set.
-    fn joined(&self) -> Result<Joined, DimseFault>
+    /// Returns the state of the message after the end of the fragment, and the command if the
+    /// fragment completes the command set. Fails if that is invalid.
+    fn joined(&self) -> Result<(Joined, Option<Command>), DimseFault>
         ensures { result ≡ ended_as self.now.message self.now.last }
     {
         match self.stage {
             Stage::Command if self.last => {
                 let command = read_command(self.command.as_slice())?;
                 if command.with_data() {
-                    Ok(Joined::DataDue)
+                    Ok((Joined::DataDue, Some(command)))
                 } else {
-                    Ok(Joined::Message)
+                    Ok((Joined::Message, Some(command)))
                 }
             }
-            Stage::Set if self.last => Ok(Joined::Message),
-            _ => Ok(Joined::More),
+            Stage::Set if self.last => Ok((Joined::Message, None)),
+            _ => Ok((Joined::More, None)),
         }
     }
 
-    /// Ends the fragment after its last byte and returns the state of the message. If the fragment
-    /// completes an invalid command set, the error is that of [`read_command`](crate::read_command)
-    /// (`BadCommand`, `UnknownField` or `WrongKind`), and `self` is unchanged. After `Message`,
-    /// `command` still returns the command set, until `clear` or the next message.
-    pub fn end(&mut self) -> Result<Joined, DimseFault>
-        ensures { (message : Started) (started : List ℕ) → 6 ≤ length started → ShowsMessage C self.old message started
-            → Joins C message (brought message (pdv_of started)) self.old self.new result }
+    /// Ends the fragment after its last byte. Returns the state of the message, and the command if
+    /// the fragment completes the command set. If that is invalid, the error is that of
+    /// [`read_command`](crate::read_command) (`BadCommand`, `UnknownField` or `WrongKind`), and
+    /// `self` is unchanged. After `Message`, `command` still returns the command set, until `clear`
+    /// or the next message.
+    pub fn end(&mut self) -> Result<(Joined, Option<Command>), DimseFault>
+        ensures joins { (message : Started) (started : List ℕ) → 6 ≤ length started → ShowsMessage C self.old message started
+            → Joins C message (brought message (pdv_of started)) self.old self.new (joined_in result) }
+        ensures completed { IfOk result (λ x. x.1 ≡ completed_command self.old.message self.old.last) }
+        ensures read { (joined : Joined) (command : CommandRecord) → result ≡ Ok (joined, Some command) → command_in self.new.command ≡ Ok command }
     {
-        let joined = self.joined()?;
+        let (joined, command) = self.joined()?;
         match joined {
             Joined::More => {}
             Joined::DataDue => self.stage = Stage::Set,
@@ -150,7 +157,7 @@ impl<const C: usize> Join<C> {
         }
         self.remaining = 0;
         self.last = false;
-        Ok(joined)
+        Ok((joined, command))
     }
 
     /// Returns the presentation context ID of the unfinished message.

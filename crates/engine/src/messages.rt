@@ -1,6 +1,9 @@
 //! Handles the presentation data values of an established association: joins their fragments to
 //! messages, and answers the commands.
-ghost use Rattle.std.specs.Prelude.{◌≡◌, ◌≤◌, ◌+◌, ◌-◌, ◌^◌, ℕ, length, Ok};
+ghost use Rattle.std.specs.Prelude.{◌≡◌, ◌≤◌, ◌+◌, ◌-◌, ◌^◌, ℕ, length, None, Ok, Some, Err};
+ghost use Rattle.dimse.specs.Command.{CommandRecord};
+ghost use Rattle.dimse.specs.Reading.{command_in};
+ghost use Rattle.dimse.specs.declared.fault.DimseFault.{DimseFault};
 ghost use Rattle.pdu.specs.Sent.{Line};
 
 use crate::devices::Devices;
@@ -27,6 +30,19 @@ struct Origin<'a, 'c> {
     context: u8,
 }
 
+/// Returns the command in a whole command set: `read`, unless it is still to be read. Returns `None`
+/// if the set is invalid.
+fn command_of(read: Option<Command>, set: &[u8]) -> Option<Command>
+    requires { (command : CommandRecord) → read ≡ Some command → command_in set.now ≡ Ok command }
+    ensures valid { (command : CommandRecord) → result ≡ Some command → command_in set.now ≡ Ok command }
+    ensures invalid { result ≡ None → (fault : DimseFault) × (command_in set.now ≡ Err fault) }
+{
+    match read {
+        Some(command) => Some(command),
+        None => read_command(set).ok(),
+    }
+}
+
 impl<const C: usize, const V: usize, const D: usize> Message<C, V, D> {
     ghost use Rattle.engine.specs.Drafts.{IsThere, Drafts};
     ghost use Rattle.engine.specs.StoredData.{drafting_in, stored_of};
@@ -35,8 +51,9 @@ impl<const C: usize, const V: usize, const D: usize> Message<C, V, D> {
 
     /// Starts the data set of a message whose complete command set announces one. If the command is
     /// a C-STORE of the SOP class of its presentation context, the data set is walked and written
-    /// to a draft; else its bytes are dropped.
-    fn begin<F: Filing>(&mut self, origin: Origin, filing: &mut F)
+    /// to a draft; else its bytes are dropped. `read` is the command, unless it is still to be read.
+    fn begin<F: Filing>(&mut self, origin: Origin, read: Option<Command>, filing: &mut F)
+        requires read { (command : CommandRecord) → read ≡ Some command → command_in self.old.join.command ≡ Ok command }
         requires draft { IsThere (drafting_in (stored_of self.old.storing)) (F.store filing.old) }
         requires least_kept { 140 ≤ V }
         requires greatest_kept { V ≤ 2 ^ 24 }
@@ -46,7 +63,7 @@ impl<const C: usize, const V: usize, const D: usize> Message<C, V, D> {
         ensures drafts { Drafts (drafting_in (stored_of self.old.storing)) (F.store filing.old) (drafting_in (stored_of self.new.storing)) (F.store filing.new) }
         ensures proceeds { BeginsData D origin.entry self.old.join.command (stored_of self.old.storing) (stored_of self.new.storing) (F.store filing.old) (F.store filing.new) }
     {
-        let Ok(command) = read_command(self.join.command()) else {
+        let Some(command) = command_of(read, self.join.command()) else {
             return;
         };
         if !command.with_data() {
@@ -62,19 +79,22 @@ impl<const C: usize, const V: usize, const D: usize> Message<C, V, D> {
         }
     }
 
-    /// Ends a complete message: judges its data set, and sends the response to its command. Returns
-    /// what was decided, and whether the send succeeded.
+    /// Ends a complete message: judges its data set, and sends the response to its command. `read`
+    /// is the command, unless it is still to be read. Returns what was decided, and whether the send
+    /// succeeded.
     fn reply<W: Wire, F: Filing>(
         &mut self,
         origin: Origin,
+        read: Option<Command>,
         devices: Devices<'_, W, F>,
     ) -> (Decision, Result<(), WireFailed>)
+        requires read { (command : CommandRecord) → read ≡ Some command → command_in self.old.join.command ≡ Ok command }
         requires draft { IsThere (drafting_in (stored_of self.old.storing)) (F.store devices.filing.now) }
         ensures join { self.new.join ≡ self.old.join }
         ensures drafts { Drafts (drafting_in (stored_of self.old.storing)) (F.store devices.entry.filing.now) (drafting_in (stored_of self.new.storing)) (after W.line F.store devices.exit).store }
         ensures ended { EndsMessage C V D origin.entry self.old.join.command (stored_of self.old.storing) result (before W.line F.store devices.entry) (after W.line F.store devices.exit) }
     {
-        let Ok(command) = read_command(self.join.command()) else {
+        let Some(command) = command_of(read, self.join.command()) else {
             return (Decision::Nothing, Ok(()));
         };
         let context = origin.context;
@@ -181,10 +201,10 @@ impl<'c, const A: usize, const C: usize, const V: usize, const D: usize> Provide
                 context: message.join.context(),
             };
             match message.join.end() {
-                Ok(Joined::More) => {}
-                Ok(Joined::Message) => {
+                Ok((Joined::More, _)) => {}
+                Ok((Joined::Message, read)) => {
                     let Devices { wire, filing } = devices;
-                    let (decided, sent) = message.reply(origin, Devices { wire, filing });
+                    let (decided, sent) = message.reply(origin, read, Devices { wire, filing });
                     message.join.clear();
                     // `reply` has ended the draft of a C-STORE; only the timeline shows that no
                     // other message has a draft.
@@ -192,9 +212,9 @@ impl<'c, const A: usize, const C: usize, const V: usize, const D: usize> Provide
                     self.decided = decided;
                     self.finish(State::Sta6, sent, filing);
                 }
-                Ok(Joined::DataDue) => {
+                Ok((Joined::DataDue, read)) => {
                     self.decided = Decision::DataDue;
-                    message.begin(origin, devices.filing);
+                    message.begin(origin, read, devices.filing);
                 }
                 Err(fault) => {
                     self.decided = Decision::CommandRefused(

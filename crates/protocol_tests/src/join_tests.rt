@@ -30,7 +30,8 @@ fn join_fragment(
     let (front, back) = fragment.split_at(fragment.len() / 2);
     join.take(front);
     join.take(back);
-    join.end()
+    let (joined, _) = join.end()?;
+    Ok(joined)
 }
 
 /// Returns whether each step has its expected result.

@@ -1,5 +1,5 @@
 -- The unfinished message in the fields of a `Join`, and the results of its private methods.
-use Rattle.std.specs.Prelude.{◌≡◌, ℕ, ◌+◌, ◌≤◌, Bool, true, false, List, [], Result, Ok, Err, if◌then◌else◌}
+use Rattle.std.specs.Prelude.{◌≡◌, ℕ, ◌+◌, ◌≤◌, Bool, true, false, List, [], Option, Some, None, Result, Ok, Err, if◌then◌else◌}
 use Rattle.dimse.specs.declared.fault.DimseFault.{DimseFault}
 use Rattle.dimse.specs.declared.joined.Joined.{Joined}
 use Rattle.dimse.specs.declared.joined.Joined.TheVariants.{More, DataDue, Message}
@@ -19,14 +19,14 @@ abbrev pub HasRoom : ℕ → Stage → ℕ → ℕ → Type 0
 HasRoom room stage size remaining = stage ≡ Command → size + remaining ≤ room
 
 -- the result of a whole command set, once it was read
-abbrev pub read_as : Result CommandRecord DimseFault → Result Joined DimseFault
+abbrev pub read_as : Result CommandRecord DimseFault → Result (Joined × Option CommandRecord) DimseFault
 read_as (Err fault) = Err fault
-read_as (Ok c) = if c.with_data then Ok DataDue else Ok Message
+read_as (Ok c) = if c.with_data then Ok (DataDue, Some c) else Ok (Message, Some c)
 
 -- the result of the end of a fragment, which is the last of its set or not
-abbrev pub ended_as : Started → Bool → Result Joined DimseFault
-ended_as NoMessage last = Ok More
-ended_as (InCommand context command) false = Ok More
+abbrev pub ended_as : Started → Bool → Result (Joined × Option CommandRecord) DimseFault
+ended_as NoMessage last = Ok (More, None)
+ended_as (InCommand context command) false = Ok (More, None)
 ended_as (InCommand context command) true = read_as (command_in command)
-ended_as (InSet context command set) false = Ok More
-ended_as (InSet context command set) true = Ok Message
+ended_as (InSet context command set) false = Ok (More, None)
+ended_as (InSet context command set) true = Ok (Message, None)

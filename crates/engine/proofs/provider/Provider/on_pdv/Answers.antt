@@ -4,7 +4,7 @@ use Rattle.acceptor.specs.declared.event.Event.TheVariants as event
 use Rattle.dimse.specs.declared.joined.Joined.{Joined}
 use Rattle.dimse.specs.Reading.{command_in, field_in}
 use Rattle.dimse.specs.Messages.{Started, InSet, Goes, Refuses, with_fragment}
-use Rattle.dimse.specs.Joining.{Joining, with_pdv, pdv_of, command_bytes}
+use Rattle.dimse.specs.Joining.{Joining, joined_in, with_pdv, pdv_of, command_bytes}
 use Rattle.engine.specs.Timeline.{At, good}
 use Rattle.engine.specs.Progress.{deciding, nothing, done}
 use Rattle.decisions.specs.declared.decision.Decision.{Decision}
@@ -40,31 +40,31 @@ returns-in_default g c = record {
       does_dropped (rooms_of g.row.A g.row.C g.row.V g.row.D) (settings_in c.args.self.now) k p started _ drops h;
 }
 
-pub returns-in-Ok-More-clause-drafts : goal.returns-in-Ok-More-clause-drafts
-returns-in-Ok-More-clause-drafts g c = rw c.in-Established.is (same_drafts _ _ (rw c.in-Established.is at c.requires.draft))
+pub returns-in-Ok-More-default-clause-drafts : goal.returns-in-Ok-More-default-clause-drafts
+returns-in-Ok-More-default-clause-drafts g c = rw c.in-Established.is (same_drafts _ _ (rw c.in-Established.is at c.requires.draft))
 
-pub returns-in-Ok-More-clause-does : goal.returns-in-Ok-More-clause-does
-returns-in-Ok-More-clause-does g c = rw c.in-Established.is (λ p started six whole h.
+pub returns-in-Ok-More-default-clause-does : goal.returns-in-Ok-More-default-clause-does
+returns-in-Ok-More-default-clause-does g c = rw c.in-Established.is (λ p started six whole h.
     let rooms = rooms_of g.row.A g.row.C g.row.V g.row.D in
     let s = settings_in c.args.self.now in
     let k = kept_by c.args.self.now c.in-Established.peer c.in-Established.message in
     let so = g.F.Filing.store c.args.devices.filing.now in
     let j = c.end.new.self in
-    let pdv = ends_pdv k so p started j _ _ six h (ap not c.if-self.false) c.end.ensures (c.in-Ok-More.is ∙ ap (λ (x : Joined). Ok x) c.in-Ok-More.field-0-is) in
+    let pdv = ends_pdv k so p started j _ _ six h (ap not c.if-self.false) c.end.ensures.joins (ap joined_in c.in-Ok-More-default.is ∙ ap (λ (x : Joined). Ok x) c.in-Ok-More-default.field-0-0-is) in
     let got = goes_of g.row.C p.message started six (pdv.shows.accepted six) k.join j pdv.joins in
     let later = got.0 in
     does_by rooms s p (At (entry_of started)) (nothing (going_on later p)) (with_join j k) [] [] _ _
     (pdv_consumed rooms s p good started pdv.consumed ∙ pdv_arrives p good started (Goes later) got.1) refl (verdict_by rooms s p p good started (Goes later) pdv.consumed got.1 tt)
     (tries_still p (going_on later p) (with_join j k) [] [] _ (pends_going_on k so p j later started h pdv.consumed got.2 got.3 got.4 six)))
 
-pub returns-in-Ok-Message-clause-does : goal.returns-in-Ok-Message-clause-does
-returns-in-Ok-Message-clause-does g c = rw c.in-Established.is (λ p started six whole h.
+pub returns-in-Ok-Message-default-clause-does : goal.returns-in-Ok-Message-default-clause-does
+returns-in-Ok-Message-default-clause-does g c = rw c.in-Established.is (λ p started six whole h.
     let rooms = rooms_of g.row.A g.row.C g.row.V g.row.D in
     let s = settings_in c.args.self.now in
     let k = kept_by c.args.self.now c.in-Established.peer c.in-Established.message in
     let so = g.F.Filing.store c.args.devices.filing.now in
     let j = c.end.new.self in
-    let pdv = ends_pdv k so p started j _ _ six h (ap not c.if-self.false) c.end.ensures (c.in-Ok-Message.is ∙ ap (λ (x : Joined). Ok x) c.in-Ok-Message.field-0-is) in
+    let pdv = ends_pdv k so p started j _ _ six h (ap not c.if-self.false) c.end.ensures.joins (ap joined_in c.in-Ok-Message-default.is ∙ ap (λ (x : Joined). Ok x) c.in-Ok-Message-default.field-0-0-is) in
     let got = ends_of g.row.C p.message started six (pdv.shows.accepted six) k.join j pdv.joins in
     let m = got.0 in
     let received = with_pdv started p.message in
@@ -78,22 +78,22 @@ returns-in-Ok-Message-clause-does g c = rw c.in-Established.is (λ p started six
     (concludes rooms s p m received c.reply-decided.result.0 c.reply-decided.result.1 (with_join j k) (kept_of c.finish.new.self) c.clear.new.self (stored_of c.leave.new.self) _ _ _ _ _ _
     aside refl c.clear.ensures c.leave.ensures.nothing ended (drops_unfiled _ _ _ c.leave.ensures.drops) c.finish.ensures.settles))
 
-pub returns-in-Ok-Message-clause-drafts : goal.returns-in-Ok-Message-clause-drafts
-returns-in-Ok-Message-clause-drafts g c = rw c.in-Established.is (
+pub returns-in-Ok-Message-default-clause-drafts : goal.returns-in-Ok-Message-default-clause-drafts
+returns-in-Ok-Message-default-clause-drafts g c = rw c.in-Established.is (
     drafts_then _ _ _ _ _ _ c.reply-decided.ensures.drafts
     (drafts_then _ _ _ _ _ _ (drops_drafts _ _ _ (stored_of c.leave.new.self) c.leave.ensures.nothing c.leave.ensures.drops) c.finish.ensures.drafts))
 
-pub returns-in-Ok-DataDue-clause-drafts : goal.returns-in-Ok-DataDue-clause-drafts
-returns-in-Ok-DataDue-clause-drafts g c = rw c.in-Established.is c.begin.ensures.drafts
+pub returns-in-Ok-DataDue-default-clause-drafts : goal.returns-in-Ok-DataDue-default-clause-drafts
+returns-in-Ok-DataDue-default-clause-drafts g c = rw c.in-Established.is c.begin.ensures.drafts
 
-pub returns-in-Ok-DataDue-clause-does : goal.returns-in-Ok-DataDue-clause-does
-returns-in-Ok-DataDue-clause-does g c = rw c.in-Established.is (λ p started six whole h.
+pub returns-in-Ok-DataDue-default-clause-does : goal.returns-in-Ok-DataDue-default-clause-does
+returns-in-Ok-DataDue-default-clause-does g c = rw c.in-Established.is (λ p started six whole h.
     let rooms = rooms_of g.row.A g.row.C g.row.V g.row.D in
     let s = settings_in c.args.self.now in
     let k = kept_by c.args.self.now c.in-Established.peer c.in-Established.message in
     let so = g.F.Filing.store c.args.devices.filing.now in
     let j = c.end.new.self in
-    let pdv = ends_pdv k so p started j _ _ six h (ap not c.if-self.false) c.end.ensures (c.in-Ok-DataDue.is ∙ ap (λ (x : Joined). Ok x) c.in-Ok-DataDue.field-0-is) in
+    let pdv = ends_pdv k so p started j _ _ six h (ap not c.if-self.false) c.end.ensures.joins (ap joined_in c.in-Ok-DataDue-default.is ∙ ap (λ (x : Joined). Ok x) c.in-Ok-DataDue-default.field-0-0-is) in
     let got = due_of g.row.C p.message started six (pdv.shows.accepted six) k.join j pdv.joins in
     let later = got.0 in
     let due = got.3 in
@@ -116,7 +116,7 @@ returns-in-Err-clause-does g c = rw c.in-Established.is (λ p started six whole 
     let k = kept_by c.args.self.now c.in-Established.peer c.in-Established.message in
     let so = g.F.Filing.store c.args.devices.filing.now in
     let j = c.end.new.self in
-    let pdv = ends_pdv k so p started j _ _ six h (ap not c.if-self.false) c.end.ensures c.in-Err.is in
+    let pdv = ends_pdv k so p started j _ _ six h (ap not c.if-self.false) c.end.ensures.joins (ap joined_in c.in-Err.is) in
     let got = refuses_of g.row.C p.message started six (pdv.shows.accepted six) k.join j c.in-Err.fault pdv.joins in
     let pends : Pends (with_join j k) so p [] started = subst (λ (x : Joining). Pends (with_join x k) so p [] started) (sym got.1) h in
     let new = kept_of c.perform.new.self in
