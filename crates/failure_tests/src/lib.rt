@@ -11,8 +11,6 @@ mod folder_links;
 #[cfg(test)]
 mod large_store;
 #[cfg(test)]
-mod links;
-#[cfg(test)]
 mod many_stores;
 #[cfg(test)]
 mod memory_failures;
