@@ -1,7 +1,7 @@
 //! Folders that fail: for their names, their disk, or memory for their names.
 
 use crate::filings::FailingFiling;
-use crate::runtimes::{Device, Failing};
+use crate::runtimes::Diverted;
 use crate::two_stores::{Due, TwoStores};
 use fixtures::folders::{are_in, count, fresh, holds, is_filed, put};
 use fixtures::refusing::Refusing;
@@ -61,24 +61,19 @@ fn each_allocation_of_a_folder_is_refused(rt: HostRuntime) -> Result<(), Fail> {
     Ok(())
 }
 
-/// A device that can't be synced, and one that is full.
-const NULL: &str = "/dev/null";
-
-const FULL: &str = "/dev/full";
-
-/// Returns a runtime that opens this device in place of files with this name.
-fn with_device<'a>(
-    rt: &'a HostRuntime,
-    path: &'a str,
-    name: &'a str,
-    times: &'a Cell<u32>,
-) -> Failing<'a> {
-    Failing::new(rt, Some(Device { name, path, times }), None)
+/// Returns a runtime that opens a device that can't be synced in place of files with this name.
+fn on_null<'a>(rt: &'a HostRuntime, name: &'a str, times: &'a Cell<u32>) -> Diverted<'a> {
+    Diverted {
+        rt,
+        name,
+        device: "/dev/null",
+        times,
+    }
 }
 
 /// Files in this filing. Returns whether that succeeded, and how many files were committed and
 /// dropped.
-fn filed_over(filing: FolderFiling<Failing>) -> (bool, u32, u32) {
+fn filed_over(filing: FolderFiling<Diverted>) -> (bool, u32, u32) {
     let mut filing = filing;
     let is_filed = is_filed(&mut filing, b"file");
     (is_filed, filing.committed(), filing.dropped())
@@ -88,7 +83,7 @@ fn filed_over(filing: FolderFiling<Failing>) -> (bool, u32, u32) {
 fn is_refused(rt: &HostRuntime, dir: &str, name: &str) -> io::Result<bool> {
     fresh(rt, dir)?;
     let times = Cell::new(u32::MAX);
-    let filing = FolderFiling::open_levels(with_device(rt, NULL, name, &times), dir, 1)?;
+    let filing = FolderFiling::open_levels(on_null(rt, name, &times), dir, 1)?;
     Ok(
         filed_over(filing) == (false, 0, 1)
             && fs::metadata(rt, "what_can_not_be_synced/S0000001/I0000001").is_err()
@@ -100,7 +95,7 @@ fn is_refused(rt: &HostRuntime, dir: &str, name: &str) -> io::Result<bool> {
 fn is_filed_unsynced(rt: &HostRuntime, dir: &str) -> io::Result<bool> {
     fresh(rt, dir)?;
     let times = Cell::new(u32::MAX);
-    let unsynced = with_device(rt, NULL, "S0000001", &times);
+    let unsynced = on_null(rt, "S0000001", &times);
     let filing = FolderFiling::open_levels(unsynced, dir, 1)?.without_sync();
     let (is_filed, _, _) = filed_over(filing);
     Ok(is_filed && holds(rt, dir, "S0000001/I0000001", b"file")?)
@@ -128,7 +123,7 @@ fn are_due(rt: &HostRuntime, dir: &str, sent: &[u8], due: &Due) -> io::Result<bo
 /// whether one store was filed and one dropped.
 fn over_full_disk(
     alloc: Global,
-    filing: FolderFiling<Failing>,
+    filing: FolderFiling<Diverted>,
     steps: &[Step],
 ) -> (MemoryWire<Global>, bool) {
     let mut filing = filing;
@@ -142,7 +137,12 @@ fn over_full_disk(
 fn is_full_once(rt: &HostRuntime, due: &Due, dir: &str, steps: &[Step]) -> io::Result<bool> {
     fresh(rt, dir)?;
     let times = Cell::new(1);
-    let full = with_device(rt, FULL, "DRAFT", &times);
+    let full = Diverted {
+        rt,
+        name: "DRAFT",
+        device: "/dev/full",
+        times: &times,
+    };
     let filing = FolderFiling::open(full, dir)?;
     let (wire, is_so) = over_full_disk(rt.alloc(), filing, steps);
     Ok(is_so && are_due(rt, dir, wire.sent(), due)?)
@@ -243,7 +243,7 @@ fn each_call_to_a_folder_fails_in_turn(rt: HostRuntime) -> Result<(), Fail> {
 
 /// Returns whether, of two drafts at the same time, only that of the filing with the full disk is
 /// lost, and the other is filed whole.
-fn is_other_filed(full: &mut FolderFiling<Failing>, other: &mut FolderFiling<Failing>) -> bool {
+fn is_other_filed(full: &mut FolderFiling<Diverted>, other: &mut FolderFiling<Diverted>) -> bool {
     if full.begin().is_err() || other.begin().is_err() {
         return false;
     }
@@ -261,7 +261,12 @@ fn is_other_filed(full: &mut FolderFiling<Failing>, other: &mut FolderFiling<Fai
 fn is_full_for_one(rt: &HostRuntime, dir: &str, name: &str) -> io::Result<bool> {
     fresh(rt, dir)?;
     let times = Cell::new(1);
-    let full = with_device(rt, FULL, name, &times);
+    let full = Diverted {
+        rt,
+        name,
+        device: "/dev/full",
+        times: &times,
+    };
     let mut writer = FolderWriter::open(full, dir)?;
     let (mut first, mut second) = (writer.filing()?, writer.filing()?);
     let is_so = if name == "DRAFT" {

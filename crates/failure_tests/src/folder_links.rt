@@ -1,6 +1,7 @@
 //! A folder without hard links, and one that can't be listed.
 
-use crate::runtimes::{Device, Failing};
+use crate::links::Refusing;
+use crate::runtimes::Diverted;
 use fixtures::folders::{fresh, put};
 use fixtures::play;
 use folder_filing::FolderFiling;
@@ -24,6 +25,17 @@ const LINK_ERRORS: [(i32, bool); 9] = [
 
 /// The operating system's number for an error of a device.
 const EIO: i32 = 5;
+
+/// Returns a runtime whose hard links fail with this error.
+fn without_links<'a>(rt: HostRuntime, error: i32) -> Refusing<'a, HostRuntime> {
+    Refusing {
+        rt,
+        links: Some(error),
+        listed: "",
+        opening: None,
+        end: None,
+    }
+}
 
 /// Two texts are filed in the folder itself, synced, and then in subfolders of one file each.
 static FILED: &str = "fresh
@@ -65,8 +77,12 @@ count . 1";
 fn links_that_are_refused(rt: HostRuntime) -> Result<(), Fail> {
     for (error, is_due) in LINK_ERRORS {
         let script = if is_due { FILED } else { NOT_FILED };
-        let failing = Failing::new(&rt, None, Some(error));
-        play(&rt, &failing, "links_that_are_refused", script)?;
+        play(
+            &rt,
+            &without_links(rt, error),
+            "links_that_are_refused",
+            script,
+        )?;
     }
     Ok(())
 }
@@ -87,8 +103,12 @@ count . 4";
 
 #[test]
 fn no_file_is_renamed_over(rt: HostRuntime) -> Result<(), Fail> {
-    let failing = Failing::new(&rt, None, Some(1));
-    play(&rt, &failing, "no_file_is_renamed_over", NOT_RENAMED_OVER)
+    play(
+        &rt,
+        &without_links(rt, 1),
+        "no_file_is_renamed_over",
+        NOT_RENAMED_OVER,
+    )
 }
 
 /// No text is filed in the first subfolder.
@@ -100,39 +120,58 @@ counted 1 0 1
 not holds S0000001/I0000001 file
 count . 1";
 
+/// Returns a runtime whose hard links are made or fail with this error, and whose files with this
+/// name can't be synced.
+fn unsynced<'a>(
+    rt: &'a HostRuntime,
+    links: Option<i32>,
+    name: &'a str,
+    times: &'a Cell<u32>,
+) -> Refusing<'a, Diverted<'a>> {
+    let unsynced = Diverted {
+        rt,
+        name,
+        device: "/dev/null",
+        times,
+    };
+    Refusing {
+        rt: unsynced,
+        links,
+        listed: "",
+        opening: None,
+        end: None,
+    }
+}
+
 /// If either folder can't be synced, nothing is filed: after a rename, and after a link in a folder
 /// that this writer has not synced before.
 #[test]
 fn names_that_can_not_be_synced(rt: HostRuntime) -> Result<(), Fail> {
     let dir = "names_that_can_not_be_synced";
     let times = Cell::new(u32::MAX);
-    for (links, name) in [(Some(1), "S0000001"), (Some(1), dir), (None, dir)] {
-        let unsynced = Device {
-            name,
-            path: "/dev/null",
-            times: &times,
-        };
-        play(
-            &rt,
-            &Failing::new(&rt, Some(unsynced), links),
-            dir,
-            NOT_NAMED,
-        )?;
-    }
-    Ok(())
+    play(
+        &rt,
+        &unsynced(&rt, Some(1), "S0000001", &times),
+        dir,
+        NOT_NAMED,
+    )?;
+    play(&rt, &unsynced(&rt, Some(1), dir, &times), dir, NOT_NAMED)?;
+    play(&rt, &unsynced(&rt, None, dir, &times), dir, NOT_NAMED)
 }
 
 /// Returns a runtime that can't open the listing of folders with this name, or fails at its end.
-fn unlisted<'a>(rt: &'a HostRuntime, listed: &'a str, is_opened: bool) -> Failing<'a> {
-    let mut failing = Failing::new(rt, None, None);
-    failing.listed = listed;
-    failing.opening = if is_opened { None } else { Some(EIO) };
-    failing.end = Some(EIO);
-    failing
+fn unlisted<'a>(rt: HostRuntime, listed: &'a str, is_opened: bool) -> Refusing<'a, HostRuntime> {
+    Refusing {
+        rt,
+        links: None,
+        listed,
+        opening: if is_opened { None } else { Some(EIO) },
+        end: Some(EIO),
+    }
 }
 
 /// Returns the system's error for a folder that can't be opened.
-fn error_of(filing: io::Result<FolderFiling<Failing>>) -> Option<i32> {
+fn error_of(filing: io::Result<FolderFiling<Refusing<HostRuntime>>>) -> Option<i32> {
     match filing {
         Ok(_) => None,
         Err(error) => error.raw_os_error(),
@@ -147,14 +186,14 @@ fn a_folder_that_can_not_be_listed(rt: HostRuntime) -> Result<(), Fail> {
     fs::create_dir(&rt, "a_folder_that_can_not_be_listed/S0000001")?;
     put(&rt, dir, "I0000001", b"file")?;
     for is_opened in [false, true] {
-        let flat = FolderFiling::open(unlisted(&rt, "listed/", is_opened), dir);
+        let flat = FolderFiling::open(unlisted(rt, "listed/", is_opened), dir);
         assert!(rt; error_of(flat) == Some(EIO));
         for listed in ["listed/", "S0000001/"] {
-            let levels = FolderFiling::open_levels(unlisted(&rt, listed, is_opened), dir, 1);
+            let levels = FolderFiling::open_levels(unlisted(rt, listed, is_opened), dir, 1);
             assert!(rt; error_of(levels) == Some(EIO));
         }
     }
-    assert!(rt; FolderFiling::open(unlisted(&rt, "S0000001/", false), dir).is_ok());
+    assert!(rt; FolderFiling::open(unlisted(rt, "S0000001/", false), dir).is_ok());
     fs::remove_dir_all(&rt, dir)?;
     Ok(())
 }

@@ -11,6 +11,8 @@ mod folder_links;
 #[cfg(test)]
 mod large_store;
 #[cfg(test)]
+mod links;
+#[cfg(test)]
 mod many_stores;
 #[cfg(test)]
 mod memory_failures;
