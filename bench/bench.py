@@ -8,6 +8,7 @@ The table has the medians of the rounds as ratios to the sink's: wall time of th
 of the server's process. --part measures one part only.
 """
 import argparse
+import importlib.util
 import os
 import resource
 import shutil
@@ -561,18 +562,23 @@ def main():
     parser.add_argument("--beside", metavar="PROGRAM", help="another build, for the parts fairness, groups, replies and instructions")
     parser.add_argument("--draw", metavar="FOLDER")
     arguments = parser.parse_args()
-    if arguments.draw:
-        # (Debian's python3-matplotlib, which nothing else here needs)
-        import draw
+    if arguments.draw and importlib.util.find_spec("matplotlib") is None:
+        sys.exit("--draw needs matplotlib (Debian's python3-matplotlib)")
     program = os.path.abspath(arguments.program)
+    drawings = []
     with tempfile.TemporaryDirectory() as work, open(os.devnull, "w") as log:
         compiled(work)
         for name, part in PARTS.items():
             if arguments.part in (None, name):
                 others = [arguments.beside] if part in (fair, groups, replies, instructions) else []
                 drawn = part(program, work, arguments.rounds, log, *others)
-                if arguments.draw and drawn:
-                    drawn(draw, arguments.draw)
+                if drawn:
+                    drawings.append(drawn)
+    if arguments.draw:
+        # (only now: the peak memory of a measured process includes that of this one at its start)
+        import draw
+        for drawn in drawings:
+            drawn(draw, arguments.draw)
 
 
 if __name__ == "__main__":
