@@ -4,6 +4,7 @@ use arguments::{
     WordsError, index_settings, read_words, replay_settings, serve_settings,
 };
 use cases::Case;
+use dictionary::Transfer;
 use log::Level;
 use negotiate::Config;
 use std::alloc::Global;
@@ -11,47 +12,108 @@ use std::str;
 use std::test::Fail;
 use std::time::Duration;
 
+/// A command line, and the text of the file of titles that it names.
+#[derive(Drop)]
+struct Asked {
+    words: Vec<String>,
+    listed: String,
+}
+
 /// Runs a script; fails at the first line that does not hold, with the value found.
 ///
 /// A line that begins with `dcmbox` is a command line, of arguments separated by one blank; `BLANK`
-/// stands for a blank. Each following line has the name of a setting and its value: a number, a
-/// text, titles or classes separated by blanks, `yes`, `no` or `none`. `refused` has the text with
-/// which the command line is refused, without its line end; `fails` is `yes` if the command line is
-/// refused with any text.
+/// stands for a blank. `*` and a number repeat an argument, in which `#` stands for 0, 1 and so on.
+///
+/// Each following line has the name of a setting and its value: a number, a text, titles or UIDs
+/// separated by blanks, `yes`, `no` or `none`. `count` or `last` behind a name is the number of
+/// values or the last one. `refused` has the text with which the command line is refused, without
+/// its line end; `fails` is `yes` if the command line is refused with any text. `listed` gives the
+/// text of the file of titles, which `*` and a number repeat. In texts `<LF>`, `<CR>` and `<TAB>`
+/// stand for these characters. `syntaxes` that are all encapsulated ones are `all` and their number.
 pub(crate) fn asks(alloc: Global, script: &str) -> Result<(), Fail> {
-    let mut words = Vec::new(alloc);
+    let mut asked = Asked {
+        words: Vec::new(alloc),
+        listed: String::new(alloc),
+    };
     let mut at = 0usize;
     for line in script.lines() {
         at = at.saturating_add(1);
-        if line.starts_with("dcmbox ") {
-            words = words_of(alloc, line)?;
-            continue;
-        }
         let case = Case::of(line);
-        let seen = seen(alloc, words.as_slice(), case.name)?;
-        if seen.as_str() != case.field(0)? {
-            return Err(Fail::new(format_args!("line {at}: {line}: it is {seen}")));
+        if line.starts_with("dcmbox ") {
+            asked.words = words_of(alloc, line)?;
+            asked.listed.clear();
+        } else if case.name == "listed" {
+            asked.listed = listed(alloc, case.field(0)?)?;
+        } else {
+            let seen = answer(alloc, &asked, case.name)?;
+            if seen.as_str() != case.field(0)? {
+                return Err(Fail::new(format_args!("line {at}: {line}: it is {seen}")));
+            }
         }
     }
     Ok(())
 }
 
-fn words_of<'a>(alloc: Global, line: &'a str) -> Result<Vec<&'a str>, Fail> {
+/// Splits a text from the number of times that it is repeated.
+fn repeated(text: &str) -> (&str, usize) {
+    match text.split_once('*') {
+        Some((text, times)) => (text, times.parse::<usize>().unwrap_or(0)),
+        None => (text, 1),
+    }
+}
+
+fn words_of(alloc: Global, line: &str) -> Result<Vec<String>, Fail> {
     let mut words = Vec::new(alloc);
-    for word in line.split(' ') {
-        words.push(if word == "BLANK" { " " } else { word })?;
+    for argument in line.split(' ') {
+        let (text, times) = repeated(argument);
+        for index in 0..times {
+            let index = number(alloc, index as u64)?;
+            let word = text.replace(alloc, "#", index.as_str())?;
+            words.push(word.as_str().replace(alloc, "BLANK", " ")?)?;
+        }
     }
     Ok(words)
 }
 
+/// Returns the text of a file of titles.
+fn listed(alloc: Global, field: &str) -> Result<String, Fail> {
+    let (text, times) = repeated(field);
+    let text = text.replace(alloc, "<LF>", "\n")?;
+    let text = text.as_str().replace(alloc, "<CR>", "\r")?;
+    let text = text.as_str().replace(alloc, "<TAB>", "\t")?;
+    let mut listed = String::new(alloc);
+    for _ in 0..times {
+        listed.push_str(text.as_str())?;
+    }
+    Ok(listed)
+}
+
+/// Returns the value of this setting, or the number of its values or the last one.
+fn answer(alloc: Global, asked: &Asked, name: &str) -> Result<String, Fail> {
+    let Some((list, part)) = name.split_once(' ') else {
+        return seen(alloc, asked, name);
+    };
+    let values = seen(alloc, asked, list)?;
+    let values = values.as_str().split_whitespace();
+    match part {
+        "count" => number(alloc, values.count() as u64),
+        "last" => owned(alloc, values.last().unwrap_or("none")),
+        _ => Err(unknown(name)),
+    }
+}
+
 /// Returns the value of this setting for a command line.
-fn seen(alloc: Global, words: &[&str], name: &str) -> Result<String, Fail> {
-    let job = match read_words(alloc, words) {
+fn seen(alloc: Global, asked: &Asked, name: &str) -> Result<String, Fail> {
+    let mut words = Vec::new(alloc);
+    for word in asked.words.as_slice() {
+        words.push(word.as_str())?;
+    }
+    let job = match read_words(alloc, words.as_slice()) {
         Ok(job) => job,
         Err(error) => return refusal(alloc, &error, name),
     };
     match &job {
-        Job::Serve(arguments) => match serve_settings(alloc, arguments, "") {
+        Job::Serve(arguments) => match serve_settings(alloc, arguments, asked.listed.as_str()) {
             Ok(serve) => of_serve(alloc, &serve, name),
             Err(error) => refusal(alloc, &error, name),
         },
@@ -74,8 +136,8 @@ fn refusal(alloc: Global, error: &WordsError, name: &str) -> Result<String, Fail
     match (error, name) {
         (_, "fails") => owned(alloc, "yes"),
         (WordsError::Refused(text), "refused") => {
-            let line = text.as_str().strip_suffix('\n').unwrap_or("not a line");
-            owned(alloc, line)
+            let text = text.as_str().strip_suffix('\n').unwrap_or("not a line");
+            Ok(text.replace(alloc, "\n", "<LF>")?)
         }
         _ => Ok(format!(in alloc; "{error}")?),
     }
@@ -201,6 +263,15 @@ fn of_config(alloc: Global, config: &Config, name: &str) -> Result<String, Fail>
         "classes" => {
             for class in config.named.as_slice() {
                 add(&mut texts, class.as_slice())?;
+            }
+        }
+        "syntaxes" if config.transfers.as_slice() == Transfer::encapsulated() => {
+            let count = config.transfers.len();
+            return Ok(format!(in alloc; "all {count}")?);
+        }
+        "syntaxes" => {
+            for transfer in config.transfers.as_slice() {
+                add(&mut texts, transfer.uid())?;
             }
         }
         _ => return Err(unknown(name)),

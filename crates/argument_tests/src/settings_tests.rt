@@ -1,57 +1,7 @@
 //! The settings of the commands for a command line, given or by default, and the texts with which
 //! arguments are refused.
 use crate::asked::asks;
-use arguments::{Job, Replay, Serve, WordsError, read_words, replay_settings, serve_settings};
-use element::AeTitle;
-use std::alloc::Global;
 use std::test::Fail;
-
-/// Reads the settings of `serve` from a command line.
-pub(crate) fn serve_for<'a>(alloc: Global, words: &'a [&'a str]) -> Result<Serve<'a>, WordsError> {
-    serve_listing(alloc, words, "")
-}
-
-/// Reads the settings of `serve` from a command line and the text of a file of titles.
-pub(crate) fn serve_listing<'a>(
-    alloc: Global,
-    words: &'a [&'a str],
-    listed: &str,
-) -> Result<Serve<'a>, WordsError> {
-    let job = read_words(alloc, words)?;
-    match &job {
-        Job::Serve(arguments) => serve_settings(alloc, arguments, listed),
-        _ => Err(WordsError::Refused(String::from_str(alloc, "another job")?)),
-    }
-}
-
-/// Reads the settings of `replay` from a command line.
-pub(crate) fn replay_for<'a>(
-    alloc: Global,
-    words: &'a [&'a str],
-) -> Result<Replay<'a>, WordsError> {
-    let job = read_words(alloc, words)?;
-    match &job {
-        Job::Replay(arguments) => replay_settings(alloc, arguments),
-        _ => Err(WordsError::Refused(String::from_str(alloc, "another job")?)),
-    }
-}
-
-/// Returns whether these are the titles, in order.
-pub(crate) fn are_titles(titles: &[AeTitle], texts: &[&[u8; 16]]) -> bool {
-    titles.len() == texts.len()
-        && titles
-            .iter()
-            .zip(texts)
-            .all(|(title, text)| title.0 == **text)
-}
-
-/// Returns whether a command line is refused with this text.
-pub(crate) fn refuses<T>(settings: &Result<T, WordsError>, text: &str) -> bool {
-    match settings {
-        Err(WordsError::Refused(refusal)) => refusal.as_str() == text,
-        _ => false,
-    }
-}
 
 static SERVE: &str =
     "dcmbox serve --port 11112 --out received --bind 0.0.0.0 --listen 127.0.0.1:104 --listen [::1]:2762 --ae BOX --ae ARCHIVE --any-called --caller SCANNER1 --caller SCANNER2 \

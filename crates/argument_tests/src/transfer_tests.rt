@@ -1,120 +1,111 @@
 //! The compressed transfer syntaxes that `serve` and `replay` accept for a command line.
-use crate::settings_tests::{refuses, replay_for, serve_for};
-use arguments::{Job, WordsError, read_words};
-use dictionary::Transfer;
-use negotiate::Config;
-use std::alloc::Global;
+use crate::asked::asks;
 use std::test::Fail;
 
-const JPEG: &str = "1.2.840.10008.1.2.4.50";
-
-const RLE: &str = "1.2.840.10008.1.2.5";
-
-/// Returns the settings of `serve` with up to four further arguments.
-fn with(alloc: Global, arguments: [&str; 4]) -> Result<Config, WordsError> {
-    let [first, second, third, fourth] = arguments;
-    let words = [
-        "dcmbox", "serve", "--port", "104", "--out", "files", first, second, third, fourth,
-    ];
-    let given = arguments.iter().filter(|word| !word.is_empty()).count();
-    Ok(serve_for(alloc, &words[..6 + given])?.config)
-}
+static ASKED: &str = "dcmbox serve --port 104 --out files
+syntaxes |
+dcmbox serve --port 104 --out files --all-syntaxes
+syntaxes | all 24
+dcmbox serve --port 104 --out files --transfer-syntax 1.2.840.10008.1.2.5 --transfer-syntax 1.2.840.10008.1.2.4.50
+syntaxes | 1.2.840.10008.1.2.5 1.2.840.10008.1.2.4.50
+dcmbox serve --port 104 --out files --transfer-syntax 1.2.840.10008.1.2.4.50 --all-syntaxes
+syntaxes | all 24
+dcmbox serve --port 104 --out files --transfer-syntax 1.2.840.10008.1.2.1
+syntaxes | 1.2.840.10008.1.2.1
+dcmbox replay FILE --out files --transfer-syntax 1.2.840.10008.1.2.5
+syntaxes | 1.2.840.10008.1.2.5";
 
 #[test]
 fn syntaxes_are_those_that_are_asked_for(rt: HostRuntime) -> Result<(), Fail> {
-    let alloc = rt.alloc();
-    let config = with(alloc, [""; 4])?;
-    assert!(rt; config.transfers.is_empty());
-    let config = with(alloc, ["--all-syntaxes", "", "", ""])?;
-    assert!(rt; config.transfers.as_slice() == Transfer::encapsulated());
-    assert!(rt; config.transfers.len() == 24);
-    let config = with(alloc, ["--transfer-syntax", RLE, "--transfer-syntax", JPEG])?;
-    let named = [Transfer::RleLossless, Transfer::JpegBaseline8Bit];
-    assert!(rt; config.transfers.as_slice() == named.as_slice());
-    let config = with(alloc, ["--transfer-syntax", JPEG, "--all-syntaxes", ""])?;
-    assert!(rt; config.transfers.as_slice() == Transfer::encapsulated());
-    let config = with(alloc, ["--transfer-syntax", "1.2.840.10008.1.2.1", "", ""])?;
-    assert!(rt; config.transfers.as_slice() == [Transfer::Explicit].as_slice());
-    let words = [
-        "dcmbox",
-        "replay",
-        "FILE",
-        "--out",
-        "files",
-        "--transfer-syntax",
-        RLE,
-    ];
-    let config = replay_for(alloc, &words)?.config;
-    assert!(rt; config.transfers.as_slice() == [Transfer::RleLossless].as_slice());
-    Ok(())
+    asks(rt.alloc(), ASKED)
 }
 
-const UNCOMPRESSED_LINE: &str =
-    "\n  1.2.840.10008.1.2.1.98 EncapsulatedUncompressedExplicitVRLittleEndian\n";
-
-/// Returns whether the settings are refused with a text that begins with `begins` and lists each
-/// known transfer syntax.
-fn names_known(settings: &Result<Config, WordsError>, begins: &str) -> bool {
-    match settings {
-        Err(WordsError::Refused(refusal)) => {
-            let text = refusal.as_str();
-            text.starts_with(begins)
-                && text.contains("\n  1.2.840.10008.1.2.4.203 HTJ2K\n")
-                && text.contains(UNCOMPRESSED_LINE)
-                && text.ends_with("\n  1.2.840.10008.1.2.5 RLELossless\n")
-                && text.lines().count() == 27
-        }
-        _ => false,
-    }
-}
+static UNKNOWN: &str = "dcmbox serve --port 104 --out files --transfer-syntax 1.2.840.10008.1.2.2 --all-syntaxes
+refused | error: --transfer-syntax takes the UID of a known transfer syntax, not '1.2.840.10008.1.2.2'; these are known:\
+<LF>  1.2.840.10008.1.2 ImplicitVRLittleEndian\
+<LF>  1.2.840.10008.1.2.1 ExplicitVRLittleEndian\
+<LF>  1.2.840.10008.1.2.1.98 EncapsulatedUncompressedExplicitVRLittleEndian\
+<LF>  1.2.840.10008.1.2.4.50 JPEGBaseline8Bit\
+<LF>  1.2.840.10008.1.2.4.51 JPEGExtended12Bit\
+<LF>  1.2.840.10008.1.2.4.57 JPEGLossless\
+<LF>  1.2.840.10008.1.2.4.70 JPEGLosslessSV1\
+<LF>  1.2.840.10008.1.2.4.80 JPEGLSLossless\
+<LF>  1.2.840.10008.1.2.4.81 JPEGLSNearLossless\
+<LF>  1.2.840.10008.1.2.4.90 JPEG2000Lossless\
+<LF>  1.2.840.10008.1.2.4.91 JPEG2000\
+<LF>  1.2.840.10008.1.2.4.92 JPEG2000MCLossless\
+<LF>  1.2.840.10008.1.2.4.93 JPEG2000MC\
+<LF>  1.2.840.10008.1.2.4.100 MPEG2MPML\
+<LF>  1.2.840.10008.1.2.4.101 MPEG2MPHL\
+<LF>  1.2.840.10008.1.2.4.102 MPEG4HP41\
+<LF>  1.2.840.10008.1.2.4.103 MPEG4HP41BD\
+<LF>  1.2.840.10008.1.2.4.104 MPEG4HP422D\
+<LF>  1.2.840.10008.1.2.4.105 MPEG4HP423D\
+<LF>  1.2.840.10008.1.2.4.106 MPEG4HP42STEREO\
+<LF>  1.2.840.10008.1.2.4.107 HEVCMP51\
+<LF>  1.2.840.10008.1.2.4.108 HEVCM10P51\
+<LF>  1.2.840.10008.1.2.4.201 HTJ2KLossless\
+<LF>  1.2.840.10008.1.2.4.202 HTJ2KLosslessRPCL\
+<LF>  1.2.840.10008.1.2.4.203 HTJ2K\
+<LF>  1.2.840.10008.1.2.5 RLELossless
+dcmbox serve --port 104 --out files --transfer-syntax JPEGBaseline8Bit --all-syntaxes
+refused | error: --transfer-syntax takes the UID of a known transfer syntax, not 'JPEGBaseline8Bit'; these are known:\
+<LF>  1.2.840.10008.1.2 ImplicitVRLittleEndian\
+<LF>  1.2.840.10008.1.2.1 ExplicitVRLittleEndian\
+<LF>  1.2.840.10008.1.2.1.98 EncapsulatedUncompressedExplicitVRLittleEndian\
+<LF>  1.2.840.10008.1.2.4.50 JPEGBaseline8Bit\
+<LF>  1.2.840.10008.1.2.4.51 JPEGExtended12Bit\
+<LF>  1.2.840.10008.1.2.4.57 JPEGLossless\
+<LF>  1.2.840.10008.1.2.4.70 JPEGLosslessSV1\
+<LF>  1.2.840.10008.1.2.4.80 JPEGLSLossless\
+<LF>  1.2.840.10008.1.2.4.81 JPEGLSNearLossless\
+<LF>  1.2.840.10008.1.2.4.90 JPEG2000Lossless\
+<LF>  1.2.840.10008.1.2.4.91 JPEG2000\
+<LF>  1.2.840.10008.1.2.4.92 JPEG2000MCLossless\
+<LF>  1.2.840.10008.1.2.4.93 JPEG2000MC\
+<LF>  1.2.840.10008.1.2.4.100 MPEG2MPML\
+<LF>  1.2.840.10008.1.2.4.101 MPEG2MPHL\
+<LF>  1.2.840.10008.1.2.4.102 MPEG4HP41\
+<LF>  1.2.840.10008.1.2.4.103 MPEG4HP41BD\
+<LF>  1.2.840.10008.1.2.4.104 MPEG4HP422D\
+<LF>  1.2.840.10008.1.2.4.105 MPEG4HP423D\
+<LF>  1.2.840.10008.1.2.4.106 MPEG4HP42STEREO\
+<LF>  1.2.840.10008.1.2.4.107 HEVCMP51\
+<LF>  1.2.840.10008.1.2.4.108 HEVCM10P51\
+<LF>  1.2.840.10008.1.2.4.201 HTJ2KLossless\
+<LF>  1.2.840.10008.1.2.4.202 HTJ2KLosslessRPCL\
+<LF>  1.2.840.10008.1.2.4.203 HTJ2K\
+<LF>  1.2.840.10008.1.2.5 RLELossless";
 
 #[test]
 fn a_syntax_is_refused_with_those_that_are_known(rt: HostRuntime) -> Result<(), Fail> {
-    let alloc = rt.alloc();
-    for uid in ["1.2.840.10008.1.2.2", "JPEGBaseline8Bit"] {
-        let settings = with(alloc, ["--transfer-syntax", uid, "--all-syntaxes", ""]);
-        let begins = format!(in alloc;
-            "error: --transfer-syntax takes the UID of a known transfer syntax, not '{uid}'; these are known:\n"
-        )?;
-        assert!(rt; names_known(&settings, begins.as_str()));
-    }
-    Ok(())
+    asks(rt.alloc(), UNKNOWN)
 }
+
+static SIXTEEN: &str = "dcmbox replay FILE --out files --transfer-syntax=1.2.840.10008.1.2.4.50*16
+syntaxes count | 16
+dcmbox replay FILE --out files --transfer-syntax=1.2.840.10008.1.2.4.50*17
+refused | error: --transfer-syntax may be given 16 times at most";
 
 #[test]
 fn more_than_sixteen_are_refused(rt: HostRuntime) -> Result<(), Fail> {
-    let alloc = rt.alloc();
-    let mut words = ["dcmbox", "replay", "FILE", "--out", "files"].to_vec(alloc)?;
-    for _ in 0..16 {
-        words.push("--transfer-syntax")?;
-        words.push(JPEG)?;
-    }
-    let config = replay_for(alloc, words.as_slice())?.config;
-    assert!(rt; config.transfers.len() == 16);
-    words.push("--transfer-syntax")?;
-    words.push(JPEG)?;
-    let refusal = "error: --transfer-syntax may be given 16 times at most\n";
-    assert!(rt; refuses(&replay_for(alloc, words.as_slice()), refusal));
-    Ok(())
+    asks(rt.alloc(), SIXTEEN)
 }
 
-/// Returns whether `show`, `check` or `index` accepts compressed files for a command line.
-fn reads_all(alloc: Global, words: &[&str]) -> Result<bool, WordsError> {
-    match read_words(alloc, words)? {
-        Job::Show(arguments) => Ok(arguments.all_syntaxes),
-        Job::Check(arguments) => Ok(arguments.all_syntaxes),
-        Job::Index(arguments) => Ok(arguments.all_syntaxes),
-        _ => Ok(false),
-    }
-}
+static COMPRESSED: &str = "dcmbox show FILE --json --all-syntaxes
+all-syntaxes | yes
+dcmbox show FILE --json
+all-syntaxes | no
+dcmbox check FILE --json --all-syntaxes
+all-syntaxes | yes
+dcmbox check FILE --json
+all-syntaxes | no
+dcmbox index FILE --uid 2.25.1 --keep --all-syntaxes
+all-syntaxes | yes
+dcmbox index FILE --uid 2.25.1 --keep
+all-syntaxes | no";
 
 #[test]
 fn compressed_files_are_read_where_that_is_asked_for(rt: HostRuntime) -> Result<(), Fail> {
-    let alloc = rt.alloc();
-    for (command, option) in [("show", "--json"), ("check", "--json"), ("index", "--keep")] {
-        let words = ["dcmbox", command, "FILE", option, "--all-syntaxes"];
-        assert!(rt; reads_all(alloc, &words)?);
-        assert!(rt; !reads_all(alloc, &words[..4])?);
-    }
-    Ok(())
+    asks(rt.alloc(), COMPRESSED)
 }
