@@ -29,8 +29,6 @@ mod dictionary_tests;
 #[cfg(test)]
 mod element_tests;
 #[cfg(test)]
-mod extended_tests;
-#[cfg(test)]
 mod files;
 #[cfg(test)]
 mod folder_filing_numbers;
@@ -38,8 +36,6 @@ mod folder_filing_numbers;
 mod folder_filing_quarantine;
 #[cfg(test)]
 mod folder_filing_tests;
-#[cfg(test)]
-mod fragment_tests;
 #[cfg(test)]
 mod images;
 #[cfg(test)]
