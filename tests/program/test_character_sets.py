@@ -1,9 +1,10 @@
 """The texts of data sets in JSON: those of pydicom's files of character sets, and of generated files."""
 import json
 import pathlib
+import re
 
 import pytest
-from samples import HEADER
+from samples import HEADER, cases
 from peer import element
 from studies import image
 
@@ -80,11 +81,64 @@ def test_sets_that_are_not_read(shown, name):
     assert all(value.isascii() for value in values)
 
 
-def of_set(term, text):
-    """Returns a file with a patient's name in this character set."""
+def of_set(term, text, tag=(0x10, 0x10), vr="PN"):
+    """Returns a file with a text in this character set, by default a patient's name."""
     padded = term.encode() + b" " * (len(term) % 2)
-    name = text + b" " * (len(text) % 2)
-    return HEADER + element((0x08, 0x05), "CS", padded) + element((0x10, 0x10), "PN", name)
+    value = text + b" " * (len(text) % 2)
+    return HEADER + element((0x08, 0x05), "CS", padded) + element(tag, vr, value)
+
+
+@pytest.mark.parametrize(
+    "rows",
+    cases(
+        (
+            # The examples of PS3.5 annexes H, I and J that fit in a JSON string.
+            "texts in json",
+            [
+                ("", b"Doe^J\xe9", "Doe^J%e9"),
+                ("ISO_IR 100", b"Buc^J\xe9r\xf4me", "Buc^J\u00e9r\u00f4me"),
+                ("ISO_IR 101 ", b"W\xb1\xbf", "W\u0105\u017c"),
+                ("ISO_IR 144", b"\xbb\xee\xda", "\u041b\u044e\u043a"),
+                ("ISO_IR 126", b"\xc4\xe9\xef", "\u0394\u03b9\u03bf"),
+                ("ISO_IR 127", b"\xe2\xc7", "\u0642\u0627"),
+                ("ISO_IR 138", b"\xf9\xf8", "\u05e9\u05e8"),
+                ("ISO_IR 166", b"\xa1\xdb", "\u0e01%db"),
+                ("ISO_IR 203", b"\xa4", "\u20ac"),
+                ("ISO_IR 192", b"\xe7\x8e\x8b^\xf0\x9f\x98\x80", "\u738b^\U0001f600"),
+            ],
+        ),
+        (
+            "bytes that are no text",
+            [
+                # A byte alone, an overlong form, a surrogate, and a character that is cut.
+                ("ISO_IR 192", b"a\x80b\xc0\xaf\xed\xa0\x80\xe7\x8e", "a%80b%c0%af%ed%a0%80%e7%8e"),
+                # Code extensions, GB 18030, and sets that are not known.
+                ("ISO 2022 IR 100", b"\xe9\x1b-", "%e9%1b-"),
+                ("\\ISO 2022 IR 87", b"\xe9", "%e9"),
+                ("GB18030", b"\xcd\xf5", "%cd%f5"),
+                ("ISO_IR 13", b"\xd4", "%d4"),
+                ("ISO_IR 1000", b"\xe9", "%e9"),
+            ],
+        ),
+        (
+            "characters that json escapes",
+            [
+                ("ISO_IR 192", rb'a"b\c', r"a\"b\\c"),
+                ("ISO_IR 192", b"1\r\n2\t3\x0c4", r"1\r\n2\t3\f4"),
+                ("ISO_IR 192", b"\x01\x1b\x7f\x0b%", "%01%1b%7f%0b%25"),
+                # Control characters from 80H on, in UTF-8 and in ISO 8859.
+                ("ISO_IR 192", b"\xc2\x85", "%c2%85"),
+                ("ISO_IR 100", b"\x85\xa0", "%85\u00a0"),
+            ],
+        ),
+    ),
+)
+def test_strings(run, put, rows):
+    """The strings of JSON are these, character by character."""
+    put({f"in/{at:02}": of_set(term, text, (0x10, 0x20), "LO") for at, (term, text, _) in enumerate(rows)})
+    done = run("show", "--json", "--values", "--tag", "PatientID", "-r", "in")
+    assert (done.returncode, done.stderr) == (0, "")
+    assert re.findall('"value":"(.*)"}],"result":"good"', done.stdout) == [wanted for *_, wanted in rows]
 
 
 @pytest.mark.parametrize("term, codec", PARTS.items())

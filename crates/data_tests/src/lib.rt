@@ -43,8 +43,6 @@ mod inspection_tests;
 #[cfg(test)]
 mod meta_rule_tests;
 #[cfg(test)]
-mod noted_values;
-#[cfg(test)]
 mod part10_tests;
 #[cfg(test)]
 mod repertoire_tests;
