@@ -81,15 +81,6 @@ fn joined(alloc: Global, groups: &[&[&[u8]]]) -> Result<Vec<u8>, Fail> {
     Ok(file)
 }
 
-/// Returns a file of these parts after the preamble and the file header.
-pub(crate) fn with_header(alloc: Global, parts: &[&[u8]]) -> Result<Vec<u8>, Fail> {
-    let mut file = joined(alloc, &[&PREAMBLE, &HEADER])?;
-    for part in parts {
-        file.extend_from_slice(part)?;
-    }
-    Ok(file)
-}
-
 /// Returns the directory of two images, 950 bytes.
 pub(crate) fn two_images(alloc: Global) -> Result<Vec<u8>, Fail> {
     joined(alloc, &[&PREAMBLE, &HEADER, &UPPER, &IMAGES])

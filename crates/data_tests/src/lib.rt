@@ -7,8 +7,6 @@
 #[cfg(test)]
 mod dicomdir_build;
 #[cfg(test)]
-mod dicomdir_check;
-#[cfg(test)]
 mod dicomdir_descriptions;
 #[cfg(test)]
 mod dicomdir_faults;
