@@ -39,8 +39,6 @@ mod images;
 #[cfg(test)]
 mod inspection_tests;
 #[cfg(test)]
-mod meta_rule_tests;
-#[cfg(test)]
 mod part10_tests;
 #[cfg(test)]
 mod repertoire_tests;
