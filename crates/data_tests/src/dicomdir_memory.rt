@@ -1,6 +1,6 @@
 //! Memory is refused to each public call of `dicomdir` and `dicomdir_writing` that allocates, at
 //! each allocation in turn.
-use crate::dicomdir_build::{FILES, rows};
+use crate::dicomdir_rows::{FILES, rows};
 use crate::files::{Record, has, two_images};
 use crate::images::{id, image, is_described, is_image};
 use dicomdir::{DirFault, check, kept_of};

@@ -40,7 +40,7 @@ fn count_lacking(rt: HostRuntime, file: &[u8], start: usize) -> Option<u32> {
 /// elements, and directly after the header.
 #[test]
 fn every_front_of_a_file(rt: HostRuntime) -> Result<(), Fail> {
-    let start = header(rt.alloc(), Syntax::Explicit, b"1.2.3.1.1")?.len();
+    let start = header(rt.alloc(), Syntax::Explicit)?.len();
     let file = image(rt.alloc(), Syntax::Explicit)?;
     assert!(rt; count_lacking(rt, file.as_slice(), start) == Some(16));
     Ok(())

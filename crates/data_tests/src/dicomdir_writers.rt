@@ -1,5 +1,5 @@
 //! Directories written by slow and failing writers.
-use crate::dicomdir_build::{FILES, rows, uid};
+use crate::dicomdir_rows::{FILES, rows, uid};
 use crate::files::one_image;
 use dicomdir_writing::{Built, build, write_dir};
 use fixtures::writers::SlowWriter;

@@ -40,14 +40,6 @@ const IMAGES: [&[u8]; 8] = [
     b".1.2\0\x04\0\x12\x15UI\x14\01.2.840.10008.1.2.1\0 \0\x13\0IS\x02\02 ",
 ];
 
-/// The records of the directory of one image: offset, level and type.
-pub(crate) const ONE_IMAGE: [Record<'static>; 4] = [
-    (320, 1, b"PATIENT"),
-    (404, 2, b"STUDY"),
-    (534, 3, b"SERIES"),
-    (626, 4, b"IMAGE"),
-];
-
 /// A record of a directory: offset, level and type.
 pub(crate) type Record<'a> = (u64, u8, &'a [u8]);
 
@@ -86,19 +78,10 @@ pub(crate) fn two_images(alloc: Global) -> Result<Vec<u8>, Fail> {
     joined(alloc, &[&PREAMBLE, &HEADER, &UPPER, &IMAGES])
 }
 
-/// Bytes that are written over those at an offset.
-pub(crate) type Change<'a> = (usize, &'a [u8]);
-
+/// Writes bytes over those at an offset.
 fn write_at(file: &mut [u8], at: usize, bytes: &[u8]) {
     if at <= file.len() && bytes.len() <= file.len() - at {
         file[at..at + bytes.len()].copy_from_slice(bytes);
-    }
-}
-
-/// Makes these changes in the file, one after another.
-pub(crate) fn change(file: &mut [u8], changes: &[Change]) {
-    for (at, bytes) in changes {
-        write_at(file, *at, bytes);
     }
 }
 
@@ -107,9 +90,7 @@ pub(crate) fn change(file: &mut [u8], changes: &[Change]) {
 pub(crate) fn one_image(alloc: Global) -> Result<Vec<u8>, Fail> {
     let mut file = two_images(alloc)?;
     file.truncate(788);
-    change(
-        file.as_mut_slice(),
-        &[(316, &[0xd4, 1, 0, 0]), (642, &[0, 0, 0, 0])],
-    );
+    write_at(file.as_mut_slice(), 316, &[0xd4, 1, 0, 0]);
+    write_at(file.as_mut_slice(), 642, &[0; 4]);
     Ok(file)
 }

@@ -9,13 +9,11 @@ use std::test::Fail;
 
 pub(crate) const SERIES_DESCRIPTION: Tag = Tag(0x0008, 0x103e);
 
-pub(crate) const STUDY_ID: Tag = Tag(0x0020, 0x0010);
-
 /// An element with a short VR: its tag, its VR and its value.
 pub(crate) type Element<'a> = (Tag, &'a [u8; 2], &'a [u8]);
 
 /// The data set of an image, with another SOP Class UID than its file header.
-pub(crate) const IMAGE: [Element; 16] = [
+const IMAGE: [Element; 16] = [
     (Tag(0x0008, 0x0005), b"CS", b"ISO_IR 100"),
     (Tag(0x0008, 0x0016), b"UI", b"1.2.840.10008.5.1.4.1.1.4\0"),
     (Tag(0x0008, 0x0020), b"DA", b"20260101"),
@@ -29,7 +27,7 @@ pub(crate) const IMAGE: [Element; 16] = [
     (Tag(0x0010, 0x0040), b"CS", b"F "),
     (Tag(0x0020, 0x000d), b"UI", b"1.2.3\0"),
     (Tag(0x0020, 0x000e), b"UI", b"1.2.3.1\0"),
-    (STUDY_ID, b"SH", b"S1"),
+    (Tag(0x0020, 0x0010), b"SH", b"S1"),
     (Tag(0x0020, 0x0011), b"IS", b"1 "),
     (Tag(0x0020, 0x0013), b"IS", b"1 "),
 ];
@@ -54,36 +52,34 @@ pub(crate) fn put(
     Ok(())
 }
 
-/// Returns the header of a file of the CT image with this SOP Instance UID.
-pub(crate) fn header(alloc: Global, syntax: Syntax, instance: &[u8]) -> Result<Vec<u8>, Fail> {
-    header_in(alloc, Transfer::native(syntax), instance)
+/// Returns the header of a file of the CT image.
+pub(crate) fn header(alloc: Global, syntax: Syntax) -> Result<Vec<u8>, Fail> {
+    header_in(alloc, Transfer::native(syntax))
 }
 
-fn header_in(alloc: Global, transfer: Transfer, instance: &[u8]) -> Result<Vec<u8>, Fail> {
+fn header_in(alloc: Global, transfer: Transfer) -> Result<Vec<u8>, Fail> {
     let meta = Meta {
         class: Uid::read(b"1.2.840.10008.5.1.4.1.1.2").ok_or("a class")?,
-        instance: Uid::read(instance).ok_or("an instance")?,
+        instance: Uid::read(b"1.2.3.1.1").ok_or("an instance")?,
         syntax: transfer,
         calling: AeTitle(*b"SCANNER1        "),
     };
     Ok(Vec::from_slice(alloc, meta_bytes(&meta).as_slice())?)
 }
 
-/// Returns a file of the image in which the element with this tag has another value, or is absent
-/// for `None`.
+/// Returns a file of the image in which the element with this tag has another value.
 pub(crate) fn changed(
     alloc: Global,
     syntax: Syntax,
-    instance: &[u8],
     tag: Tag,
-    other: Option<&[u8]>,
+    other: &[u8],
 ) -> Result<Vec<u8>, Fail> {
-    let mut file = header(alloc, syntax, instance)?;
+    let mut file = header(alloc, syntax)?;
     for element in &IMAGE {
         let (here, _, value) = *element;
-        if here != tag {
-            put(&mut file, syntax, element, value)?;
-        } else if let Some(value) = other {
+        if here == tag {
+            put(&mut file, syntax, element, other)?;
+        } else {
             put(&mut file, syntax, element, value)?;
         }
     }
@@ -92,13 +88,13 @@ pub(crate) fn changed(
 
 /// Returns the file of the image.
 pub(crate) fn image(alloc: Global, syntax: Syntax) -> Result<Vec<u8>, Fail> {
-    changed(alloc, syntax, b"1.2.3.1.1", Tag(0, 0), None)
+    changed(alloc, syntax, Tag(0, 0), b"")
 }
 
 /// Returns the file of the image in an explicit transfer syntax, with Pixel Data of undefined
 /// length: an empty Basic Offset Table and a fragment of four bytes.
 pub(crate) fn compressed(alloc: Global, transfer: Transfer) -> Result<Vec<u8>, Fail> {
-    let mut file = header_in(alloc, transfer, b"1.2.3.1.1")?;
+    let mut file = header_in(alloc, transfer)?;
     for element in &IMAGE {
         put(&mut file, Syntax::Explicit, element, element.2)?;
     }
@@ -109,7 +105,7 @@ pub(crate) fn compressed(alloc: Global, transfer: Transfer) -> Result<Vec<u8>, F
     Ok(file)
 }
 
-pub(crate) fn same(value: &[u8], wanted: &[u8]) -> bool {
+fn same(value: &[u8], wanted: &[u8]) -> bool {
     value == wanted
 }
 
@@ -177,19 +173,7 @@ pub(crate) fn reason(rt: HostRuntime, file: &[u8]) -> Option<Skip> {
 }
 
 /// Returns the row of a file.
-pub(crate) fn row_of(rt: HostRuntime, file: &[u8]) -> Result<Row<Global>, Skip> {
+fn row_of(rt: HostRuntime, file: &[u8]) -> Result<Row<Global>, Skip> {
     let mut rest = file;
     rows_of(rt.alloc(), &mut rest, &id()?, &[])
-}
-
-/// Returns whether a file has no row for this reason, or has a row for `None`, if the image's
-/// element with this tag has another value.
-pub(crate) fn is_skipped(
-    rt: HostRuntime,
-    tag: Tag,
-    other: Option<&[u8]>,
-    wanted: Option<Skip>,
-) -> Result<bool, Fail> {
-    let file = changed(rt.alloc(), Syntax::Explicit, b"1.2.3.1.1", tag, other)?;
-    Ok(reason(rt, file.as_slice()) == wanted)
 }

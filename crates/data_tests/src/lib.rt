@@ -5,8 +5,6 @@
 #![tactic(auto)]
 
 #[cfg(test)]
-mod dicomdir_build;
-#[cfg(test)]
 mod dicomdir_descriptions;
 #[cfg(test)]
 mod dicomdir_faults;
@@ -16,6 +14,8 @@ mod dicomdir_memory;
 mod dicomdir_readers;
 #[cfg(test)]
 mod dicomdir_row_of;
+#[cfg(test)]
+mod dicomdir_rows;
 #[cfg(test)]
 mod dicomdir_sizes;
 #[cfg(test)]
