@@ -20,7 +20,8 @@ fn syntaxes_are_those_that_are_asked_for(rt: HostRuntime) -> Result<(), Fail> {
     asks(rt.alloc(), ASKED)
 }
 
-static UNKNOWN: &str = "dcmbox serve --port 104 --out files --transfer-syntax 1.2.840.10008.1.2.2 --all-syntaxes
+static UNKNOWN: &str =
+    "dcmbox serve --port 104 --out files --transfer-syntax 1.2.840.10008.1.2.2 --all-syntaxes
 refused | error: --transfer-syntax takes the UID of a known transfer syntax, not '1.2.840.10008.1.2.2'; these are known:\
 <LF>  1.2.840.10008.1.2 ImplicitVRLittleEndian\
 <LF>  1.2.840.10008.1.2.1 ExplicitVRLittleEndian\

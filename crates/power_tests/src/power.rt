@@ -14,6 +14,7 @@ mod mounted;
 mod name;
 mod numbers;
 mod powered_wire;
+mod several;
 mod stored;
 mod stores;
 mod survivors;

@@ -1,28 +1,17 @@
 //! Files of several filings that are settled as a group, while power is lost or a call fails.
 
 use crate::power::disk::{Disk, Shared};
-use crate::power::filed::{Due, Filed, Kept};
-use crate::power::lives::{NEXT, open_writer, tried_states};
+use crate::power::filed::{Filed, Kept};
+use crate::power::lives::open_writer;
 use crate::power::mounted::Mounted;
-use crate::power::trouble::{Act, Trouble};
+use crate::power::several::{Form, Row, TEXTS, due_of, failed_in_turn, states};
+use crate::power::trouble::Trouble;
 use fixtures::folders::is_filed;
 use folder_filing::{FolderFiling, FolderWriter, NamesSynced};
 use part10::{Filing, Settling};
 use std::alloc::Global;
 use std::io;
-use std::io::ErrorKind;
 use std::test::Fail;
-
-/// The texts: three of the first group, and one of the second.
-const TEXTS: [&[u8]; 4] = [b"first", b"second", b"third", b"fourth"];
-
-/// A test case: how files are arranged, how many the first group has, and the trouble.
-#[derive(Clone, Copy)]
-struct Row {
-    kept: Kept,
-    count: usize,
-    trouble: Trouble,
-}
 
 /// The filings of a writer: three whose files are settled as a group, one whose file is settled
 /// after them, and one whose draft stays open meanwhile.
@@ -103,195 +92,78 @@ impl Filings {
     }
 }
 
-/// Files the texts over this disk. Returns which were settled, or `None` if the folder could not be
-/// opened.
-fn settled_over(alloc: Global, disk: &Shared, row: Row) -> io::Result<Option<[bool; 4]>> {
-    let Ok(filings) = Filings::open(alloc, disk, row.kept) else {
+/// Files the texts over this disk, `count` as a group. Returns which were settled, or `None` if the
+/// folder could not be opened.
+pub(crate) fn settled_over(
+    alloc: Global,
+    disk: &Shared,
+    kept: Kept,
+    count: usize,
+) -> io::Result<Option<[bool; 4]>> {
+    let Ok(filings) = Filings::open(alloc, disk, kept) else {
         return Ok(None);
     };
     let mut filings = filings;
-    Ok(Some(filings.file(row.count)))
+    Ok(Some(filings.file(count)))
 }
 
-/// Returns the expected files of the texts: each that was settled must exist; the others may exist
-/// only if `may`.
-fn due_of(alloc: Global, settled: [bool; 4], may: bool) -> io::Result<Vec<Due<'static>>> {
-    let mut due = Vec::new(alloc);
-    for (file, must) in TEXTS.iter().zip(&settled) {
-        due.push(Due {
-            file,
-            must: *must,
-            may: may || *must,
-        })?;
+/// Returns the test case of a group.
+fn group(kept: Kept, count: usize, has_links: bool) -> Row {
+    Row {
+        form: Form::Group(count),
+        kept,
+        has_links,
     }
-    Ok(due)
-}
-
-/// Returns which texts are settled if nothing fails.
-fn all_of(count: usize) -> [bool; 4] {
-    [true, true, count > 2, true]
-}
-
-/// Loses power at a call. Returns how many states were tried and whether power lasted to the end,
-/// or `None` if a settled file is missing, a file exists twice or is not whole, or a draft remains
-/// at the next start.
-fn states_at(alloc: Global, row: Row) -> io::Result<Option<(u64, bool)>> {
-    let disk = Disk::new(alloc, row.trouble)?.shared()?;
-    let settled = settled_over(alloc, &disk, row)?.unwrap_or([false; 4]);
-    let disk = disk.try_borrow()?;
-    if disk.has_power() && settled != all_of(row.count) {
-        return Ok(None);
-    }
-    let mut due = due_of(alloc, settled, true)?;
-    due.push(Due {
-        file: NEXT,
-        must: false,
-        may: true,
-    })?;
-    match tried_states(alloc, &disk, row.kept, due.as_slice())? {
-        Some(tried) => Ok(Some((tried, disk.has_power()))),
-        None => Ok(None),
-    }
-}
-
-/// Loses power at each call in turn. Returns how many states were tried, or `None` if anything is
-/// not as expected.
-fn states(alloc: Global, kept: Kept, count: usize, has_links: bool) -> io::Result<Option<u64>> {
-    let mut states = 0u64;
-    for at in 0..200usize {
-        let trouble = Trouble {
-            power_ends: Some(at),
-            has_links,
-            ..Trouble::NONE
-        };
-        let row = Row {
-            kept,
-            count,
-            trouble,
-        };
-        match states_at(alloc, row)? {
-            Some((tried, false)) => states = states.saturating_add(tried),
-            Some((_, true)) => return Ok(Some(states)),
-            None => return Ok(None),
-        }
-    }
-    Ok(None)
 }
 
 #[test]
 fn a_group_of_two_in_one_folder(rt: HostRuntime) -> Result<(), Fail> {
-    assert!(rt; states(rt.alloc(), Kept::Flat, 2, true)? > Some(1000));
+    assert!(rt; states(rt.alloc(), group(Kept::Flat, 2, true))? > Some(1000));
     Ok(())
 }
 
 #[test]
 fn a_group_of_two_in_one_folder_without_links(rt: HostRuntime) -> Result<(), Fail> {
-    assert!(rt; states(rt.alloc(), Kept::Flat, 2, false)? > Some(1000));
+    assert!(rt; states(rt.alloc(), group(Kept::Flat, 2, false))? > Some(1000));
     Ok(())
 }
 
 #[test]
 fn a_group_of_three_in_one_folder(rt: HostRuntime) -> Result<(), Fail> {
-    assert!(rt; states(rt.alloc(), Kept::Flat, 3, true)? > Some(1000));
+    assert!(rt; states(rt.alloc(), group(Kept::Flat, 3, true))? > Some(1000));
     Ok(())
 }
 
 #[test]
 fn a_group_of_three_in_one_folder_without_links(rt: HostRuntime) -> Result<(), Fail> {
-    assert!(rt; states(rt.alloc(), Kept::Flat, 3, false)? > Some(1000));
+    assert!(rt; states(rt.alloc(), group(Kept::Flat, 3, false))? > Some(1000));
     Ok(())
 }
 
 #[test]
 fn a_group_of_two_in_levels(rt: HostRuntime) -> Result<(), Fail> {
-    assert!(rt; states(rt.alloc(), Kept::Levels, 2, true)? > Some(1000));
+    assert!(rt; states(rt.alloc(), group(Kept::Levels, 2, true))? > Some(1000));
     Ok(())
 }
 
 #[test]
 fn a_group_of_three_in_two_levels(rt: HostRuntime) -> Result<(), Fail> {
-    assert!(rt; states(rt.alloc(), Kept::Levels, 3, true)? > Some(1000));
+    assert!(rt; states(rt.alloc(), group(Kept::Levels, 3, true))? > Some(1000));
     Ok(())
 }
 
 #[test]
 fn a_group_of_three_in_two_levels_without_links(rt: HostRuntime) -> Result<(), Fail> {
-    assert!(rt; states(rt.alloc(), Kept::Levels, 3, false)? > Some(1000));
+    assert!(rt; states(rt.alloc(), group(Kept::Levels, 3, false))? > Some(1000));
     Ok(())
-}
-
-/// Returns whether a failed call loses no more files than allowed: none if removing a draft failed,
-/// a group if opening or syncing failed, else one.
-fn is_loss(disk: &Disk, settled: [bool; 4], count: usize) -> bool {
-    let mut lost = 0usize;
-    for (is_settled, is_due) in settled.iter().zip(&all_of(count)) {
-        if *is_due && !*is_settled {
-            lost = lost.saturating_add(1);
-        }
-    }
-    match disk.failed() {
-        None => lost == 0,
-        Some(call) if call.act == Act::Remove => lost == 0,
-        Some(call) if matches!(call.act, Act::Sync | Act::Open) => lost <= count,
-        Some(_) => lost <= 1,
-    }
-}
-
-/// Files the texts over a disk with this trouble. Returns whether a call failed, or `None` if an
-/// unsettled file exists, a settled one does not, or a draft remains.
-fn fails(alloc: Global, row: Row) -> io::Result<Option<bool>> {
-    let disk = Disk::new(alloc, row.trouble)?.shared()?;
-    let settled = settled_over(alloc, &disk, row)?;
-    let disk = disk.try_borrow()?;
-    let is_failed = disk.failed().is_some();
-    let is_as_due = match settled {
-        Some(settled) => is_loss(&disk, settled, row.count),
-        None => is_failed,
-    };
-    let due = due_of(alloc, settled.unwrap_or([false; 4]), false)?;
-    let filed = Filed::of(alloc, &disk, row.kept)?;
-    let may_be_remaining = matches!(disk.failed(), Some(call) if call.act.may_leave_draft());
-    let is_clean = may_be_remaining || !disk.has_draft()?;
-    if !is_as_due || !is_clean || !filed.is_due(&disk, due.as_slice())? {
-        return Ok(None);
-    }
-    Ok(Some(is_failed))
-}
-
-/// Fails each call in turn. Returns the index at which no call failed any more, or `None` if
-/// anything is not as expected.
-fn failed_in_turn(
-    alloc: Global,
-    kept: Kept,
-    count: usize,
-    has_links: bool,
-) -> io::Result<Option<usize>> {
-    for at in 0..200usize {
-        let trouble = Trouble {
-            failure: Some((at, ErrorKind::StorageFull)),
-            has_links,
-            ..Trouble::NONE
-        };
-        let row = Row {
-            kept,
-            count,
-            trouble,
-        };
-        match fails(alloc, row)? {
-            Some(true) => {}
-            Some(false) => return Ok(Some(at)),
-            None => return Ok(None),
-        }
-    }
-    Ok(None)
 }
 
 #[test]
 fn each_call_of_a_group_fails_in_turn(rt: HostRuntime) -> Result<(), Fail> {
     for kept in [Kept::Flat, Kept::Levels] {
         for has_links in [true, false] {
-            assert!(rt; failed_in_turn(rt.alloc(), kept, 2, has_links)? > Some(30));
-            assert!(rt; failed_in_turn(rt.alloc(), kept, 3, has_links)? > Some(30));
+            assert!(rt; failed_in_turn(rt.alloc(), group(kept, 2, has_links))? > Some(30));
+            assert!(rt; failed_in_turn(rt.alloc(), group(kept, 3, has_links))? > Some(30));
         }
     }
     Ok(())
