@@ -5,11 +5,13 @@ Each box has 16 MB of memory.
 import pathlib
 import re
 import resource
+import signal
+import socket
 from contextlib import suppress
 
 import pytest
 from box import LITTLE
-from peer import ABORT, ECHO, ECHO_COMMAND, ECHO_REQUEST, FIRST_REPLY, STORES, STORES_ANSWER
+from peer import ABORT, ECHO, ECHO_ANSWER, ECHO_COMMAND, ECHO_REQUEST, FIRST_REPLY, STORES, STORES_ANSWER
 from samples import SAMPLES
 
 INFO = r"\[INFO  dcmbox::serve\] 20[0-9-]{8}T[0-9:]{8}\.[0-9]{3}Z "
@@ -21,13 +23,22 @@ def box(serve):
     return serve("--timeout", "4", "--idle", "4", memory=LITTLE)
 
 
-def test_the_recorded_echo(serve, port):
-    """The log has a line of the association, and nothing is printed."""
+def test_the_recorded_echo_is_served(serve, port):
+    """The log has a line of the association, and nothing is printed.
+
+    The box is stopped until the peer has sent everything and closed its sending side.
+    """
     box = serve("--once", "--timeout", "30", memory=LITTLE)
-    assert box.echoes()
-    assert box.ended() == 0
+    box.process.send_signal(signal.SIGSTOP)
+    with box.connect() as peer:
+        address = re.escape("{}:{}".format(*peer.socket.getsockname()))
+        peer.send(ECHO)
+        peer.socket.shutdown(socket.SHUT_WR)
+        box.process.send_signal(signal.SIGCONT)
+        assert peer.rest() == ECHO_ANSWER
+        assert box.ended() == 0
     line = (
-        f"{INFO}127\\.0\\.0\\.1:[0-9]+ Ended held 0 files 0 dropped 0 received 260 in [0-9]+ s "
+        f"{INFO}{address} Ended held 0 files 0 dropped 0 received 260 in 0 s "
         'calling "SCANNER1" called "DCMBOX" released contexts 1 of 1 stored 0 refused 0 failed 0'
     )
     started = f"{INFO}dcmbox [0-9.]+ title .DCMBOX. folder received limits .* removed drafts 0 callers any classes 11 syntaxes 2"

@@ -13,16 +13,18 @@ from peer import (
     FIRST_REPLY,
     RELEASE,
     RELEASED,
+    ROOT,
+    STORES,
     STORES_ANSWER,
     SUCCESS,
     item,
     pdu,
     request,
 )
-from samples import LargeStore, cases
+from samples import CT_FILE, LargeStore, cases
 
 NO_MEMORY = (
-    r"dcmbox: (stores\.bin: )?(out of memory"
+    r"dcmbox: (\w+\.bin: )?(out of memory"
     "(; give the program more| for what is sent; replay a shorter recording)?"
     "|the command line can't be read: out of memory; .*)"
 )
@@ -62,34 +64,91 @@ def test_arguments(run, samples, refuse, is_refused, arguments):
     assert number > 50 and not is_refused()
 
 
+@pytest.fixture
+def refused(run, work, refuse, is_refused):
+    """Replays a recording into a new folder while each allocation in turn fails, until a run has no failure.
+
+    Yields the run, the files of the folder by their names in it, and whether an allocation failed.
+    """
+
+    def replays(*arguments):
+        number, fails = 0, True
+        while fails:
+            number += 1
+            folder = work / f"replayed{number}"
+            folder.mkdir()
+            done = run("replay", *arguments, "--out", folder.name, before=refuse(number))
+            fails = is_refused()
+            paths = [path for path in folder.rglob("*") if path.is_file()]
+            yield done, {str(path.relative_to(folder)): path.read_bytes() for path in paths}, fails
+
+    return replays
+
+
+def printed(done):
+    """Returns the bytes that a replay sent, and its last line."""
+    assert (done.returncode, done.stderr) == (0, "")
+    *lines, last = done.stdout.splitlines()
+    return bytes.fromhex("".join(lines)), last
+
+
 @pytest.mark.parametrize("options", [(), ("--per", "1")], ids=["flat", "into_folders"])
-def test_a_replay_of_two_stores(run, samples, work, refuse, is_refused, options):
+def test_a_replay_of_two_stores(run, samples, work, refused, options):
     """A store is filed if and only if its reply is success, and no draft and no partial file remains."""
     (work / "whole").mkdir()
     assert run("replay", "stores.bin", "--out", "whole").returncode == 0
     whole = {(work / "whole" / name).read_bytes() for name in ("I0000001", "I0000002")}
-    number, failures, refusals, filed = 1, 0, 0, 0
-    while True:
-        folder = work / f"replayed{number}"
-        folder.mkdir()
-        arguments = ("replay", "stores.bin", "--out", folder.name, *options)
-        done = run(*arguments, before=refuse(number))
-        files = [path.read_bytes() for path in folder.rglob("*") if path.is_file()]
-        assert len(set(files)) == len(files) and set(files) <= whole
-        assert not list(folder.rglob("DRAFT*"))
+    failures, refusals, filed = 0, 0, 0
+    for done, files, _ in refused("stores.bin", *options):
+        assert len(set(files.values())) == len(files) and set(files.values()) <= whole
+        assert not any("DRAFT" in name for name in files)
         if has_no_memory(done):
             failures += 1
         else:
-            *lines, last = done.stdout.splitlines()
-            sent, filed = bytes.fromhex("".join(lines)), len(files)
-            assert (done.returncode, done.stderr, last) == (0, "", f"Ended held 0 files {filed}")
+            filed = len(files)
+            sent, last = printed(done)
+            assert last == f"Ended held 0 files {filed}"
             assert sent.replace(REFUSED_REPLY, SUCCESS) == STORES_ANSWER
             assert sent.count(SUCCESS) == filed
             refusals += 1
-        if not is_refused():
-            break
-        number += 1
     assert filed == 2 and failures >= 50 and refusals > 2
+
+
+def test_each_allocation_is_refused(samples, refused):
+    """A replay prints nothing then, even if the reply to an echo can't be kept after the A-ASSOCIATE-AC was."""
+    whole = (0, (ROOT / "crates/cli/stdout").read_text(), "")
+    failures = 0
+    for done, files, fails in refused("echo.bin", "--cut", "7"):
+        assert files == {}
+        if fails:
+            assert has_no_memory(done), (done.stdout, done.stderr)
+            failures += 1
+        else:
+            assert (done.returncode, done.stdout, done.stderr) == whole
+    assert failures > 5
+
+
+def test_each_allocation_over_a_folder_is_refused(put, refused):
+    """A replay of one store fails and prints nothing, or the reply has status A700.
+
+    The folder has the whole file, which may have no reply then, or nothing.
+    """
+    put({"store.bin": STORES[:352] + RELEASE})
+    stored, unfiled = FIRST_REPLY + RELEASED, FIRST_REPLY.replace(SUCCESS, REFUSED_REPLY) + RELEASED
+    unstored, lost, unanswered = 0, 0, 0
+    for done, files, fails in refused("store.bin", "--cut", "100"):
+        assert files in ({}, {"I0000001": CT_FILE})
+        if not fails:
+            assert files and printed(done) == (stored, "Ended held 0 files 1")
+        elif done.returncode == 0:
+            assert not files and printed(done) == (unfiled, "Ended held 0 files 0")
+            unstored += 1
+        else:
+            assert has_no_memory(done), (done.stdout, done.stderr)
+            assert not files or "out of memory for what is sent" in done.stderr
+            unanswered += bool(files)
+            lost += not files
+    assert unstored > 0 and lost > 3 and unanswered > 0
 
 
 @pytest.fixture

@@ -1,18 +1,8 @@
-//! Test cases of the program's other commands on their public calls: what is printed, left in a
-//! folder, and logged.
+//! Test cases of texts that the program prints: of its errors, of faults, and of the status of an
+//! association.
 #![tactic(auto)]
 
 #[cfg(test)]
 mod error_tests;
 #[cfg(test)]
 mod fault_tests;
-#[cfg(test)]
-mod files;
-#[cfg(test)]
-mod inspect_tests;
-#[cfg(test)]
-mod refused_replay;
-#[cfg(test)]
-mod replay_tests;
-#[cfg(test)]
-mod serve_tests;
