@@ -22,11 +22,19 @@ pub(crate) fn locked<R: Files>(rt: &R, tree: &str) -> Result<R::File, ProgramErr
 where
     R::File: StoredFile,
 {
-    let folder = fs::open(rt, tree).map_err(ProgramError::of_folder)?;
-    match folder.try_lock() {
-        Ok(()) => Ok(folder),
-        Err(error) => Err(ProgramError::of_folder(Error::from(error))),
-    }
+    let folder = match fs::open(rt, tree) {
+        Ok(folder) => folder,
+        Err(error) => return Err(ProgramError::of(Failure::Tree, error)),
+    };
+    let Err(error) = folder.try_lock() else {
+        return Ok(folder);
+    };
+    let error = Error::from(error);
+    let failure = match error.kind() {
+        ErrorKind::WouldBlock => Failure::BusyFolder,
+        _ => Failure::Tree,
+    };
+    Err(ProgramError::of(failure, error))
 }
 
 /// Copies all bytes of the reader to the writer.

@@ -2,7 +2,7 @@
 use crate::error::InspectionError;
 use crate::judgement::Judgement;
 use crate::notes::Notes;
-use crate::options::{CheckOptions, OutputForm, Syntaxes, Vocabulary};
+use crate::options::{CheckOptions, Syntaxes, Vocabulary};
 use crate::outcome::{Inspected, Outcome};
 use crate::strict::StrictValues;
 use crate::walk::{Listing, list};
@@ -154,12 +154,14 @@ fn released<O: Write>(error: InspectionError, notes: Notes, out: &mut O) -> Insp
     error
 }
 
-/// Checks the file that `input` yields, as `check_over` does, with these options. With `strict`,
-/// each value of at most 65,536 bytes is also checked against the table of VRs, and a longer value
-/// against the size of its numbers; an element without a VR in its header gets its VR from PS3.6,
-/// and an element that has none there is counted as not judged. With `values`, the line after a
-/// note has the keyword and the value (for more than 256 bytes, its length), and the line after a
-/// data set's fault has the keyword.
+/// Checks the file that `input` yields: writes a note for each value of at most 1024 bytes that
+/// breaks a rule of its VR (a note is no fault), and then the file's length or its first fault.
+///
+/// With `strict`, each value of at most 65,536 bytes is also checked against the table of VRs, and a
+/// longer value against the size of its numbers; an element without a VR in its header gets its VR
+/// from PS3.6, and an element that has none there is counted as not judged. With `values`, the line
+/// after a note has the keyword and the value (for more than 256 bytes, its length), and the line
+/// after a data set's fault has the keyword.
 ///
 /// Fails if the file can't be read or the output can't be written.
 pub fn check_with<R: Read, O: Write>(
@@ -182,21 +184,4 @@ pub fn check_with<R: Read, O: Write>(
         }),
         Err(error) => Err(released(error, notes, out)),
     }
-}
-
-/// Checks the file that `input` yields: writes a note for each value of at most 1024 bytes that
-/// breaks a rule of its VR (a note is no fault), and then the file's length or its first fault.
-///
-/// Fails if the file can't be read or the output can't be written.
-pub fn check_over<R: Read, O: Write>(
-    input: &mut R,
-    out: &mut O,
-) -> Result<Inspected, InspectionError> {
-    let options = CheckOptions {
-        strict: false,
-        values: false,
-        form: OutputForm::Lines,
-        syntaxes: Syntaxes::Native,
-    };
-    check_with(input, options, out)
 }

@@ -38,7 +38,7 @@ mod value_text;
 mod walk;
 
 pub use bare::bare_form;
-pub use check::{check_over, check_with};
+pub use check::check_with;
 pub use counted::Counted;
 pub use error::InspectionError;
 pub use front::FileFront;
@@ -50,7 +50,7 @@ pub use named_tag::{tag_named, tag_spelled};
 pub use options::{CheckOptions, OutputForm, ShowOptions, Syntaxes};
 pub use origin::{class_of, implementation_of, other_syntax_of, value_from};
 pub use outcome::{Inspected, Outcome};
-pub use show::{show_over, show_with};
+pub use show::show_with;
 pub use table_fault::TableFault;
 pub use texts::{Indent, PathText, Printable, TagText, VrText};
 pub use value_text::ValueText;

@@ -190,10 +190,12 @@ fn show_json<R: Read, O: Write>(
     }
 }
 
-/// Lists the file that `input` yields, as `show_over` does, with these options: only the elements
-/// in `tags`, and with `values` each value after its element. For a value of more than 64 bytes
-/// (65,536 if values are shown whole) a line has the length instead; JSON omits a value of more
-/// than 65,536 bytes.
+/// Lists the file that `input` yields: its class, instance and transfer syntax, a line for each
+/// header, and its length, or its first fault instead of the length.
+///
+/// With `tags`, only these elements are listed, and with `values` each value after its element. For
+/// a value of more than 64 bytes (65,536 if values are shown whole) a line has the length instead;
+/// JSON omits a value of more than 65,536 bytes.
 ///
 /// Fails if the file can't be read or the output can't be written.
 pub fn show_with<R: Read, O: Write>(
@@ -210,24 +212,4 @@ pub fn show_with<R: Read, O: Write>(
         notes: 0,
         unjudged: 0,
     })
-}
-
-/// Lists the file that `input` yields: its class, instance and transfer syntax, a line for each
-/// header, and its length, or its first fault instead of the length.
-///
-/// No byte of a value is written. Fails if the file can't be read or the output can't be written.
-pub fn show_over<R: Read, O: Write>(
-    input: &mut R,
-    out: &mut O,
-) -> Result<Inspected, InspectionError> {
-    let options = ShowOptions {
-        values: false,
-        full: false,
-        meta: false,
-        tags: &[],
-        form: OutputForm::Lines,
-        unicode: false,
-        syntaxes: Syntaxes::Native,
-    };
-    show_with(input, options, out)
 }
