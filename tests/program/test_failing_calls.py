@@ -63,7 +63,7 @@ UNREAD_ARGUMENTS = r"dcmbox: (the command line can't be read: out of memory; .*|
 NO_MEMORY = "dcmbox: out of memory; give the program more\n"
 UNREAD = r"dcmbox: (in\S*): .*\ndcmbox: a file or a folder can't be read, as is told above\n"
 NO_FOLDER = r"dcmbox: in: the folder can't be opened: .*\n"
-NO_TREE = r"dcmbox: tree: (it can't be written into|a file can't be linked into it|the folder can't be opened): .*\n"
+NO_TREE = r"dcmbox: tree: (it can't be written into|a file can't be linked into it): .*\n"
 
 
 def kind_of(call):
@@ -185,10 +185,11 @@ class TestArrange:
         return completed
 
     @pytest.fixture
-    def all_fail(self, failing, fill, placed, completes):
+    def all_fail(self, failing, fill, placed, completes, calls):
         """Fails each call in turn, calls of the wanted kinds among them.
 
-        All was done, or a line says that a file or a folder can't be read, or that the tree can't be written.
+        All was done, or a line says that a file or a folder can't be read or, if the call was on the tree, that the
+        tree can't be written.
         """
 
         def failed(wanted, *arguments, options=()):
@@ -200,8 +201,10 @@ class TestArrange:
                 if done.returncode == 0:
                     assert (done.stderr, count) == ("", 2)
                 else:
+                    [call] = [call for call in calls() if call.endswith("(INJECTED)")]
+                    reason = NO_TREE if re.search('["/]tree[">/]', call) else NO_FOLDER
                     assert done.returncode == 3
-                    assert re.fullmatch(f"{UNREAD}|{NO_FOLDER}|{NO_TREE}", done.stderr), done.stderr
+                    assert re.fullmatch(f"{UNREAD}|{reason}", done.stderr), (call, done.stderr)
                 completes(*arguments, may_have_draft=may_have_draft)
             assert wanted <= kinds
 
