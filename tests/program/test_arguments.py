@@ -243,7 +243,11 @@ class TestIndex:
         expect(0, skipped, errors, "index", "folder", "--uid", "2.25.1")
         expect(0, "records 0", "", "checkdir", "folder/DICOMDIR")
 
-    def test_a_missing_folder(self, expect):
+    def test_an_empty_folder(self, expect, work):
+        """A folder without files gets a directory without records; a missing folder gets none."""
+        (work / "empty").mkdir()
+        expect(0, "records 0", "images 0 left out 0", "index", "empty", "--uid", "2.25.1")
+        assert (work / "empty/DICOMDIR").stat().st_size == 320
         errors = "dcmbox: missing: the folder can.t be opened: .*"
         expect(3, "", errors, "index", "missing", "--uid", "2.25.1")
 

@@ -4,6 +4,8 @@ import re
 import subprocess
 
 import pytest
+from directories import FIRST, SECOND, THIRD, UNIDENTIFIED, UPPER, image, listed, numbered
+from peer import element
 from samples import DIRECTORY, IMAGE, cases, changed
 
 pytestmark = pytest.mark.usefixtures("samples")
@@ -94,33 +96,27 @@ class TestIndex:
         expect(0, ONE, COUNTED, "index", "one", "--uid", "2.25.1")
         assert (work / "one/DICOMDIR").read_bytes() == DIRECTORY
 
-    def test_of_an_image_in_a_folder_of_a_folder(self, expect, put):
+    def test_a_folder_of_two_levels(self, expect, put, work):
+        """Files of subfolders are listed."""
         put({"two/S0000001/I0000001": IMAGE})
         expect(0, ONE, COUNTED, "index", "two", "--uid", "2.25.1")
+        assert (work / "two/DICOMDIR").stat().st_size == 798
         expect(0, listing("S0000001/I0000001"), "", "checkdir", "two/DICOMDIR")
 
-    def test_of_five_files(self, expect, put, run):
+    def test_a_folder_of_five(self, expect, put, work):
         """Two images of a series, one of another series, a duplicate, and one without Study ID."""
-        put(
-            {
-                "five/I0000001": IMAGE,
-                "five/I0000002": changed(changed(IMAGE, 208, b"2"), 428, b"2"),
-                "five/I0000003": changed(changed(IMAGE, 206, b"2"), 398, b"2"),
-                "five/I0000004": IMAGE,
-                "five/I0000005": IMAGE[:406] + b"\0\0" + IMAGE[410:],
-            }
-        )
+        put(numbered(FIRST, SECOND, THIRD, FIRST, UNIDENTIFIED, folder="five"))
+        put({"five/readme.txt": b"none of them"})
         output = "skipped I0000005 missing 0020,0010\ndouble I0000004\nrecords 7"
         errors = (
             "dcmbox: five/I0000004: a double of I0000001, with the same bytes\nimages 3 left out 2\n"
             "left out: missing 0020,0010 StudyID 1, doubles 1"
         )
         expect(0, output, errors, "index", "five", "--uid", "2.25.1")
-        listed = run("checkdir", "five/DICOMDIR").stdout
-        assert re.sub(r"^\d* *", "", listed, flags=re.M).splitlines() == [
-            *("PATIENT", "STUDY", "SERIES", "IMAGE I0000001", "IMAGE I0000002"),
-            *("SERIES", "IMAGE I0000003", "records 7"),
-        ]
+        images = [image(626, "I0000001"), image(788, "I0000002")]
+        others = [(950, 3, "SERIES", ""), image(1042, "I0000003")]
+        expect(0, listed(*UPPER, *images, *others).rstrip(), "", "checkdir", "five/DICOMDIR")
+        assert not (work / "five/DIRDRAFT").exists()
 
 
     def test_one_object(self, run, put, work):
@@ -288,28 +284,41 @@ class TestDescriptions:
 
     @pytest.fixture
     def index(self, expect, put, work):
-        """The directory of an image with this Series Description."""
+        """The directory of an image with this Series Description, or without any."""
 
         def made(value, *options):
-            size = len(value).to_bytes(2, "little")
-            description = b"\10\0\76\20LO" + size + value
+            description = b"" if value is None else element((0x0008, 0x103E), "LO", value)
             put({"described/I0000001": IMAGE[:344] + description + IMAGE[344:]})
             expect(0, ONE, COUNTED, "index", "described", "--uid", "2.25.1", *options)
             return (work / "described/DICOMDIR").read_bytes()
 
         return made
 
-    def test_without_the_option(self, index):
-        assert index(b"AXIAL ") == DIRECTORY
+    @pytest.mark.parametrize(
+        "value, options",
+        cases(
+            ("a description", b"AXIAL ", ()),
+            ("too long", b"1" * 300, ()),
+            ("too long with the option", b"1" * 300, ("--descriptions",)),
+            ("a little too long with the option", b"1" * 258, ("--descriptions",)),
+            ("spaces", b" " * 300, ()),
+            ("spaces with the option", b" " * 300, ("--descriptions",)),
+            ("none with the option", None, ("--descriptions",)),
+        ),
+    )
+    def test_directories_without_descriptions(self, index, value, options):
+        """The directory is byte for byte that of an image without Series Description."""
+        assert index(value, *options) == DIRECTORY
 
-    def test_with_the_option(self, index, run):
-        assert len(index(b"AXIAL ", "--descriptions")) == 802
+    def test_directories_with_descriptions(self, index, run):
+        """The record of the series has Series Description after Modality, at 590, and is longer by that."""
+        directory = index(b"AXIAL ", "--descriptions")
+        assert len(directory) == 802
+        added = element((0x0008, 0x0060), "CS", b"CT") + element((0x0008, 0x103E), "LO", b"AXIAL ")
+        assert directory[590:620] == added + b"\x20\0\x0e\0UI"
         shown = run("show", "--tag", "0008,103e", "described/DICOMDIR").stdout
         assert len(shown.splitlines()) == 1
-
-    @pytest.mark.parametrize("options", [(), ("--descriptions",)])
-    def test_too_long(self, index, options):
-        assert index(b" " * 300, *options) == DIRECTORY
+        assert len(index(b"1" * 256, "--descriptions")) == 1052
 
 
 class TestOfAnotherProgram:
@@ -335,11 +344,12 @@ class TestOfAnotherProgram:
         expect(0, ONE, COUNTED, "index", "others", "--uid", "2.25.1", option)
         assert others.read_bytes() == DIRECTORY
 
-    def test_an_unreadable_directory(self, expect, others):
+    def test_a_directory_that_is_not_read_stays(self, expect, others):
         others.unlink()
         others.mkdir()
         errors = "dcmbox: others: the folder's DICOMDIR can't be looked at: Is a directory"
         expect(3, "", errors + ".*--replace.*", "index", "others", "--uid", "2.25.1")
+        assert others.is_dir()
 
 
 class TestUid:
@@ -358,12 +368,14 @@ class TestUid:
     def test_accepted(self, expect, uid):
         expect(0, ONE, COUNTED, "index", "indexed", "--uid", uid)
 
-    def test_new_uids_differ(self, expect, run):
+    def test_new_instances(self, expect, run, work):
+        """Each directory with a new UID has another UID, a decimal number under 2.25."""
         instances = []
         for _ in range(2):
             expect(0, ONE, COUNTED, "index", "indexed", "--new-uid")
             shown = run("show", "indexed/DICOMDIR").stdout
             instances.append(re.search(r"^instance (.*)$", shown, re.M)[1])
+            assert (work / "indexed/DICOMDIR").read_bytes()[194:].startswith(instances[-1].encode())
         first, second = instances
         assert first != second
         assert all(re.fullmatch(r"2\.25\.[1-9][0-9]{30,38}", instance) for instance in instances)
