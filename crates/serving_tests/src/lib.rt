@@ -11,8 +11,6 @@ mod chance;
 #[cfg(test)]
 mod give_up_tests;
 #[cfg(test)]
-mod json_lines;
-#[cfg(test)]
 mod message_lines;
 #[cfg(test)]
 mod metrics_tests;
