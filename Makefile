@@ -1,6 +1,6 @@
-# `make run` shows what the program does, in a minute or two; `make dcmbox` proves and builds it, and `make verify` checks
-# whether a given program is that one; `make kept` proves what `make check` starts from; `make quick` runs the tests of the
-# tree and of the crates without proof; `make test` is the whole gate.
+# `make run` shows what the program does, in a minute or two; `make unproved` compiles it for a trial; `make dcmbox` proves
+# and builds it, and `make verify` checks whether a given program is that one; `make kept` proves what `make check` starts
+# from; `make quick` runs the tests of the tree and of the crates without proof; `make test` is the whole gate.
 PROGRAM := crates/cli/out/cli
 
 # The tests of the tree, and those of the program from outside: as many in parallel as there are processors. Tests of the
@@ -12,15 +12,19 @@ TREE := $(PYTEST) --dist loadgroup
 UNPROVED := -m 'not proves'
 OUTSIDE := $(PYTEST) --program=$(PROGRAM)
 
-# Where `make install` puts the program, its manual page, its completion and its systemd units. Neither `make install` nor
+# Where `make install` puts the program, its manual page, its completion, its alerts and its systemd units. Neither `make install` nor
 # `make uninstall` changes an existing /etc/default/dcmbox, the options of the units.
 PREFIX ?= /usr/local
 DESTDIR ?=
 
-.PHONY: run verify kept quick packages test steps tree outside bench probe docs check mutants fmt gate-table clean install uninstall deb release
+.PHONY: run unproved verify kept quick packages test steps tree outside bench probe docs check mutants fmt gate-table clean install uninstall deb release
 
 run:
 	@tools/run
+
+# Compiles the program without proof, for a trial, to ./dcmbox-unproved: its version and its log say so.
+unproved:
+	@tools/unproved
 
 # Proves every crate that the program depends on as the gate does, several in parallel, compiles the program, and puts it
 # here, with dcmbox.proved: the digests of the program and of the sources at the start of the build, and the toolchain.
@@ -121,6 +125,7 @@ install:
 	install -D -m 755 dcmbox $(DESTDIR)$(PREFIX)/bin/dcmbox
 	install -D -m 644 man/dcmbox.1 $(DESTDIR)$(PREFIX)/share/man/man1/dcmbox.1
 	install -D -m 644 packaging/dcmbox.bash $(DESTDIR)$(PREFIX)/share/bash-completion/completions/dcmbox
+	install -D -m 644 packaging/dcmbox.rules.yml $(DESTDIR)$(PREFIX)/share/doc/dcmbox/dcmbox.rules.yml
 	packaging/make-units $(PREFIX) $(DESTDIR)$(PREFIX)/lib/systemd/system
 	test -e $(DESTDIR)/etc/default/dcmbox || install -D -m 644 packaging/dcmbox.default $(DESTDIR)/etc/default/dcmbox
 
@@ -137,8 +142,8 @@ release:
 
 uninstall:
 	rm -f $(DESTDIR)$(PREFIX)/bin/dcmbox $(DESTDIR)$(PREFIX)/share/man/man1/dcmbox.1 \
-		$(DESTDIR)$(PREFIX)/share/bash-completion/completions/dcmbox \
+		$(DESTDIR)$(PREFIX)/share/bash-completion/completions/dcmbox $(DESTDIR)$(PREFIX)/share/doc/dcmbox/dcmbox.rules.yml \
 		$(DESTDIR)$(PREFIX)/lib/systemd/system/dcmbox.service $(DESTDIR)$(PREFIX)/lib/systemd/system/dcmbox@.service
 
 clean:
-	rm -rf dcmbox dcmbox.proved dcmbox_*.deb release docs/out crates/*/out
+	rm -rf dcmbox dcmbox-unproved dcmbox.proved dcmbox_*.deb release docs/out crates/*/out

@@ -3,7 +3,7 @@ _dcmbox() {
   local current=${COMP_WORDS[COMP_CWORD]} previous=${COMP_WORDS[COMP_CWORD - 1]} options
   COMPREPLY=()
   if [ "$COMP_CWORD" -eq 1 ]; then
-    mapfile -t COMPREPLY < <(compgen -W 'serve replay show check index checkdir list arrange help --help --version' -- "$current")
+    mapfile -t COMPREPLY < <(compgen -W 'serve replay show check index checkdir list arrange send help --help --version' -- "$current")
     return
   fi
   case $previous in
@@ -20,20 +20,21 @@ _dcmbox() {
       mapfile -t COMPREPLY < <(compgen -W 'text json' -- "$current")
       return
       ;;
-    --port | --listen | --ae | --caller | --callers | --timeout | --idle | --max-pdu | --max-data | --per | --numbers | --quarantine-most | --at-once | --per-peer | --longest | --stop-file | --grace | --metrics | --storage-class | --transfer-syntax | --cut | --tag | --uid | --where | --columns | --pattern)
+    --port | --listen | --ae | --caller | --callers | --timeout | --idle | --max-pdu | --max-data | --per | --numbers | --quarantine-most | --at-once | --per-peer | --longest | --stop-file | --grace | --metrics | --storage-class | --transfer-syntax | --cut | --tag | --uid | --where | --columns | --pattern | --aec | --aet)
       return
       ;;
   esac
   case ${COMP_WORDS[1]} in
     serve) options='--port --out --bind --listen --ae --any-called --caller --callers --timeout --idle --max-pdu --max-data --verbose --quiet --log --per --numbers --quarantine --quarantine-most --no-sync --once --at-once --per-peer --longest --stop-file --grace --metrics --all-storage --storage-class --all-syntaxes --transfer-syntax --help' ;;
     replay) options='--out --ae --cut --per --all-storage --storage-class --all-syntaxes --transfer-syntax --help' ;;
-    show) options='--recursive --values --full --meta --tag --json --all-syntaxes --any --help' ;;
-    check) options='--recursive --strict --values --ignore-others --json --all-syntaxes --any --help' ;;
-    index) options='--uid --new-uid --descriptions --all-syntaxes --any-name --keep --drop --replace --strict --json --help' ;;
+    show) options='--recursive --follow --values --full --meta --tag --json --all-syntaxes --any --help' ;;
+    check) options='--recursive --follow --strict --values --ignore-others --json --all-syntaxes --any --help' ;;
+    index) options='--uid --new-uid --descriptions --all-syntaxes --any-name --ignore-others --follow --keep --drop --replace --strict --json --help' ;;
     checkdir) options='--json --help' ;;
-    list) options='--series --instances --where --columns --ignore-others --json --help' ;;
-    arrange) options='--to --pattern --copy --dry-run --ignore-others --json --help' ;;
-    help) options='serve replay show check index checkdir list arrange' ;;
+    list) options='--series --instances --where --columns --ignore-others --follow --json --help' ;;
+    arrange) options='--to --pattern --copy --dry-run --ignore-others --follow --json --help' ;;
+    send) options='--aec --aet --move --any-name --timeout --verbose --json --help' ;;
+    help) options='serve replay show check index checkdir list arrange send' ;;
     *) return ;;
   esac
   if [[ $current == -* || ${COMP_WORDS[1]} == help ]]; then
@@ -41,7 +42,7 @@ _dcmbox() {
     return
   fi
   case ${COMP_WORDS[1]} in
-    index | list | arrange)
+    index | list | arrange | send)
       compopt -o filenames
       mapfile -t COMPREPLY < <(compgen -d -- "$current")
       ;;

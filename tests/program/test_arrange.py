@@ -267,6 +267,26 @@ def test_another_file_system(run, put, work, small_disk):
     assert (disk / "tree" / PATH).read_bytes() == image()
 
 
+@pytest.mark.parametrize(
+    "folder, tree, expected",
+    cases(
+        ("of the tree", "one", "two", counts(1, action="copied")),
+        ("of the tree and a subfolder", "one", "two/tree", counts(renamed=1, action="copied")),
+        ("of a file in the tree", "one/tree/P1", "two/tree", counts(renamed=1, action="copied")),
+    ),
+)
+def test_equal_inode_numbers_of_two_file_systems(run, put, work, small_disk, folder, tree, expected):
+    """They are not the same file, and not the same folder."""
+    files = [f"{name}/tree/{PATH}" for name in ("one", "two")]
+    for number, file in enumerate(files):
+        small_disk(file[:3], "-t", "tmpfs", "tmpfs")
+        put({file: image(number=str(number))})
+    one, two = (os.stat(work / file) for file in files)
+    assert one.st_ino == two.st_ino and one.st_dev != two.st_dev
+    done = run("arrange", folder, "--to", tree, "--copy")
+    assert (done.returncode, done.stdout, done.stderr) == (0, expected, "")
+
+
 def test_a_disk_that_is_full(run, put, work, small_disk):
     """No partial copy gets a name."""
     put({f"in/{number}": image(instance=f"1.{number}") + bytes(200_000) for number in range(12)})
@@ -313,6 +333,19 @@ def test_a_tree_that_is_a_file(arrange, put):
     put({"in/a": image(), "tree": b""})
     status, output, errors = arrange()
     assert (status, output) == (3, "") and errors.startswith("dcmbox: tree: it can't be written")
+
+
+@pytest.mark.parametrize("options, action", [((), "linked"), (("--copy",), "copied"), (("--dry-run",), "linked")])
+@pytest.mark.parametrize("name", ["P1", "P1/1.2.3", "P1/1.2.3/1.2.3.1"])
+def test_a_file_instead_of_a_folder_of_the_tree(arrange, put, work, name, options, action):
+    """The file is named and stays as it is; the files that need a folder there are left out, and the others placed."""
+    put({"in/a": image(), "in/b": image(instance="1.2"), "in/c": image(patient="P2"), f"tree/{name}": b"x"})
+    status, output, errors = arrange(*options)
+    assert status == 1 and output.endswith(counts(1, left_out=2, action=action))
+    reason = f"its path in the tree needs a folder where a file is: tree/{name}; "
+    advice = "move that file away, or give another tree with --to"
+    assert sorted(errors.splitlines()) == [f"dcmbox: in/{image}: {reason}{advice}" for image in "ab"]
+    assert (work / "tree" / name).read_bytes() == b"x"
 
 
 def test_a_folder_that_a_box_receives_into(run, serve, put):

@@ -10,7 +10,7 @@ import pytest
 from box import LITTLE
 from images import call, data_set, dumped, filed, has_all, identity, need, pixels, study, syntax_of
 from orthanc import Orthanc
-from peer import EXPLICIT
+from peer import EXPLICIT, ROOT
 
 # An encoded image: the tool and its options, the image, the option with which storescu proposes the
 # transfer syntax, the tool that decodes it, and whether it is lossless.
@@ -147,6 +147,19 @@ def test_all_on_one_association(serve_all_syntaxes, tool, to_box, encoded):
     assert has_all(box.folder, paths)
 
 
+@pytest.mark.parametrize("option, expected", [((), EXPLICIT), (("-dn",), RLE)])
+def test_a_native_syntax_in_the_same_context_wins(serve_all_syntaxes, tool, to_box, encoded, option, expected):
+    """As README says, the image is filed as sent only if its context proposes no native transfer syntax."""
+    readme = " ".join((ROOT / "README.md").read_text().split())
+    assert "if a context proposes a native transfer syntax, too, that is accepted" in readme
+    assert "the sender decompresses: `dcmsend` without `-dn` does" in readme
+    box = serve_all_syntaxes()
+    tool("dcmsend", *option, *to_box, encoded / "rle.dcm")
+    (path,) = filed(box.folder)
+    assert syntax_of(path) == expected
+    assert (data_set(path) == data_set(encoded / "rle.dcm")) == bool(option)
+
+
 def test_an_archive_forwards_them(serve_all_syntaxes, spawn, work, port, encoded):
     """Each image is forwarded in its own transfer syntax."""
     need("Orthanc")
@@ -198,7 +211,7 @@ class TestIndex:
     def test_skips_each_without_the_option(self, index):
         skipped = [f"skipped I000000{n} fault 53" for n in range(1, 5)]
         counts, lines = index()
-        assert counts == "images 0 left out 4\nleft out: fault 53 OtherSyntax 4"
+        assert counts == "images 0 left out 4\nleft out: fault 53 OtherSyntax 4 (taken with --all-syntaxes)"
         assert set(skipped) <= set(lines)
 
     def test_lists_each_with_its_transfer_syntax(self, index, run, work):

@@ -1,4 +1,4 @@
-"""The texts of docs/DEPLOY.md work as printed.
+"""The texts of docs/DEPLOY.md and the start in README work as printed.
 
 The systemd units' commands, HAProxy in front of several boxes, the importer of an archive, and TLS
 by stunnel. Only ports, names of hosts and folders are replaced in the texts.
@@ -77,10 +77,10 @@ DROP_INS = {
 TARGETS = ["multi-user", "network-online", "sysinit", "basic", "shutdown"]
 
 
-def block(pattern):
-    """Returns the indented block of docs/DEPLOY.md with a matching line."""
+def block(pattern, document="docs/DEPLOY.md"):
+    """Returns the indented block of a document with a matching line."""
     blocks, text, gap = [], "", ""
-    for line in (ROOT / "docs/DEPLOY.md").read_text().splitlines() + ["."]:
+    for line in (ROOT / document).read_text().splitlines() + ["."]:
         if line.startswith("    "):
             text, gap = f"{text}{gap}{line[4:]}\n", ""
         elif not line:
@@ -88,7 +88,7 @@ def block(pattern):
         else:
             blocks, text, gap = [*blocks, text], "", ""
     found = [one for one in blocks if re.search(pattern, one, re.M)]
-    assert len(found) == 1, f"docs/DEPLOY.md has {len(found)} blocks with {pattern}"
+    assert len(found) == 1, f"{document} has {len(found)} blocks with {pattern}"
     return found[0]
 
 
@@ -98,6 +98,12 @@ def row(message):
     found = [line for line in rows if line.startswith("| ") and message in line.split(" | ")[0]]
     assert len(found) == 1, f"docs/DEPLOY.md has {len(found)} rows with {message}"
     return found[0].split(" | ")[1]
+
+
+def sentence(pattern):
+    """Returns the one match of a pattern in docs/DEPLOY.md, whose lines are joined."""
+    (found,) = re.findall(pattern, re.sub(r"\s+", " ", (ROOT / "docs/DEPLOY.md").read_text()))
+    return found
 
 
 def replaced(text, names):
@@ -179,6 +185,16 @@ class TestUnits:
             (folder / f"{name}.conf").write_text(block(pattern))
         assert verified(root, "dcmbox.service") == ""
 
+    def test_units_of_make_install_hide_those_of_the_package(self, root, work):
+        """The document removes them before it installs the package."""
+        hiding = root.root / "usr/local/lib/systemd/system"
+        call(work, ROOT / "packaging/make-units", "/usr/local", hiding.relative_to(work))
+        assert "Command /usr/local/bin/dcmbox is not executable" in verified(root, "dcmbox.service")
+        before, _, _ = block("^sudo dpkg -i ").partition("dpkg -i")
+        assert "systemctl disable --now dcmbox && sudo make uninstall" in before
+        call(ROOT, "make", "-s", "uninstall", f"DESTDIR={root.root}")
+        assert verified(root, "dcmbox.service") == ""
+
     @pytest.mark.parametrize("unit", ["dcmbox.service", "dcmbox@11201.service"])
     def test_restrictions_of_a_box(self, root, unit):
         """systemd's review does not include the limit of core dumps, which have patients' data."""
@@ -210,7 +226,20 @@ class TestUnits:
         unit = root.unit("dcmbox.service")
         assert settings(unit, "RestartPreventExitStatus") == ["2"]
         assert settings(unit, "StartLimitIntervalSec") == ["0"]
-        assert settings(unit, "Restart") == ["on-failure"]
+        assert settings(unit, "Restart") == ["always"]
+
+    @pytest.mark.parametrize("unit", ["dcmbox.service", "dcmbox@.service"])
+    def test_stopping_one_ends_it_in_good_order(self, root, port, unit):
+        """The status is 0, and an open association has its line in the log."""
+        root.use_port(port)
+        instance = str(port) if "@" in unit else ""
+        box = root.run(unit, port, instance)
+        with Peer(port) as peer:
+            peer.send(STORES[: -len(RELEASE)])
+            answer = STORES_ANSWER[: -len(RELEASED)]
+            assert peer.receive(len(answer)) == answer
+            assert root.stop_one(unit, box, instance) == 0
+        assert " aborted: the box stops contexts " in root.log(unit, instance).read_text()
 
     @pytest.mark.parametrize("unit", ["dcmbox.service", "dcmbox@.service"])
     def test_the_quarantine_is_made(self, root, users, port, work, unit):
@@ -232,9 +261,11 @@ class TestUnits:
         """With the drop-in the importer can still move received files."""
         work.chmod(0o755)
         metrics = root.root / "run/dcmbox-metrics/dcmbox.prom"
-        assert "`--metrics /run/dcmbox-metrics/dcmbox.prom`" in (ROOT / "docs/DEPLOY.md").read_text()
+        assert sentence("`--metrics /run/dcmbox-metrics/dcmbox.prom` in `(.*?)`") == "DCMBOX_LISTEN"
         options = root.root / "etc/default/dcmbox"
-        options.write_text(f'{options.read_text()}DCMBOX_OPTIONS="--per 5 --metrics {metrics}"\n')
+        text = options.read_text()
+        assert "--quarantine and --metrics, belongs in DCMBOX_LISTEN" in " ".join(text.split("\n# "))
+        options.write_text(replaced(text, {'DCMBOX_LISTEN="': f'DCMBOX_LISTEN="--metrics {metrics} '}))
         root.use_port(port)
         dropped_in = block(DROP_INS["user"]) + block(DROP_INS["metrics"])
         owner = users["dcmbox"][:2]
@@ -260,6 +291,72 @@ class TestUnits:
         until_answered(work, other)
 
 
+def rows_from_storescp():
+    """Returns the rows of the table of storescp's options: the cells of each."""
+    _, _, text = (ROOT / "docs/DEPLOY.md").read_text().partition("\n| `storescp` | Here |\n|---|---|\n")
+    return [line.strip("| ").split(" | ") for line in text.partition("\n\n")[0].splitlines()]
+
+
+class TestFromStorescp:
+    """The table of storescp's options."""
+
+    def test_it_has_those_that_are_in_use(self):
+        named = {option for theirs, _ in rows_from_storescp() for option in re.findall("`(.*?)`", theirs)}
+        assert named >= {*"-aet -od --fork +xa -td -xcr -su -fe -pm".split()}
+
+    def test_it_names_options_that_exist(self, tool, run):
+        """Each has those of storescp and of `serve`."""
+        rows = rows_from_storescp()
+        theirs = re.findall("`([-+].*?)`", " ".join(old for old, _ in rows))
+        ours = re.findall(r"(--[\w-]+)", " ".join(new for _, new in rows))
+        for options, text in (theirs, tool("storescp", "--help").stdout), (ours, run("help", "serve").stdout):
+            assert options and [it for it in options if not re.search(rf"(?<!\S){re.escape(it)}\b", text)] == []
+
+    @pytest.mark.parametrize("called, is_accepted", [((), False), (("--any-called",), True)])
+    def test_another_called_title(self, serve, tool, port, called, is_accepted):
+        serve(*called)
+        done = tool("echoscu", "-aec", "OTHER", "127.0.0.1", port, check=False)
+        assert (done.returncode == 0) == is_accepted
+
+
+def test_a_signed_release(tool, work):
+    """The commands of the document sign and check it; a changed file or list of digests is found."""
+    key = work / "id_ed25519"
+    tool("ssh-keygen", "-q", "-t", "ed25519", "-N", "", "-f", key)
+    (work / "signers").write_text(f"NAME {key.with_suffix('.pub').read_text()}")
+    (work / "dcmbox").write_text("program")
+    (work / "SHA256SUMS").write_text(tool("sha256sum", "dcmbox").stdout)
+    tool("sh", "-e", "-c", replaced(block("-Y sign "), {"~/.ssh/id_ed25519": key}))
+    checked = lambda: tool("sh", "-e", "-c", block("-Y verify "), check=False).returncode == 0
+    assert checked()
+    (work / "dcmbox").write_text("another")
+    assert not checked()
+    (work / "SHA256SUMS").write_text(tool("sha256sum", "dcmbox").stdout)
+    assert not checked()
+
+
+def test_the_start_with_a_package(root, single, images, program, port, work):
+    """The commands of README after `systemctl start`."""
+    installed, commands = block("^sudo dpkg -i ", "README.md").strip().split("\n", 1)
+    assert re.match(r"sudo dpkg -i dcmbox_\*\.deb && sudo systemctl start dcmbox +# ", installed)
+    shutil.copy(images[0][0], work / "image.dcm")
+    names = {"11112": port, "sudo dcmbox": program, "/var/lib/dcmbox": single}
+    listed = call(work, "sh", "-e", "-c", replaced(commands, names)).stdout
+    assert has_all(single, [work / "image.dcm"])
+    assert element_of("0020,000d", work / "image.dcm") in listed
+
+
+def test_the_trial_without_proof(program, spawn, tool, images, port, work):
+    """The commands of README after `make unproved`."""
+    (work / "dcmbox-unproved").symlink_to(program)
+    shutil.copy(images[0][0], work / "image.dcm")
+    serves, commands = block("^./dcmbox-unproved show ", "README.md").split(" &\n")
+    spawn("sh", "-c", replaced(serves, {"11112": port, "&& ": "&& exec "}))
+    until_listened(port)
+    shown = tool("sh", "-e", "-c", replaced(commands, {"11112": port})).stdout
+    assert f"instance {element_of('0008,0018', work / 'image.dcm')}\n" in shown
+
+
 class TestAnotherDisk:
     """The folder of received files is on a disk of its own."""
 
@@ -269,7 +366,7 @@ class TestAnotherDisk:
         disk.parent.chmod(0o755)
         user, group = users["dcmbox"][:2]
         names = {"-o dcmbox -g dicom": f"-o {user} -g {group}", "/srv/dicom": disk, "sudo ": ""}
-        tool("sh", "-e", "-c", replaced(block("^sudo install -d -o "), names))
+        tool("sh", "-e", "-c", replaced(block("^sudo install -d -o dcmbox "), names))
         options = root.root / "etc/default/dcmbox"
         folder = replaced("DCMBOX_FOLDER=/srv/dicom/received", {"/srv/dicom": disk})
         assert "`DCMBOX_FOLDER=/srv/dicom/received`" in (ROOT / "docs/DEPLOY.md").read_text()
@@ -318,9 +415,13 @@ def users(work):
     (work / "tools").mkdir()
     for name in ("passwd", "group", "shadow", "gshadow"):
         (work / "users/etc" / name).touch()
-    for name in ("groupadd", "useradd", "usermod"):
-        script = f'#!/bin/sh\nexec {shutil.which(name)} --prefix {work}/users "$@"\n'
+    # (a running unit has a dynamic user of the name)
+    taken = f"case $* in *dcmbox) [ -e {work}/stopped ] || exit 9 ;; esac\n"
+    for name, before in {"groupadd": "", "useradd": taken, "usermod": ""}.items():
+        script = f'#!/bin/sh\n{before}exec {shutil.which(name)} --prefix {work}/users "$@"\n'
         (work / "tools" / name).write_text(script)
+    stops = f'#!/bin/sh\n[ "$*" = "stop dcmbox" ] && touch {work}/stopped\n'
+    (work / "tools/systemctl").write_text(stops)
     (work / "tools/sudo").write_text('#!/bin/sh\nexec "$@"\n')
     for path in (work / "tools").iterdir():
         path.chmod(0o755)
@@ -441,6 +542,31 @@ class TestImporter:
             assert imports() == ("", 0)
         assert list((box / "failed").iterdir()) == []
 
+
+    def test_send_in_place_of_the_script(self, users, box, received, archive_port, work, program):
+        """What the archive refuses stays, and has a line; the next run sends it again."""
+        need("flock", "setpriv")
+        (work / "lock").touch()
+        (work / "lock").chmod(0o666)
+        names = {
+            "* * * * * ": "",
+            "/run/lock/dcmbox-send": work / "lock",
+            "/var/lib/dcmbox": box,
+            "archive.example:104": f"127.0.0.1:{archive_port}",
+            "dcmbox send ": f"{program} send ",
+        }
+        command = replaced(block("dcmbox send "), names)
+        user, group, *further = users["importer"]
+
+        def sent():
+            done = call("/", *as_user((user, group), *further), "sh", "-c", command, check=False)
+            return done.stdout + done.stderr, len(filed(box))
+
+        with Archive(archive_port, others={"2.25.1.3": 0xA700}):
+            output, count = sent()
+            assert count == 1 and output.endswith(": refused with status A700\n")
+        with Archive(archive_port):
+            assert sent() == ("", 0)
 
     @pytest.mark.parametrize("option", ["", "-dn"], ids=["as_it_stands", "with_dn"])
     def test_compressed_images_in_orthanc(
@@ -640,16 +766,33 @@ def test_port_104(root, work):
     wait_for(lambda: re.search(":0068 0+:0000 0A ", sockets.read_text()), "it listens on port 104")
 
 
-def test_sigterm_loses_a_line_and_no_file(serve):
+SIGNALS = "SIGHUP SIGINT SIGQUIT SIGTERM SIGUSR1 SIGUSR2 SIGKILL".split()
+
+
+def test_the_signals_that_end_a_box():
+    named = sentence(r"Signals\*\*: (.*?) end a box at once, losing")
+    assert re.findall(r"SIG\w+", named) == SIGNALS
+
+
+@pytest.mark.parametrize("name", SIGNALS)
+def test_a_signal_loses_a_line_and_no_file(serve, name):
     """Files whose success was reported are on the disk; the association has no line."""
     box = serve("--timeout", "30")
     with box.connect() as peer:
         peer.send(STORES[: -len(RELEASE)])
         answer = STORES_ANSWER[: -len(RELEASED)]
         assert peer.receive(len(answer)) == answer
-        box.stop()
+        box.stop(getattr(signal, name))
+    assert box.process.returncode == -getattr(signal, name)
     assert box.files() == ["I0000001", "I0000002"]
     assert " stored " not in box.log
+
+
+def test_a_signal_that_a_box_ignores(serve):
+    assert sentence(r"(SIG\w+) is ignored") == "SIGPIPE"
+    box = serve("--timeout", "30")
+    os.kill(box.pid, signal.SIGPIPE)
+    assert box.echoes()
 
 
 def test_an_importer_is_notified_of_names(serve, spawn, work):
@@ -672,51 +815,88 @@ def test_storage_commitment_is_refused(serve):
         assert [result for result, _ in peer.associate(asked)] == [3, 0]
 
 
-def test_the_command_of_a_container(program, spawn, images, tool, to_box, port, work):
-    """The container files compressed images, too, and keeps its numbers outside the folder.
+class TestContainer:
+    """A container of packaging/Dockerfile: its process 1 runs as nobody, over folders of this machine."""
 
-    Both folders outlive the container.
-    """
-    image = (ROOT / "packaging/Dockerfile").read_text().replace("\\\n", "")
-    command = json.loads(re.search("^CMD (.*)$", image, re.M)[1])
-    kept = json.loads(re.search("^VOLUME (.*)$", image, re.M)[1])
-    folders = {folder: work / folder.strip("/") for folder in kept}
-    for folder in folders.values():
-        folder.mkdir(parents=True)
-    arguments = [str(port) if argument == "11112" else argument for argument in command]
-    for folder in reversed(kept):
-        arguments = [re.sub(f"^{folder}(?=/|$)", str(folders[folder]), argument) for argument in arguments]
-    spawn(program, *arguments)
-    until_listened(port)
-    (work / "pixels").write_bytes(bytes(512))
-    text = identity(instance="2.25.1.99") + study(1) + pixels("pixels", bits=12)
-    compressed = work / "compressed.dcm"
-    tool("dcmcrle", dumped(work, "image", text), compressed)
-    tool("storescu", "-xr", *to_box, compressed)
-    tool("storescu", *to_box, *images[0])
-    assert digests(filed(folders["/var/lib/dcmbox"])) == digests([compressed, *images[0]])
-    assert (folders["/var/lib/dcmbox-numbers"] / "NUMBERS").is_file()
+    KEPT, RUN = ["/var/lib/dcmbox", "/var/lib/dcmbox-numbers"], "/run/dcmbox"
+    IMAGE = (ROOT / "packaging/Dockerfile").read_text().replace("\\\n", "")
 
+    def of(self, instruction):
+        """Returns the value of an instruction of the image."""
+        (found,) = re.findall(f"^{instruction} (.*)$", self.IMAGE, re.M)
+        return found
 
-def test_the_signal_that_ends_a_container(serve):
-    """The signal of the image ends a box that is process 1, and SIGTERM does not.
+    @pytest.fixture
+    def here(self, work):
+        """Replaces the folders of the image by some of nobody in the working folder."""
+        need("unshare", "setpriv", "install")
+        if os.getuid() != 0:
+            pytest.skip("root alone can run as other users")
+        assert json.loads(self.of("VOLUME")) == self.KEPT
+        work.chmod(0o755)
+        (made,) = [line for line in block("^docker run ").splitlines() if " install -d " in line]
+        for folder in (*self.KEPT, self.RUN):
+            call(work, "sh", "-c", replaced(made, {"sudo ": "", "/srv/received": f"{work}{folder}"}))
+        return lambda text: re.sub(r"(/var/lib|/run)/dcmbox\b", rf"{work}\g<0>", text)
 
-    Each success is on the disk.
-    """
-    if os.getuid() != 0:
-        pytest.skip("no process number 1 can be had here")
-    need("unshare")
-    image = (ROOT / "packaging/Dockerfile").read_text()
-    named = re.findall(r"^STOPSIGNAL (\w+)$", image, re.M) or ["SIGTERM"]
-    box = serve("--timeout", "30", before=("unshare", "--pid", "--fork"))
-    assert box.answers(STORES, STORES_ANSWER)
-    children = pathlib.Path(f"/proc/{box.pid}/task/{box.pid}/children")
-    first = int(children.read_text())
-    os.kill(first, signal.SIGTERM)
-    assert box.answers(STORES, STORES_ANSWER)
-    os.kill(first, getattr(signal, named[0]))
-    box.process.wait(PATIENCE)
-    assert box.files() == ["I0000001", "I0000002", "I0000003", "I0000004"]
+    @pytest.fixture
+    def container(self, here, program, spawn, port, work):
+        """A container that listens on the port."""
+        assert self.of("USER") == "nobody" and self.of("EXPOSE") == "11112"
+        (name,) = json.loads(self.of("ENTRYPOINT"))
+        (work / "bin").mkdir()
+        shutil.copy(program, work / "bin/dcmbox")
+        (work / "bin" / name).write_text(here((ROOT / "packaging" / name).read_text()))
+        (work / "bin" / name).chmod(0o755)
+        command = [str(port) if it == "11112" else here(it) for it in json.loads(self.of("CMD"))]
+        path = f"PATH={work}/bin:/usr/bin:/bin"
+        namespace = ("unshare", "--pid", "--fork", "env", path)
+        started = spawn(*namespace, *as_user((65534, 65534)), work / "bin" / name, *command)
+        until_listened(port)
+        yield started
+        for first in self.children(started):
+            os.kill(first, signal.SIGKILL)
+
+    def children(self, process):
+        """Returns the numbers of the processes that a process started, if it still runs."""
+        path = pathlib.Path(f"/proc/{process.pid}/task/{process.pid}/children")
+        return [int(number) for number in path.read_text().split()] if path.exists() else []
+
+    def test_its_command(self, container, images, tool, to_box, work):
+        """The container files compressed images, too, and keeps its numbers outside the folder.
+
+        Both folders outlive the container.
+        """
+        (work / "pixels").write_bytes(bytes(512))
+        text = identity(instance="2.25.1.99") + study(1) + pixels("pixels", bits=12)
+        compressed = work / "compressed.dcm"
+        tool("dcmcrle", dumped(work, "image", text), compressed)
+        tool("storescu", "-xr", *to_box, compressed)
+        tool("storescu", *to_box, *images[0])
+        folder, numbers = (work / folder[1:] for folder in self.KEPT)
+        assert digests(filed(folder)) == digests([compressed, *images[0]])
+        assert (numbers / "NUMBERS").is_file()
+
+    def test_the_signal_that_ends_it(self, container, port, work):
+        """Each success is on the disk, the status is 0, and the open association has its line in the log."""
+        with Peer(port) as peer:
+            peer.send(STORES[: -len(RELEASE)])
+            answer = STORES_ANSWER[: -len(RELEASED)]
+            assert peer.receive(len(answer)) == answer
+            (first,) = self.children(container)
+            os.kill(first, getattr(signal, self.of("STOPSIGNAL")))
+            assert container.wait(PATIENCE) == 0
+        assert [path.name for path in filed(work / "var/lib/dcmbox")] == ["I0000001", "I0000002"]
+        assert " aborted: the box stops contexts " in (work / "output.txt").read_text()
+
+    def test_its_health(self, container, here, work):
+        """A box that no longer replaces its metrics is not healthy."""
+        command = here(self.of("HEALTHCHECK").partition(" CMD ")[2])
+        healthy = lambda: call(work, "sh", "-c", command, check=False).returncode == 0
+        metrics = work / "run/dcmbox/dcmbox.prom"
+        wait_for(healthy, "it is healthy")
+        os.utime(metrics, (metrics.stat().st_mtime - 200,) * 2)
+        assert not healthy()
 
 
 @pytest.fixture

@@ -135,7 +135,7 @@ class TestIndex:
         rows = [[row[0], *row[2:]] for row in rows]
         assert [*rows, *duplicates, ["records", str(found["record_count"])]] == lines
         (work / "in/I0000001").unlink()
-        kept = json.loads(run(*index, "--keep").stdout)
+        kept = json.loads(run(*index, "--keep", "--strict").stdout)
         missing = {"file": "I0000001", "fault": 54}
         assert kept == {"skipped": [missing], "doubles": [], "result": "kept"}
         put({"in/DICOMDIR": DIRECTORY[:710]})
@@ -176,47 +176,6 @@ class TestIndex:
         expect(0, ONE, COUNTED, "index", "strict", "--uid", "2.25.1", "--strict")
 
 
-class TestOtherNames:
-    """Images with other names than received files."""
-
-    FILES = {
-        "in/CT.1.2.3.dcm": IMAGE,
-        "in/deeper/I0000001": changed(IMAGE, 208, b"2"),
-        "in/A/B_1/IM1": changed(IMAGE, 208, b"3"),
-        "in/README": b"text",
-        "in/DRAFT": IMAGE,
-    }
-    REPORT = "dcmbox: in: 3 DICOM files are left out: they have other names than I0000001, .* --any-name\n"
-
-    def test_they_are_reported(self, expect, put):
-        put(self.FILES)
-        errors = self.REPORT + "images 0 left out 3\nleft out: other names 3"
-        expect(0, "records 0", errors, "index", "in", "--uid", "2.25.1")
-        expect(1, "records 0", errors, "index", "in", "--uid", "2.25.1", "--strict")
-
-    def test_with_a_received_file(self, expect, put, work):
-        put({**self.FILES, "in/I0000001": IMAGE, "in/S0000001/I0000001": changed(IMAGE, 208, b"4")})
-        errors = self.REPORT + "images 2 left out 3\nleft out: other names 3"
-        expect(0, "records 5", errors, "index", "in", "--uid", "2.25.1")
-
-    def test_any_name(self, expect, put, run):
-        """Images whose paths are file IDs are indexed, in the order of paths."""
-        put({**self.FILES, "in/I0000001": IMAGE})
-        errors = (
-            "dcmbox: in: 2 DICOM files are left out: they have paths that are no file IDs: .*\n"
-            "images 2 left out 2\nleft out: other names 2"
-        )
-        expect(0, "records 5", errors, "index", "in", "--uid", "2.25.1", "--any-name")
-        listed = run("checkdir", "in/DICOMDIR").stdout
-        assert re.findall("IMAGE (.*)", listed) == ["A/B_1/IM1", "I0000001"]
-
-    def test_a_disk_as_scanners_write_them(self, expect, put, run):
-        names = [f"DICOM/PA1/ST1/SE{series}/IM{n:06}" for series in (1, 2) for n in range(3)]
-        put({f"in/{name}": changed(IMAGE, 208, b"%d" % n) for n, name in enumerate(names)})
-        expect(0, "records 9", "images 6 left out 0", *"index in --uid 2.25.1 --any-name".split())
-        assert re.findall("IMAGE (.*)", run("checkdir", "in/DICOMDIR").stdout) == names
-
-
 class TestKeptRecords:
     """A directory by DCMTK's dcmmkdir, of an image and of other objects."""
 
@@ -240,14 +199,14 @@ class TestKeptRecords:
         return folder
 
     def test_are_not_lost(self, made, run):
-        """Without --drop the directory stays unchanged."""
+        """With --strict the directory stays unchanged."""
         before = (made / "DICOMDIR").read_bytes()
-        done = run(*"index made --uid 2.25.1 --keep".split())
+        done = run(*"index made --uid 2.25.1 --keep --strict".split())
         assert (done.returncode, done.stdout) == (1, "")
         first, last = done.stderr.splitlines()[3:]
         assert first == (
             "dcmbox: made: the DICOMDIR stays as it is: 3 of its records would be lost; "
-            "leave them out with --drop"
+            "without --strict they are left out"
         )
         assert last == "left out: records of other types 3"
         assert (made / "DICOMDIR").read_bytes() == before
@@ -257,12 +216,15 @@ class TestKeptRecords:
         before = (made / "DICOMDIR").read_bytes()
         for name in NAMES:
             (made / name).unlink()
-        done = run(*"index made --uid 2.25.1 --keep".split())
+        done = run(*"index made --uid 2.25.1 --keep --strict".split())
         assert (done.returncode, done.stdout) == (1, "skipped CT1 fault 54\n")
         assert ": 4 of its records would be lost; " in done.stderr
         output = "left out: fault 54 ReadFailed 1, records of other types 3"
         assert done.stderr.splitlines()[-1] == output
         assert (made / "DICOMDIR").read_bytes() == before
+        done = run(*"index made --uid 2.25.1 --keep".split())
+        assert (done.returncode, done.stdout) == (0, "skipped CT1 fault 54\nrecords 0\n")
+        assert done.stderr.splitlines()[-2:] == ["images 0 left out 4", output]
 
     def test_are_reported(self, expect, made, run):
         output = "".join(
@@ -270,13 +232,13 @@ class TestKeptRecords:
             for name, kind in KINDS
         )
         output += "images 1 left out 3\nleft out: records of other types 3"
-        expect(0, "records 4", output, *"index made --uid 2.25.1 --keep --drop".split())
+        expect(0, "records 4", output, *"index made --uid 2.25.1 --keep".split())
         assert run("checkdir", "made/DICOMDIR").stdout.count("IMAGE CT1") == 1
 
     def test_with_a_series_of_an_image(self, expect, made):
         """The written directory has only images, so the next run leaves out no record."""
-        expect(0, "records 4", ".*left out 3\n.*", *"index made --uid 2.25.1 --keep --drop".split())
-        expect(0, "records 4", COUNTED, *"index made --uid 2.25.1 --keep".split())
+        expect(0, "records 4", ".*left out 3\n.*", *"index made --uid 2.25.1 --keep".split())
+        expect(0, "records 4", COUNTED, *"index made --uid 2.25.1 --keep --strict".split())
 
 
 class TestDescriptions:

@@ -443,5 +443,5 @@ def test_a_directory_of_5000_images(run, work, written):
     for name in files:
         (work / "in" / name).unlink()
     done = run("index", "in", "--uid", "2.25.1", "--keep")
-    assert done.stdout.splitlines() == [f"skipped {name} fault 54" for name in files]
-    assert (done.returncode, (work / "in/DICOMDIR").read_bytes()) == (1, directory)
+    assert done.stdout.splitlines() == [*(f"skipped {name} fault 54" for name in files), "records 0"]
+    assert (done.returncode, len((work / "in/DICOMDIR").read_bytes())) == (0, 320)

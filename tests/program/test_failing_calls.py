@@ -7,6 +7,7 @@ from collections import Counter
 import pytest
 from box import PATIENCE
 from images import need
+from samples import IMAGE
 from studies import counts, image
 
 SERIES = "P1/1.2.3/1.2.3.1"
@@ -143,6 +144,22 @@ def refused(run, refuse, work):
         yield done
 
     return each
+
+
+@pytest.mark.parametrize("call", ["openat", "getdents64"])
+@pytest.mark.parametrize(
+    "command",
+    ["index in --uid 2.25.1", "index in --uid 2.25.1 --any-name"]
+    + ["list in", "arrange in --to tree", "check -r in", "show -r in"],
+)
+def test_a_subfolder_that_cannot_be_read(run, put, trace, calls, work, command, call):
+    """The command fails, and names a folder; `index` writes no directory."""
+    put({"in/I0000001": IMAGE, "in/S0000001/I0000001": IMAGE})
+    paths = ("-P", "in/S0000001", "-P", "in/S0000001/")
+    done = run(*command.split(), before=trace(*paths, "-e", f"trace={call}", "-e", f"inject={call}:error=EACCES"))
+    assert sum("(INJECTED)" in made for made in calls()) == 1
+    assert done.returncode == 3 and re.search(r"dcmbox: in\S*: the folder can't be opened", done.stderr), done
+    assert not (work / "in/DICOMDIR").exists()
 
 
 class TestArrange:

@@ -58,7 +58,7 @@ def test_files_by_name(index, put, expect_listed):
 
 
 class TestKeptRecords:
-    """With --keep and --drop the files of the present directory are listed."""
+    """With --keep the files of the present directory are listed."""
 
     @pytest.fixture(autouse=True)
     def whole(self, index, put):
@@ -74,18 +74,18 @@ class TestKeptRecords:
         The flags of the record of the first image are at 654, and of its series at 562.
         """
         put({"in/DICOMDIR": changed(whole, 654, b"\0\0")})
-        assert len(index("--keep --drop", ONE, counted(1))) == 788
+        assert len(index("--keep", ONE, counted(1))) == 788
         put({"in/DICOMDIR": changed(whole, 562, b"\0\0")})
-        assert len(index("--keep --drop", "records 0\n", counted(0))) == 320
+        assert len(index("--keep", "records 0\n", counted(0))) == 320
         faulty = changed(whole, 654, b"\1\0")
         put({"in/DICOMDIR": faulty})
-        assert index("--keep --drop", "fault 68 BadRecord at 626\n", "", 1) == faulty
+        assert index("--keep", "fault 68 BadRecord at 626\n", "", 1) == faulty
 
     def test_records_of_other_types_are_not_kept(self, index, put, whole, expect_listed):
         """Records at the fourth level of another type than IMAGE keep no file."""
         put({"in/DICOMDIR": changed(whole, 676, b"PLAN  ")})
         errors = "dcmbox: in/I0000001: left out: its record is of type PLAN, not IMAGE\n"
-        index("--keep --drop", ONE, errors + counted(1, 1, "records of other types 1"))
+        index("--keep", ONE, errors + counted(1, 1, "records of other types 1"))
         expect_listed(*UPPER, image(626, "I0000002"))
 
     def test_records_of_other_types(self, index, put, work, whole):
@@ -93,18 +93,43 @@ class TestKeptRecords:
         (work / "in/I0000001").unlink()
         put({"in/DICOMDIR": changed(whole, 676, b"RTDOSE")})
         errors = "dcmbox: in/I0000001: left out: its record is of type RTDOSE, not IMAGE\n"
-        index("--keep --drop", ONE, errors + counted(1, 1, "records of other types 1"))
-        index("--keep --drop", ONE, counted(1))
+        index("--keep", ONE, errors + counted(1, 1, "records of other types 1"))
+        index("--keep --strict", ONE, counted(1))
 
     def test_a_missing_file_is_skipped(self, index, work, whole):
-        """A kept record whose file is missing is skipped with --drop; without, the directory is unchanged."""
+        """A kept record whose file is missing is skipped; with --strict the directory is unchanged."""
         (work / "in/I0000001").unlink()
         skipped = "skipped I0000001 fault 54\n"
         missing = "dcmbox: in/I0000001: No such file or directory (os error 2)\n"
         why = "fault 54 ReadFailed 1"
-        stays = "dcmbox: in: the DICOMDIR stays as it is: 1 of its records would be lost; leave them out with --drop\n"
-        assert index("--keep", skipped, f"{missing}{stays}left out: {why}\n", 1) == whole
-        index("--keep --drop", skipped + ONE, missing + counted(1, 1, why))
+        stays = (
+            "dcmbox: in: the DICOMDIR stays as it is: 1 of its records would be lost; "
+            "without --strict they are left out\n"
+        )
+        for options in ("--keep --strict", "--keep --strict --drop"):
+            assert index(options, skipped, f"{missing}{stays}left out: {why}\n", 1) == whole
+        assert len(index("--keep", skipped + ONE, missing + counted(1, 1, why))) == 788
+        assert len(index("--keep --strict", ONE, counted(1))) == 788
+
+    def test_drop_does_nothing_more(self, index, put, work, whole):
+        """With --drop the output and the directory are those without it."""
+        (work / "in/I0000001").unlink()
+        skipped = "skipped I0000001 fault 54\n"
+        errors = "dcmbox: in/I0000001: No such file or directory (os error 2)\n" + counted(1, 1, "fault 54 ReadFailed 1")
+        directories = []
+        for options in ("--keep", "--keep --drop"):
+            put({"in/DICOMDIR": whole})
+            directories.append(index(options, skipped + ONE, errors))
+        assert directories[0] == directories[1] != whole
+
+    def test_a_double_is_not_kept(self, index, put, whole):
+        """The record of a file that is now a double of another one is lost; with --strict the directory stays."""
+        put({"in/I0000002": FIRST})
+        double, why = "double I0000002\n", "doubles 1"
+        stays = "dcmbox: in: the DICOMDIR stays as it is: 1 of its records would be lost; without --strict they are left out\n"
+        assert index("--keep --strict", double, f"{stays}left out: {why}\n", 1) == whole
+        same = "dcmbox: in/I0000002: a double of I0000001, with the same bytes\n"
+        index("--keep", double + ONE, same + counted(1, 1, why))
 
 
 def test_a_directory_that_is_not_written(index, put, work):
@@ -224,16 +249,20 @@ def test_directories_of_other_implementations_stay(index, put, directory):
 def test_a_folder_with_a_compressed_file(index, put):
     """A file in JPEG Lossless is skipped without --all-syntaxes; with it, its record has its transfer syntax.
 
+    The option is named where it takes the file: not where one in big endian is left out.
     Its Pixel Data has an empty Basic Offset Table and no fragments.
     """
     syntax = b"\26\0" + b"1.2.840.10008.1.2.4.57"
     pixels = bytes.fromhex("e07f1000 4f42 0000 ffffffff feff00e0 00000000 feffdde0 00000000")
     put(numbered(FIRST, changed(SECOND[:216] + syntax + SECOND[238:], 140, b"\x96") + pixels))
-    output, errors = "skipped I0000002 fault 53\n" + ONE, counted(1, 1, "fault 53 OtherSyntax 1")
-    assert len(index("", output, errors)) == 788
+    output, why = "skipped I0000002 fault 53\n" + ONE, "fault 53 OtherSyntax 1"
+    assert len(index("", output, counted(1, 1, f"{why} (taken with --all-syntaxes)"))) == 788
     directory = index("--all-syntaxes", TWO, counted(2))
     assert len(directory) == 952
     assert directory[912:942] == b"\4\0\22\25UI" + syntax
+    put(numbered(FIRST, SECOND.replace(b"1.2.840.10008.1.2.1\0", b"1.2.840.10008.1.2.2\0")))
+    for options in ("", "--all-syntaxes"):
+        index(options, output, counted(1, 1, why))
 
 
 def test_images_and_files_that_are_omitted(index, put, work):
@@ -248,9 +277,9 @@ def test_images_and_files_that_are_omitted(index, put, work):
     (work / "in/I0000001").unlink()
     missing = "dcmbox: in/I0000001: No such file or directory (os error 2)\n"
     errors = missing + counted(2, 1, "fault 54 ReadFailed 1")
-    index("--keep --drop", "skipped I0000001 fault 54\nrecords 6\n", errors)
+    index("--keep", "skipped I0000001 fault 54\nrecords 6\n", errors)
     put({"in/DICOMDIR": b"no directory"})
-    assert index("--keep --drop", "fault 50 NotPart10 at 128\n", "", 1) == b"no directory"
+    assert index("--keep", "fault 50 NotPart10 at 128\n", "", 1) == b"no directory"
 
 
 # The calls that replace a directory, in order.
@@ -326,7 +355,7 @@ def refused(run, work, refuse):
 class TestRefusedAllocations:
     """Whichever allocation is refused, `index` fails because memory ran out, and the old directory is unchanged."""
 
-    @pytest.mark.parametrize("options", [(), ("--keep", "--drop")], ids=["all", "kept"])
+    @pytest.mark.parametrize("options", [(), ("--keep",)], ids=["all", "kept"])
     def test_each_allocation_is_refused(self, index, refused, put, work, options):
         """If no directory can be built, the files without a row are reported."""
         put(numbered(FIRST, SECOND))

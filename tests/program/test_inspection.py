@@ -151,6 +151,27 @@ def test_a_name_that_is_not_utf_8(run, put, command):
         assert done.stdout.endswith(counts(4, good=3, unread=1) + "\n")
 
 
+@pytest.mark.parametrize("command", ["check", "show"])
+def test_an_object_of_an_unread_file(run, put, command):
+    """A file in a folder that can't be opened has an object, too."""
+    put({"in/a": CT_FILE, "in/b\udcffc": CT_FILE})
+    done = run(command, "-r", "--json", "in")
+    found = [json.loads(line) for line in done.stdout.splitlines()]
+    assert done.returncode == 3 and found[0] == {"file": "in/b?c", "result": "unread"}
+    assert [one["file"] for one in found[1:]] == ["in/a"]
+
+
+@pytest.mark.parametrize("command", ["check", "show"])
+def test_drafts(run, put, command):
+    """Files that are still being written are skipped in a folder, and read as arguments."""
+    put({f"in/{name}": b"x" for name in ("DRAFT", "DRAFT12", "DIRDRAFT", ".DRAFT", "S0000001/DRAFT")})
+    put({"in/a": CT_FILE, "in/DRAFTED": CT_FILE})
+    done = run(command, "-r", "in")
+    assert (done.returncode, done.stderr) == (0, "")
+    assert re.findall("^file (.*)$", done.stdout, re.M) == ["in/DRAFTED", "in/a"]
+    assert run(command, "in/DRAFT").returncode == 1
+
+
 class TestOtherFiles:
     """Files that are not DICOM files are skipped with --ignore-others."""
 
@@ -166,6 +187,12 @@ class TestOtherFiles:
         put(self.FILES)
         output = "file in/a\ngood 336\n" + counts(1, good=1)
         expect(0, output, "dcmbox: ignored 2", "check", "-r", "--ignore-others", "in")
+
+    def test_an_empty_file_is_not_skipped(self, run, put):
+        put({**self.FILES, "in/b": b""})
+        done = run("check", "-r", "--ignore-others", "in")
+        assert (done.returncode, done.stderr) == (1, "dcmbox: ignored 2\n")
+        assert done.stdout.endswith(counts(2, good=1, faulty=1) + "\n")
 
     def test_an_unreadable_file_is_not_skipped(self, expect, put):
         put(self.FILES)

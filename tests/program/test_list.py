@@ -322,7 +322,7 @@ def test_bytes_after_the_values_are_not_read(run, put):
 
 
 def test_what_is_skipped(run, put, work):
-    """Drafts, DICOMDIR files and links are skipped silently; a pipe is reported, and not waited for."""
+    """Drafts and DICOMDIR files are skipped silently; links are counted; a pipe is reported, and not waited for."""
     put({"in/I0000001": image(), "in/DICOMDIR": DIRECTORY, "in/DRAFT": b"x", "in/DRAFT2": b"x"})
     put({"in/DIRDRAFT": b"x", "elsewhere/I0000001": image(study="1.9")})
     (work / "in/link").symlink_to(work / "elsewhere/I0000001")
@@ -330,7 +330,7 @@ def test_what_is_skipped(run, put, work):
     os.mkfifo(work / "in/pipe")
     done = run("list", "in")
     message = "dcmbox: in/pipe: it is a pipe, a socket or a device, and no file\n"
-    assert (done.returncode, done.stderr) == (0, message)
+    assert (done.returncode, done.stderr) == (0, message + "dcmbox: links passed over 2\n")
     assert done.stdout.endswith("\t1\t1\t1.2.3\n")
 
 
@@ -369,6 +369,10 @@ def test_files_that_are_not_dicom_files(run, put, command):
     assert (done.returncode, done.stderr) == (0, "dcmbox: ignored 2\n")
     put({"in/cut": image()[:300]})
     assert run(*command.split(), "--ignore-others").returncode == 1
+    put({"in/cut": b""})
+    done = run(*command.split(), "--ignore-others")
+    errors = "dcmbox: in/cut: left out: fault 50 NotPart10 at 128\ndcmbox: ignored 2\n"
+    assert (done.returncode, done.stderr) == (1, errors)
 
 
 @pytest.mark.parametrize("folder", ["missing", "file"])

@@ -7,7 +7,7 @@ import pytest
 from box import wait_for
 from cause import Receive, lose_folder
 from causes import CAUSES
-from peer import CT, ECHO, RELEASE, RELEASED, STORES, STORES_REQUEST, store_command
+from peer import CT, ECHO, RELEASE, RELEASED, ROOT, STORES, STORES_REQUEST, store_command
 from ports import free_port
 from samples import changed
 
@@ -255,15 +255,33 @@ def test_no_reader_sees_a_part_of_it(trace, serve, becomes, calls):
     assert re.search(rf'rename.*"{FILE}\.new", .*"{FILE}"', renamed)
 
 
-def test_a_file_that_another_box_writes(serve, expect, work):
-    """The second box does not get the folder either, until the first has ended."""
+@pytest.mark.parametrize("kind", ("metrics", "numbers"))
+def test_a_file_that_another_box_writes(serve, expect, kind, work):
+    """The second box does not get the file of metrics or of numbers, until the first has ended."""
     (work / "other").mkdir()
-    box = serve("--metrics", FILE)
-    text = ("--port", str(free_port()), "--out", "other", "--metrics", FILE)
-    errors = f"dcmbox: {FILE}: the file of metrics can't be used: it is in use by another program; .*"
+    box = serve(f"--{kind}", FILE)
+    text = ("--port", str(free_port()), "--out", "other", f"--{kind}", FILE)
+    errors = f"dcmbox: {FILE}: the file of {kind} can't be used: it is in use by another program; .*"
     expect(3, "", errors, "serve", *text)
     box.stop()
-    assert serve("--metrics", FILE).echoes()
+    assert serve(f"--{kind}", FILE).echoes()
+
+
+@pytest.mark.parametrize("kind", ("link", "link to nothing", "folder", "pipe"))
+def test_a_lock_that_is_no_file(kind, expect, work):
+    """The box does not start, and what is there stays: a link may name a file that was received."""
+    (work / "other").mkdir()
+    image, lock = work / "other" / "I0000001", work / f".{FILE}.lock"
+    if kind == "link":
+        image.write_bytes(b"image")
+    if kind in ("link", "link to nothing"):
+        lock.symlink_to("other/I0000001")
+    else:
+        {"folder": os.mkdir, "pipe": os.mkfifo}[kind](lock)
+    text = ("--port", str(free_port()), "--out", "other", "--metrics", FILE)
+    errors = f"dcmbox: {FILE}: the file of metrics can't be used: its lock is no regular file; .*"
+    expect(3, "", errors, "serve", *text)
+    assert [path.read_bytes() for path in (work / "other").iterdir()] == [b"image"] * (kind == "link")
 
 
 def test_a_folder_that_takes_no_file(serve, becomes, work):
@@ -284,6 +302,24 @@ def test_a_folder_that_takes_no_file(serve, becomes, work):
     becomes(2, "dcmbox_associations_total", "released")
     about = [line for line in box.lines if "metrics" in line]
     assert len(about) == 3
+
+
+ALERTS = "DataSetsRefused ClassesRefused FileLost NothingReceived".split()
+
+
+def test_the_alerts_are_about_metrics_that_are_there(serve, becomes):
+    """Each metric of an alert, and each value of its label, is one of a box."""
+    yaml = pytest.importorskip("yaml", reason="make packages installs it")
+    groups = yaml.safe_load((ROOT / "packaging/dcmbox.rules.yml").read_text())["groups"]
+    rules = {rule["alert"]: rule for group in groups for rule in group["rules"]}
+    assert {*rules} >= {f"Dcmbox{name}" for name in ALERTS}
+    assert all({*rule["annotations"]} == {"summary", "description"} for rule in rules.values())
+    serve("--metrics", FILE)
+    there = {sample[:length] for sample in becomes(0, "dcmbox_open_connections") for length in (1, 2)}
+    for rule in rules.values():
+        used = re.findall(r'(dcmbox_\w+)(?:\{\w+=~?"(.*?)"\})?', rule["expr"])
+        named = {(name, *filter(None, [value])) for name, values in used for value in values.split("|")}
+        assert named and named <= there, rule
 
 
 def test_of_one_association(serve, read):

@@ -5,9 +5,11 @@ import struct
 import time
 
 import pytest
-from box import wait_for
+from box import listeners, wait_for
 from peer import CT, ECHO, ECHO_ANSWER, ECHO_REQUEST, EXPLICIT, RELEASE, store_command
-from samples import IMAGE
+from samples import IMAGE, cases
+from studies import image
+from test_arrange import PATH
 from test_quarantine import BAD, data_set, names, send
 
 NO_FILE = "it is a pipe, a socket or a device, and no file"
@@ -86,23 +88,67 @@ def test_arguments_do_not_change_the_terminal(run, arguments):
     assert done.returncode in (2, 3) and "?[" in done.stderr and "\33" not in done.stderr
 
 
-def test_a_draft_of_a_directory_replaces_a_link(run, put, work):
-    """The target of a link with that name is not overwritten."""
-    put({"in/I0000001": IMAGE, "kept": b"kept"})
-    (work / "in/DIRDRAFT").symlink_to(work / "kept")
-    assert run("index", "in", "--uid", "1.2.3").returncode == 0
-    assert (work / "kept").read_bytes() == b"kept"
-    assert not (work / "in/DICOMDIR").is_symlink() and not (work / "in/DIRDRAFT").is_symlink()
+class TestLinks:
+    """Links with the names of files that the program writes: what they lead to is not written."""
 
+    @pytest.fixture(params=["a file", "nothing"])
+    def plant(self, request, put, work):
+        """Puts a link to a file or to nothing in place of what has a name."""
+        put({"kept/a file": b"kept"})
 
-@pytest.mark.parametrize("option", ["--numbers", "--metrics"])
-def test_a_replaced_file_is_not_followed_as_a_link(serve, put, work, option):
-    put({"kept": b"kept"})
-    (work / "there.new").symlink_to(work / "kept")
-    box = serve(option, "there")
-    wait_for(lambda: (work / "there").exists(), "the file is there")
-    assert box.echoes()
-    assert (work / "kept").read_bytes() == b"kept" and not (work / "there").is_symlink()
+        def planted(name):
+            path = work / name
+            path.parent.mkdir(parents=True, exist_ok=True)
+            path.unlink(missing_ok=True)
+            path.symlink_to(work / "kept" / request.param)
+
+        return planted
+
+    @staticmethod
+    def kept(work):
+        return {path.name: path.read_bytes() for path in (work / "kept").iterdir()}
+
+    @pytest.mark.parametrize(
+        "name, command",
+        cases(
+            ("draft of a DICOMDIR", "in/DIRDRAFT", "index in --uid 1.2.3"),
+            ("DICOMDIR", "in/DICOMDIR", "index in --uid 1.2.3 --replace"),
+            ("draft of a copy", "tree/.DRAFT", "arrange in --to tree --copy"),
+            ("copy", f"tree/{PATH}", "arrange in --to tree --copy"),
+            ("draft", "out/DRAFT", "replay stores.bin --out out"),
+            ("file", "out/I0000001", "replay stores.bin --out out"),
+        ),
+    )
+    def test_of_a_command(self, run, samples, put, plant, work, name, command):
+        put({"in/I0000001": image(), "out/other": b""})
+        plant(name)
+        assert run(*command.split()).returncode == 0
+        assert self.kept(work) == {"a file": b"kept"}
+
+    @pytest.mark.parametrize(
+        "name, options",
+        cases(
+            ("draft", "received/DRAFT", ""),
+            ("file", "received/I0000001", ""),
+            ("numbers", "numbers", "--numbers numbers"),
+            ("draft of numbers", "numbers.new", "--numbers numbers"),
+            ("metrics", "box.prom", "--metrics box.prom"),
+            ("draft of metrics", "box.prom.new", "--metrics box.prom"),
+            ("lock of metrics", ".box.prom.lock", "--metrics box.prom"),
+            ("draft in the quarantine", "aside/000001.part", "--quarantine aside"),
+            ("file in the quarantine", "aside/000001.dcm", "--quarantine aside"),
+            ("text in the quarantine", "aside/000001.txt", "--quarantine aside"),
+        ),
+    )
+    def test_of_a_box(self, serve, plant, work, name, options):
+        """Links are there at its start, and again before it receives a file and refuses another one."""
+        plant(name)
+        box = serve(*options.split(), waits=False)
+        wait_for(lambda: listeners(box.port) or box.process.poll(), "the box listens or has ended")
+        if box.process.poll() is None:
+            plant(name)
+            assert [send(box, data) for data in (data_set(), data_set(more=BAD))] == ["0000", "C000"]
+        assert self.kept(work) == {"a file": b"kept"}
 
 
 @pytest.mark.parametrize("command", ["show", "check", "show --values"])

@@ -25,6 +25,7 @@ FILES = [
     "usr/share/doc/dcmbox/CONFORMANCE.md",
     "usr/share/doc/dcmbox/PROFILE.md",
     "usr/share/doc/dcmbox/DEPLOY.md",
+    "usr/share/doc/dcmbox/dcmbox.rules.yml",
 ]
 
 
@@ -62,9 +63,9 @@ class Root:
         for name in ("status", "available"):
             (path / "var/lib/dpkg" / name).touch()
 
-    def dpkg(self, *arguments):
+    def dpkg(self, *arguments, **keywords):
         options = ("--force-depends", "--force-script-chrootless", "--log=/dev/null")
-        call(self.path, "dpkg", f"--root={self.path}", *options, *arguments)
+        return call(self.path, "dpkg", f"--root={self.path}", *options, *arguments, **keywords)
 
     def remaining(self):
         """Returns the paths in the root, except dpkg's own files."""
@@ -98,6 +99,19 @@ def test_it_is_installed_into_a_fresh_root_and_removed_without_a_trace(root, pac
     assert root.remaining() == before
 
 
+def test_options_that_differ_are_kept_by_default(root, package):
+    """As after `make install`. Without a terminal dpkg asks in vain; with --force-confold it does not ask."""
+    text = (ROOT / "docs/DEPLOY.md").read_text()
+    assert "`dpkg` asks; the default N keeps it, as does `dpkg --force-confold -i`" in text
+    options = root.path / "etc/default/dcmbox"
+    options.parent.mkdir(parents=True)
+    options.write_text('DCMBOX_OPTIONS="--ae MINE"\n')
+    asked = root.dpkg("--install", package, check=False)
+    assert asked.returncode != 0 and "[default=N]" in asked.stdout + asked.stderr
+    root.dpkg("--force-confold", "--install", package)
+    assert options.read_text() == 'DCMBOX_OPTIONS="--ae MINE"\n'
+
+
 def test_its_changelog_names_the_version_and_its_day(tree, version):
     released = re.search(
         rf"^## {re.escape(version)}, (.*)$", (ROOT / "CHANGELOG.md").read_text(), re.M
@@ -106,6 +120,12 @@ def test_its_changelog_names_the_version_and_its_day(tree, version):
     changelog = gzip.open(tree / "usr/share/doc/dcmbox/changelog.gz", "rt").read()
     assert changelog.startswith(f"dcmbox ({version}) ")
     assert f" {day} " in changelog
+
+
+def test_readme_names_its_c_library(package, work):
+    depends = call(work, "dpkg-deb", "--field", package, "Depends").stdout
+    readme = (ROOT / "README.md").read_text()
+    assert re.findall(r"glibc ([\d.]+) or later", readme) == re.findall(r"libc6 \(>= ([\d.]+)\)", depends)
 
 
 def test_an_unreleased_version_has_no_package(work):

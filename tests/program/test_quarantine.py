@@ -1,9 +1,7 @@
 """The quarantine of `serve`: data sets that are refused for their contents, as received."""
 import re
-import shutil
 import signal
 import struct
-import tempfile
 import threading
 
 import pytest
@@ -277,16 +275,13 @@ def test_a_quarantine_that_fails(keeping, aside, is_replaced):
     assert send(box, data_set()) == "0000" and box.files() == ["I0000001"]
 
 
-def test_another_file_system(run, work, port):
-    folder = tempfile.mkdtemp(prefix="dcmbox-", dir="/dev/shm")
-    try:
-        (work / "received").mkdir()
-        done = run("serve", "--port", str(port), "--out", "received", "--quarantine", folder)
-        assert done.returncode == 3
-        assert "the quarantine can't be used: it is on another file system than" in done.stderr
-    finally:
-        shutil.rmtree(folder)
-    assert names(work / "received") == []
+def test_another_file_system(run, small_disk, port):
+    """The folders have the same inode number, and are not the same."""
+    folder, aside = (small_disk(name, "-t", "tmpfs", "tmpfs") for name in ("received", "aside"))
+    assert folder.stat().st_ino == aside.stat().st_ino
+    done = run("serve", "--port", str(port), "--out", "received", "--quarantine", "aside")
+    assert done.returncode == 3 and names(folder) == []
+    assert "the quarantine can't be used: it is on another file system than" in done.stderr
 
 
 @pytest.mark.parametrize(

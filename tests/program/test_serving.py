@@ -261,6 +261,17 @@ class TestRenewedCallers:
             file.write(b"SCANNER1")
         assert self.is_accepted(box)
 
+    def test_written_within_the_same_second_it_is_read_too(self, box, work):
+        """It has the same size and inode, and the second of its last change is that of the one before."""
+        path, times = work / "callers.txt", [0, 0]
+        while times[0] // 10**9 != times[1] // 10**9 or times[0] == times[1]:
+            times = []
+            for listed in (self.WAS, b"SCANNER1\n"):
+                assert not times or not self.is_accepted(box)
+                path.write_bytes(listed)
+                times.append(path.stat().st_ctime_ns)
+        assert self.is_accepted(box)
+
     def test_the_same_titles_are_no_change(self, box, change, work):
         change(self.WAS)
         os.utime(work / "callers.txt")

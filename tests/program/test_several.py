@@ -3,6 +3,7 @@
 Stalled peers do not block others, each data set arrives as it was sent, one address can't occupy
 every slot, and a stop lets stores end.
 """
+import contextlib
 import itertools
 import re
 import shutil
@@ -277,7 +278,9 @@ class TestFoldersThatAreMoved:
     def move(self, box, aside, ended):
         for number in itertools.count():
             for at, folder in enumerate(box.folder.glob("S???????")):
-                folder.rename(aside / f"{number}-{at}")
+                # (`remove` may have removed it)
+                with contextlib.suppress(FileNotFoundError):
+                    folder.rename(aside / f"{number}-{at}")
             if ended.wait(self.PAUSE):
                 return
 

@@ -129,6 +129,14 @@ class Units:
         self.running.append(process)
         return process
 
+    def stop_one(self, name, process, instance=""):
+        """Ends a unit's process by ExecStop, as `systemctl stop` does, and returns the status of the process."""
+        command = in_root(self.root, settings(self.unit(name).replace("%i", instance), "ExecStop")[-1])
+        stopping = subprocess.Popen(["sh", "-c", command], env={**os.environ, "MAINPID": str(process.pid)})
+        status = process.wait(PATIENCE)
+        assert stopping.wait(PATIENCE) == 0
+        return status
+
     def stop(self):
         for process in self.running:
             process.terminate()

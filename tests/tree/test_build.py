@@ -2,8 +2,10 @@
 
 The tests prove two libraries and a program over them; a further library of the tree has a false contract.
 """
+import contextlib
 import importlib.machinery
 import importlib.util
+import io
 import os
 import pathlib
 import subprocess
@@ -99,6 +101,13 @@ def test_a_program_is_proved_and_compiled(built):
     last = output.splitlines()[-1].removesuffix(" (shown and the crates below alone: not the gate)")
     assert status == 0 and last == "3 passed, 0 failed", output
     assert subprocess.check_output([tree / "crates/shown/out/shown"]) == b"6\n"
+
+
+@proves
+def test_the_progress_is_reported(built):
+    """Each crate waits for the one before."""
+    reported = [line.partition(",")[0] for line in built[2].splitlines() if " of 3 crates" in line]
+    assert reported == [f"{done} of 3 crates" for done in range(4)], built[2]
 
 
 @proves
@@ -226,6 +235,65 @@ def test_other_output_is_kept_whole(tool, output):
     assert tool.brief(output) == output
 
 
+# The crates that are done, of 35, the seconds that are left, and the line.
+PROGRESS = (
+    ("minutes", 22, 1210, "22 of 35 crates, some 20 minutes left"),
+    ("no whole minute", 34, 10, "34 of 35 crates, a minute left"),
+    ("the end", 35, 0, "35 of 35 crates"),
+)
+
+
+@pytest.mark.parametrize("done, seconds, line", cases(*PROGRESS))
+def test_the_progress_in_words(tool, done, seconds, line):
+    assert tool.progress(done, 35, seconds) == line
+
+
+class Screen(io.StringIO):
+    """A terminal."""
+
+    def isatty(self):
+        return True
+
+    def lines(self):
+        """Returns the lines that are seen."""
+        return [line.rsplit("\r\33[K", 1)[-1] for line in self.getvalue().split("\n")]
+
+
+def report_two(tool):
+    """Reports as a build does of which one crate is proved, one kept and one not proved."""
+    out = tool.Brief()
+    with contextlib.redirect_stdout(out):
+        out.report(0, 3, 300)
+        for name in ("three", "six"):
+            print(OUTPUT.format("sum", ""), end="")
+            print(f"rt: {name} {'is kept: ' if name == 'six' else 'proved'}")
+        out.report(2, 3, 120)
+        out.report(2, 3, 110)
+        print("rt: shown NOT PROVED")
+        out.end()
+    print("2 passed, 1 failed")
+
+
+def test_the_progress_on_a_terminal(tool, monkeypatch):
+    """It is one line; proved crates have no other."""
+    screen = Screen()
+    monkeypatch.setattr("sys.stdout", screen)
+    report_two(tool)
+    assert screen.lines() == ["rt: shown NOT PROVED", "2 of 3 crates, some 2 minutes left", "2 passed, 1 failed", ""]
+
+
+def test_the_progress_elsewhere(tool, capsys):
+    """It has a line after each crate."""
+    report_two(tool)
+    assert capsys.readouterr().out.splitlines() == [
+        "0 of 3 crates, some 5 minutes left",
+        *("== three", "logic=proved functions=1", "rt: note", "rt: three proved"),
+        *("== three", "logic=proved functions=1", "rt: note", "rt: six is kept: "),
+        "2 of 3 crates, some 2 minutes left",
+        *("rt: shown NOT PROVED", "2 passed, 1 failed"),
+    ]
+
+
 @pytest.fixture(scope="module")
 def run_parallel(tool):
     """The tool's function that runs tasks."""
@@ -269,6 +337,40 @@ def test_the_longest_chain_starts_first(run_parallel):
 
     run_parallel(tasks_of(call), 1)
     assert started == ["low", "top", "beside", "other", "above"]
+
+
+# The seconds that tasks take, in multiples of their own, and those that are left after each; the whole is 20.
+PACES = (
+    ("as expected", [1] * 5, [20, 19, 10, 5, 1, 0]),
+    ("twice as long", [2] * 5, [20, 38, 20, 10, 2, 0]),
+    ("kept by the toolchain", [0] * 5, [20, 19, 10, 5, 1, 0]),
+    ("one kept, the next half as long", [0, 0.5, 0.5, 0.5, 0.5], [20, 19, 5, 2.5, 0.5, 0]),
+)
+
+
+@pytest.mark.parametrize("paces, expected", cases(*PACES))
+def test_the_time_that_is_left(tool, monkeypatch, paces, expected):
+    """It is what the other tasks take at the pace of those that ended."""
+    time_now, ended, left = [0], [], []
+
+    def call(key, _results, _jobs):
+        time_now[0] += TASKS[key][1] * paces[len(ended)]
+        ended.append(key)
+
+    def report(results, seconds):
+        if len(results) == len(left):
+            left.append(seconds)
+
+    monkeypatch.setattr(tool, "clock", lambda: time_now[0])
+    tool.run_parallel(tasks_of(call), 1, report)
+    assert left == expected
+
+
+def test_the_longest_chain_may_last_longer_than_the_others(tool):
+    """Its tasks have two jobs, which are 1.7 times as fast."""
+    left = []
+    tool.run_parallel(tasks_of(lambda *_: None), 4, lambda _results, seconds: left.append(seconds))
+    assert left[0] == 11 / 1.7
 
 
 @pytest.mark.parametrize("most", [1, 2, 3, 4])

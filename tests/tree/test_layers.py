@@ -5,7 +5,9 @@ module `Public`, and no other lemma. Each lemma of `Public` is the contract of a
 `specs/machine` is private to its crate: no other crate names it, and no definition outside it
 depends on it, so no public clause does. To make this checkable, no file names a crate's
 definitions, proofs or machine as a whole. An association allocates no memory: its crates name no
-allocator and nothing that needs one, except the devices over memory and over a folder.
+allocator and nothing that needs one, except the devices over memory and over a folder. A file is
+created by `File::create_new` and never opened to write what is there, perhaps through a link. A sender
+removes files in one place.
 """
 import re
 
@@ -22,6 +24,8 @@ MACHINE = re.compile(r"Rattle\.([a-z0-9_]+)\.specs\.machine|\b([a-z0-9_]+)::spec
 ALLOCATING = re.compile(
     r"\b(Alloc|AllocGlobal|Allocator|Global|alloc|Vec|String|Box|Rc|Arc|format!)"
 )
+# How a file might be opened to write it that is there already, as crates of tests do.
+WRITING = re.compile(r"\bFile::(create|options)\b|\bOpenOptions::|\bfs::(write|copy)\b")
 # The crates of an association, and their files that are devices.
 ASSOCIATION = (
     "element dictionary sequence pdu acceptor negotiate dimse part10 folder_filing decisions engine"
@@ -121,6 +125,34 @@ def allocations(tree):
     ]
 
 
+def other_writes(tree):
+    """Returns the lines of code that open a file to write it and may not create it."""
+    return [
+        f"{location}: {line}"
+        for crate in crates(tree)
+        for _, location, line in lines(tree, crate, "src", [".rt"])
+        if WRITING.search(line) and crate != "fixtures" and not crate.endswith("_tests")
+    ]
+
+
+def removals(tree):
+    """Returns the files of the sender's crates that remove a file, or make what removes files."""
+    return [
+        f"{name}: {found[0]}"
+        for crate in ("sending", "send_command")
+        for name, _, line in lines(tree, crate, "src", [".rt"])
+        if (found := re.search(r"\bremove_file\(|\bRemovals::new\(", line))
+    ]
+
+
+def test_a_sender_removes_files_in_one_place():
+    """Contracts say nothing of a call that removes a file, only of the one that records it."""
+    assert removals(ROOT) == [
+        "crates/send_command/src/sender.rt: Removals::new(",
+        "crates/sending/src/removing.rt: remove_file(",
+    ][::-1]
+
+
 def test_no_file_names_a_crate_as_a_whole():
     assert wholes(ROOT) == []
 
@@ -145,6 +177,10 @@ def test_an_association_names_no_allocator():
     assert allocations(ROOT) == []
 
 
+def test_files_are_created_to_be_written():
+    assert other_writes(ROOT) == []
+
+
 CHECKS = [
     wholes,
     private_lemmas,
@@ -152,6 +188,7 @@ CHECKS = [
     definitions_on_machines,
     lemmas_of_no_law,
     allocations,
+    other_writes,
 ]
 
 
@@ -256,6 +293,14 @@ TURNING = "use Rattle.engine.specs.machine.Turning.{Turning}\n"
             "pub use",
             "use low::proofs::Lemmas;\npub use",
             "crates/high/src/lib.rt:2: low::proofs::Lemmas",
+        ),
+        (
+            "a file that is opened where it is",
+            other_writes,
+            NUMBER,
+            "pub struct",
+            "// File::create(rt, path)\npub struct",
+            f"{NUMBER}:3: // File::create(rt, path)",
         ),
         (
             "a public lemma of no law",

@@ -5,6 +5,7 @@ from trees import ROOT, change, run
 
 TABLES, STATEMENT = "docs/tables.json", "docs/CONFORMANCE.md"
 MANUAL, COMPLETION = "man/dcmbox.1", "packaging/dcmbox.bash"
+CODE, DEFINITION = "crates/arguments/src/command.rt", "crates/arguments/specs/CommandLine.antt"
 STALE = " is out of date: run tools/tables\n"
 
 
@@ -27,21 +28,28 @@ def test_tables_are_up_to_date():
             TABLES,
             '"default": "16384"',
             '"default": "16385"',
-            f"{TABLES}: --max-pdu is not what serve has",
+            f"{CODE}{STALE}",
         ),
         (
-            "another help",
-            "crates/arguments/src/command.rt",
+            "an option of the code changed by hand",
+            CODE,
             "Ends after one association",
             "Ends after two associations",
-            f"{TABLES}: --once is not what serve has",
+            f"{CODE}{STALE}",
         ),
         (
             "an option that the table lacks",
             TABLES,
             '"no-sync", "once"',
             '"no-sync"',
-            f"{TABLES}: serve has --once, too\n",
+            f"{CODE}{STALE}",
+        ),
+        (
+            "an option of the definition changed by hand",
+            DEFINITION,
+            'flag_rule (codes "once")',
+            'free (codes "once")',
+            f"{DEFINITION}{STALE}",
         ),
         (
             "a limit that differs from the code",

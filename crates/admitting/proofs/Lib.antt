@@ -1,3 +1,4 @@
 pub mod PeersStayWithinLimit
 pub mod FirstAdmittedGetsSlot
 pub mod FirstNamedLeaves
+pub mod VacantSlotsAreFreed

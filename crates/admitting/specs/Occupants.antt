@@ -1,6 +1,6 @@
 -- The slots of a server, one for each connection that can be served at a time: each is free or belongs to a peer.
 -- This product's own profile.
-use Rattle.std.specs.Prelude.{◌≡◌, ℕ, suc, ◌<◌, ◌≤◌, List, [], ◌∷◌, Option, Some, None, nat_eq, if◌then◌else◌, set}
+use Rattle.std.specs.Prelude.{◌≡◌, ℕ, suc, ◌<◌, ◌≤◌, Bool, List, [], ◌∷◌, Option, Some, None, nat_eq, if◌then◌else◌, set}
 use Rattle.admitting.specs.declared.slots.Admission.{Admission}
 use Rattle.admitting.specs.declared.slots.Admission.TheVariants as admission
 
@@ -8,6 +8,16 @@ use Rattle.admitting.specs.declared.slots.Admission.TheVariants as admission
 pub record Occupants : Type 0 where
   pub peers : List (Option ℕ)
   pub per_peer : ℕ
+
+-- the peers of these slots without those whose place has no connection, by whether each place has one
+abbrev pub without_vacant : List Bool → List (Option ℕ) → List (Option ℕ)
+without_vacant [] peers = peers
+without_vacant (is_occupied ∷ places) [] = []
+without_vacant (is_occupied ∷ places) (peer ∷ peers) = (if is_occupied then peer else None) ∷ without_vacant places peers
+
+-- the slots after those whose place has no connection were freed
+abbrev pub after_freeing : List Bool → Occupants → Occupants
+after_freeing places occupants = record occupants { peers = without_vacant places occupants.peers }
 
 -- how many slots this peer has
 abbrev pub slots_of : ℕ → List (Option ℕ) → ℕ

@@ -5,10 +5,12 @@
 
 mod notice;
 mod peer;
+mod places;
 mod queue;
 mod slots;
 
 pub use notice::Notice;
 pub use peer::peer_number;
+pub use places::Occupiable;
 pub use queue::{Queue, Waiter};
 pub use slots::{Admission, Slots};

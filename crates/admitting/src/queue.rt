@@ -1,7 +1,9 @@
 //! The queue of connections that wait for a slot.
-ghost use Rattle.std.specs.Prelude.{◌≡◌, ◌≤◌, ◌<◌, ◌==◌, ◌↔◌, [], ◌∷◌, ◌++◌, IfOk, IsTrue, length, true, false};
+ghost use Rattle.std.specs.Prelude.{◌≡◌, ◌≤◌, ◌<◌, ◌==◌, ◌↔◌, [], ◌∷◌, ◌++◌, IfOk, IsTrue, length, map, true, false};
 ghost use Rattle.std.specs.Vec.{vec_capacity};
+ghost use Rattle.admitting.specs.Occupants.{after_freeing};
 
+use crate::places::{Occupiable, free_vacant};
 use crate::slots::{Admission, Slots};
 use std::alloc::{AllocError, Allocator};
 
@@ -57,7 +59,7 @@ impl<T: Drop, A: Allocator> Queue<T, A> {
         ensures finds { FindsFirst (waiting_in self.now) slots.old slots.new result }
     {
         for at in 0..self.waiters.len() {
-            match slots.admit(self.waiters[at].peer) {
+            match slots.give(self.waiters[at].peer) {
                 Admission::Slot(slot) => return Some((at, slot)),
                 Admission::Full => return None,
                 Admission::PeerFull => {}
@@ -66,12 +68,18 @@ impl<T: Drop, A: Allocator> Queue<T, A> {
         None
     }
 
-    /// Gives the first free slot to the first connection whose peer may have it. Removes and
-    /// returns the connection, with the index of the slot, or returns `None` if none gets a slot.
-    pub fn admit(&mut self, slots: &mut Slots<A>) -> Option<(Waiter<T>, usize)>
-        ensures admits { AdmitsFirst (waiting_in self.old) (waiting_in self.new) slots.old slots.new result }
+    /// Gives the first free slot to the first connection whose peer may have it. Before that, frees
+    /// each slot whose place has no connection. Removes and returns the connection, with the index of
+    /// the slot, or returns `None` if none gets a slot.
+    pub fn admit<P: Occupiable>(
+        &mut self,
+        slots: &mut Slots<A>,
+        places: &[P],
+    ) -> Option<(Waiter<T>, usize)>
+        ensures admits { AdmitsFirst (waiting_in self.old) (waiting_in self.new) (after_freeing (map P.is_occupied places.now) slots.old) slots.new result }
         ensures same_most { most_in self.new ≡ most_in self.old }
     {
+        free_vacant(slots, places);
         let (at, slot) = self.find(slots)?;
         Some((self.waiters.remove(at), slot))
     }

@@ -1,7 +1,8 @@
 //! Limits how many connections are served at a time, in all and of one peer.
-ghost use Rattle.std.specs.Prelude.{◌≡◌, ◌<◌, ◌≤◌, ℕ, IfOk, IfSome, None, get_or, length, replicate, set};
-ghost use Rattle.admitting.specs.Occupants.{Admits, slots_of, first_vacancy};
+ghost use Rattle.std.specs.Prelude.{◌≡◌, ◌<◌, ◌≤◌, ℕ, IfOk, IfSome, None, get_or, length, map, replicate, set};
+ghost use Rattle.admitting.specs.Occupants.{Admits, after_freeing, first_vacancy, slots_of};
 
+use crate::places::{Occupiable, free_vacant};
 use std::alloc::{AllocError, Allocator};
 use std::marker::Model;
 
@@ -79,8 +80,18 @@ impl<A: Allocator> Slots<A> {
         None
     }
 
+    /// Gives the first free slot to a peer, unless the peer has as many as it may have. Before that,
+    /// frees each slot whose place has no connection.
+    pub fn admit<P: Occupiable>(&mut self, peer: u128, places: &[P]) -> Admission
+        ensures admits { Admits peer (after_freeing (map P.is_occupied places.now) self.old) self.new result }
+        ensures same_limit { self.new.per_peer ≡ self.old.per_peer }
+    {
+        free_vacant(self, places);
+        self.give(peer)
+    }
+
     /// Gives the first free slot to a peer, unless the peer has as many as it may have.
-    pub fn admit(&mut self, peer: u128) -> Admission
+    pub(crate) fn give(&mut self, peer: u128) -> Admission
         ensures admits { Admits peer self.old self.new result }
         ensures same_limit { self.new.per_peer ≡ self.old.per_peer }
     {
@@ -97,7 +108,7 @@ impl<A: Allocator> Slots<A> {
     }
 
     /// Frees the slot with this index.
-    pub fn leave(&mut self, slot: usize)
+    pub(crate) fn leave(&mut self, slot: usize)
         requires slot { slot < length self.old.peers }
         ensures remaining { self.new.peers ≡ set self.old.peers slot None }
         ensures same_limit { self.new.per_peer ≡ self.old.per_peer }
@@ -105,16 +116,18 @@ impl<A: Allocator> Slots<A> {
         self.peers[slot] = None;
     }
 
-    /// Returns the peer of the slot with this index, or `None` if it is free.
+    /// Returns the peer of the slot with this index, or `None` if it is free or there is no such slot.
     pub fn peer(&self, slot: usize) -> Option<u128>
-        requires slot { slot < length self.now.peers }
         ensures { result ≡ get_or self.now.peers slot None }
     {
-        self.peers.as_slice()[slot]
+        match self.peers.get(slot) {
+            Some(peer) => *peer,
+            None => None,
+        }
     }
 
     /// Returns the number of slots, free or not.
-    pub fn len(&self) -> usize
+    pub(crate) fn len(&self) -> usize
         ensures { result ≡ length self.now.peers }
     {
         self.peers.len()

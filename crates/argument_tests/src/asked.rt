@@ -1,7 +1,7 @@
 //! Checks the settings of command lines given in text: a further line needs no proof.
 use arguments::{
-    CheckArguments, FolderLayout, Index, Job, ListArguments, LogForm, Replay, Serve, ShowArguments,
-    WordsError, index_settings, read_words, replay_settings, serve_settings,
+    CommandName, FolderLayout, Given, Index, LogForm, Replay, Serve, WordsError, index_settings,
+    read_words, replay_settings, serve_settings,
 };
 use cases::Case;
 use dictionary::Transfer;
@@ -112,23 +112,21 @@ fn seen(alloc: Global, asked: &Asked, name: &str) -> Result<String, Fail> {
         Ok(job) => job,
         Err(error) => return refusal(alloc, &error, name),
     };
-    match &job {
-        Job::Serve(arguments) => match serve_settings(alloc, arguments, asked.listed.as_str()) {
+    let given = &job.given;
+    match job.command {
+        CommandName::Serve => match serve_settings(alloc, given, asked.listed.as_str()) {
             Ok(serve) => of_serve(alloc, &serve, name),
             Err(error) => refusal(alloc, &error, name),
         },
-        Job::Replay(arguments) => match replay_settings(alloc, arguments) {
+        CommandName::Replay => match replay_settings(alloc, given) {
             Ok(replay) => of_replay(alloc, &replay, name),
             Err(error) => refusal(alloc, &error, name),
         },
-        Job::Index(arguments) => match index_settings(alloc, arguments) {
+        CommandName::Index => match index_settings(alloc, given) {
             Ok(index) => of_index(alloc, &index, name),
             Err(error) => refusal(alloc, &error, name),
         },
-        Job::Show(arguments) => of_show(alloc, arguments, name),
-        Job::Check(arguments) => of_check(alloc, arguments, name),
-        Job::List(arguments) => of_list(alloc, arguments, name),
-        _ => Err(Fail::from("another job")),
+        _ => of_given(alloc, given, name),
     }
 }
 
@@ -314,40 +312,15 @@ fn joined(alloc: Global, texts: &[&str]) -> Result<String, Fail> {
     Ok(joined)
 }
 
-fn of_show(alloc: Global, show: &ShowArguments, name: &str) -> Result<String, Fail> {
+/// Returns the values of an argument, or whether an option without a value is given.
+fn of_given(alloc: Global, given: &Given, name: &str) -> Result<String, Fail> {
     match name {
-        "files" => joined(alloc, show.files.as_slice()),
-        "tags" => joined(alloc, show.tags.as_slice()),
-        "values" => owned(alloc, yes(show.values)),
-        "all-syntaxes" => owned(alloc, yes(show.all_syntaxes)),
-        "any" => owned(alloc, yes(show.any)),
+        "files" => joined(alloc, given.all("FILE")),
+        "folders" => joined(alloc, given.all("DIR")),
+        "tags" => joined(alloc, given.all("tag")),
+        "conditions" => joined(alloc, given.all("where")),
+        "columns" => owned(alloc, given.get("columns").unwrap_or("none")),
         "refused" | "fails" => owned(alloc, "no"),
-        _ => Err(unknown(name)),
+        _ => owned(alloc, yes(given.flag(name))),
     }
-}
-
-fn of_list(alloc: Global, list: &ListArguments, name: &str) -> Result<String, Fail> {
-    match name {
-        "folders" => joined(alloc, list.dirs.as_slice()),
-        "conditions" => joined(alloc, list.conditions.as_slice()),
-        "columns" => owned(alloc, list.columns.unwrap_or("none")),
-        "series" => owned(alloc, yes(list.series)),
-        "refused" | "fails" => owned(alloc, "no"),
-        _ => Err(unknown(name)),
-    }
-}
-
-fn of_check(alloc: Global, check: &CheckArguments, name: &str) -> Result<String, Fail> {
-    let is = match name {
-        "files" => return joined(alloc, check.files.as_slice()),
-        "values" => check.values,
-        "strict" => check.strict,
-        "json" => check.json,
-        "recursive" => check.recursive,
-        "all-syntaxes" => check.all_syntaxes,
-        "any" => check.any,
-        "refused" | "fails" => false,
-        _ => return Err(unknown(name)),
-    };
-    owned(alloc, yes(is))
 }

@@ -1,5 +1,4 @@
 mod SubcommandHasItsRows
 mod TableRowsAreAdded
-mod ValuesKeepTheirOrder
 mod TransfersAreAsAsked
 mod LinesGiveTheirTitles

@@ -1,6 +1,6 @@
 -- The titles of the lines of a file, one line more (`title_more`, `no_title_more`), and with those of options
--- (`with_named`). Stands on the definitions alone.
-use Rattle.std.proofs.Common.{◌≡◌, ◌<◌, ◌+◌, ◌∙◌, ◌++◌, ◌∷◌, [], ℕ, List, Option, Some, true, false, cond, Bor, length, get_or, take, filter, map, ap, ap₂, refl, sym, arith}
+-- (`with_named`), where a file may be named (`some_named`). Stands on the definitions alone.
+use Rattle.std.proofs.Common.{◌≡◌, ◌<◌, ◌+◌, ◌∙◌, ◌++◌, ◌∷◌, [], ℕ, List, Option, Some, None, IfSome, option_map, true, false, cond, Bor, length, get_or, take, filter, map, ap, ap₂, refl, sym, arith}
 use Rattle.std.proofs.lemmas.List.{get_or-map, map-append, length-map, append-nil}
 use Rattle.std.proofs.lemmas.List.Elements.{filter_more}
 use Rattle.element.specs.declared.title.AeTitle.{AeTitle}
@@ -44,3 +44,7 @@ with_named listed named first last titles read each is =
     ∙ ap₂ (λ (xs ys : List (Option (List ℕ))). xs ++ ys) read (read_each named ∙ each)
     ∙ sym (ap (map Some) (ap (map (λ (t : AeTitle). t.0)) is ∙ map-append (λ (t : AeTitle). t.0) first last)
     ∙ map-append Some (map (λ (t : AeTitle). t.0) first) (map (λ (t : AeTitle). t.0) last))
+
+pub some_named : (o : Option (Bor (List ℕ))) (named : Option (List ℕ)) (P : Type 0) → named ≡ option_map (λ t. t.now) o → IfSome o (λ path. P) → IfSome named (λ path. P)
+some_named None named P is h = rw is tt
+some_named (Some path) named P is h = rw is h

@@ -1,6 +1,8 @@
--- The subcommand that is found has its name and its rows (`found_pair`, `names_rows`), and an argument has the values
--- that are found for it, or none (`values_by`). Stands on the definitions alone.
-use Rattle.std.proofs.Common.{◌≡◌, List, [], Option, Some, None, IfSome, option_map, unwrap_or, map, Bor, refl, ap₂, subst, sym, Box}
+-- The subcommand that is found has its name and its rows (`found_pair`, `names_rows`), which are those of the job
+-- (`job_is`), and an argument has the values that are found for it, or none (`values_by`). Stands on the definitions
+-- alone.
+use Rattle.std.proofs.Common.{◌≡◌, ◌∙◌, List, [], Option, Some, None, option_map, unwrap_or, map, Bor, refl, ap₂, sym, Box}
+use Rattle.std.specs.Option.{UnwrapsOrElse}
 use Rattle.std.specs.Box.{box_value}
 use Rattle.clap.specs.Walk.{Row, Text}
 use Rattle.clap.specs.Simple.{subcommand_rows}
@@ -16,11 +18,11 @@ names_rows None = refl
 names_rows (Some b) = refl
 
 -- the values behind an optional slice, and none where it is missing
-pub values_by : (o : Option (Bor (List (Bor Text)))) (d : Bor (List (Bor Text))) (r : Option (List Text)) → d.now ≡ [] → option_map (λ s. map (λ v. v.now) s.now) o ≡ r
-    → map (λ w. w.now) (unwrap_or o d).now ≡ unwrap_or r []
+pub values_by : (o : Option (Bor (List (Bor Text)))) (d : Bor (List (Bor Text))) (r : Option (List Text)) → UnwrapsOrElse o (λ x. x.now ≡ []) d
+    → option_map (λ s. map (λ v. v.now) s.now) o ≡ r → map (λ w. w.now) d.now ≡ unwrap_or r []
 values_by None d r e h = rw (← h, e) refl
-values_by (Some s) d r e h = rw (← h) refl
+values_by (Some s) d r e h = rw (← h, e) refl
 
-pub if_some_at : {A : Type 0} (o : Option A) (a : A) (P : A → Type 0) → o ≡ Some a → IfSome o P → P a
-if_some_at None a P e h = absurd cc
-if_some_at (Some b) a P e h = let same : b ≡ a = cc in subst P same h
+-- the job is the subcommand with its rows
+pub job_is : (found : Option (Text × List Row)) (n m : Text) (rows given : List Row) → found ≡ Some (n, rows) → m ≡ n → given ≡ rows → found ≡ Some (m, given)
+job_is found n m rows given is name same = is ∙ sym (ap₂ (λ (k : Text) (l : List Row). Some (k, l)) name same)

@@ -1,18 +1,15 @@
 -- The settings of `serve`, `replay` and `index` that their arguments determine (this product's own profile).
-use Rattle.std.specs.Prelude.{◌≡◌, ℕ, ◌*◌, ◌^◌, ◌≤◌, ⊤, Bool, not, true, false, List, [], ◌++◌, if◌then◌else◌, nat_eq, map, Option, Some, None, codes, option_map, unwrap_or}
-use Rattle.std.specs.Duration.{as_nanos}
+use Rattle.std.specs.Prelude.{◌≡◌, ℕ, ◌^◌, ◌≤◌, ⊤, Bool, not, true, false, List, [], ◌++◌, if◌then◌else◌, nat_eq, map, Option, Some, None, IsSomeAnd, codes, option_map, unwrap_or}
 use Rattle.std.specs.Str.Parse.{IsNumeral, digits_value, without_leading_plus}
-use Rattle.std.specs.declared.time.Duration.{Duration}
 use Rattle.log.specs.declared.level.Level.{Level}
 use Rattle.log.specs.declared.level.Level.TheVariants.{Warn, Info, Debug, Trace}
+use Rattle.clap.specs.Walk.{Row, count_of, first_of}
 use Rattle.element.specs.Title.{title_of_text}
 use Rattle.element.specs.Uid.{uid_of}
 use Rattle.dictionary.specs.declared.transfer.Transfer.{Transfer}
 use Rattle.dictionary.specs.Transfers.{encapsulated_transfers, transfer_of}
 use Rattle.negotiate.specs.Settings.{registered, settings_of, default_max_pdu, default_max_data}
-use Rattle.arguments.specs.declared.values.IndexArguments.{IndexArguments}
-use Rattle.arguments.specs.declared.values.ReplayArguments.{ReplayArguments}
-use Rattle.arguments.specs.declared.values.ServeArguments.{ServeArguments}
+use Rattle.arguments.specs.CommandLine.{is_given, values_of}
 use Rattle.arguments.specs.declared.options.FolderLayout.{FolderLayout}
 use Rattle.arguments.specs.declared.options.FolderLayout.TheVariants.{Flat, Levels}
 use Rattle.arguments.specs.declared.options.LogForm.{LogForm}
@@ -27,10 +24,6 @@ pub record Spells (least most : ℕ) (text : List ℕ) (number : ℕ) : Type 0 w
   pub value : number ≡ digits_value 10 (without_leading_plus text)
   pub from : least ≤ number
   pub to : number ≤ most
-
--- a time that a text spells in seconds, of one second to a day
-abbrev pub SpellsTime : List ℕ → Duration → Type 0
-SpellsTime text time = (seconds : ℕ) × Spells 1 86400 text seconds × (as_nanos time ≡ seconds * 1_000_000_000)
 
 -- how much is logged with so many -v
 abbrev pub verbosity : ℕ → Level
@@ -66,47 +59,48 @@ pub record AsksFor (all : Bool) (texts : List (List ℕ)) (transfers : List Tran
   pub accepted : transfers ≡ (if all then encapsulated_transfers else named)
 
 -- the settings of `serve` are those of its arguments
-pub record IsServed (serve : Serve) (a : ServeArguments) : Type 0 where
-  pub bind : serve.bind.now ≡ a.bind.now
-  pub port : Spells 1 65535 a.port.now serve.port
-  pub listen : map (λ t. t.now) serve.listen.items ≡ map (λ t. t.now) a.listen.items
-  pub out : serve.out.now ≡ a.out.now
-  pub called : map (λ t. title_of_text t.now) a.titles.items ≡ map Some (settings_of serve.config).called
-  pub any_called : (settings_of serve.config).any_called ≡ a.any_called
-  pub max_pdu : Spells 1024 131_072 a.max_pdu.now (settings_of serve.config).max_pdu
-  pub max_data : Spells 1024 (2 ^ 48) a.max_data.now (settings_of serve.config).max_data
-  pub classes : map Some (settings_of serve.config).additional.classes ≡ map (λ t. uid_of t.now) a.storage_classes.items ++ map Some (registered a.all_storage)
-  pub transfers : AsksFor a.all_syntaxes (map (λ t. t.now) a.transfer_syntaxes.items) (settings_of serve.config).additional.transfers
-  pub level : IsLevel a.verbose a.quiet serve.level
-  pub form : IsForm serve.form (unwrap_or (option_map (λ t. t.now) a.log) (codes "text"))
-  pub layout : IsLayout serve.layout (option_map (λ t. t.now) a.per)
-  pub numbers : option_map (λ t. t.now) serve.numbers ≡ option_map (λ t. t.now) a.numbers
-  pub sync : serve.sync ≡ not a.no_sync
-  pub metrics : option_map (λ t. t.now) serve.metrics ≡ option_map (λ t. t.now) a.metrics
+pub record IsServed (serve : Serve) (rows : List Row) : Type 0 where
+  pub bind : first_of (codes "bind") rows ≡ Some serve.bind.now
+  pub port : IsSomeAnd (first_of (codes "port") rows) (λ text. Spells 1 65535 text serve.port)
+  pub listen : map (λ t. t.now) serve.listen.items ≡ values_of rows (codes "listen")
+  pub out : first_of (codes "out") rows ≡ Some serve.out.now
+  pub called : map title_of_text (values_of rows (codes "ae")) ≡ map Some (settings_of serve.config).called
+  pub any_called : (settings_of serve.config).any_called ≡ is_given rows (codes "any-called")
+  pub max_pdu : IsSomeAnd (first_of (codes "max-pdu") rows) (λ text. Spells 1024 131_072 text (settings_of serve.config).max_pdu)
+  pub max_data : IsSomeAnd (first_of (codes "max-data") rows) (λ text. Spells 1024 (2 ^ 48) text (settings_of serve.config).max_data)
+  pub classes : map Some (settings_of serve.config).additional.classes ≡ map uid_of (values_of rows (codes "storage-class")) ++ map Some (registered (is_given rows (codes "all-storage")))
+  pub transfers : AsksFor (is_given rows (codes "all-syntaxes")) (values_of rows (codes "transfer-syntax")) (settings_of serve.config).additional.transfers
+  pub level : IsLevel (count_of (codes "verbose") rows) (is_given rows (codes "quiet")) serve.level
+  pub form : IsForm serve.form (unwrap_or (first_of (codes "log") rows) (codes "text"))
+  pub layout : IsLayout serve.layout (first_of (codes "per") rows)
+  pub numbers : first_of (codes "numbers") rows ≡ option_map (λ t. t.now) serve.numbers
+  pub sync : serve.sync ≡ not (is_given rows (codes "no-sync"))
+  pub metrics : first_of (codes "metrics") rows ≡ option_map (λ t. t.now) serve.metrics
 
 -- the settings of `replay` are those of its arguments; any title may call, and the limits are the defaults
-pub record IsReplayed (replay : Replay) (a : ReplayArguments) : Type 0 where
-  pub file : replay.file.now ≡ a.file.now
-  pub out : replay.out.now ≡ a.out.now
-  pub called : map (λ t. title_of_text t.now) a.titles.items ≡ map Some (settings_of replay.config).called
+pub record IsReplayed (replay : Replay) (rows : List Row) : Type 0 where
+  pub file : first_of (codes "FILE") rows ≡ Some replay.file.now
+  pub out : first_of (codes "out") rows ≡ Some replay.out.now
+  pub called : map title_of_text (values_of rows (codes "ae")) ≡ map Some (settings_of replay.config).called
   pub any_called : (settings_of replay.config).any_called ≡ false
   pub callers : (settings_of replay.config).callers ≡ []
   pub max_pdu : (settings_of replay.config).max_pdu ≡ default_max_pdu
   pub max_data : (settings_of replay.config).max_data ≡ default_max_data
-  pub classes : map Some (settings_of replay.config).additional.classes ≡ map (λ t. uid_of t.now) a.storage_classes.items ++ map Some (registered a.all_storage)
-  pub transfers : AsksFor a.all_syntaxes (map (λ t. t.now) a.transfer_syntaxes.items) (settings_of replay.config).additional.transfers
-  pub cut : Spells 1 65536 a.cut.now replay.cut
-  pub layout : IsLayout replay.layout (option_map (λ t. t.now) a.per)
+  pub classes : map Some (settings_of replay.config).additional.classes ≡ map uid_of (values_of rows (codes "storage-class")) ++ map Some (registered (is_given rows (codes "all-storage")))
+  pub transfers : AsksFor (is_given rows (codes "all-syntaxes")) (values_of rows (codes "transfer-syntax")) (settings_of replay.config).additional.transfers
+  pub cut : IsSomeAnd (first_of (codes "cut") rows) (λ text. Spells 1 65536 text replay.cut)
+  pub layout : IsLayout replay.layout (first_of (codes "per") rows)
 
 -- the settings of `index` are those of its arguments
-pub record IsIndexed (index : Index) (a : IndexArguments) : Type 0 where
-  pub dir : index.dir.now ≡ a.dir.now
-  pub uid : IsDirectoryUid index.uid (option_map (λ t. t.now) a.uid) a.new_uid
-  pub descriptions : index.descriptions ≡ a.descriptions
-  pub all_syntaxes : index.all_syntaxes ≡ a.all_syntaxes
-  pub any_name : index.any_name ≡ a.any_name
-  pub keep : index.keep ≡ a.keep
-  pub drop : index.drop ≡ a.drop
-  pub replace : index.replace ≡ a.replace
-  pub strict : index.strict ≡ a.strict
-  pub json : index.json ≡ a.json
+pub record IsIndexed (index : Index) (rows : List Row) : Type 0 where
+  pub dir : first_of (codes "DIR") rows ≡ Some index.dir.now
+  pub uid : IsDirectoryUid index.uid (first_of (codes "uid") rows) (is_given rows (codes "new-uid"))
+  pub descriptions : index.descriptions ≡ is_given rows (codes "descriptions")
+  pub all_syntaxes : index.all_syntaxes ≡ is_given rows (codes "all-syntaxes")
+  pub any_name : index.any_name ≡ is_given rows (codes "any-name")
+  pub ignore_others : index.ignore_others ≡ is_given rows (codes "ignore-others")
+  pub follow : index.follow ≡ is_given rows (codes "follow")
+  pub keep : index.keep ≡ is_given rows (codes "keep")
+  pub replace : index.replace ≡ is_given rows (codes "replace")
+  pub strict : index.strict ≡ is_given rows (codes "strict")
+  pub json : index.json ≡ is_given rows (codes "json")

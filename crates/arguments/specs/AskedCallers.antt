@@ -1,10 +1,11 @@
 -- Which titles may call, by the arguments of `serve` and the text of a file of titles (this product's own profile).
-use Rattle.std.specs.Prelude.{ℕ, ◌<◌, Bool, not, ◌&&◌, ◌||◌, List, [], ◌++◌, length, nat_eq, map, filter, Option, Some, None, IfSome, codes, option_map}
+use Rattle.std.specs.Prelude.{ℕ, ◌<◌, Bool, not, ◌&&◌, ◌||◌, List, [], ◌++◌, length, nat_eq, map, filter, Option, Some, None, IfSome, codes}
 use Rattle.std.specs.List.{list_all, starts_with}
 use Rattle.std.specs.List.Sorted.{IsPermutation}
 use Rattle.std.specs.Str.Lines.{lines}
 use Rattle.element.specs.Title.{title_of_text}
-use Rattle.arguments.specs.declared.values.ServeArguments.{ServeArguments}
+use Rattle.clap.specs.Walk.{Row, first_of}
+use Rattle.arguments.specs.CommandLine.{values_of}
 
 -- whether a line is blank: it has only spaces and tabs
 abbrev pub is_blank : List ℕ → Bool
@@ -25,6 +26,6 @@ titles_of_file (Some path) text = listed_titles text
 
 -- the titles that may call are those of the named file and those of the options, in some order; a named file has at least
 -- one title
-pub record AreCallers (callers : List (List ℕ)) (a : ServeArguments) (text : List ℕ) : Type 0 where
-  pub titles : IsPermutation (map title_of_text (titles_of_file (option_map (λ t. t.now) a.callers_file) text ++ map (λ t. t.now) a.callers.items)) (map Some callers)
-  pub some : IfSome a.callers_file (λ path. 0 < length (listed_titles text))
+pub record AreCallers (callers : List (List ℕ)) (rows : List Row) (text : List ℕ) : Type 0 where
+  pub titles : IsPermutation (map title_of_text (titles_of_file (first_of (codes "callers") rows) text ++ values_of rows (codes "caller"))) (map Some callers)
+  pub some : IfSome (first_of (codes "callers") rows) (λ path. 0 < length (listed_titles text))

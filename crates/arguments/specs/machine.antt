@@ -1,3 +1,2 @@
 -- What the code's private functions are proved against; no public contract cites it.
 pub mod Tables
-pub mod Needs

@@ -1,13 +1,15 @@
 //! Reads the AE titles that a peer may call, and those of the peers that may call.
-ghost use Rattle.std.specs.Prelude.{◌≡◌, ◌<◌, ◌≤◌, ◌∷◌, IfOk, IfSome, Some, length, map, nat_eq, option_map};
+ghost use Rattle.std.specs.Prelude.{◌≡◌, ◌<◌, ◌≤◌, ◌∷◌, IfOk, IfSome, Some, codes, length, map, nat_eq, option_map};
 ghost use Rattle.std.specs.List.{list_all};
 ghost use Rattle.std.specs.Str.Lines.{lines};
 ghost use Rattle.element.specs.Title.{title_of_text};
 ghost use Rattle.arguments.specs.AskedCallers as asked;
 ghost use Rattle.arguments.specs.AskedCallers.{AreCallers};
+ghost use Rattle.arguments.specs.CommandLine.{values_of};
 
+use crate::given::Given;
 use crate::settings::title;
-use crate::values::{MOST_TITLES, MOST_VALUES, ServeArguments};
+use crate::words::{MOST_TITLES, MOST_VALUES};
 use arrayvec::ArrayVec;
 use element::AeTitle;
 use failures::WordsError;
@@ -47,12 +49,8 @@ fn lines_of<'a>(alloc: Global, text: &'a str) -> Result<Vec<&'a str>, AllocError
 
 /// Returns the error for too many titles of peers that may call.
 fn too_many_titles(alloc: Global) -> WordsError {
-    match format!(in alloc;
-        "error: --callers and --caller may name {MOST_CALLERS} titles at most\n"
-    ) {
-        Ok(text) => WordsError::Refused(text),
-        Err(error) => WordsError::Memory(error),
-    }
+    let reason = format_args!("--callers and --caller may name {MOST_CALLERS} titles at most");
+    WordsError::refused(alloc, reason)
 }
 
 /// Reads the title in the line with this number, counted from 1.
@@ -60,18 +58,20 @@ fn line_title(alloc: Global, path: &str, number: usize, line: &str) -> Result<Ae
     ensures { IfOk result (λ t. title_of_text line.now ≡ Some t.0) }
 {
     if line.contains(" # ") {
-        let refused = format!(in alloc;
-            "error: --callers names '{path}', whose line {number} has a comment behind a title; it needs a line of its own: {line:?}\n"
-        )?;
-        return Err(WordsError::Refused(refused));
+        let reason = format_args!(
+            "--callers names '{path}', whose line {number} has a comment \
+            behind a title; it needs a line of its own: {line:?}"
+        );
+        return Err(WordsError::refused(alloc, reason));
     }
     match AeTitle::of_text(line) {
         Some(title) => Ok(title),
         None => {
-            let refused = format!(in alloc;
-                "error: --callers names '{path}', whose line {number} is no AE title of 1 to 16 characters: {line:?}\n"
-            )?;
-            Err(WordsError::Refused(refused))
+            let reason = format_args!(
+                "--callers names '{path}', whose line {number} is no AE \
+                title of 1 to 16 characters: {line:?}"
+            );
+            Err(WordsError::refused(alloc, reason))
         }
     }
 }
@@ -95,8 +95,8 @@ fn listed_titles(alloc: Global, file: TitleFile) -> Result<Vec<AeTitle>, WordsEr
     }
     if titles.is_empty() {
         let path = file.path;
-        let refused = format!(in alloc; "error: --callers names '{path}', which has no title\n")?;
-        return Err(WordsError::Refused(refused));
+        let reason = format_args!("--callers names '{path}', which has no title");
+        return Err(WordsError::refused(alloc, reason));
     }
     Ok(titles)
 }
@@ -136,16 +136,12 @@ pub(crate) struct Called {
 }
 
 /// Reads the titles that a peer may call. Fails if none is given.
-pub(crate) fn called_of(
-    alloc: Global,
-    texts: &ArrayVec<&str, MOST_TITLES>,
-) -> Result<Called, WordsError>
-    ensures read { IfOk result (λ c. map (λ t. title_of_text t.now) texts.now.items ≡ map Some (c.own.0 ∷ map (λ t. t.0) c.also.items)) }
+pub(crate) fn called_of(alloc: Global, given: &Given) -> Result<Called, WordsError>
+    ensures read { IfOk result (λ c. map title_of_text (values_of given.now (codes "ae")) ≡ map Some (c.own.0 ∷ map (λ t. t.0) c.also.items)) }
 {
-    let texts = texts.as_slice();
+    let texts = given.few(alloc, "ae", MOST_TITLES)?;
     if texts.is_empty() {
-        let refused = format!(in alloc; "error: --ae names no title\n")?;
-        return Err(WordsError::Refused(refused));
+        return Err(WordsError::refused(alloc, "--ae names no title"));
     }
     Ok(Called {
         own: title(alloc, "ae", texts[0])?,
@@ -157,13 +153,14 @@ pub(crate) fn called_of(
 /// name a file, then those of the option `--caller`.
 pub(crate) fn callers_of(
     alloc: Global,
-    arguments: &ServeArguments,
+    given: &Given,
     text: &str,
 ) -> Result<Vec<AeTitle>, WordsError>
-    ensures { IfOk result (λ titles. AreCallers (map (λ t. t.0) titles.items) arguments.now text.now) }
+    ensures { IfOk result (λ titles. AreCallers (map (λ t. t.0) titles.items) given.now text.now) }
 {
-    let mut titles = file_titles(alloc, arguments.callers_file, text)?;
-    let named = named_titles::<MOST_VALUES>(alloc, "caller", arguments.callers.as_slice())?;
+    let mut titles = file_titles(alloc, given.get("callers"), text)?;
+    let callers = given.few(alloc, "caller", MOST_VALUES)?;
+    let named = named_titles::<MOST_VALUES>(alloc, "caller", callers)?;
     if MOST_CALLERS.saturating_sub(titles.len()) < named.len() {
         return Err(too_many_titles(alloc));
     }

@@ -5,10 +5,6 @@ ghost use Rattle.arguments.specs.CommandLine.{reading_apps, receiving_apps, the_
 ghost use Rattle.arguments.specs.machine.Tables.{app_for};
 
 use crate::argument::{Argument, add_arguments};
-use crate::shared::{
-    AE, ALL_STORAGE, ALL_SYNTAXES, ANY, FILES, FOLDERS, IGNORE_OTHERS, JSON, JSON_OF_EACH, OUT,
-    PER, RECURSIVE, STORAGE_CLASS, TRANSFER_SYNTAX,
-};
 use clap::Command;
 use std::alloc::{AllocError, Global};
 
@@ -24,20 +20,27 @@ struct Subcommand<'a> {
     arguments: &'a [Argument<'a>],
 }
 
+// Made by tools/tables from docs/tables.json.
+
 const SERVE: Subcommand<'static> = Subcommand {
     name: "serve",
     about: "Receives images from scanners",
     example: "Example: dcmbox serve --port 11112 --out received --bind 0.0.0.0 --ae DCMBOX --caller SCANNER1",
     arguments: &[
         Argument::Needed("port", "PORT", "The TCP port to listen on, from 1 to 65535"),
-        OUT,
+        Argument::Needed("out", "DIR", "The folder that received files go to"),
         Argument::Default("bind", "ADDRESS", "127.0.0.1", "The address to listen on"),
         Argument::Repeated(
             "listen",
             "ADDRESS:PORT",
             "A further address and port to listen on, up to 4 times",
         ),
-        AE,
+        Argument::Defaults(
+            "ae",
+            "TITLE",
+            "DCMBOX",
+            "An AE title that a peer may call, up to 16 times",
+        ),
         Argument::Flag("any-called", "Lets a peer call any AE title"),
         Argument::Repeated(
             "caller",
@@ -84,7 +87,11 @@ const SERVE: Subcommand<'static> = Subcommand {
             "FORM",
             "How lines are logged: text, the default, or json",
         ),
-        PER,
+        Argument::Free(
+            "per",
+            "FILES",
+            "Files into folders of so many, from 1 to 9999",
+        ),
         Argument::Free(
             "numbers",
             "FILE",
@@ -137,10 +144,18 @@ const SERVE: Subcommand<'static> = Subcommand {
             "FILE",
             "A file that has counters in the text form of Prometheus",
         ),
-        ALL_STORAGE,
-        STORAGE_CLASS,
-        ALL_SYNTAXES,
-        TRANSFER_SYNTAX,
+        Argument::Flag("all-storage", "Takes every storage class of the standard"),
+        Argument::Repeated(
+            "storage-class",
+            "UID",
+            "A further storage class that is taken, up to 64 times",
+        ),
+        Argument::Flag("all-syntaxes", "Takes compressed transfer syntaxes, too"),
+        Argument::Repeated(
+            "transfer-syntax",
+            "UID",
+            "A compressed transfer syntax that is taken, up to 16 times",
+        ),
     ],
 };
 
@@ -150,19 +165,36 @@ const REPLAY: Subcommand<'static> = Subcommand {
     example: "Example: dcmbox replay echo.bin --out received",
     arguments: &[
         Argument::Positional("FILE", "The recorded bytes of one association"),
-        OUT,
-        AE,
+        Argument::Needed("out", "DIR", "The folder that received files go to"),
+        Argument::Defaults(
+            "ae",
+            "TITLE",
+            "DCMBOX",
+            "An AE title that a peer may call, up to 16 times",
+        ),
         Argument::Default(
             "cut",
             "BYTES",
             "4096",
             "How many bytes are taken at a time, from 1 to 65536",
         ),
-        PER,
-        ALL_STORAGE,
-        STORAGE_CLASS,
-        ALL_SYNTAXES,
-        TRANSFER_SYNTAX,
+        Argument::Free(
+            "per",
+            "FILES",
+            "Files into folders of so many, from 1 to 9999",
+        ),
+        Argument::Flag("all-storage", "Takes every storage class of the standard"),
+        Argument::Repeated(
+            "storage-class",
+            "UID",
+            "A further storage class that is taken, up to 64 times",
+        ),
+        Argument::Flag("all-syntaxes", "Takes compressed transfer syntaxes, too"),
+        Argument::Repeated(
+            "transfer-syntax",
+            "UID",
+            "A compressed transfer syntax that is taken, up to 16 times",
+        ),
     ],
 };
 
@@ -171,8 +203,9 @@ const SHOW: Subcommand<'static> = Subcommand {
     about: "Lists the elements of DICOM files",
     example: "Example: dcmbox show received/I0000001",
     arguments: &[
-        FILES,
-        RECURSIVE,
+        Argument::Several("FILE", "A DICOM file; - stands for standard input"),
+        Argument::Letter("recursive", 'r', "Takes the files in folders, too"),
+        Argument::Flag("follow", "Follows symbolic links in folders"),
         Argument::Flag("values", "Shows the value of each element after its line"),
         Argument::Flag("full", "Shows values of up to 65,536 bytes whole"),
         Argument::Flag("meta", "Lists the file meta information, group 0002, too"),
@@ -181,9 +214,12 @@ const SHOW: Subcommand<'static> = Subcommand {
             "TAG",
             "An element that is shown, as 0010,0020 or PatientID, and no other is but those of further --tag",
         ),
-        JSON_OF_EACH,
-        ALL_SYNTAXES,
-        ANY,
+        Argument::Flag("json", "Writes a JSON object for each file"),
+        Argument::Flag("all-syntaxes", "Takes compressed transfer syntaxes, too"),
+        Argument::Flag(
+            "any",
+            "Takes files without a header, and compressed transfer syntaxes, too",
+        ),
     ],
 };
 
@@ -192,8 +228,9 @@ const CHECK: Subcommand<'static> = Subcommand {
     about: "Checks DICOM files: their first fault, and the values that break the rules of their VR",
     example: "Example: dcmbox check received/I0000001",
     arguments: &[
-        FILES,
-        RECURSIVE,
+        Argument::Several("FILE", "A DICOM file; - stands for standard input"),
+        Argument::Letter("recursive", 'r', "Takes the files in folders, too"),
+        Argument::Flag("follow", "Follows symbolic links in folders"),
         Argument::Flag(
             "strict",
             "Holds values to the whole table of VRs, and ends with status 1 after a note",
@@ -202,10 +239,16 @@ const CHECK: Subcommand<'static> = Subcommand {
             "values",
             "Writes the keyword and the value after each note, and the keyword after a fault",
         ),
-        IGNORE_OTHERS,
-        JSON_OF_EACH,
-        ALL_SYNTAXES,
-        ANY,
+        Argument::Flag(
+            "ignore-others",
+            "Passes by files that are no DICOM files, and tells how many",
+        ),
+        Argument::Flag("json", "Writes a JSON object for each file"),
+        Argument::Flag("all-syntaxes", "Takes compressed transfer syntaxes, too"),
+        Argument::Flag(
+            "any",
+            "Takes files without a header, and compressed transfer syntaxes, too",
+        ),
     ],
 };
 
@@ -221,22 +264,27 @@ const INDEX: Subcommand<'static> = Subcommand {
             "descriptions",
             "Puts Series Description into the records of series",
         ),
-        ALL_SYNTAXES,
+        Argument::Flag("all-syntaxes", "Takes compressed transfer syntaxes, too"),
         Argument::Flag(
             "any-name",
             "Takes each DICOM file whose path is a file ID, not those named I and seven digits alone",
         ),
         Argument::Flag(
+            "ignore-others",
+            "Passes by files that are no DICOM files, and tells how many",
+        ),
+        Argument::Flag("follow", "Follows symbolic links in folders"),
+        Argument::Flag(
             "keep",
             "Takes the files that the folder's DICOMDIR names, not those that are there",
         ),
-        Argument::Flag("drop", "Leaves out records that --keep can't keep"),
+        Argument::Flag("drop", "Changes nothing; it is taken since 1.1.0 needed it"),
         Argument::Flag(
             "replace",
             "Writes over a DICOMDIR that another program wrote",
         ),
         Argument::Flag("strict", "Ends with status 1 where a file is left out"),
-        JSON,
+        Argument::Flag("json", "Writes one JSON object"),
     ],
 };
 
@@ -244,7 +292,10 @@ const CHECKDIR: Subcommand<'static> = Subcommand {
     name: "checkdir",
     about: "Checks a DICOMDIR, and lists its records",
     example: "Example: dcmbox checkdir received/DICOMDIR",
-    arguments: &[Argument::Positional("FILE", "A DICOMDIR"), JSON],
+    arguments: &[
+        Argument::Positional("FILE", "A DICOMDIR"),
+        Argument::Flag("json", "Writes one JSON object"),
+    ],
 };
 
 const LIST: Subcommand<'static> = Subcommand {
@@ -252,7 +303,7 @@ const LIST: Subcommand<'static> = Subcommand {
     about: "Lists the studies of the DICOM files in folders",
     example: "Example: dcmbox list received --series",
     arguments: &[
-        FOLDERS,
+        Argument::Several("DIR", "A folder; the files in its folders are taken, too"),
         Argument::Flag("series", "Lists the series of each study, too"),
         Argument::Flag(
             "instances",
@@ -268,8 +319,12 @@ const LIST: Subcommand<'static> = Subcommand {
             "KEYWORDS",
             "Adds these values to each line, as StudyTime,BodyPartExamined; up to 8",
         ),
-        IGNORE_OTHERS,
-        JSON,
+        Argument::Flag(
+            "ignore-others",
+            "Passes by files that are no DICOM files, and tells how many",
+        ),
+        Argument::Flag("follow", "Follows symbolic links in folders"),
+        Argument::Flag("json", "Writes one JSON object"),
     ],
 };
 
@@ -278,7 +333,7 @@ const ARRANGE: Subcommand<'static> = Subcommand {
     about: "Links the DICOM files in folders into one tree of patients, studies and series",
     example: "Example: dcmbox arrange received --to tree",
     arguments: &[
-        FOLDERS,
+        Argument::Several("DIR", "A folder; the files in its folders are taken, too"),
         Argument::Needed("to", "TREE", "The folder that the tree stands in"),
         Argument::Free(
             "pattern",
@@ -287,16 +342,47 @@ const ARRANGE: Subcommand<'static> = Subcommand {
         ),
         Argument::Flag("copy", "Copies the files in place of linking them"),
         Argument::Flag("dry-run", "Prints what is to be done, and writes no file"),
-        IGNORE_OTHERS,
-        JSON,
+        Argument::Flag(
+            "ignore-others",
+            "Passes by files that are no DICOM files, and tells how many",
+        ),
+        Argument::Flag("follow", "Follows symbolic links in folders"),
+        Argument::Flag("json", "Writes one JSON object"),
+    ],
+};
+
+const SEND: Subcommand<'static> = Subcommand {
+    name: "send",
+    about: "Sends the received files of a folder to an archive",
+    example: "Example: dcmbox send received archive.example:104 --aec ARCHIVE --move",
+    arguments: &[
+        Argument::Positional("DIR", "The folder of received files"),
+        Argument::Positional("HOST:PORT", "The host and port of the archive"),
+        Argument::Needed("aec", "TITLE", "The AE title of the archive"),
+        Argument::Default("aet", "TITLE", "DCMBOX", "The AE title that calls it"),
+        Argument::Flag("move", "Removes each file that the archive has filed"),
+        Argument::Flag(
+            "any-name",
+            "Takes each DICOM file, not those named I and seven digits alone",
+        ),
+        Argument::Default(
+            "timeout",
+            "SECONDS",
+            "300",
+            "How long the archive may be silent, from 1 to 86400",
+        ),
+        Argument::Letter("verbose", 'v', "Reports files that are filed, too"),
+        Argument::Flag("json", "Writes one JSON object"),
     ],
 };
 
 /// The commands that receive data sets.
 const RECEIVING: &[Subcommand<'static>] = &[SERVE, REPLAY];
 
-/// The commands that read files.
-const READING: &[Subcommand<'static>] = &[SHOW, CHECK, INDEX, CHECKDIR, LIST, ARRANGE];
+/// The commands that read or send files.
+const READING: &[Subcommand<'static>] = &[SHOW, CHECK, INDEX, CHECKDIR, LIST, ARRANGE, SEND];
+
+// End.
 
 /// Returns clap's command for this command.
 fn command_for<'a>(alloc: Global, subcommand: Subcommand<'a>) -> Result<Command<'a>, AllocError>

@@ -4,21 +4,21 @@
 mod argument;
 mod callers;
 mod command;
+mod given;
 mod options;
 mod quarantine;
+mod send_options;
 mod service_options;
 mod settings;
-mod shared;
 mod transfers;
-mod values;
 mod words;
 
 pub use command::VERSION;
 pub use failures::WordsError;
-pub use options::{FolderLayout, Index, LogForm, Per, QuarantineOption, Replay, Serve};
-pub use settings::{index_settings, replay_settings, serve_settings};
-pub use values::{
-    ArrangeArguments, CheckArguments, FileArguments, IndexArguments, ListArguments, MOST_ADDRESSES,
-    MOST_SYNTAXES, MOST_TITLES, MOST_VALUES, ReplayArguments, ServeArguments, ShowArguments,
+pub use given::Given;
+pub use options::{
+    Archive, FolderLayout, Index, LogForm, Per, QuarantineOption, Replay, Send, Serve,
 };
-pub use words::{Job, read_words};
+pub use send_options::send_settings;
+pub use settings::{index_settings, replay_settings, serve_settings};
+pub use words::{CommandName, Job, read_words};

@@ -1,12 +1,13 @@
 //! The settings of the commands.
 ghost use Rattle.std.specs.Prelude.{◌<◌, ◌≤◌};
 
-use crate::values::MOST_ADDRESSES;
+use crate::words::MOST_ADDRESSES;
 use arrayvec::ArrayVec;
-use element::Uid;
+use element::{AeTitle, Uid};
 use log::Level;
 use negotiate::Config;
 use service::Service;
+use std::time::Duration;
 
 /// The format of the log.
 #[derive(Clone, Copy)]
@@ -90,14 +91,44 @@ pub struct Index<'a> {
     /// Whether each DICOM file is listed whose path is a file ID, not only files named like
     /// received files.
     pub any_name: bool,
+    /// Whether files that are no DICOM files are ignored.
+    pub ignore_others: bool,
+    /// Whether symbolic links are followed.
+    pub follow: bool,
     /// Whether the files are those that the present directory names.
     pub keep: bool,
-    /// Whether records of the present directory that can't be kept are dropped.
-    pub drop: bool,
     /// Whether a directory of another implementation is replaced.
     pub replace: bool,
     /// Whether a file that is left out makes the program exit with status 1.
     pub strict: bool,
+    /// Whether the output is one JSON object.
+    pub json: bool,
+}
+
+/// The peer that `dcmbox send` calls.
+#[derive(Clone, Copy)]
+pub struct Archive<'a> {
+    /// Its host and port.
+    pub address: &'a str,
+    /// Its AE title.
+    pub called: AeTitle,
+    /// The AE title that calls it.
+    pub calling: AeTitle,
+    /// How long it may be silent, at least a second.
+    pub timeout: Duration,
+}
+
+/// The settings of `dcmbox send`.
+#[derive(Clone, Copy)]
+pub struct Send<'a> {
+    pub dir: &'a str,
+    pub archive: Archive<'a>,
+    /// Whether files that the archive has filed are removed.
+    pub remove: bool,
+    /// Whether each DICOM file is sent, not only files named like received files.
+    pub any_name: bool,
+    /// Whether files that are filed are reported, too.
+    pub verbose: bool,
     /// Whether the output is one JSON object.
     pub json: bool,
 }

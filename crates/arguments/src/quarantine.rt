@@ -1,10 +1,11 @@
 //! Reads the settings of the quarantine.
-ghost use Rattle.std.specs.Prelude.{◌≡◌, IfOk, option_map};
+ghost use Rattle.std.specs.Prelude.{◌≡◌, IfOk, codes};
+ghost use Rattle.clap.specs.Walk.{first_of};
 ghost use Rattle.arguments.specs.AskedQuarantine.{IsQuarantine};
 
+use crate::given::Given;
 use crate::options::QuarantineOption;
 use crate::settings::number;
-use crate::values::ServeArguments;
 use failures::WordsError;
 use std::alloc::Global;
 
@@ -15,11 +16,11 @@ const DEFAULT_MOST: u32 = 100;
 /// without a folder.
 pub(crate) fn quarantine_of<'a>(
     alloc: Global,
-    arguments: &ServeArguments<'a>,
+    given: &Given<'a>,
 ) -> Result<Option<QuarantineOption<'a>>, WordsError>
-    ensures { IfOk result (λ q. IsQuarantine q (option_map (λ t. t.now) arguments.now.quarantine) (option_map (λ t. t.now) arguments.now.quarantine_most)) }
+    ensures { IfOk result (λ q. IsQuarantine q (first_of (codes "quarantine") given.now) (first_of (codes "quarantine-most") given.now)) }
 {
-    match (arguments.quarantine, arguments.quarantine_most) {
+    match (given.get("quarantine"), given.get("quarantine-most")) {
         (None, None) => Ok(None),
         (Some(dir), None) => Ok(Some(QuarantineOption {
             dir,
@@ -33,8 +34,7 @@ pub(crate) fn quarantine_of<'a>(
             }))
         }
         (None, Some(_)) => {
-            let refused = format!(in alloc; "error: --quarantine-most goes with --quarantine\n")?;
-            Err(WordsError::Refused(refused))
+            Err(WordsError::refused(alloc, "--quarantine-most goes with --quarantine"))
         }
     }
 }

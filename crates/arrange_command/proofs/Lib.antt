@@ -1,3 +1,4 @@
+pub mod CopiesAreWhole
 mod NamesArePrintable
 mod PathsStayInTheTree
 mod PatternsAreRead

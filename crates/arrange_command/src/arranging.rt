@@ -1,9 +1,9 @@
 //! `dcmbox arrange`: links or copies the files in folders into a tree of folders by patient, study
 //! and series.
-use crate::copying::locked;
+use crate::copying::{locked, of_tree};
 use crate::pattern::{Part, tags_of};
 use crate::placing::Placer;
-use failures::{Failure, ProgramError, WordsError, flushed};
+use failures::{ProgramError, WordsError, flushed};
 use folder_filing::StoredFile;
 use inspection::{Outcome, OutputForm};
 use keyed_files::{Counter, NodeId, Visitor};
@@ -24,6 +24,8 @@ pub struct ArrangeOptions<'a> {
     pub dry_run: bool,
     /// Whether files that are no DICOM files are ignored.
     pub ignore_others: bool,
+    /// Whether symbolic links are followed.
+    pub follow: bool,
     pub form: OutputForm,
     /// Whether lines have characters beyond ASCII, in UTF-8. JSON always has them.
     pub unicode: bool,
@@ -34,10 +36,7 @@ fn make_tree<R: Files>(rt: &R, options: ArrangeOptions<'_>) -> Result<(), Progra
     if options.dry_run {
         return Ok(());
     }
-    match fs::create_dir_all(rt, options.tree) {
-        Ok(()) => Ok(()),
-        Err(error) => Err(ProgramError::of(Failure::Tree, error)),
-    }
+    fs::create_dir_all(rt, options.tree).map_err(of_tree)
 }
 
 /// Locks the folder of the tree if files are copied into it. Returns the open folder, which holds
@@ -61,8 +60,9 @@ where
 /// copy is synced to the disk before it gets its name.
 ///
 /// Files that are no DICOM files, or have a fault before the values of the path, are reported on
-/// `err`; the outcome is then `Faulty`. Files that cannot be read are reported too; the error is
-/// then `Unread`. Memory does not grow with the number of files.
+/// `err`; the outcome is then `Faulty`. So are files whose path needs a folder where the tree has a
+/// file. Files that cannot be read are reported too; the error is then `Unread`. Memory does not
+/// grow with the number of files.
 ///
 /// With several folders, a folder that cannot be listed is reported as a file that cannot be read.
 ///
@@ -82,18 +82,18 @@ where
     make_tree(rt, options)?;
     let _lock = lock_for(rt, options)?;
     let tags = tags_of(rt.alloc(), options.pattern)?;
-    let mut visitor = Visitor::new(rt, tags.as_slice(), err, counter);
-    if options.ignore_others {
-        visitor.ignore_others();
-    }
+    let ignores_others = options.ignore_others;
+    let mut visitor = Visitor::new(rt, tags.as_slice(), ignores_others, (err, counter));
+    visitor.follow(options.follow);
     match fs::metadata(rt, options.tree) {
         Ok(tree) => visitor.spare(NodeId::of(&tree)),
         Err(error) if error.kind() == ErrorKind::NotFound => {}
-        Err(error) => return Err(ProgramError::of(Failure::Tree, error)),
+        Err(error) => return Err(of_tree(error)),
     }
     let mut placer = Placer::new(rt, options, out)?;
-    let tally = visitor.visit_all(dirs, &mut placer)?;
+    let mut tally = visitor.visit_all(dirs, &mut placer)?;
     placer.finish(tally)?;
+    tally.unread = tally.unread.saturating_sub(placer.blocked);
     tally.outcome()
 }
 

@@ -1,5 +1,6 @@
 //! Copies files: to a draft, which is renamed once it is complete.
 ghost use Rattle.std.specs.Prelude.{IfOk, OnOk};
+ghost use Rattle.arrange_command.specs.Copying.{GetsAll};
 ghost use Rattle.arrange_command.specs.Placing.{HasGiven, TakesNone};
 
 use crate::tree_calls::TreeCalls;
@@ -16,16 +17,18 @@ const PIECE: usize = 16384;
 /// The system error `EPERM`, with which Linux rejects hard links on vfat and exFAT.
 const NOT_PERMITTED: i32 = 1;
 
+/// Returns the error for a tree that cannot be written.
+pub(crate) fn of_tree(error: Error) -> ProgramError {
+    ProgramError::of(Failure::Tree, error)
+}
+
 /// Opens and locks the folder of the tree, so that no other program uses its draft. The lock lasts
 /// until the returned folder is closed. Fails if another program has locked it.
 pub(crate) fn locked<R: Files>(rt: &R, tree: &str) -> Result<R::File, ProgramError>
 where
     R::File: StoredFile,
 {
-    let folder = match fs::open(rt, tree) {
-        Ok(folder) => folder,
-        Err(error) => return Err(ProgramError::of(Failure::Tree, error)),
-    };
+    let folder = fs::open(rt, tree).map_err(of_tree)?;
     let Err(error) = folder.try_lock() else {
         return Ok(folder);
     };
@@ -37,39 +40,31 @@ where
     Err(ProgramError::of(failure, error))
 }
 
-/// Copies all bytes of the reader to the writer.
-fn copy<R: Read, W: Write>(from: &mut R, to: &mut W) -> Result<(), ProgramError> {
+/// Copies all bytes of the reader to the writer. Fails if a read or a write does.
+#[tactic(auto, using(crate::proofs::CopiesAreWhole::at_end))]
+fn copy<R: Read, W: Write>(from: &mut R, to: &mut W) -> Result<(), ProgramError>
+    ensures whole { OnOk result (GetsAll (R.remaining from.old) (W.contents to.old) (W.contents to.new)) }
+{
     let mut room = [0; PIECE];
     for _ in 0..u64::MAX {
         let count = match read_retrying(from, &mut room) {
+            Ok(0) => return Ok(()),
             Ok(count) => count,
             Err(error) => return Err(ProgramError::of(Failure::Read, error)),
         };
-        if count == 0 {
-            break;
-        }
-        if let Err(error) = to.write_all(&room[..count]) {
-            return Err(ProgramError::of(Failure::Tree, error));
-        }
+        to.write_all(&room[..count]).map_err(of_tree)?;
     }
-    Ok(())
+    Err(of_tree(Error::from(ErrorKind::FileTooLarge)))
 }
 
 /// Copies a file to the draft and syncs the draft to the disk. An existing draft is removed, not
 /// overwritten, since it may be a hard link to a file of the tree.
 fn write_draft<R: Files>(rt: &R, file: &str, draft: &str) -> Result<(), ProgramError> {
-    let mut from = match fs::open(rt, file) {
-        Ok(from) => from,
-        Err(error) => return Err(ProgramError::of(Failure::Open, error)),
-    };
+    let mut from = fs::open(rt, file).map_err(|error| ProgramError::of(Failure::Open, error))?;
     let _ = fs::remove_file(rt, draft);
-    let mut to = match File::create_new(rt, draft) {
-        Ok(to) => to,
-        Err(error) => return Err(ProgramError::of(Failure::Tree, error)),
-    };
+    let mut to = File::create_new(rt, draft).map_err(of_tree)?;
     copy(&mut from, &mut to)?;
-    to.sync_all()
-        .map_err(|error| ProgramError::of(Failure::Tree, error))
+    to.sync_all().map_err(of_tree)
 }
 
 /// Returns whether an error of `hard_link` means that the file system has no hard links.

@@ -1,4 +1,7 @@
 //! Counts the files that were arranged.
+ghost use Rattle.std.specs.Prelude.{◌≡◌};
+ghost use Rattle.arrange_command.specs.Arranged.{with_placed};
+
 use crate::arranging::ArrangeOptions;
 use crate::placing::Placed;
 use inspection::OutputForm;
@@ -24,13 +27,14 @@ impl Counts {
     }
 
     /// Counts a file by what was done with it.
-    pub fn add(&mut self, placed: Placed) {
-        let count = match placed {
-            Placed::Put => &mut self.put,
-            Placed::PassedOver => &mut self.passed_over,
-            Placed::Renamed => &mut self.renamed,
-        };
-        *count = count.saturating_add(1);
+    pub fn add(&mut self, placed: Placed)
+        ensures { self.new ≡ with_placed placed self.old }
+    {
+        match placed {
+            Placed::Put => self.put = self.put.saturating_add(1),
+            Placed::PassedOver => self.passed_over = self.passed_over.saturating_add(1),
+            Placed::Renamed => self.renamed = self.renamed.saturating_add(1),
+        }
     }
 
     /// Writes the counts and the number of files left out: as a line, or as the last members of a

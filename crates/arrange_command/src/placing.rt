@@ -1,22 +1,23 @@
 //! Gives files their paths in the tree.
-ghost use Rattle.std.specs.Prelude.{◌≡◌, ⊤, IfOk, OnOk, true, false, nat_eq, if◌then◌else◌};
+ghost use Rattle.std.specs.Prelude.{◌≡◌, IfOk, OnOk, true, false, nat_eq, if◌then◌else◌};
+ghost use Rattle.arrange_command.specs.Arranged.{CountsFile};
 ghost use Rattle.arrange_command.specs.Placing.{HasFound, HasGiven, IsPlaced, TakesNone};
 ghost use Rattle.arrange_command.specs.declared.comparing.Present.TheVariants.{Nothing};
 ghost use Rattle.arrange_command.specs.declared.placing.Placed.TheVariants.{Put, Renamed};
 
 use crate::arranging::ArrangeOptions;
 use crate::comparing::Present;
-use crate::copying::put_copy;
+use crate::copying::{of_tree, put_copy};
 use crate::counts::Counts;
 use crate::paths::{folder_of, numbered, path_of};
 use crate::planned::PlannedPaths;
 use crate::tree_calls::TreeCalls;
 use failures::{Failure, ProgramError};
-use inspection::{JsonPath, OutputForm, PathText};
+use inspection::{JsonPath, OutputForm, PathText, Printable};
 use keyed_files::{Consumer, FoundFile, TREE_DRAFT};
 use std::alloc::Allocator;
 use std::fs;
-use std::io::{self, ErrorKind, Write};
+use std::io::{self, Error, ErrorKind, Write};
 use std::rt::Files;
 
 /// What was done with a file.
@@ -52,6 +53,19 @@ fn placed_as(number: u64) -> Placed
     }
 }
 
+/// Returns the first part of a path, up to a slash, that is no folder, or else the whole path.
+fn file_within<'p, R: Files>(rt: &R, path: &'p str) -> &'p str {
+    for (index, byte) in path.as_bytes().iter().enumerate() {
+        if *byte == b'/' {
+            let front = path.get(..index).unwrap_or("");
+            if fs::metadata(rt, front).is_ok_and(|found| !found.is_dir()) {
+                return front;
+            }
+        }
+    }
+    path
+}
+
 /// Gives each file its path in the tree and counts the results.
 #[derive(Drop)]
 pub(crate) struct Placer<'a, R: Alloc, O: Write> {
@@ -62,6 +76,8 @@ pub(crate) struct Placer<'a, R: Alloc, O: Write> {
     /// The paths given in a dry run.
     planned: PlannedPaths<R::A>,
     pub counts: Counts,
+    /// How many files have no path, since a file has the name of a folder of it.
+    pub blocked: u64,
     /// The text before the next action, in JSON.
     before: &'static str,
     out: &'a mut O,
@@ -87,6 +103,7 @@ where
             draft: format!(in rt.alloc(); "{tree}/{TREE_DRAFT}")?,
             planned: PlannedPaths::new(rt.alloc()),
             counts: Counts::new(),
+            blocked: 0,
             before: FIRST,
             out,
         })
@@ -103,9 +120,15 @@ where
     {
         let (file, path) = (target.file.path, target.path);
         if self.options.copy {
-            put_copy(self.rt, file, self.draft.as_str(), path, calls)
-        } else {
-            Ok(calls.link(self.rt, file, path))
+            return put_copy(self.rt, file, self.draft.as_str(), path, calls);
+        }
+        if !self.options.follow {
+            return Ok(calls.link(self.rt, file, path));
+        }
+        // A hard link to a symbolic link would be a further one.
+        match fs::canonicalize(self.rt, file) {
+            Ok(file) => Ok(calls.link(self.rt, file.as_str(), path)),
+            Err(error) => Err(ProgramError::of(Failure::Open, error)),
         }
     }
 
@@ -165,6 +188,7 @@ where
     ) -> Result<Option<Placed>, ProgramError>
         ensures placed { HasFound Nothing calls.old → IfOk result (λ placed. IsPlaced true target.entry.number placed calls.new) }
         ensures none { TakesNone calls.old → TakesNone calls.new }
+        ensures same_counts { self.new.counts ≡ self.old.counts }
     {
         if let Some(other) = self.planned.file_at(target.path) {
             return match calls.look(self.rt, target.file, other)? {
@@ -186,6 +210,7 @@ where
     ) -> Result<Option<Placed>, ProgramError>
         ensures placed { IfOk result (λ placed. IsPlaced self.old.options.dry_run target.entry.number placed calls.new) }
         ensures none { TakesNone calls.old → TakesNone calls.new }
+        ensures same_counts { self.new.counts ≡ self.old.counts }
     {
         match calls.look(self.rt, target.file, target.path)? {
             Present::Same => Ok(Some(Placed::PassedOver)),
@@ -196,7 +221,9 @@ where
     }
 
     /// Prints the action for a file in a dry run.
-    fn report(&mut self, placed: Placed, file: &str, path: &str) -> Result<(), ProgramError> {
+    fn report(&mut self, placed: Placed, file: &str, path: &str) -> Result<(), ProgramError>
+        ensures same_counts { self.new.counts ≡ self.old.counts }
+    {
         if !self.options.dry_run {
             return Ok(());
         }
@@ -228,9 +255,32 @@ where
         reported.map_err(ProgramError::of_output)
     }
 
+    /// Counts a file without a path and returns the error with the name of the file that has the
+    /// name of a folder of the path; returns any other error as it is.
+    fn blocked_by(&mut self, path: &str, error: ProgramError) -> ProgramError {
+        let is_blocked = match &error {
+            ProgramError::System(Failure::Tree, cause) => cause.kind() == ErrorKind::NotADirectory,
+            _ => false,
+        };
+        if !is_blocked {
+            return error;
+        }
+        self.blocked = self.blocked.saturating_add(1);
+        let name = Printable(file_within(self.rt, path).as_bytes());
+        match format!(in self.rt.alloc(); "{name}") {
+            Ok(name) => {
+                let error = Error::new(ErrorKind::NotADirectory, name.as_str());
+                ProgramError::System(Failure::InTheWay, error)
+            }
+            Err(error) => ProgramError::Memory(error),
+        }
+    }
+
     /// Gives a file its path, or else the first path with a number that is free or already has the
-    /// same bytes.
-    fn place(&mut self, file: FoundFile<'_>) -> Result<(), ProgramError> {
+    /// same bytes, and counts it.
+    fn place(&mut self, file: FoundFile<'_>) -> Result<(), ProgramError>
+        ensures counted { OnOk result (CountsFile self.old.counts self.new.counts) }
+    {
         let alloc = self.rt.alloc();
         let named = path_of(alloc, self.options.tree, self.options.pattern, file.keys)?;
         for number in 1..u64::MAX {
@@ -241,12 +291,16 @@ where
                 path: path.as_str(),
                 number,
             };
-            if let Some(placed) = self.place_at(target, &mut TreeCalls::new())? {
-                self.counts.add(placed);
-                return self.report(placed, file.path, path.as_str());
+            match self.place_at(target, &mut TreeCalls::new()) {
+                Ok(Some(placed)) => {
+                    self.counts.add(placed);
+                    return self.report(placed, file.path, path.as_str());
+                }
+                Ok(None) => {}
+                Err(error) => return Err(self.blocked_by(path.as_str(), error)),
             }
         }
-        Ok(())
+        Err(of_tree(Error::from(ErrorKind::AlreadyExists)))
     }
 
     /// Writes the counts of files; in JSON, after closing the actions of a dry run.
@@ -269,7 +323,9 @@ impl<R: Files + Alloc, O: Write> Consumer for Placer<'_, R, O>
 where
     R::A: Copy,
 {
-    ghost consumed = { λ old path keys new. ⊤ };
+    ghost use Rattle.arrange_command.specs.Arranged.{CountsFile};
+
+    ghost consumed = { λ old path keys new. CountsFile old.counts new.counts };
 
     fn take(&mut self, file: FoundFile<'_>) -> Result<(), ProgramError> {
         self.place(file)

@@ -1,29 +1,25 @@
 //! The paths that a dry run would give to files.
-use indexmap::IndexSet;
+use indexmap::IndexMap;
 use std::alloc::{AllocError, Allocator};
 use std::hash::{BuildHasherDefault, FoldHasher};
 
 /// The paths that a dry run gave so far, with their files.
 #[derive(Drop)]
 pub(crate) struct PlannedPaths<A: Allocator> {
-    paths: IndexSet<Vec<u8, A>, BuildHasherDefault<FoldHasher>, A>,
-    /// The file of each path.
-    files: Vec<String<A>, A>,
+    files: IndexMap<Vec<u8, A>, String<A>, BuildHasherDefault<FoldHasher>, A>,
 }
 
 impl<A: Allocator + Copy> PlannedPaths<A> {
     /// Returns a list without paths.
     pub(crate) fn new(alloc: A) -> PlannedPaths<A> {
         PlannedPaths {
-            paths: IndexSet::new(alloc),
-            files: Vec::new(alloc),
+            files: IndexMap::new(alloc),
         }
     }
 
     /// Returns the file that has this path, or `None`.
     pub(crate) fn file_at(&self, path: &str) -> Option<&str> {
-        let place = self.paths.get_index_of(path.as_bytes())?;
-        match self.files.get(place) {
+        match self.files.get(path.as_bytes()) {
             Some(file) => Some(file.as_str()),
             None => None,
         }
@@ -31,8 +27,8 @@ impl<A: Allocator + Copy> PlannedPaths<A> {
 
     /// Gives a path to a file.
     pub(crate) fn give(&mut self, alloc: A, path: &str, file: &str) -> Result<(), AllocError> {
-        self.paths.insert(Vec::from_slice(alloc, path.as_bytes())?)?;
-        self.files.push(String::from_str(alloc, file)?)?;
+        let path = Vec::from_slice(alloc, path.as_bytes())?;
+        self.files.insert(path, String::from_str(alloc, file)?)?;
         Ok(())
     }
 }

@@ -1,8 +1,8 @@
 //! The decision of an association on each part of a PDU: heads, bodies, heads of presentation data
 //! values, fragments, and skipped bytes.
 
-use decisions::{Decision, ValueEnd};
-use dimse::{Detail, DimseFault, INSTANCE_MISMATCH};
+use decisions::{Decision, HeadFault, ValueEnd};
+use dimse::{Detail, DimseFault, INSTANCE_MISMATCH, Unfinished};
 use element::Tag;
 use fixtures::bytes::joined;
 use fixtures::echo::{ECHO, RELEASE, REQUEST};
@@ -69,10 +69,13 @@ static ROWS: [Decided; 11] = [
     ),
     (
         &[b"GET / "],
-        &[Decision::PduRefused(PduHead {
-            kind: 0x47,
-            length: 0x54202f20,
-        })],
+        &[Decision::PduRefused(
+            PduHead {
+                kind: 0x47,
+                length: 0x54202f20,
+            },
+            HeadFault::Unrecognized,
+        )],
     ),
     // A value of a context that is not accepted: the rest of its PDU is skipped.
     (
@@ -110,6 +113,7 @@ static ROWS: [Decided; 11] = [
                     last: true,
                 },
                 DimseFault::WrongKind,
+                Unfinished::Nothing,
             ),
         ],
     ),
@@ -120,7 +124,7 @@ static ROWS: [Decided; 11] = [
             Decision::Nothing,
             Decision::RequestJudged(Answer::Accept),
             Decision::Nothing,
-            Decision::ValueInvalid,
+            Decision::BadPdv,
         ],
     ),
     // Bytes after a command that gets a reply.
@@ -131,8 +135,8 @@ static ROWS: [Decided; 11] = [
             Decision::RequestJudged(Answer::Accept),
             Decision::Nothing,
             Decision::Fragment(ECHO_HEAD),
-            Decision::BytesRemaining(ValueEnd::Replied(0, None)),
-            Decision::BytesRemaining(ValueEnd::Replied(0, None)),
+            Decision::Leftover(ValueEnd::Replied(0, None)),
+            Decision::Leftover(ValueEnd::Replied(0, None)),
         ],
     ),
     // A command other than C-ECHO-RQ and C-STORE-RQ, by its Command Field.

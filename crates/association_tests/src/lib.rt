@@ -25,6 +25,8 @@ mod row;
 #[cfg(test)]
 mod run_tests;
 #[cfg(test)]
+mod sender_tests;
+#[cfg(test)]
 mod sets;
 #[cfg(test)]
 mod store_tests;

@@ -41,8 +41,20 @@ fn failed_devices_have_their_texts(rt: HostRuntime) -> Result<(), Fail> {
             "the file can't be read: timed out; give a file, and copy it first if its disk fails",
         ),
         Row(
+            ProgramError::System(Failure::IsFolder, failed()),
+            "the file can't be read: timed out; give a file",
+        ),
+        Row(
+            ProgramError::System(Failure::Name, failed()),
+            "the file can't be opened: timed out; its name is not UTF-8: rename it",
+        ),
+        Row(
+            ProgramError::System(Failure::ReadFolder, failed()),
+            "the folder can't be opened: timed out; check its name, that it is a folder, and that you may read it",
+        ),
+        Row(
             ProgramError::System(Failure::Folder, failed()),
-            "the folder can't be opened: timed out; check that it is a folder, and that you may read it, or write into it where files go there",
+            "the folder can't be opened: timed out; check that it is a folder, and that you may write into it",
         ),
         Row(
             ProgramError::System(Failure::MissingFolder, failed()),

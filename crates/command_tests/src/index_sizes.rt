@@ -47,8 +47,9 @@ fn is_indexed(rt: &HostRuntime, most: u32, wanted: Indexed, printed: &[u8]) -> R
         all_syntaxes: false,
         json: false,
         any_name: false,
+        ignore_others: false,
+        follow: false,
         keep: false,
-        drop: false,
         replace: false,
         strict: false,
     };

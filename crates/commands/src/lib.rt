@@ -3,6 +3,7 @@
 #![tactic(auto)]
 
 mod marked;
+mod options;
 mod perform;
 mod program;
 mod standard;

@@ -1,5 +1,5 @@
 //! The arguments, which need not be UTF-8: file names are bytes.
-use arguments::Job;
+use arguments::{CommandName, Job};
 use std::alloc::Global;
 use std::env::{self, Env, FillError};
 use std::{io, str};
@@ -45,19 +45,11 @@ pub(crate) fn owned_words(rt: &HostRuntime) -> io::Result<Vec<String, Global>> {
     Ok(owned)
 }
 
-/// Returns whether `words` contains `word`.
-fn has(words: &[&str], word: &str) -> bool {
-    words.iter().any(|one| *one == word)
-}
-
 /// Returns whether an argument is one of the files that `show` or `check` reads. If such a file
 /// cannot be opened, the others are still read.
 fn is_file(job: &Job<'_>, word: &str) -> bool {
-    match job {
-        Job::Show(arguments) => has(arguments.files.as_slice(), word),
-        Job::Check(arguments) => has(arguments.files.as_slice(), word),
-        _ => false,
-    }
+    matches!(job.command, CommandName::Show | CommandName::Check)
+        && job.given.all("FILE").iter().any(|file| *file == word)
 }
 
 /// Returns the index and the text of the first argument that is not UTF-8 and not a file of `show`

@@ -2,7 +2,7 @@
 use crate::marked::{owned_words, refused_word};
 use crate::perform::perform;
 use crate::standard::open_standard;
-use arguments::{Job, read_words};
+use arguments::{CommandName, Job, read_words};
 use failures::{Failure, ProgramError, WordsError};
 use inspection::Outcome;
 use std::alloc::{AllocError, Global};
@@ -37,39 +37,38 @@ impl fmt::Display for Masked<'_> {
     }
 }
 
-/// Returns the only file or folder, or an empty text if there is not exactly one.
-fn only<'a>(files: &[&'a str]) -> &'a str {
-    match files {
-        [file] => *file,
-        _ => "",
-    }
+/// Returns the argument that names the subject of an error: a file, a folder, an address or a port,
+/// or `None` if the error has no subject.
+fn subject_argument(command: CommandName, failure: Option<Failure>) -> Option<&'static str> {
+    Some(match (command, failure) {
+        (CommandName::Serve, Some(Failure::Listen | Failure::KeptPort)) => "port",
+        (CommandName::Serve, Some(Failure::Address)) => "bind",
+        (CommandName::Serve, Some(Failure::FurtherAddress)) => "listen",
+        (CommandName::Serve, Some(Failure::BusyMetrics)) => "metrics",
+        (CommandName::Serve, Some(Failure::Numbers | Failure::BusyNumbers)) => "numbers",
+        (CommandName::Serve, Some(Failure::Callers)) => "callers",
+        (CommandName::Serve | CommandName::Replay, Some(failure)) if failure.is_of_folder() =>
+            "out",
+        (CommandName::Arrange, Some(failure)) if failure.is_of_tree() => "to",
+        (CommandName::Send, Some(Failure::Archive)) => "HOST:PORT",
+        (CommandName::List | CommandName::Arrange | CommandName::Send, Some(failure))
+            if failure.is_of_folder() => "DIR",
+        (CommandName::Index, _) => "DIR",
+        (CommandName::Replay | CommandName::Show | CommandName::Check | CommandName::CheckDir, _) =>
+            { "FILE" }
+        _ => return None,
+    })
 }
 
-/// Returns the subject of an error for its message: a file, a folder, an address or a port, or an
-/// empty text if there is none.
+/// Returns the subject of an error for its message, or an empty text if there is none, or if
+/// several are given.
 fn subject<'a>(job: &Job<'a>, error: &ProgramError) -> &'a str {
-    match (job, error.failure()) {
-        (Job::Serve(arguments), Some(Failure::Listen | Failure::KeptPort)) => arguments.port,
-        (Job::Serve(arguments), Some(Failure::Address)) => arguments.bind,
-        (Job::Serve(arguments), Some(Failure::FurtherAddress)) => only(arguments.listen.as_slice()),
-        (Job::Serve(arguments), Some(Failure::BusyMetrics)) => arguments.metrics.unwrap_or(""),
-        (Job::Serve(arguments), Some(Failure::Numbers)) => arguments.numbers.unwrap_or(""),
-        (Job::Serve(arguments), Some(Failure::Callers)) => arguments.callers_file.unwrap_or(""),
-        (Job::Serve(arguments), Some(failure)) if failure.is_of_folder() => arguments.out,
-        (Job::Replay(arguments), Some(failure)) if failure.is_of_folder() => arguments.out,
-        (Job::Replay(arguments), _) => arguments.file,
-        (Job::Show(arguments), _) => only(arguments.files.as_slice()),
-        (Job::Check(arguments), _) => only(arguments.files.as_slice()),
-        (Job::Index(arguments), _) => arguments.dir,
-        (Job::CheckDir(arguments), _) => arguments.file,
-        (Job::List(arguments), Some(failure)) if failure.is_of_folder() => {
-            only(arguments.dirs.as_slice())
-        }
-        (Job::Arrange(arguments), Some(failure)) if failure.is_of_tree() => arguments.to,
-        (Job::Arrange(arguments), Some(failure)) if failure.is_of_folder() => {
-            only(arguments.dirs.as_slice())
-        }
-        _ => "",
+    match subject_argument(job.command, error.failure()) {
+        Some(argument) => match job.given.all(argument) {
+            [subject] => *subject,
+            _ => "",
+        },
+        None => "",
     }
 }
 

@@ -70,7 +70,8 @@ fn fails(alloc: Global, form: OutputForm, room: usize) -> Result<bool, Fail> {
     };
     let file = file(alloc, BROKEN)?;
     let mut input = file.as_slice();
-    let checked = check_with(&mut input, options, &mut Full { room });
+    let mut front = FileFront::new(&mut input);
+    let checked = check_with(&mut front, options, &mut Full { room });
     Ok(matches!(checked, Err(InspectionError::Write(_))))
 }
 

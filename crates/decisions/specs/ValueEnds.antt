@@ -9,5 +9,5 @@ use Rattle.decisions.specs.declared.value_end.ValueEnd.TheVariants as end
 abbrev pub value_end : Decision → ValueEnd
 value_end decision.DataDue = end.DataDue
 value_end (decision.Replied status detail) = end.Replied status detail
-value_end (decision.BytesRemaining before) = before
+value_end (decision.Leftover before) = before
 value_end other = end.Nothing

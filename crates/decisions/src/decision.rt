@@ -1,8 +1,9 @@
 //! What an association decided last.
 ghost use Rattle.std.specs.Prelude.{◌≡◌};
 
+use crate::head_fault::HeadFault;
 use crate::value_end::ValueEnd;
-use dimse::{Detail, DimseFault};
+use dimse::{Detail, DimseFault, Unfinished};
 use negotiate::Answer;
 use pdu::{PduFault, PduHead, PdvHead};
 
@@ -12,9 +13,9 @@ use pdu::{PduFault, PduHead, PdvHead};
 pub enum Decision {
     /// Nothing was decided: the PDU is read further, or ignored.
     Nothing,
-    /// The PDU with this head is invalid, too long, or not allowed in this state: it is answered
-    /// with an A-ABORT, unless one was sent before.
-    PduRefused(PduHead),
+    /// The PDU with this head has this fault: it is answered with an A-ABORT, unless one was sent
+    /// before.
+    PduRefused(PduHead, HeadFault),
     /// The body of an A-ASSOCIATE-RQ, with this length in bytes, exceeds the limit: the request is
     /// rejected.
     RequestTooLong(u32),
@@ -27,14 +28,15 @@ pub enum Decision {
     /// The presentation context of the fragment after this head was not accepted: an A-ABORT is
     /// sent.
     ContextRefused(PdvHead),
-    /// The fragment after this head does not continue the message: the association is aborted.
-    FragmentRefused(PdvHead, DimseFault),
+    /// The fragment after this head does not continue the message, of which this was received: the
+    /// association is aborted.
+    FragmentRefused(PdvHead, DimseFault, Unfinished),
     /// The head of a presentation data value has a length below 2 or beyond its PDU: an A-ABORT is
     /// sent.
-    ValueInvalid,
+    BadPdv,
     /// The bytes after the last presentation data value of a PDU are no head of another: an A-ABORT
     /// is sent. The field is what the end of that value decided, at the same byte.
-    BytesRemaining(ValueEnd),
+    Leftover(ValueEnd),
     /// A command set is invalid, with this fault and its Command Field, if it has one: the
     /// association is aborted.
     CommandRefused(DimseFault, Option<u16>),
@@ -53,14 +55,14 @@ impl Decision {
     ghost use Rattle.decisions.specs.ValueEnds as ends;
 
     /// Returns what the end of a presentation data value decided, if this decision is due to one,
-    /// even if the bytes after the value were no head of another (`BytesRemaining`).
+    /// even if the bytes after the value were no head of another (`Leftover`).
     pub fn value_end(self) -> ValueEnd
         ensures { result ≡ ends.value_end self }
     {
         match self {
             Decision::DataDue => ValueEnd::DataDue,
             Decision::Replied(status, detail) => ValueEnd::Replied(status, detail),
-            Decision::BytesRemaining(end) => end,
+            Decision::Leftover(end) => end,
             _ => ValueEnd::Nothing,
         }
     }

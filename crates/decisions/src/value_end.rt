@@ -1,7 +1,7 @@
 //! What the end of a presentation data value decided.
 use dimse::Detail;
 
-/// What the end of a presentation data value decided. `Decision::BytesRemaining` keeps it if the bytes
+/// What the end of a presentation data value decided. `Decision::Leftover` keeps it if the bytes
 /// after the value in its PDU are no head of another.
 #[derive(Clone, Copy, Debug, PartialEq, Eq)]
 pub enum ValueEnd {

@@ -8,6 +8,8 @@ use Rattle.pdu.specs.Marks.{pdv_context, pdv_control, pdv_content, pdv_size}
 use Rattle.dimse.specs.declared.fault.DimseFault.{DimseFault}
 use Rattle.dimse.specs.declared.joined.Joined.{Joined}
 use Rattle.dimse.specs.declared.joined.Joined.TheVariants as joined
+use Rattle.dimse.specs.declared.unfinished.Unfinished.{Unfinished}
+use Rattle.dimse.specs.declared.unfinished.Unfinished.TheVariants as unfinished
 use Rattle.dimse.specs.Command.{CommandRecord}
 use Rattle.dimse.specs.Reading.{command_in}
 use Rattle.dimse.specs.Messages.{Pdv, Started, NoMessage, InCommand, InSet, Brought, Goes, Ends, Refuses, head_refusal, with_fragment}
@@ -45,6 +47,13 @@ abbrev pub command_bytes : Started → List ℕ
 command_bytes NoMessage = []
 command_bytes (InCommand context command) = command
 command_bytes (InSet context command set) = command
+
+-- what was received of an unfinished message, as far as it determines which fragment must follow
+-- e.g. unfinished_of (InCommand 1 (9 ∷ [])) ≡ unfinished.Command 1 1
+abbrev pub unfinished_of : Started → Unfinished
+unfinished_of NoMessage = unfinished.Nothing
+unfinished_of (InCommand context command) = unfinished.Command context (length command)
+unfinished_of (InSet context command set) = unfinished.Set context
 
 -- how many bytes an unfinished presentation data value still lacks; 0 while its head is unfinished
 abbrev pub remaining_of_pdv : List ℕ → ℕ

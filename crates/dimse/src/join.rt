@@ -3,7 +3,7 @@ ghost use Rattle.std.specs.Prelude.{◌≡◌, ◌-◌, ◌≤◌, ◌^◌, ◌+
 ghost use Rattle.pdu.specs.Heads.{pdv_head_of};
 ghost use Rattle.dimse.specs.Messages.{Started, NoMessage, brought, head_refusal};
 ghost use Rattle.dimse.specs.Command.{CommandRecord};
-ghost use Rattle.dimse.specs.Joining.{ShowsMessage, InContext, Joins, completed_command, joined_in, ok_unless, pdv_of, without_set};
+ghost use Rattle.dimse.specs.Joining.{ShowsMessage, InContext, Joins, completed_command, joined_in, ok_unless, pdv_of, unfinished_of, without_set};
 ghost use Rattle.dimse.specs.machine.Fields.{ended_as};
 ghost use Rattle.dimse.specs.Reading.{command_in};
 ghost use Rattle.dimse.specs.declared.joined.Joined.{Joined};
@@ -13,6 +13,7 @@ use crate::fault::DimseFault;
 use crate::joined::Joined;
 use crate::reading::read_command;
 use crate::stage::Stage;
+use crate::unfinished::Unfinished;
 use arrayvec::ArrayVec;
 use pdu::PdvHead;
 use std::marker::Model;
@@ -158,6 +159,17 @@ impl<const C: usize> Join<C> {
         self.remaining = 0;
         self.last = false;
         Ok((joined, command))
+    }
+
+    /// Returns what was received of the unfinished message.
+    pub fn unfinished(&self) -> Unfinished
+        ensures { result ≡ unfinished_of self.now.message }
+    {
+        match self.stage {
+            Stage::Between => Unfinished::Nothing,
+            Stage::Command => Unfinished::Command(self.context, self.command.len()),
+            Stage::Set => Unfinished::Set(self.context),
+        }
     }
 
     /// Returns the presentation context ID of the unfinished message.

@@ -17,6 +17,7 @@ mod response;
 mod set;
 mod stage;
 pub mod status;
+mod unfinished;
 
 pub use command::Command;
 pub use detail::{CLASS_MISMATCH, Detail, INSTANCE_MISMATCH, cause_name};
@@ -24,5 +25,7 @@ pub use fault::DimseFault;
 pub use join::Join;
 pub use joined::Joined;
 pub use reading::{command_field, read_command};
+pub use reply_set::{put_element, put_number, put_uid};
 pub use response::write_response;
 pub use set::CommandSet;
+pub use unfinished::Unfinished;

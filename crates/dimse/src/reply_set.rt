@@ -30,7 +30,7 @@ pub(crate) const REPLY: usize = ELEMENTS + 12;
 
 /// Appends an element of group 0000 with this element number, in Implicit VR Little Endian.
 #[tactic(auto, unfolding(crate::specs::Command::command_element_bytes))]
-fn put_element<const N: usize>(set: &mut ArrayVec<u8, N>, number: u16, value: &[u8])
+pub fn put_element<const N: usize>(set: &mut ArrayVec<u8, N>, number: u16, value: &[u8])
     requires room { array_vec_len set.old + 8 + length value.now ≤ N }
     requires short { length value.now ≤ 64 }
     ensures items { set.new.items ≡ set.old.items ++ command_element_bytes (element number value.now) }
@@ -48,8 +48,9 @@ fn put_element<const N: usize>(set: &mut ArrayVec<u8, N>, number: u16, value: &[
     let _value = set.try_extend_from_slice(value);
 }
 
-fn put_number(set: &mut ArrayVec<u8, ELEMENTS>, number: u16, value: u16)
-    requires { array_vec_len set.old + 10 ≤ ELEMENTS }
+/// Appends an element of VR US with this element number, in Implicit VR Little Endian.
+pub fn put_number<const N: usize>(set: &mut ArrayVec<u8, N>, number: u16, value: u16)
+    requires { array_vec_len set.old + 10 ≤ N }
     ensures items { set.new.items ≡ set.old.items ++ command_element_bytes (element number (le value 2)) }
     ensures len { array_vec_len set.new ≡ array_vec_len set.old + 10 }
 {
@@ -58,9 +59,9 @@ fn put_number(set: &mut ArrayVec<u8, ELEMENTS>, number: u16, value: u16)
     put_element(set, number, &bytes);
 }
 
-/// Appends an element with a UID, padded with a zero byte to an even length.
-fn put_uid(set: &mut ArrayVec<u8, ELEMENTS>, number: u16, uid: &Uid)
-    requires room { array_vec_len set.old + 72 ≤ ELEMENTS }
+/// Appends an element with a UID, padded with a zero byte to an even length (PS3.5 section 9.1).
+pub fn put_uid<const N: usize>(set: &mut ArrayVec<u8, N>, number: u16, uid: &Uid)
+    requires room { array_vec_len set.old + 72 ≤ N }
     requires is_uid { is_uid uid.now ≡ true }
     ensures items { set.new.items ≡ set.old.items ++ command_element_bytes (element number (even_uid uid.now)) }
     ensures len { array_vec_len set.new ≤ array_vec_len set.old + 72 }

@@ -1,8 +1,10 @@
 -- What the crates above cite of this crate's lemmas: the laws of `engine::laws`, which are their contracts, in the words of
 -- the definitions alone.
+use Rattle.engine.specs.AbortLaws.{EntriesAbort, StoriesAbort}
 use Rattle.engine.specs.TurnLaws.{TurnsBegin, OneTurnMore, TurnsAreARun, EndedHasNoDraft}
 use Rattle.engine.specs.OutputLaws.{FewMarks, BoundedOutput, FewBytesButAnswers, AnswersAreShort, StoriesAnswerShortly, OutputOfAPiece, EntriesOfMore, SilentSendsNothing, AbortsShortly}
 use Rattle.engine.specs.Parts.{FewerKeepTheDecision}
+use Rattle.engine.proofs.AlongTimelines.AbortsAreSent as aborts
 use Rattle.engine.proofs.OutputIsBounded.OutputOfAPiece as output
 use Rattle.engine.proofs.OutputIsBounded.OutputOfAPortion as portions
 use Rattle.engine.proofs.PartsEnd.FewerDecideNothing as fewer
@@ -49,3 +51,9 @@ aborts_shortly = portions.aborts_shortly
 
 pub fewer_keep_the_decision : FewerKeepTheDecision
 fewer_keep_the_decision = fewer.fewer_keep_the_decision
+
+pub entries_abort : EntriesAbort
+entries_abort = aborts.entries_abort
+
+pub stories_abort : StoriesAbort
+stories_abort = aborts.stories_abort

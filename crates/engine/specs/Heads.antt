@@ -7,6 +7,8 @@ use Rattle.acceptor.specs.declared.action.Action.TheVariants.{Aa1, Aa7, Aa8}
 use Rattle.acceptor.specs.declared.event.Event.{Event}
 use Rattle.acceptor.specs.declared.event.Event.TheVariants as event
 use Rattle.acceptor.specs.Table.{table}
+use Rattle.decisions.specs.declared.head_fault.HeadFault.{HeadFault}
+use Rattle.decisions.specs.declared.head_fault.HeadFault.TheVariants as fault
 use Rattle.pdu.specs.Types.{associate_rq, associate_ac, associate_rj, p_data_tf, release_rq, release_rp, abort}
 use Rattle.pdu.specs.Sizes.{pdv_head_size, short_body, request_head_size}
 use Rattle.engine.specs.Progress.{is_due, is_established}
@@ -25,11 +27,21 @@ unexpected_pdu = 2
 abbrev pub invalid_parameter : ℕ
 invalid_parameter = 6
 
--- The event that a head causes: none; an event of the state table, with the reason of the A-ABORT if its action sends
--- one; or the rejection of a request that is longer than the limit.
+-- the reason of an A-ABORT for the fault of a head
+-- e.g. abort_reason fault.ShortData ≡ 6
+abbrev pub abort_reason : HeadFault → ℕ
+abort_reason fault.Unrecognized = unrecognized_pdu
+abort_reason fault.Unexpected = unexpected_pdu
+abort_reason fault.OtherLength = invalid_parameter
+abort_reason fault.ShortRequest = invalid_parameter
+abort_reason (fault.LongData most) = invalid_parameter
+abort_reason fault.ShortData = invalid_parameter
+
+-- The event that a head causes: none; an event of the state table, for a fault; or the rejection of a request that is
+-- longer than the limit.
 pub data HeadEvent : Type 0 where
   NoEvent : HeadEvent
-  AtOnce : (event : Event) (reason : ℕ) → HeadEvent
+  AtOnce : (event : Event) (fault : HeadFault) → HeadEvent
   TooLong : HeadEvent
 
 -- the event of the state table for a received PDU of this type
@@ -64,30 +76,32 @@ is_abort Aa8 = true
 is_abort action = false
 
 -- a PDU whose type leads to an A-ABORT in this state has its event at its head
--- e.g. out_of_place Sta6 2 ≡ AtOnce event.Ac 2
+-- e.g. out_of_place Sta6 2 ≡ AtOnce event.Ac fault.Unexpected
 abbrev pub out_of_place : State → ℕ → HeadEvent
-out_of_place state kind = if is_abort (table state (event_of kind)).0 then AtOnce (event_of kind) unexpected_pdu else NoEvent
+out_of_place state kind = if is_abort (table state (event_of kind)).0 then AtOnce (event_of kind) fault.Unexpected else NoEvent
 
 -- the check of the length of a request: above the limit it is rejected, below the 68 bytes before its items it is
 -- invalid
--- e.g. request_length 65524 65525 ≡ TooLong; request_length 65524 67 ≡ AtOnce event.Invalid 6
+-- e.g. request_length 65524 65525 ≡ TooLong; request_length 65524 67 ≡ AtOnce event.Invalid fault.ShortRequest
 -- e.g. request_length 65524 68 ≡ NoEvent
 abbrev pub request_length : ℕ → ℕ → HeadEvent
-request_length room n = if nat_lt room n then TooLong else (if nat_lt n request_head_size then AtOnce event.Invalid invalid_parameter else NoEvent)
+request_length room n = if nat_lt room n then TooLong else (if nat_lt n request_head_size then AtOnce event.Invalid fault.ShortRequest else NoEvent)
 
 -- the check of the length of a P-DATA-TF: at least the head of one presentation data value, at most the announced
 -- maximum length
--- e.g. data_length 16384 16385 ≡ AtOnce event.Invalid 6; data_length 16384 6 ≡ NoEvent
+-- e.g. data_length 16384 16385 ≡ AtOnce event.Invalid (fault.LongData 16384); data_length 16384 6 ≡ NoEvent
 abbrev pub data_length : ℕ → ℕ → HeadEvent
-data_length most n = if nat_lt most n || nat_lt n pdv_head_size then AtOnce event.Invalid invalid_parameter else NoEvent
+data_length most n =
+    if nat_lt most n then AtOnce event.Invalid (fault.LongData most) else (if nat_lt n pdv_head_size then AtOnce event.Invalid fault.ShortData else NoEvent)
 
 -- the event that the head of a PDU of this type and length causes in this state; the body of a request has at most
 -- `room` bytes, a P-DATA-TF at most `most`
--- e.g. head_event 65524 16384 Sta2 71 0 ≡ AtOnce event.Invalid 1; head_event 65524 16384 Sta6 5 4 ≡ NoEvent
+-- e.g. head_event 65524 16384 Sta2 71 0 ≡ AtOnce event.Invalid fault.Unrecognized
+-- e.g. head_event 65524 16384 Sta6 5 4 ≡ NoEvent
 abbrev pub head_event : ℕ → ℕ → State → ℕ → ℕ → HeadEvent
 head_event room most state kind n =
-    if not (is_known kind) then AtOnce event.Invalid unrecognized_pdu
-    else (if has_four_bytes kind && not (nat_eq n short_body) then AtOnce event.Invalid invalid_parameter
+    if not (is_known kind) then AtOnce event.Invalid fault.Unrecognized
+    else (if has_four_bytes kind && not (nat_eq n short_body) then AtOnce event.Invalid fault.OtherLength
     else (if is_due state && nat_eq kind associate_rq then request_length room n
     else (if is_established state && nat_eq kind p_data_tf then data_length most n
     else out_of_place state kind)))

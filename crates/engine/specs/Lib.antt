@@ -28,6 +28,7 @@ pub mod TurnLaws
 pub mod OutputLaws
 pub mod MovesOn
 pub mod Laws
+pub mod AbortLaws
 pub mod HeldLaws
 pub mod StoreLaws
 pub mod RunLaws

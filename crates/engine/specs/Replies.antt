@@ -18,7 +18,7 @@ use Rattle.pdu.specs.declared.head.PdvHead.{PdvHead}
 use Rattle.pdu.specs.Heads.{is_command, is_last}
 use Rattle.dimse.specs.declared.joined.Joined.{Joined}
 use Rattle.dimse.specs.declared.joined.Joined.TheVariants as joined
-use Rattle.dimse.specs.Joining.{command_bytes, continues}
+use Rattle.dimse.specs.Joining.{command_bytes, continues, unfinished_of}
 use Rattle.dimse.specs.Messages.{Pdv, Message, Started, NoMessage, refusal, Goes, Ends, Refuses, brought, with_fragment}
 use Rattle.dimse.specs.Reply.{reply_bytes}
 use Rattle.dimse.specs.Status.{success, class_not_supported}
@@ -48,7 +48,7 @@ value_head n context control = record { length = n; context = context; command =
 -- e.g. (aborted_if_refused (value_head 4 1 3) None at_start).sent ≡ []
 abbrev pub aborted_if_refused : PdvHead → Option DimseFault → Progress → Advance
 aborted_if_refused head None p = nothing (deciding (decision.Fragment head) p)
-aborted_if_refused head (Some fault) p = user_aborts (deciding (decision.FragmentRefused head fault) p)
+aborted_if_refused head (Some fault) p = user_aborts (deciding (decision.FragmentRefused head fault (unfinished_of p.message)) p)
 
 -- the effect of the head of a presentation data value: with a presentation context that was not accepted it is invalid;
 -- one that does not continue the message leads to an abort of the local user (law

@@ -12,7 +12,7 @@ use Rattle.engine.specs.Timeline.{Entry, At, Shut, TimedOut, Aborted, Finding, H
 use Rattle.decisions.specs.declared.decision.Decision.TheVariants as decision
 use Rattle.decisions.specs.ValueEnds.{value_end}
 use Rattle.engine.specs.Progress.{Progress, absorb, remaining, deciding, deciding_unless_ended, is_due, is_established, Advance, nothing, followed_by, done, refusing}
-use Rattle.engine.specs.Heads.{NoEvent, AtOnce, TooLong, head_event}
+use Rattle.engine.specs.Heads.{NoEvent, AtOnce, TooLong, abort_reason, head_event}
 use Rattle.engine.specs.Requests.{at_request}
 use Rattle.engine.specs.Replies.{invalid, at_pdv_head, at_pdv}
 
@@ -40,7 +40,7 @@ heads_size = head_size + pdv_head_size
 abbrev pub at_head : Rooms → Settings → Progress → ℕ → ℕ → Advance
 at_head rooms s p kind n = elim (head_event (rooms.request - heads_size) s.max_pdu p.state kind n) [
   | NoEvent ↦ nothing (deciding_unless_ended decision.Nothing p)
-  | AtOnce e reason ↦ refusing (done [] reason (deciding_unless_ended (decision.PduRefused (record { kind = kind; length = n })) p) e)
+  | AtOnce e fault ↦ refusing (done [] (abort_reason fault) (deciding_unless_ended (decision.PduRefused (record { kind = kind; length = n }) fault) p) e)
   | TooLong ↦ refusing (done (reject_text rejected_transient service_provider_presentation local_limit_exceeded) 0 (deciding_unless_ended (decision.RequestTooLong n) p) event.UnacceptableRq)
 ]
 
@@ -65,8 +65,8 @@ at_mark rooms s p finding (Head kind n) = at_head rooms s p kind n
 at_mark rooms s p finding (PdvHead n context control) = if is_established p.state then at_pdv_head rooms.command p n context control else nothing p
 at_mark rooms s p finding (Pdv context control fragment) =
     if is_established p.state then at_pdv p finding (record { context = context; control = control; fragment = fragment }) else nothing p
-at_mark rooms s p finding BadPdv = if is_established p.state then invalid (deciding decision.ValueInvalid p) else nothing p
-at_mark rooms s p finding Leftover = if is_established p.state then invalid (deciding (decision.BytesRemaining (value_end p.decided)) p) else nothing p
+at_mark rooms s p finding BadPdv = if is_established p.state then invalid (deciding decision.BadPdv p) else nothing p
+at_mark rooms s p finding Leftover = if is_established p.state then invalid (deciding (decision.Leftover (value_end p.decided)) p) else nothing p
 at_mark rooms s p finding (End kind body) = at_end s p kind body
 
 -- Whether a mark is the head of a PDU. The other marks of a PDU that was already answered have no effect.

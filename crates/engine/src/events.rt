@@ -42,11 +42,11 @@ impl<'c, const A: usize, const C: usize, const V: usize, const D: usize> Provide
             Event::Fragment(part) => self.on_data(part, devices.filing),
             Event::PdvEnd => self.on_pdv(devices),
             Event::BadPdv => {
-                let due = self.on_invalid(Decision::ValueInvalid);
+                let due = self.on_invalid(Decision::BadPdv);
                 self.perform(due, devices);
             }
             Event::Leftover => {
-                let due = self.on_invalid(Decision::BytesRemaining(self.decided.value_end()));
+                let due = self.on_invalid(Decision::Leftover(self.decided.value_end()));
                 self.perform(due, devices);
             }
             Event::PduEnd(kind) => {

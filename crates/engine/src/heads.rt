@@ -9,7 +9,7 @@ use crate::phase::Phase;
 use crate::provider::Provider;
 use crate::sending::{Answering, Reaction};
 use acceptor::{Action, Event, State, act};
-use decisions::Decision;
+use decisions::{Decision, HeadFault};
 use pdu::{PduHead, pdu_type};
 
 /// The reason unrecognized-PDU of an A-ABORT of the service provider (PS3.8 section 9.3.8).
@@ -34,9 +34,8 @@ const HEADS: usize = 12;
 pub(crate) enum HeadEvent {
     /// No event: the rest of the PDU is read.
     Nothing,
-    /// This event, before the body is received, with the reason of the A-ABORT if the action sends
-    /// one.
-    AtOnce(Event, u8),
+    /// This event, before the body is received, for this fault.
+    AtOnce(Event, HeadFault),
     /// The rejection of an A-ASSOCIATE-RQ whose body is longer than the limit.
     TooLong,
 }
@@ -57,6 +56,20 @@ fn event_of(kind: u8) -> Event
     }
 }
 
+/// Returns the reason of the A-ABORT of the service provider for this fault (PS3.8 Table 9-26).
+fn abort_reason(fault: HeadFault) -> u8
+    ensures { result ≡ spelling.abort_reason fault }
+{
+    match fault {
+        HeadFault::Unrecognized => UNRECOGNIZED,
+        HeadFault::Unexpected => UNEXPECTED,
+        HeadFault::OtherLength
+        | HeadFault::ShortRequest
+        | HeadFault::LongData(_)
+        | HeadFault::ShortData => INVALID_PARAMETER,
+    }
+}
+
 /// Returns whether the action sends an A-ABORT.
 fn is_abort(action: Action) -> bool
     ensures { result ≡ spelling.is_abort action }
@@ -72,7 +85,7 @@ fn out_of_place(state: State, kind: u8) -> HeadEvent
     let event = event_of(kind);
     let (action, _) = act(state, event);
     if is_abort(action) {
-        HeadEvent::AtOnce(event, UNEXPECTED)
+        HeadEvent::AtOnce(event, HeadFault::Unexpected)
     } else {
         HeadEvent::Nothing
     }
@@ -86,7 +99,7 @@ fn request_length(room: usize, length: u32) -> HeadEvent
     if length as usize > room {
         HeadEvent::TooLong
     } else if length < BEFORE_ITEMS {
-        HeadEvent::AtOnce(Event::Invalid, INVALID_PARAMETER)
+        HeadEvent::AtOnce(Event::Invalid, HeadFault::ShortRequest)
     } else {
         HeadEvent::Nothing
     }
@@ -97,8 +110,10 @@ fn request_length(room: usize, length: u32) -> HeadEvent
 fn data_length(most: u32, length: u32) -> HeadEvent
     ensures { brings result ≡ spelling.data_length most length }
 {
-    if length > most || length < PDV_HEAD {
-        HeadEvent::AtOnce(Event::Invalid, INVALID_PARAMETER)
+    if length > most {
+        HeadEvent::AtOnce(Event::Invalid, HeadFault::LongData(most))
+    } else if length < PDV_HEAD {
+        HeadEvent::AtOnce(Event::Invalid, HeadFault::ShortData)
     } else {
         HeadEvent::Nothing
     }
@@ -116,15 +131,15 @@ fn is_short(kind: u8) -> bool
 /// the greatest length of the body of an A-ASSOCIATE-RQ, `most` that of a P-DATA-TF, in bytes.
 pub(crate) fn head_event(room: usize, most: u32, state: State, kind: u8, length: u32) -> HeadEvent
     ensures brings { brings result ≡ spelling.head_event room most state kind length }
-    ensures stays { (event : Event) (reason : ℕ) → result ≡ HeadEvent.AtOnce event reason → Stays state event }
+    ensures stays { (event : Event) (fault : HeadFault) → result ≡ HeadEvent.AtOnce event fault → Stays state event }
     ensures due { result ≡ HeadEvent.TooLong → state ≡ Sta2 }
     ensures fits { result ≡ HeadEvent.Nothing → state ≡ Sta2 → kind ≡ 1 → length ≤ room }
 {
     if kind < pdu_type::A_ASSOCIATE_RQ || pdu_type::A_ABORT < kind {
-        return HeadEvent::AtOnce(Event::Invalid, UNRECOGNIZED);
+        return HeadEvent::AtOnce(Event::Invalid, HeadFault::Unrecognized);
     }
     if is_short(kind) && length != 4 {
-        return HeadEvent::AtOnce(Event::Invalid, INVALID_PARAMETER);
+        return HeadEvent::AtOnce(Event::Invalid, HeadFault::OtherLength);
     }
     match state {
         State::Sta2 if kind == pdu_type::A_ASSOCIATE_RQ => request_length(room, length),
@@ -165,9 +180,9 @@ impl<'c, const A: usize, const C: usize, const V: usize, const D: usize> Provide
                 self.decided = Decision::Nothing;
                 Reaction::Nothing
             }
-            HeadEvent::AtOnce(event, reason) => {
-                self.decided = Decision::PduRefused(PduHead { kind, length });
-                Reaction::Perform(event, Answering::Abort(reason))
+            HeadEvent::AtOnce(event, fault) => {
+                self.decided = Decision::PduRefused(PduHead { kind, length }, fault);
+                Reaction::Perform(event, Answering::Abort(abort_reason(fault)))
             }
             HeadEvent::TooLong => {
                 self.decided = Decision::RequestTooLong(length);

@@ -14,6 +14,7 @@ ghost use Rattle.engine.specs.TurnLaws.{TurnsBegin, OneTurnMore, TurnsAreARun, E
 ghost use Rattle.engine.specs.OutputLaws.{AbortsShortly, AnswersAreShort, BoundedOutput, EntriesOfMore, FewBytesButAnswers, FewMarks, OutputOfAPiece, SilentSendsNothing, StoriesAnswerShortly};
 ghost use Rattle.engine.specs.Parts.{FewerKeepTheDecision};
 ghost use Rattle.engine.specs.Laws.{EntriesAppend, CutsDoNotShow, NothingAfterTheEnd};
+ghost use Rattle.engine.specs.AbortLaws.{EntriesAbort, StoriesAbort};
 ghost use Rattle.engine.specs.HeldLaws.{HeldIsOne, HeldIsWithinRooms};
 ghost use Rattle.engine.specs.Examples.{ARequestAboveTheRoom, BytesThatAreNoPdu, DataAboveTheMaximum, AfterTheEnd, AnotherCalledTitle, RecordedEcho, HeldDuringTheEcho, AGoodPdvBeforeABadOne};
 
@@ -43,6 +44,13 @@ pub fn cuts_give_the_same()
 /// After the end of the association nothing is sent or decided, and no file is stored.
 pub fn nothing_after_the_end()
     ensures { NothingAfterTheEnd }
+{}
+
+/// An association that decides to abort sends an A-ABORT, and nothing after it: at each entry of the
+/// timeline, and at the end of further entries of a story in which no send failed.
+pub fn aborts_are_sent()
+    ensures entry { EntriesAbort }
+    ensures story { StoriesAbort }
 {}
 
 /// The invariant of calls of [`Association::take_next`](crate::Association::take_next) holds, for

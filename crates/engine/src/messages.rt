@@ -157,7 +157,8 @@ impl<'c, const A: usize, const C: usize, const V: usize, const D: usize> Provide
             }
             Err(fault) => {
                 self.refused = true;
-                self.decided = Decision::FragmentRefused(head, fault);
+                let unfinished = message.join.unfinished();
+                self.decided = Decision::FragmentRefused(head, fault, unfinished);
                 Reaction::Perform(Event::UserAborts, Answering::Nothing)
             }
         }

@@ -1,10 +1,11 @@
 //! A folder without hard links, and one that can't be listed.
 
-use crate::links::Refusing;
+use crate::links::{OF_ANOTHER, Refusing};
 use crate::runtimes::Diverted;
-use fixtures::folders::{fresh, put};
+use fixtures::folders::{fresh, holds, is_filed, put};
 use fixtures::play;
-use folder_filing::FolderFiling;
+use folder_filing::{FolderFiling, FolderWriter, NamesSynced};
+use part10::Settling;
 use std::cell::Cell;
 use std::test::Fail;
 use std::{fs, io};
@@ -34,6 +35,7 @@ fn without_links<'a>(rt: HostRuntime, error: i32) -> Refusing<'a, HostRuntime> {
         listed: "",
         opening: None,
         end: None,
+        moved: None,
     }
 }
 
@@ -111,6 +113,70 @@ fn no_file_is_renamed_over(rt: HostRuntime) -> Result<(), Fail> {
     )
 }
 
+/// A draft was renamed to a subfolder that another program moves away then: its store fails, and
+/// the file in its place remains, which is not the filing's.
+static REPLACED: &str = "fresh
+open 5
+not file 1 mine
+counted 1 0 1
+holds S0000001/I0000001 of another
+holds ../a_subfolder_that_is_replaced_moved/I0000001 mine
+file 1 second
+holds S0000001/I0000001 of another
+holds S0000001/I0000002 second
+count . 1";
+
+/// The file of a link is named once more.
+static LINKED_AGAIN: &str = "fresh
+clear ../a_subfolder_that_is_replaced_moved
+open 5
+file 1 mine
+holds S0000001/I0000001 of another
+holds ../a_subfolder_that_is_replaced_moved/I0000001 mine
+holds S0000001/I0000002 mine
+count . 1
+clear ../a_subfolder_that_is_replaced_moved";
+
+#[test]
+fn a_subfolder_that_is_replaced(rt: HostRuntime) -> Result<(), Fail> {
+    let dir = "a_subfolder_that_is_replaced";
+    for (links, script) in [(Some(1), REPLACED), (None, LINKED_AGAIN)] {
+        let replacing = Refusing {
+            rt,
+            links,
+            listed: "",
+            opening: None,
+            end: None,
+            moved: Some("a_subfolder_that_is_replaced_moved"),
+        };
+        play(&rt, &replacing, dir, script)?;
+    }
+    Ok(())
+}
+
+/// A file whose name is not synced loses it; a file that another program has put in its place
+/// remains.
+#[test]
+fn a_lost_file_that_was_replaced(rt: HostRuntime) -> Result<(), Fail> {
+    let dir = "a_lost_file";
+    for is_replaced in [false, true] {
+        fresh(&rt, dir)?;
+        let mut writer = FolderWriter::open(rt, dir)?.in_groups();
+        let mut filing = writer.filing()?;
+        assert!(rt; is_filed(&mut filing, b"mine"));
+        filing.write_out();
+        assert!(rt; holds(&rt, dir, "I0000001", b"mine")?);
+        if is_replaced {
+            fs::rename(&rt, "a_lost_file/I0000001", "a_lost_file/mine")?;
+            put(&rt, dir, "I0000001", OF_ANOTHER)?;
+        }
+        assert!(rt; filing.settle(&NamesSynced::none(rt.alloc())).is_err());
+        assert!(rt; holds(&rt, dir, "I0000001", OF_ANOTHER)? == is_replaced);
+    }
+    fs::remove_dir_all(&rt, dir)?;
+    Ok(())
+}
+
 /// No text is filed in the first subfolder.
 static NOT_NAMED: &str = "fresh
 make S0000001
@@ -140,6 +206,7 @@ fn unsynced<'a>(
         listed: "",
         opening: None,
         end: None,
+        moved: None,
     }
 }
 
@@ -167,6 +234,7 @@ fn unlisted<'a>(rt: HostRuntime, listed: &'a str, is_opened: bool) -> Refusing<'
         listed,
         opening: if is_opened { None } else { Some(EIO) },
         end: Some(EIO),
+        moved: None,
     }
 }
 

@@ -1,10 +1,11 @@
-//! A runtime without hard links, and one whose folders can't be listed.
+//! A runtime without hard links, one whose folders can't be listed, and one whose subfolder another
+//! program replaces.
 
 use std::alloc::{AllocError, Allocator};
 use std::fs::{Metadata, OpenOptions};
-use std::io;
 use std::io::{Error, Read};
 use std::rt::Files;
+use std::{fs, io};
 
 /// The names of a folder, followed by this system error in place of the end.
 #[derive(Drop)]
@@ -35,6 +36,28 @@ pub(crate) struct Refusing<'a, R: Files + Drop> {
     pub(crate) opening: Option<i32>,
     /// The error in place of the end of such a listing.
     pub(crate) end: Option<i32>,
+    /// Where another program moves the subfolder S0000001, unless something is there, right after
+    /// its file I0000001 got its name. At its path it makes a folder with a file of this name.
+    pub(crate) moved: Option<&'a str>,
+}
+
+/// The file that another program puts in place of one that it moves.
+pub(crate) const OF_ANOTHER: &[u8] = b"of another";
+
+impl<R: Files + Drop> Refusing<'_, R> {
+    /// Replaces the folder of the file at this path, which has just got its name, if it is to be
+    /// moved.
+    fn replace(&self, path: &str) -> io::Result<()> {
+        let (Some(moved), Some((folder, "I0000001"))) = (self.moved, path.rsplit_once('/')) else {
+            return Ok(());
+        };
+        if !folder.ends_with("S0000001") || self.rt.metadata(moved).is_ok() {
+            return Ok(());
+        }
+        self.rt.rename(folder, moved)?;
+        self.rt.create_dir(folder)?;
+        fs::write(&self.rt, path, OF_ANOTHER)
+    }
 }
 
 impl<R: Files + Clone + Drop> Clone for Refusing<'_, R> {
@@ -45,6 +68,7 @@ impl<R: Files + Clone + Drop> Clone for Refusing<'_, R> {
             listed: self.listed,
             opening: self.opening,
             end: self.end,
+            moved: self.moved,
         })
     }
 }
@@ -90,7 +114,8 @@ impl<R: Files + Drop> Files for Refusing<'_, R> {
     }
 
     fn rename(&self, from: &str, to: &str) -> io::Result<()> {
-        self.rt.rename(from, to)
+        self.rt.rename(from, to)?;
+        self.replace(to)
     }
 
     fn remove_file(&self, path: &str) -> io::Result<()> {
@@ -115,8 +140,9 @@ impl<R: Files + Drop> Files for Refusing<'_, R> {
 
     fn hard_link(&self, original: &str, link: &str) -> io::Result<()> {
         match self.links {
-            Some(error) => Err(Error::from_raw_os_error(error)),
-            None => self.rt.hard_link(original, link),
+            Some(error) => return Err(Error::from_raw_os_error(error)),
+            None => self.rt.hard_link(original, link)?,
         }
+        self.replace(link)
     }
 }

@@ -36,10 +36,15 @@ impl fmt::Debug for ProgramError {
 }
 
 impl ProgramError {
-    /// Returns the error for a failed system call: `Memory` if memory ran out.
+    /// Returns the error for a failed system call: `Memory` if memory ran out; a file that is read
+    /// may be a folder.
     pub fn of(failure: Failure, error: io::Error) -> ProgramError {
-        match error.kind() {
-            ErrorKind::OutOfMemory => ProgramError::Memory(AllocError),
+        match (failure, error.kind()) {
+            (_, ErrorKind::OutOfMemory) => ProgramError::Memory(AllocError),
+            (Failure::Read, ErrorKind::IsADirectory) => ProgramError::System(
+                Failure::IsFolder,
+                error,
+            ),
             _ => ProgramError::System(failure, error),
         }
     }
@@ -49,8 +54,9 @@ impl ProgramError {
         ProgramError::of(Failure::Write, error)
     }
 
-    /// Returns the error for a folder that could not be opened or listed: it is missing, locked by
-    /// another program, or unusable for another reason; `Memory` if memory ran out.
+    /// Returns the error for a folder that files go to and that could not be opened or listed: it is
+    /// missing, locked by another program, or unusable for another reason; `Memory` if memory ran
+    /// out.
     pub fn of_folder(error: io::Error) -> ProgramError {
         let failure = match error.kind() {
             ErrorKind::NotFound => Failure::MissingFolder,

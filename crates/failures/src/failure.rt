@@ -10,9 +10,15 @@ pub enum Failure {
     Open,
     /// A file cannot be read.
     Read,
-    /// A folder cannot be opened or listed.
+    /// A file cannot be read, as it is a folder.
+    IsFolder,
+    /// A file cannot be opened, as its name is not UTF-8.
+    Name,
+    /// A folder that is read cannot be opened or listed.
+    ReadFolder,
+    /// A folder that files go to cannot be opened or listed.
     Folder,
-    /// A folder does not exist.
+    /// A folder that files go to does not exist.
     MissingFolder,
     /// A folder is locked: another program stores files in it.
     BusyFolder,
@@ -20,6 +26,8 @@ pub enum Failure {
     UnwrittenFolder,
     /// The file of numbers (option `--numbers`) cannot be read or created.
     Numbers,
+    /// The file of numbers is locked: another program writes it.
+    BusyNumbers,
     /// The file of titles (option `--callers`) cannot be read.
     Callers,
     /// The quarantine (option `--quarantine`) cannot be created or opened, or no file can be moved
@@ -51,6 +59,10 @@ pub enum Failure {
     Link,
     /// A tree of folders cannot be written, by `arrange`.
     Tree,
+    /// A file has the name of a folder of the tree, by `arrange`.
+    InTheWay,
+    /// No connection to the archive can be opened, by `send`.
+    Archive,
 }
 
 impl Failure {
@@ -60,11 +72,15 @@ impl Failure {
             Failure::Arguments => "the command line can't be read",
             Failure::Open => "the file can't be opened",
             Failure::Read => "the file can't be read",
+            Failure::IsFolder => "the file can't be read",
+            Failure::Name => "the file can't be opened",
+            Failure::ReadFolder => "the folder can't be opened",
             Failure::Folder => "the folder can't be opened",
             Failure::MissingFolder => "the folder can't be opened",
             Failure::BusyFolder => "the folder can't be opened",
             Failure::UnwrittenFolder => "the folder can't be written into",
             Failure::Numbers => "the file of numbers can't be read or made",
+            Failure::BusyNumbers => "the file of numbers can't be used",
             Failure::Callers => "the file of titles can't be read",
             Failure::Quarantine => "the quarantine can't be used",
             Failure::NoDirectory => "the folder's DICOMDIR can't be read",
@@ -80,6 +96,8 @@ impl Failure {
             Failure::BusyMetrics => "the file of metrics can't be used",
             Failure::Link => "a file can't be linked into it",
             Failure::Tree => "it can't be written into",
+            Failure::InTheWay => "its path in the tree needs a folder where a file is",
+            Failure::Archive => "can't be reached",
         }
     }
 
@@ -89,8 +107,10 @@ impl Failure {
             Failure::Arguments => "start the program again",
             Failure::Open => "check its name, and that you may read it",
             Failure::Read => "give a file, and copy it first if its disk fails",
-            Failure::Folder =>
-                "check that it is a folder, and that you may read it, or write into it where files go there",
+            Failure::IsFolder => "give a file",
+            Failure::Name => "its name is not UTF-8: rename it",
+            Failure::ReadFolder => "check its name, that it is a folder, and that you may read it",
+            Failure::Folder => "check that it is a folder, and that you may write into it",
             Failure::MissingFolder => "create it, or check its name",
             Failure::BusyFolder => "end the other program that writes into it",
             Failure::UnwrittenFolder =>
@@ -115,16 +135,22 @@ impl Failure {
                 "--bind takes an IP address of this machine, or 0.0.0.0 for all of them, and no name",
             Failure::FurtherAddress =>
                 "--listen takes IP addresses of this machine, each with a port that nothing uses",
-            Failure::BusyMetrics => "give each program a file of its own",
+            Failure::BusyMetrics | Failure::BusyNumbers => "give each program a file of its own",
             Failure::Link =>
                 "where it is on another disk, or the files are another user's, copy them with --copy",
             Failure::Tree => "check that you may, and that its disk has room",
+            Failure::InTheWay => "move that file away, or give another tree with --to",
+            Failure::Archive => "check the host and the port, and that the archive runs",
         }
     }
 
-    /// Returns whether an input of the program failed: a file or a folder.
+    /// Returns whether an input of the program failed: a file, also for want of its path in the
+    /// tree, or a folder. Other inputs can still be read.
     pub fn is_of_input(self) -> bool {
-        matches!(self, Failure::Open | Failure::Read) || self.is_of_folder()
+        matches!(
+            self,
+            Failure::Open | Failure::Read | Failure::IsFolder | Failure::Name | Failure::InTheWay
+        ) || self.is_of_folder()
     }
 
     /// Returns whether the output tree of `arrange` failed, or is locked by another program.
@@ -136,7 +162,8 @@ impl Failure {
     pub fn is_of_folder(self) -> bool {
         matches!(
             self,
-            Failure::Folder
+            Failure::ReadFolder
+                | Failure::Folder
                 | Failure::MissingFolder
                 | Failure::BusyFolder
                 | Failure::UnwrittenFolder

@@ -1,5 +1,6 @@
 //! The errors of the command line.
-use std::alloc::AllocError;
+use std::alloc::{AllocError, Global};
+use std::fmt::Display;
 use thiserror::Error;
 
 /// Why the command line has no command to run.
@@ -13,4 +14,14 @@ pub enum WordsError {
     Refused(String),
     #[error("out of memory")]
     Memory(#[from(alloc)] AllocError),
+}
+
+impl WordsError {
+    /// Returns the refusal of invalid arguments, for this reason, or `Memory` if memory runs out.
+    pub fn refused<D: Display + Drop>(alloc: Global, reason: D) -> WordsError {
+        match format!(in alloc; "error: {reason}\n") {
+            Ok(text) => WordsError::Refused(text),
+            Err(error) => WordsError::Memory(error),
+        }
+    }
 }

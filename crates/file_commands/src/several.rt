@@ -1,11 +1,15 @@
 //! Inspects several files and folders, one after the other.
-use crate::single::{Inspection, inspect, inspect_opened, open_input, report_unjudged};
+use crate::single::{Inspection, inspect, inspect_opened, open_input, report_unjudged, unopened};
 use crate::tally::Tally;
 use failures::{Failure, ProgramError, flushed};
-use inspection::{FileFront, Outcome, OutputForm, Printable, Syntaxes, bare_form};
-use keyed_files::{Counter, NO_FILE, Visits, has_vanished, is_dicom, open_file};
+use inspection::{FileFront, Outcome, OutputForm, Printable, Syntaxes, bare_form, kind_of};
+use keyed_files::{
+    Counter, FolderWalk, NO_FILE, WalkEntry, WalkOrder, has_vanished, is_draft, last_name,
+    open_file,
+};
+use std::alloc::Global;
 use std::fs;
-use std::io::{self, BufWriter, Error, ErrorKind, Write};
+use std::io::{self, BufWriter, Write};
 
 /// The files to inspect, and how they are found.
 #[derive(Clone, Copy)]
@@ -16,23 +20,22 @@ pub struct Files<'a> {
     pub recursive: bool,
     /// Whether files that are no DICOM files are ignored if several files are inspected.
     pub ignore_others: bool,
+    /// Whether symbolic links in folders are followed.
+    pub follow: bool,
 }
 
-/// Returns whether a file is a data set without header; `false` if it can't be read.
-fn is_bare(rt: &HostRuntime, path: &str) -> bool {
-    match open_file(rt, path) {
-        Ok(mut file) => bare_form(FileFront::new(&mut file).look_ahead()).is_some(),
-        Err(_) => false,
-    }
-}
-
-/// Returns whether a path is that of a file that can be opened and is no DICOM file, and no data
-/// set without header if such files are accepted.
+/// Returns whether a path is that of a file that can be opened and is no DICOM file, not empty, and
+/// no data set without header if such files are accepted.
 fn is_other(rt: &HostRuntime, path: &str, syntaxes: Syntaxes) -> bool {
-    path != "-"
-        && open_file(rt, path).is_ok()
-        && !is_dicom(rt, path)
-        && !(syntaxes == Syntaxes::Any && is_bare(rt, path))
+    if path == "-" {
+        return false;
+    }
+    let Ok(mut file) = open_file(rt, path) else {
+        return false;
+    };
+    let mut front = FileFront::new(&mut file);
+    let beginning = front.look_ahead();
+    kind_of(beginning).is_other() && !(syntaxes == Syntaxes::Any && bare_form(beginning).is_some())
 }
 
 /// Inspects files and counts them.
@@ -41,6 +44,7 @@ struct Inspector<'a, O: Write + Drop> {
     rt: &'a HostRuntime,
     inspection: Inspection<'a>,
     ignores_others: bool,
+    follows: bool,
     counter: Counter,
     tally: Tally,
     out: O,
@@ -53,7 +57,7 @@ impl<O: Write + Drop> Inspector<'_, O> {
         if !error.failure().is_some_and(Failure::is_of_input) {
             return Err(error);
         }
-        self.tally.add_unread();
+        self.tally.unseen.add_unread();
         let path = Printable(path.as_bytes());
         let _ = eprintln!(self.rt; "dcmbox: {path}: {error}");
         Ok(())
@@ -73,13 +77,13 @@ impl<O: Write + Drop> Inspector<'_, O> {
     fn inspect(&mut self, file: &str, is_found: bool) -> Result<(), ProgramError> {
         self.counter.show(&mut self.rt.stderr());
         if self.ignores_others && is_other(self.rt, file, self.inspection.syntaxes()) {
-            self.tally.add_ignored();
+            self.tally.unseen.add_ignored();
             return Ok(());
         }
         let opened = open_input(self.rt, file);
         if let Err(error) = &opened {
             if is_found && has_vanished(self.rt, file, error) {
-                self.tally.add_vanished();
+                self.tally.unseen.add_vanished();
                 return Ok(());
             }
         }
@@ -93,60 +97,52 @@ impl<O: Write + Drop> Inspector<'_, O> {
         }
     }
 
-    /// Counts and reports paths that can't be opened because the name is not UTF-8.
-    fn report_unnamed(&mut self, paths: &[String]) -> Result<(), ProgramError> {
-        for path in paths {
-            let error = Error::from(ErrorKind::InvalidFilename);
-            self.report_unread(path.as_str(), ProgramError::System(Failure::Open, error))?;
-        }
-        Ok(())
-    }
-
-    /// Counts a path that was found in a folder and can't be read, and reports it unless it has
-    /// vanished.
+    /// Counts a path that was found in a folder and can't be read, and reports it, in JSON also by an
+    /// object, unless it has vanished.
     fn report_lost(&mut self, path: &str, error: ProgramError) -> Result<(), ProgramError> {
         if has_vanished(self.rt, path, &error) {
-            self.tally.add_vanished();
+            self.tally.unseen.add_vanished();
             return Ok(());
         }
+        let error = unopened(self.inspection, (path, error), &mut self.out);
         self.report_unread(path, error)
     }
 
-    /// Adds the entries of a folder to those to visit.
-    fn open_folder(
-        &mut self,
-        dir: &str,
-        visits: &mut Visits<HostRuntime>,
-    ) -> Result<(), ProgramError> {
-        match visits.add_folder(self.rt, dir) {
-            Ok(unnamed) => self.report_unnamed(unnamed.as_slice()),
-            Err(error) => self.report_lost(dir, error),
-        }
-    }
-
-    /// Visits a path that was found in a folder: a file or a folder. Symbolic links are not
-    /// followed.
-    fn visit(&mut self, path: &str, visits: &mut Visits<HostRuntime>) -> Result<(), ProgramError> {
-        match fs::symlink_metadata(self.rt, path) {
-            Ok(found) if found.is_dir() => self.open_folder(path, visits),
-            Ok(found) if found.is_file() => self.inspect(path, true),
-            Ok(found) if found.is_symlink() => Ok(()),
+    /// Visits an entry of a folder. Drafts are skipped, symbolic links are counted unless they
+    /// are followed.
+    fn visit(&mut self, entry: WalkEntry<Global>) -> Result<(), ProgramError> {
+        let WalkEntry { path, found } = entry;
+        match found {
+            Ok(_) if is_draft(last_name(path.as_str())) => Ok(()),
+            Ok(found) if found.is_file() => self.inspect(path.as_str(), true),
+            Ok(found) if found.is_dir() => Ok(()),
+            Ok(found) if found.is_symlink() => {
+                self.tally.unseen.add_link();
+                Ok(())
+            }
             Ok(_) => {
                 let path = Printable(path.as_bytes());
                 let _ = eprintln!(self.rt; "dcmbox: {path}: {NO_FILE}");
                 Ok(())
             }
-            Err(error) => self.report_lost(path, ProgramError::System(Failure::Open, error)),
+            Err(error) => self.report_lost(path.as_str(), error),
         }
     }
 
     /// Inspects the files below a folder in the order of their names.
     fn inspect_folder(&mut self, dir: &str) -> Result<(), ProgramError> {
-        let mut visits = Visits::new(self.rt);
-        self.open_folder(dir, &mut visits)?;
+        let mut walk = match FolderWalk::below(
+            self.rt,
+            dir.trim_end_matches('/'),
+            WalkOrder::Names,
+        ) {
+            Ok(walk) => walk,
+            Err(error) => return self.report_lost(dir, error),
+        };
+        walk.follow(self.follows);
         for _ in 0..u64::MAX {
-            match visits.next() {
-                Some(path) => self.visit(path.as_str(), &mut visits)?,
+            match walk.next()? {
+                Some(entry) => self.visit(entry)?,
                 None => break,
             }
         }
@@ -172,7 +168,7 @@ impl<O: Write + Drop> Inspector<'_, O> {
         let ran = self.inspect_all(files);
         self.counter.clear(&mut self.rt.stderr());
         report_unjudged(self.rt, self.tally.unjudged());
-        self.tally.report_passed_by(&mut self.rt.stderr());
+        self.tally.unseen.report_passed_by(&mut self.rt.stderr());
         ran?;
         if !self.inspection.is_counted() {
             return Ok(());
@@ -193,6 +189,7 @@ fn inspect_several<'a>(
         rt,
         inspection,
         ignores_others: files.ignore_others,
+        follows: files.follow,
         counter: Counter::new(rt),
         tally: Tally::new(),
         out,
@@ -219,7 +216,7 @@ pub fn inspect_files(
         return inspect(rt, *file, inspection);
     }
     let tally = inspect_several(rt, files, inspection)?;
-    if tally.has_unread() {
+    if tally.unseen.unread > 0 {
         return Err(ProgramError::Unread);
     }
     Ok(tally.outcome(inspection.is_strict()))

@@ -4,18 +4,15 @@ use dictionary::Transfer;
 use element::Uid;
 use failures::{Failure, ProgramError, flushed};
 use inspection::{
-    CheckOptions, FileFront, Inspected, InspectionError, JsonPath, MetaRule, Outcome, OutputForm,
-    Printable, ShowOptions, Syntaxes, bare_form, broken_rule_of, check_with, class_of,
-    other_syntax_of, show_with,
+    CheckOptions, DIRECTORY_CLASS, FileFront, Inspected, InspectionError, JsonPath, MetaRule,
+    Outcome, OutputForm, Printable, ShowOptions, Syntaxes, bare_form, broken_rule_of, check_with,
+    class_of, other_syntax_of, show_with,
 };
 use keyed_files::open_file;
 use keywords::{class_keyword, syntax_keyword};
 use std::fs::File;
 use std::io;
 use std::io::{BufWriter, Error, ErrorKind, Read, Write};
-
-/// The SOP Class UID of a DICOMDIR: Media Storage Directory Storage.
-const DIRECTORY_CLASS: &[u8] = b"1.2.840.10008.1.3.10";
 
 /// What is printed of a file.
 #[derive(Clone, Copy, Debug)]
@@ -73,7 +70,7 @@ impl Inspection<'_> {
 /// Returns the program's error for an inspection that failed.
 fn failed(error: InspectionError) -> ProgramError {
     match error {
-        InspectionError::Read(error) => ProgramError::System(Failure::Read, error),
+        InspectionError::Read(error) => ProgramError::of(Failure::Read, error),
         InspectionError::Write(error) => ProgramError::of_output(error),
     }
 }
@@ -82,7 +79,7 @@ fn failed(error: InspectionError) -> ProgramError {
 fn inspect_over<R: Read, O: Write>(
     rt: &HostRuntime,
     inspection: Inspection<'_>,
-    (file, input): (&str, &mut R),
+    (file, input): (&str, &mut FileFront<'_, R>),
     out: &mut O,
 ) -> Result<Inspected, ProgramError> {
     match inspection {
@@ -185,7 +182,7 @@ fn inspect_named<R: Read, O: Write>(
 }
 
 /// Writes in JSON that a file can't be opened, and returns the error.
-fn unopened<O: Write>(
+pub fn unopened<O: Write>(
     inspection: Inspection<'_>,
     (file, error): (&str, ProgramError),
     out: &mut O,
@@ -208,11 +205,9 @@ fn report_folder(
     (file, error): (&str, &ProgramError),
 ) {
     let is_of_files = !matches!(inspection, Inspection::Directory(_));
-    if let ProgramError::System(Failure::Read, error) = error {
-        if is_of_files && error.kind() == ErrorKind::IsADirectory {
-            let file = Printable(file.as_bytes());
-            let _ = eprintln!(rt; "dcmbox: {file}: it is a folder; -r takes the files in it");
-        }
+    if is_of_files && error.failure() == Some(Failure::IsFolder) {
+        let file = Printable(file.as_bytes());
+        let _ = eprintln!(rt; "dcmbox: {file}: it is a folder; -r takes the files in it");
     }
 }
 
@@ -224,7 +219,7 @@ pub fn open_input(rt: &HostRuntime, file: &str) -> Result<Option<File>, ProgramE
     }
     if file.contains('\0') {
         let error = Error::from(ErrorKind::InvalidFilename);
-        return Err(ProgramError::System(Failure::Open, error));
+        return Err(ProgramError::System(Failure::Name, error));
     }
     match open_file(rt, file) {
         Ok(input) => Ok(Some(input)),

@@ -1,19 +1,17 @@
 //! Counts the results of inspected files.
 use inspection::{Inspected, Outcome};
-use keyed_files::report_passed_by;
+use keyed_files::Tally as UnseenTally;
 use std::fmt;
-use std::io::Write;
 
 /// The numbers of files by result, of notes, and of values that were not judged.
 #[derive(Clone, Copy)]
 pub struct Tally {
     good: u64,
     faulty: u64,
-    unread: u64,
     notes: u64,
     unjudged: u64,
-    ignored: u64,
-    vanished: u64,
+    /// The files and folders that were not inspected.
+    pub unseen: UnseenTally,
 }
 
 impl Tally {
@@ -22,11 +20,9 @@ impl Tally {
         Tally {
             good: 0,
             faulty: 0,
-            unread: 0,
             notes: 0,
             unjudged: 0,
-            ignored: 0,
-            vanished: 0,
+            unseen: UnseenTally::new(),
         }
     }
 
@@ -46,31 +42,6 @@ impl Tally {
         self.unjudged
     }
 
-    /// Counts a file that is ignored.
-    pub fn add_ignored(&mut self) {
-        self.ignored = self.ignored.saturating_add(1);
-    }
-
-    /// Counts a file or a folder that has vanished.
-    pub fn add_vanished(&mut self) {
-        self.vanished = self.vanished.saturating_add(1);
-    }
-
-    /// Reports how many files were ignored and how many have vanished.
-    pub fn report_passed_by<E: Write>(&self, err: &mut E) {
-        report_passed_by(self.ignored, self.vanished, err);
-    }
-
-    /// Counts a file or a folder that can't be read.
-    pub fn add_unread(&mut self) {
-        self.unread = self.unread.saturating_add(1);
-    }
-
-    /// Returns whether any file or folder can't be read.
-    pub fn has_unread(&self) -> bool {
-        self.unread > 0
-    }
-
     /// Returns `Faulty` if a file has a fault, or, with `is_strict`, a note.
     pub fn outcome(&self, is_strict: bool) -> Outcome {
         if self.faulty > 0 || is_strict && self.notes > 0 {
@@ -83,13 +54,8 @@ impl Tally {
 
 impl fmt::Display for Tally {
     fn fmt<W: fmt::Write>(&self, f: &mut fmt::Formatter<W>) -> fmt::Result {
-        let Tally {
-            good,
-            faulty,
-            unread,
-            notes,
-            ..
-        } = *self;
+        let (good, faulty, notes) = (self.good, self.faulty, self.notes);
+        let unread = self.unseen.unread;
         let files = good.saturating_add(faulty).saturating_add(unread);
         write!(
             f,

@@ -2,3 +2,6 @@ pub mod SevenDigitsFit
 pub mod NamesStayOrderly
 pub mod WaitingFileIsNewest
 pub mod ReportsAreDurable
+pub mod FoldersAreSynced
+pub mod ReportsSurvive
+pub mod FilingsShare

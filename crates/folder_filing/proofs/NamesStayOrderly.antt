@@ -8,13 +8,14 @@ use Rattle.folder_filing.specs.declared.call.Call.TheVariants.{Refused, Reported
 use Rattle.std.specs.List.{AllByRecursion}
 use Rattle.std.proofs.lemmas.Bool.{le-leb, le-ltb, leb-true}
 use Rattle.std.specs.declared.io.Error.{Error}
+use Rattle.folder_filing.specs.declared.kept_numbers.KeptNumbers.{KeptNumbers}
 use Rattle.folder_filing.specs.declared.numbers.Numbers.{Numbers}
 use Rattle.folder_filing.specs.declared.location.Layout.{Layout}
 use Rattle.folder_filing.specs.declared.location.Layout.TheVariants.{Flat, Levels}
 use Rattle.folder_filing.specs.declared.location.Location.{Location}
 use Rattle.folder_filing.specs.Numbers.{Keeps, is_covered}
-use Rattle.folder_filing.specs.Examples.{WorkedNames}
-use Rattle.folder_filing.specs.Naming.{AreApart, IsKept, IsNameSynced, IsNewest, IsOrderly, IsWritten, KeepsAll, LeavesNames, LosesNone, WasRefused, Naming, Own, Rises, standing, refusals}
+use Rattle.folder_filing.specs.Examples.{WorkedNames, another, mine}
+use Rattle.folder_filing.specs.Naming.{AreApart, IsAfterAll, IsKept, IsNameSynced, IsNewest, IsOrderly, IsWritten, KeepsAll, LeavesNames, LosesNone, WasRefused, Naming, Own, Rises, is_unreported, standing, refusals}
 use Rattle.folder_filing.specs.Locations.{next_location, order}
 use Rattle.folder_filing.specs.declared.named_file.NamedFile.{NamedFile}
 use Rattle.folder_filing.specs.declared.naming.Attempt.{Attempt}
@@ -39,18 +40,18 @@ covers_more Flat kept more keeps location covered = le-leb location.file more.fi
 covers_more (Levels per) kept more keeps location covered = le-leb location.folder more.folder (omega (arith, leb-true location.folder kept.folder covered, keeps.1))
 
 -- what is kept stays kept
-pub kept_more : (layout : Layout) (kept more : Option Numbers) → KeepsAll kept more → (location : Location) → IsKept layout kept location → IsKept layout more location
+pub kept_more : (layout : Layout) (kept more : Option KeptNumbers) → KeepsAll kept more → (location : Location) → IsKept layout kept location → IsKept layout more location
 kept_more layout None None keeps location is = tt
 kept_more layout None (Some more) keeps location is = absurd keeps
 kept_more layout (Some kept) None keeps location is = tt
-kept_more layout (Some kept) (Some more) keeps location is = covers_more layout kept more keeps location is
+kept_more layout (Some kept) (Some more) keeps location is = covers_more layout kept.numbers more.numbers keeps location is
 
-pub all_kept_more : (layout : Layout) (kept more : Option Numbers) → KeepsAll kept more → (locations : List Location)
+pub all_kept_more : (layout : Layout) (kept more : Option KeptNumbers) → KeepsAll kept more → (locations : List Location)
     → AllByRecursion (IsKept layout kept) locations → AllByRecursion (IsKept layout more) locations
 all_kept_more layout kept more keeps [] are = tt
 all_kept_more layout kept more keeps (location ∷ locations) are = (kept_more layout kept more keeps location are.0, all_kept_more layout kept more keeps locations are.1)
 
-pub keeps_same : (kept : Option Numbers) → KeepsAll kept kept
+pub keeps_same : (kept : Option KeptNumbers) → KeepsAll kept kept
 keeps_same None = tt
 keeps_same (Some kept) = (omega arith, omega arith)
 
@@ -67,14 +68,14 @@ continues old new layout last kept same loses was =
 
 -- A call that was passed on, or with which the draft was synced, names no file and loses none.
 pub passed_on : {T E : Type 0} (result : Result T E) (old new : List Call) → OnOk result (new ≡ old) → OnErr result (new ≡ Refused ∷ old)
-    → (standing new ≡ standing old) × ((has_sync : Bool) (own : Own) → LosesNone has_sync own old → LosesNone has_sync own new)
-passed_on (Ok value) old new unchanged refused = (ap standing unchanged, λ has_sync own h. rw unchanged h)
-passed_on (Err error) old new unchanged refused = (rw refused refl, λ has_sync own h. rw refused h)
+    → (standing new ≡ standing old) × ((has_sync : Bool) (own : Own) → LosesNone has_sync own old → LosesNone has_sync own new) × (is_unreported new ≡ is_unreported old)
+passed_on (Ok value) old new unchanged refused = (ap standing unchanged, (λ has_sync own h. rw unchanged h), ap is_unreported unchanged)
+passed_on (Err error) old new unchanged refused = (rw refused refl, (λ has_sync own h. rw refused h), rw refused refl)
 
 pub written_on : {T E : Type 0} (result : Result T E) (old new : List Call) → OnOk result (new ≡ Written ∷ old) → OnErr result (new ≡ Refused ∷ old)
-    → (standing new ≡ standing old) × ((has_sync : Bool) (own : Own) → LosesNone has_sync own old → LosesNone has_sync own new)
-written_on (Ok value) old new unchanged refused = (rw unchanged refl, λ has_sync own h. rw unchanged h)
-written_on (Err error) old new unchanged refused = (rw refused refl, λ has_sync own h. rw refused h)
+    → (standing new ≡ standing old) × ((has_sync : Bool) (own : Own) → LosesNone has_sync own old → LosesNone has_sync own new) × (is_unreported new ≡ is_unreported old)
+written_on (Ok value) old new unchanged refused = (rw unchanged refl, (λ has_sync own h. rw unchanged h), rw unchanged refl)
+written_on (Err error) old new unchanged refused = (rw refused refl, (λ has_sync own h. rw refused h), rw refused refl)
 
 -- It names a file: at a location after the last one, whose number is kept, and which is the last one or before it.
 pub names_one : (old new : Naming) (location : Location) → new.layout ≡ old.layout → new.kept ≡ old.kept → order old.last < order location
@@ -93,21 +94,22 @@ names_one old new location layout kept after behind is more loses was =
 
 -- A try at a location after the last one, whose number is kept, continues, whatever its result.
 pub tries_one : {E : Type 0} (result : Result Attempt E) (old new : Naming) (location : Location) → order old.last < order location → IsKept old.layout old.kept location
-    → LocationLeaves location result old new → SameTerms old new → (LosesNone old.has_sync old.own old.calls → LosesNone new.has_sync new.own new.calls) → IsOrderly old → IsOrderly new
+    → LocationLeaves location result old new → SameTerms old new → (IsAfterAll location (standing old.calls) → LosesNone old.has_sync old.own old.calls → LosesNone new.has_sync new.own new.calls)
+    → IsOrderly old → IsOrderly new
 tries_one (Ok (Named how)) old new location after is remaining same loses was =
-    names_one old new location same.0 same.1 after (rw remaining.2 (omega arith)) is remaining.0 loses was
+    names_one old new location same.0 same.1 after (rw remaining.2 (omega arith)) is remaining.0 (loses (after_all old.last location after _ was.behind)) was
 tries_one (Ok (Met obstacle)) old new location after is remaining same loses was =
-    continues old new same.0 (rw remaining.2 (omega arith)) (rw same.1 (keeps_same old.kept)) remaining.0 loses was
+    continues old new same.0 (rw remaining.2 (omega arith)) (rw same.1 (keeps_same old.kept)) remaining.0 (loses (after_all old.last location after _ was.behind)) was
 tries_one (Err error) old new location after is remaining same loses was = elim remaining.0 [
-  | inl stays ↦ continues old new same.0 (rw stays.1 (omega arith)) (rw same.1 (keeps_same old.kept)) stays.0 loses was
-  | inr more ↦ names_one old new location same.0 same.1 after (rw more.1 (omega arith)) is more.0 loses was
+  | inl stays ↦ continues old new same.0 (rw stays.1 (omega arith)) (rw same.1 (keeps_same old.kept)) stays.0 (loses (after_all old.last location after _ was.behind)) was
+  | inr more ↦ names_one old new location same.0 same.1 after (rw more.1 (omega arith)) is more.0 (loses (after_all old.last location after _ was.behind)) was
 ]
 
 -- The commit of the file that was named last is reported, with syncs after its folder was synced.
 pub reports : (old new : Naming) (location : Location) → new ≡ record old { own = record old.own { reported = location ∷ old.own.reported }; calls = Reported location ∷ old.calls }
-    → IsNewest location (standing old.calls) → (old.has_sync ≡ true → IsNameSynced old.calls) → IsOrderly old → IsOrderly new
-reports old new location is newest synced was =
-    subst IsOrderly (sym is) (record { loses = (newest, synced, refl, was.loses); rises = was.rises; behind = was.behind; kept = was.kept })
+    → IsNewest location (standing old.calls) → is_unreported old.calls ≡ true → (old.has_sync ≡ true → IsNameSynced old.calls) → IsOrderly old → IsOrderly new
+reports old new location is newest unreported synced was =
+    subst IsOrderly (sym is) (record { loses = (newest, unreported, synced, refl, was.loses); rises = was.rises; behind = was.behind; kept = was.kept })
 
 -- the search for a free name, after so many locations that were met
 pub record Searches (old now : Naming) (met : ℕ) : Type 0 where
@@ -145,7 +147,7 @@ pub record Reaches (now next : Naming) (location : Location) : Type 0 where
 pub record Tries {E : Type 0} (result : Result Attempt E) (location : Location) (next tried : Naming) : Type 0 where
   pub remaining : LocationLeaves location result next tried
   pub same : SameTerms next tried
-  pub loses : LosesNone next.has_sync next.own next.calls → LosesNone tried.has_sync tried.own tried.calls
+  pub loses : IsAfterAll location (standing next.calls) → LosesNone next.has_sync next.own next.calls → LosesNone tried.has_sync tried.own tried.calls
 
 orderly_then : {E : Type 0} (result : Result Attempt E) (old now next tried : Naming) (location : Location) (met : ℕ)
     → Searches old now met → Reaches now next location → Tries result location next tried → IsOrderly old → IsOrderly tried
@@ -159,10 +161,10 @@ same_calls old now next location met was reaches = (ap standing reaches.calls �
 -- the location was given
 pub search_ends : (old now next tried : Naming) (location : Location) (met : ℕ) (attempt : Attempt) (file : NamedFile) → attempt ≡ Named file
     → Searches old now met → Reaches now next location → Tries {E = Error} (Ok attempt) location next tried
-    → (standing tried.calls ≡ location ∷ standing old.calls) × (refusals tried.calls ≡ refusals old.calls) × (IsOrderly old → IsOrderly tried)
+    → (standing tried.calls ≡ location ∷ standing old.calls) × (refusals tried.calls ≡ refusals old.calls) × (IsOrderly old → IsOrderly tried) × (is_unreported tried.calls ≡ true)
 search_ends old now next tried location met (Named how) _ is was reaches tries =
     let same = same_calls old now next location met was reaches in
-    (tries.remaining.0 ∙ ap (λ z. location ∷ z) same.0, tries.remaining.1 ∙ same.1, orderly_then (Ok (Named how)) old now next tried location met was reaches tries)
+    (tries.remaining.0 ∙ ap (λ z. location ∷ z) same.0, tries.remaining.1 ∙ same.1, orderly_then (Ok (Named how)) old now next tried location met was reaches tries, tries.remaining.3)
 search_ends old now next tried location met (Met obstacle) file is was reaches tries = absurd cc
 
 -- its name was synced
@@ -235,24 +237,33 @@ pub are_apart : (locations : List Location) → Rises locations → AreApart loc
 are_apart [] rises = tt
 are_apart (location ∷ before) rises = (apart location before rises.0, are_apart before rises.1)
 
+some_is : {A : Type 0} {x y : A} → Some x ≡ Some y → x ≡ y
+some_is is = cc
+
 pub worked_names : WorkedNames
 worked_names =
     record {
       names = refl;
       count = refl;
-      loses = (refl, (refl, (λ synced. refl), (refl, (refl, refl, (λ synced. refl), (refl, (refl, (λ synced. refl), (refl, refl)))))));
+      loses = (refl, refl, refl, (refl, (λ synced. refl), (omega arith, (omega arith, tt)), (refl, (refl, refl, (λ synced. refl), (omega arith, tt), (refl, (refl, (λ synced. refl), tt, (refl, refl)))))));
       unwritten = λ loses. absurd (let same = loses.1 refl in cc);
       rises = ((omega arith, tt), (tt, tt));
       unseen = λ loses. loses.1;
       other = λ loses. absurd (let same = ap (λ z. z.file) loses.1 in omega (arith, same));
       earlier = λ loses. absurd (let same = ap (λ z. z.file) loses.0 in omega (arith, same));
-      again = (refl, (λ synced. refl), (refl, (refl, (λ synced. refl), (refl, refl))));
+      replaced = λ loses. absurd (let same : mine ≡ another = some_is loses.2 in let inode = ap (λ z. z.inode) same in omega (arith, inode));
+      moved = (refl, refl, tt, (refl, (λ synced. refl), tt, (refl, refl)));
+      again = (refl, (λ synced. refl), tt, (refl, refl, refl, (refl, (λ synced. refl), tt, (refl, refl))));
       both = λ loses. absurd (let same = loses.1 refl in cc);
       gone = λ loses. absurd (let same = loses.1 refl in cc);
       foreign = λ loses. absurd (let same = loses.0 in omega (arith, same));
-      reported = (refl, (λ synced. refl), refl, (refl, (λ synced. refl), (refl, refl)));
-      unsynced = λ loses. loses.1 refl;
-      early = λ loses. loses.1 refl;
-      elsewhere = λ loses. absurd (let same = loses.1 refl in omega (arith, same));
+      reported = (refl, refl, (λ synced. refl), refl, (refl, (λ synced. refl), tt, (refl, refl)));
+      unsynced = λ loses. loses.2 refl;
+      early = λ loses. loses.2 refl;
+      elsewhere = λ loses. absurd (let same = loses.2 refl in cc);
+      inside = (refl, refl, (λ synced. refl), refl, (refl, (λ synced. refl), tt, (refl, refl)));
+      outside = λ loses. absurd (let same = loses.2 refl in cc);
+      remade = λ loses. absurd (let same = loses.2 refl in cc);
+      repeated = λ loses. absurd (let same = loses.1 in cc);
       twice = λ rises. absurd (omega (arith, rises.0.0));
     }

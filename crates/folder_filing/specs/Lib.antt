@@ -1,8 +1,11 @@
 pub mod Locations
 pub mod Numbers
+pub mod Folders
 pub mod Naming
 pub mod Synced
 pub mod Settling
+pub mod Crashes
+pub mod Sharing
 pub mod States
 pub mod EntryNames
 pub mod Examples

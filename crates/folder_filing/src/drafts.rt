@@ -4,26 +4,9 @@ ghost use Rattle.folder_filing.specs.EntryNames as entry_names;
 
 use crate::folder_calls::remove_remaining;
 use std::alloc::{AllocError, Allocator};
+use std::io;
 use std::marker::Model;
 use std::rt::Files;
-use std::{fmt, io};
-
-/// The file name of a filing's draft: `DRAFT` for the first filing of a folder, `DRAFT2` for the
-/// second, `DRAFT3` and so on.
-#[derive(Clone, Copy)]
-pub(crate) struct DraftName {
-    /// The number of the filing in its folder, from 1.
-    pub(crate) number: u32,
-}
-
-impl fmt::Display for DraftName {
-    fn fmt<W: fmt::Write>(&self, f: &mut fmt::Formatter<W>) -> fmt::Result {
-        if self.number == 1 {
-            return f.write_str("DRAFT");
-        }
-        write!(f, "DRAFT{}", self.number)
-    }
-}
 
 /// The path of a draft. Removing it never costs a committed file its name. Its value in contracts
 /// is the number of the draft.
@@ -42,12 +25,15 @@ impl<A: Allocator> Model for DraftPath<A> {
 }
 
 impl<A: Allocator> DraftPath<A> {
-    /// Returns the path of the draft with this number in a folder; no filing has number 0.
+    /// Returns the path of the draft of the filing with this number in a folder: `DRAFT` for 1,
+    /// `DRAFT2` for 2 and so on; no filing has number 0.
     pub(crate) fn of(alloc: A, dir: &str, number: u32) -> Result<DraftPath<A>, AllocError>
         ensures { IfOk result (λ path. path ≡ number) }
     {
-        let name = DraftName { number };
-        let text = format!(in alloc; "{dir}/{name}")?;
+        let text = match number {
+            1 => format!(in alloc; "{dir}/DRAFT")?,
+            _ => format!(in alloc; "{dir}/DRAFT{number}")?,
+        };
         Ok(DraftPath { number, text })
     }
 

@@ -4,12 +4,13 @@
 //! move them to a quarantine. Each method makes its system calls and records their outcome, so that
 //! contracts can require, for example, that a name is checked before a rename, or that each failure
 //! is due to a failed call.
-ghost use Rattle.std.specs.Prelude.{◌≡◌, ◌+◌, List, [], ◌∷◌, ◌++◌, OnOk, OnErr, reverse, true, false};
+ghost use Rattle.std.specs.Prelude.{◌≡◌, ◌+◌, List, [], ◌∷◌, ◌++◌, None, Some, IfOk, OnOk, OnErr, reverse, true, false};
 ghost use Rattle.folder_filing.specs.declared.call.Call.{Call as SeenCall};
 ghost use Rattle.folder_filing.specs.declared.call.Call.TheVariants as seen;
 
 use crate::call::Call;
 use crate::drafts::DraftPath;
+use crate::entered_file::EnteredFile;
 use crate::folder_identity::FolderIdentity;
 use crate::location::{Layout, Location};
 use crate::names_synced::NamesSynced;
@@ -26,17 +27,25 @@ use std::rt::Files;
 use std::{fs, io};
 
 /// The list of system calls so far, the newest first. It is a ghost value: contracts can name it,
-/// the program cannot read it.
+/// the program cannot read it, except which file was created last.
 #[derive(Drop)]
 pub struct FolderCalls {
     /// The calls, the oldest first.
     history: History<Call>,
+    /// The file that was created last.
+    file: Option<FolderIdentity>,
 }
 
 impl Model for FolderCalls {
+    ghost use Rattle.std.specs.Prelude.{◌≡◌, List, reverse};
+    ghost use Rattle.folder_filing.specs.Naming.{created_file};
+    ghost use Rattle.folder_filing.specs.declared.call.Call.{Call as SeenCall};
+
     ghost Value = { List SeenCall };
 
     ghost view = { λ c. reverse c.history };
+
+    ghost invariant = { λ c. c.file ≡ created_file (reverse c.history) };
 }
 
 /// Removes a file; does nothing if there is none.
@@ -48,13 +57,21 @@ pub(crate) fn remove_remaining<R: Files>(rt: &R, path: &str) -> io::Result<()> {
 }
 
 /// Creates the file of a draft, after removing a file that an earlier draft left under its name.
-pub(crate) fn create_draft<R: Files>(rt: &R, path: &str) -> io::Result<R::File> {
-    match File::create_new(rt, path) {
+/// Returns it with its identity. After an error there is no such file, unless it cannot be removed.
+pub(crate) fn create_draft<R: Files>(rt: &R, path: &str) -> io::Result<(R::File, FolderIdentity)> {
+    let file = match File::create_new(rt, path) {
         Err(error) if error.kind() == ErrorKind::AlreadyExists => {
             remove_remaining(rt, path)?;
-            File::create_new(rt, path)
+            File::create_new(rt, path)?
         }
-        result => result,
+        result => result?,
+    };
+    match file.metadata() {
+        Ok(found) => Ok((file, FolderIdentity::of(&found))),
+        Err(error) => {
+            let _ = remove_remaining(rt, path);
+            Err(error)
+        }
     }
 }
 
@@ -67,8 +84,10 @@ fn create_folder<R: Files>(rt: &R, path: &str) -> io::Result<()> {
 }
 
 impl FolderCalls {
-    ghost use Rattle.folder_filing.specs.Naming.{Asks, standing, refusals};
+    ghost use Rattle.folder_filing.specs.Naming.{Asks, IsCreated, IsOwnFile, created_file, standing, refusals};
     ghost use Rattle.folder_filing.specs.Numbers.{Keeps, is_covered};
+    ghost use Rattle.folder_filing.specs.Folders.{after_drafts, entering};
+    ghost use Rattle.folder_filing.specs.Settling.{IsSyncedBy};
     ghost use Rattle.folder_filing.specs.Synced.{is_synced};
     ghost use Rattle.folder_filing.specs.machine.Naming.{TriesLeave};
 
@@ -78,11 +97,13 @@ impl FolderCalls {
     {
         FolderCalls {
             history: History::new(),
+            file: None,
         }
     }
 
-    /// Appends a call as the newest.
+    /// Appends a call as the newest, which created no file.
     fn push(&mut self, call: &Call)
+        requires { created_file (call.now ∷ self.old) ≡ created_file self.old }
         ensures { self.new ≡ call.now ∷ self.old }
     {
         self.history.push(call);
@@ -109,6 +130,7 @@ impl FolderCalls {
         given: io::Result<()>,
         target: Target<'_>,
     ) -> io::Result<Option<Obstacle>>
+        requires { created_file (call ∷ self.old) ≡ created_file self.old }
         ensures { TriesLeave call result self.old self.new }
     {
         match given {
@@ -166,12 +188,20 @@ impl FolderCalls {
         rt: &R,
         draft: &DraftPath<R::A>,
     ) -> io::Result<R::File>
-        ensures created { OnOk result (self.new ≡ seen.Created draft.now ∷ self.old) }
+        ensures created { OnOk result (IsCreated draft.now self.old self.new) }
         ensures refused { OnErr result (self.new ≡ seen.Refused ∷ self.old) }
     {
-        let file = self.passed(create_draft(rt, draft.as_str()))?;
-        self.push(&Call::Created(draft.number()));
+        let (file, identity) = self.passed(create_draft(rt, draft.as_str()))?;
+        self.created(draft.number(), identity);
         Ok(file)
+    }
+
+    /// Records that the file with this identity was created for the draft with this number.
+    fn created(&mut self, draft: u32, file: FolderIdentity)
+        ensures { self.new ≡ seen.Created draft file ∷ self.old }
+    {
+        self.file = Some(file);
+        self.history.push(&Call::Created { draft, file });
     }
 
     /// Writes all of the bytes to the file of a draft, or records the failure.
@@ -208,8 +238,25 @@ impl FolderCalls {
         ensures refused { OnErr result (self.new ≡ seen.Refused ∷ self.old) }
     {
         self.passed(folder.sync())?;
-        self.push(&Call::Synced(folder.number()));
+        self.push(&Call::Synced(folder.numbered()));
         Ok(())
+    }
+
+    /// Syncs an open folder, in which files were named, to the disk, after the folder of the drafts
+    /// if one of them was renamed from there. Records the syncs, or the failure.
+    pub(crate) fn sync_both<F: OpenFile + Drop>(
+        &mut self,
+        drafts: &OpenFolder<F>,
+        folder: &OpenFolder<F>,
+        has_remaining: bool,
+    ) -> io::Result<()>
+        ensures synced { OnOk result (self.new ≡ seen.Synced folder.now ∷ after_drafts has_remaining drafts.now self.old) }
+        ensures refused { OnErr result (Asks (standing self.old) (refusals self.old + 1) self.old self.new) }
+    {
+        if has_remaining {
+            self.sync_names(drafts)?;
+        }
+        self.sync_names(folder)
     }
 
     /// Returns whether this sync of names has the file at this location, and if so records the sync
@@ -220,14 +267,28 @@ impl FolderCalls {
         location: Location,
     ) -> bool
         ensures covers { result ≡ is_synced location synced.now }
-        ensures has { result ≡ true → self.new ≡ seen.Synced location.folder ∷ self.old }
+        ensures has { result ≡ true → IsSyncedBy location self.old self.new }
         ensures has_not { result ≡ false → self.new ≡ self.old }
     {
-        let has = synced.has(location);
-        if has {
-            self.push(&Call::Synced(location.folder));
+        let Some(file) = synced.file_at(location) else {
+            return false;
+        };
+        self.enter(file);
+        self.push(&Call::Synced(file.folder()));
+        true
+    }
+
+    /// Records that a file, the last one named, is in a subfolder whose own entry is on the disk.
+    pub(crate) fn enter(&mut self, file: EnteredFile)
+        ensures { self.new ≡ entering file.file.location file.folder self.old }
+    {
+        let location = file.location();
+        if location.folder != 0 {
+            self.push(&Call::Entered {
+                location,
+                folder: file.folder().identity,
+            });
         }
-        has
     }
 
     /// Records that the commit of the file at this location is reported.
@@ -245,21 +306,23 @@ impl FolderCalls {
         self.passed(create_folder(rt, path))
     }
 
-    /// Makes sure that the file of numbers covers the number of this location, as
-    /// [`NumbersFile::keep`] does, and records a failure.
+    /// Makes sure that the file of numbers covers the number of this location, with `has_sync` on
+    /// the disk, as [`NumbersFile::keep`] does, and records a failure.
     pub(crate) fn keep<R: Files + Alloc>(
         &mut self,
         rt: &R,
         file: &mut NumbersFile<R::A>,
         layout: Layout,
         location: Location,
+        has_sync: bool,
     ) -> io::Result<()>
-        ensures kept { OnOk result (is_covered layout file.new.kept location ≡ true) }
-        ensures keeps { Keeps file.old.kept file.new.kept }
+        ensures kept { OnOk result (is_covered layout file.new.kept.numbers location ≡ true) }
+        ensures on_disk { has_sync ≡ true → OnOk result (file.new.kept.is_on_disk ≡ true) }
+        ensures keeps { Keeps file.old.kept.numbers file.new.kept.numbers }
         ensures unchanged { OnOk result (self.new ≡ self.old) }
         ensures refused { OnErr result (self.new ≡ seen.Refused ∷ self.old) }
     {
-        self.passed(file.keep(rt, layout, location))
+        self.passed(file.keep(rt, layout, location, has_sync))
     }
 
     /// Gives the file of a draft the target name as a second name, by a hard link. Returns `None`,
@@ -317,35 +380,74 @@ impl FolderCalls {
         self.tried(call, given, target)
     }
 
-    /// Removes the target name from a file that also has its draft name. If another program moved
-    /// the target's folder away, the name is gone with it, and another file at the target's path
-    /// stays. Records a removal in both cases, or the failure.
+    /// Removes the target name of the filing's own file, which was just named. Fails, and removes
+    /// nothing, if another file has the name: another program has moved the filing's file away.
+    /// Returns the identity of the file. Records the removal, or the failure.
+    pub(crate) fn remove<R: Files>(
+        &mut self,
+        rt: &R,
+        target: Target<'_>,
+    ) -> io::Result<FolderIdentity>
+        ensures removed { IfOk result (λ file. (self.new ≡ seen.Removed target.entry.location (Some file) ∷ self.old) × (created_file self.old ≡ Some file)) }
+        ensures refused { OnErr result (self.new ≡ seen.Refused ∷ self.old) }
+    {
+        let found = self.passed(FolderIdentity::of_entry(rt, target.path))?;
+        if !self.is_own(found) {
+            return self.passed(Err(FolderIdentity::replaced()));
+        }
+        self.take(rt, target, found)?;
+        Ok(found)
+    }
+
+    /// Removes the target name from the filing's own file, which also has its draft name. If another
+    /// program moved the target's folder away, the name is gone with it, and another file at the
+    /// target's path stays: then it returns `None`, else the identity of the file. Records a removal
+    /// in both cases, or the failure.
     pub(crate) fn remove_link<R: Files>(
         &mut self,
         rt: &R,
-        draft: &str,
         target: Target<'_>,
-    ) -> io::Result<()>
-        ensures removed { OnOk result (self.new ≡ seen.Removed target.entry.location ∷ self.old) }
+    ) -> io::Result<Option<FolderIdentity>>
+        ensures removed { IfOk result (λ file. (self.new ≡ seen.Removed target.entry.location file ∷ self.old) × IsOwnFile file self.old) }
         ensures refused { OnErr result (self.new ≡ seen.Refused ∷ self.old) }
     {
-        let own = self.passed(FolderIdentity::at(rt, draft))?;
-        match FolderIdentity::at(rt, target.path) {
-            Ok(found) if found == own => return self.remove(rt, target),
+        match FolderIdentity::of_entry(rt, target.path) {
+            Ok(found) if self.is_own(found) => {
+                self.take(rt, target, found)?;
+                return Ok(Some(found));
+            }
             Err(error) if error.kind() != ErrorKind::NotFound => return self.passed(Err(error)),
             _ => {}
         }
-        self.push(&Call::Removed(target.location));
-        Ok(())
+        self.push(&Call::Removed {
+            location: target.location,
+            file: None,
+        });
+        Ok(None)
     }
 
-    /// Removes the file with the target name, and records the removal, or the failure.
-    pub(crate) fn remove<R: Files>(&mut self, rt: &R, target: Target<'_>) -> io::Result<()>
-        ensures removed { OnOk result (self.new ≡ seen.Removed target.entry.location ∷ self.old) }
+    /// Returns whether this is the file that was created last.
+    fn is_own(&self, found: FolderIdentity) -> bool
+        ensures { result ≡ true → created_file self.now ≡ Some found }
+    {
+        match self.file {
+            Some(file) => file == found,
+            None => false,
+        }
+    }
+
+    /// Removes the target name, which was found to be that of the filing's own file, and records the
+    /// removal, or the failure.
+    fn take<R: Files>(&mut self, rt: &R, target: Target<'_>, file: FolderIdentity) -> io::Result<()>
+        requires own { created_file self.old ≡ Some file }
+        ensures removed { OnOk result (self.new ≡ seen.Removed target.entry.location (Some file) ∷ self.old) }
         ensures refused { OnErr result (self.new ≡ seen.Refused ∷ self.old) }
     {
         self.passed(fs::remove_file(rt, target.path))?;
-        self.push(&Call::Removed(target.location));
+        self.push(&Call::Removed {
+            location: target.location,
+            file: Some(file),
+        });
         Ok(())
     }
 }

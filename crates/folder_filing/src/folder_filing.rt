@@ -1,9 +1,8 @@
 //! A [`Filing`] that stores files in a folder.
 ghost use Rattle.std.specs.Prelude.{◌≡◌, ◌≤◌, ◌<◌, ◌+◌, [], ◌∷◌, ◌++◌, None, Some, ◌⊎◌, IfOk, OnOk, OnErr, is_err, is_some, true, false};
-ghost use Rattle.folder_filing.specs.Naming.{IsCommitted, IsNameSynced, IsOrderly, IsWritten, LeavesNames, WasRefused, refusals, standing};
+ghost use Rattle.folder_filing.specs.Naming.{IsCommitted, IsCreated, IsNameSynced, IsOrderly, IsWritten, LeavesNames, WasRefused, refusals, standing};
 ghost use Rattle.folder_filing.specs.Settling.{is_waiting};
 ghost use Rattle.part10.specs.Store.{LeavesStore, appended, committed, nothing_filed, or_nothing, stepped, store_of, without_draft};
-ghost use Rattle.folder_filing.specs.declared.call.Call.TheVariants as seen;
 ghost use Rattle.folder_filing.specs.declared.pending.Pending.TheVariants as pending;
 
 use crate::aside::SetAside;
@@ -55,8 +54,9 @@ const WAITS: &str = "the last file is not settled";
 ///
 /// Its value in contracts: the bytes that were written to each committed file and to the draft;
 /// whether there is a draft; the number of failed calls; the names given, with the system calls
-/// that gave them; and the state of the last commit. Tests, not contracts, check how a
-/// [`Location`](crate::Location) is spelled as a file name, and that files survive a loss of power.
+/// that gave them; and the state of the last commit. What survives a loss of power is proved by a
+/// model of the disk ([`laws`](crate::laws)). Tests, not contracts, check how a
+/// [`Location`](crate::Location) is spelled as a file name, and that disks do as the model says.
 #[derive(Drop)]
 pub struct FolderFiling<R: Files + Alloc + Clone + Drop>
 where
@@ -87,7 +87,7 @@ where
     R::File: StoredFile,
 {
     ghost use Rattle.std.specs.Prelude.{length, map, option_map};
-    ghost use Rattle.folder_filing.specs.Naming.{IsOrderly, standing};
+    ghost use Rattle.folder_filing.specs.Naming.{IsOrderly};
     ghost use Rattle.folder_filing.specs.Settling.{AreReported, IsNamedLast};
     ghost use Rattle.folder_filing.specs.States.{FolderState};
 
@@ -99,7 +99,7 @@ where
       pending = f.pending;
     } };
 
-    ghost invariant = { λ f. ∥ IsOrderly f.names ∥₁ × ∥ IsNamedLast f.pending (standing f.names.calls) ∥₁ × AreReported (length (map (λ t. t.bytes) f.kept)) f.pending f.names };
+    ghost invariant = { λ f. ∥ IsOrderly f.names ∥₁ × ∥ IsNamedLast f.pending f.names.calls ∥₁ × AreReported (length (map (λ t. t.bytes) f.kept)) f.pending f.names };
 }
 
 impl<R: Files + Alloc + Clone + Drop> FolderFiling<R>
@@ -212,7 +212,7 @@ where
                 }
             },
             Ok(None) => {}
-            Err(error) => self.notes.not_set_aside(error),
+            Err(error) => self.notes.aside_error.set(Some(error)),
         }
     }
 
@@ -230,7 +230,7 @@ where
     }
 
     fn begin_draft(&mut self) -> io::Result<()>
-        ensures created { OnOk result (self.new.names.calls ≡ seen.Created self.old.names.own.draft ∷ self.old.names.calls) }
+        ensures created { OnOk result (IsCreated self.old.names.own.draft self.old.names.calls self.new.names.calls) }
         ensures refused { OnErr result (refusals self.old.names.calls < refusals self.new.names.calls) }
         ensures sync { self.new.names.has_sync ≡ self.old.names.has_sync }
         ensures own { self.new.names.own ≡ self.old.names.own }
@@ -271,9 +271,9 @@ where
 
     /// Notes the location of a file that was committed.
     fn note(&self, location: Location) {
-        self.notes.committed(location);
+        self.notes.location.set(Some(location));
         if self.folder.runs_low(location) {
-            self.notes.ran_low(location);
+            self.notes.low.set(Some(location));
         }
     }
 
@@ -342,7 +342,7 @@ where
         ensures same_files { self.new.contents.files ≡ self.old.contents.files }
         ensures counted { self.new.contents.failures ≡ self.old.contents.failures + 1 }
     {
-        self.notes.failed(error);
+        self.notes.error.set(Some(error));
         self.drop_draft();
         self.failures.add_one();
     }
@@ -358,7 +358,7 @@ where
     /// the path of the folder leads to another folder, or the last commit is not settled.
     fn begin(&mut self) -> Result<(), FilingFailed>
         ensures leaves { LeavesStore without_draft true result (store_of self.old.contents) (store_of self.new.contents) }
-        ensures created { OnOk result (self.new.names.calls ≡ seen.Created self.old.names.own.draft ∷ self.old.names.calls) }
+        ensures created { OnOk result (IsCreated self.old.names.own.draft self.old.names.calls self.new.names.calls) }
         ensures refused { is_waiting self.old.pending ≡ false → OnErr result (refusals self.old.names.calls < refusals self.new.names.calls) }
         ensures has_pending { is_waiting self.old.pending ≡ true → is_err result ≡ true }
         ensures sync { self.new.names.has_sync ≡ self.old.names.has_sync }

@@ -150,7 +150,7 @@ where
     }
 
     /// Moves discarded drafts to the folder at this path instead of removing them, until it has
-    /// `most` data sets: see [`DraftNotes::take_aside`](crate::DraftNotes::take_aside). Returns
+    /// `most` data sets: see [`DraftNotes::aside`](crate::DraftNotes::aside). Returns
     /// what the folder had, too. The folder is created if it is missing, with the mode 0770 less
     /// the umask.
     ///

@@ -44,7 +44,7 @@ impl<A: Allocator> Model for GivenNames<A> {
 }
 
 impl<A: Allocator> GivenNames<A> {
-    ghost use Rattle.folder_filing.specs.Naming.{IsNameSynced, IsNewest, IsOrderly, standing};
+    ghost use Rattle.folder_filing.specs.Naming.{IsNameSynced, IsNewest, IsOrderly, is_unreported, standing};
 
     /// Creates the state before the first commit. The next file is numbered after `last`.
     pub(crate) fn new(
@@ -72,9 +72,11 @@ impl<A: Allocator> GivenNames<A> {
         }
     }
 
-    /// Records that the commit of the file at this location, the last one named, is reported.
+    /// Records that the commit of the file at this location, the last one named, is reported, for
+    /// the first time.
     pub(crate) fn report(&mut self, location: Location)
         requires newest { ∥ IsNewest location (standing self.old.calls) ∥₁ }
+        requires unreported { is_unreported self.old.calls ≡ true }
         requires synced { self.old.has_sync ≡ true → IsNameSynced self.old.calls }
         ensures reported { self.new ≡ record self.old {
           own = record self.old.own { reported = location ∷ self.old.own.reported };

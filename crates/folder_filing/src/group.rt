@@ -1,6 +1,6 @@
 //! The files that were named since the last sync of names.
 
-use crate::named_file::NamedFile;
+use crate::entered_file::EnteredFile;
 use crate::open_folder::OpenFolder;
 use std::alloc::Allocator;
 use std::cell::Cell;
@@ -11,7 +11,7 @@ use std::io;
 pub(crate) struct NamedFolder<F: Drop, A: Allocator> {
     /// The open subfolder, or `None` for the locked folder.
     pub(crate) open: Option<OpenFolder<F>>,
-    pub(crate) files: Vec<NamedFile, A>,
+    pub(crate) files: Vec<EnteredFile, A>,
 }
 
 /// The folders of a group.
@@ -21,11 +21,7 @@ pub(crate) type NamedFolders<F, A> = Vec<NamedFolder<F, A>, A>;
 #[derive(Drop)]
 pub(crate) struct Group<F: Drop, A: Allocator> {
     /// Whether commits are settled in groups.
-    is_used: Cell<bool>,
-    /// Whether the path of the folder was checked for this group.
-    is_checked: Cell<bool>,
-    /// Whether a draft was renamed from the locked folder to a subfolder.
-    has_remaining: Cell<bool>,
+    pub(crate) is_used: Cell<bool>,
     folders: Cell<NamedFolders<F, A>>,
 }
 
@@ -35,7 +31,7 @@ impl<F: Drop, A: Allocator> NamedFolder<F, A> {
     pub(crate) fn of(
         alloc: A,
         open: Option<OpenFolder<F>>,
-        file: NamedFile,
+        file: EnteredFile,
     ) -> io::Result<NamedFolder<F, A>> {
         let mut files = Vec::new(alloc);
         files.push(file)?;
@@ -51,7 +47,7 @@ impl<F: Drop, A: Allocator> NamedFolder<F, A> {
         }
     }
 
-    fn add(&mut self, files: &[NamedFile]) -> io::Result<()> {
+    fn add(&mut self, files: &[EnteredFile]) -> io::Result<()> {
         Ok(self.files.extend_from_slice(files)?)
     }
 }
@@ -76,35 +72,8 @@ impl<F: Drop, A: Allocator> Group<F, A> {
     pub(crate) fn new(alloc: A) -> Group<F, A> {
         Group {
             is_used: Cell::new(false),
-            is_checked: Cell::new(false),
-            has_remaining: Cell::new(false),
             folders: Cell::new(Vec::new(alloc)),
         }
-    }
-
-    /// Returns whether commits are settled in groups.
-    pub(crate) fn is_used(&self) -> bool {
-        self.is_used.get()
-    }
-
-    /// Sets whether commits are settled in groups from now on.
-    pub(crate) fn set_used(&self, is_used: bool) {
-        self.is_used.set(is_used);
-    }
-
-    /// Returns whether the path of the folder was checked for this group.
-    pub(crate) fn is_checked(&self) -> bool {
-        self.is_checked.get()
-    }
-
-    /// Records that the path of the folder was checked.
-    pub(crate) fn check(&self) {
-        self.is_checked.set(true);
-    }
-
-    /// Records that a draft was renamed to a subfolder.
-    pub(crate) fn leave(&self) {
-        self.has_remaining.set(true);
     }
 
     /// Records a folder with a name that is not synced. Fails if memory runs out.
@@ -115,13 +84,8 @@ impl<F: Drop, A: Allocator> Group<F, A> {
         added
     }
 
-    /// Ends the group. Returns whether a draft was renamed to a subfolder, and the folders that
-    /// must be synced.
-    pub(crate) fn end(&self, alloc: A) -> (bool, NamedFolders<F, A>) {
-        self.is_checked.set(false);
-        (
-            self.has_remaining.replace(false),
-            self.folders.replace(Vec::new(alloc)),
-        )
+    /// Ends the group. Returns the folders that must be synced.
+    pub(crate) fn end(&self, alloc: A) -> NamedFolders<F, A> {
+        self.folders.replace(Vec::new(alloc))
     }
 }

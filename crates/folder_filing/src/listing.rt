@@ -2,30 +2,21 @@
 
 use crate::drafts::{DraftPath, is_further_draft};
 use crate::location::{Layout, Location};
-use crate::names::{EntryKind, EntryName};
+use crate::names::EntryKind;
 use std::alloc::{AllocError, Allocator};
 use std::io::ErrorKind;
 use std::rt::Files;
 use std::{fs, io};
 
-/// The numbers and drafts found in a folder.
-#[derive(Drop)]
-struct Entries<A: Allocator> {
-    /// The greatest number in names of the kind that is looked for, if there is one.
-    highest: Option<u32>,
-    /// The drafts of all filings but the first: `DRAFT2` and so on.
-    drafts: Vec<DraftPath<A>, A>,
-}
-
-/// Lists a folder for the greatest number in names of this kind and for drafts. Ignores other
-/// names.
+/// Returns the greatest number in names of this kind in a folder, if there is one, and the drafts of
+/// all filings but the first: `DRAFT2` and so on. Ignores other names.
 ///
 /// Fails if the folder cannot be listed to its end, or memory runs out.
 fn entries_of<R: Files + Alloc + Clone + Drop>(
     rt: &R,
     dir: &str,
     kind: EntryKind,
-) -> io::Result<Entries<R::A>> {
+) -> io::Result<(Option<u32>, Vec<DraftPath<R::A>, R::A>)> {
     let mut highest = None;
     let mut drafts = Vec::new(rt.alloc());
     for entry in fs::read_dir(rt, dir)? {
@@ -41,7 +32,7 @@ fn entries_of<R: Files + Alloc + Clone + Drop>(
             Err(error) => return Err(error),
         }
     }
-    Ok(Entries { highest, drafts })
+    Ok((highest, drafts))
 }
 
 /// Returns the path of the subfolder with this number.
@@ -50,23 +41,7 @@ pub(crate) fn folder_path<A: Allocator>(
     dir: &str,
     folder: u32,
 ) -> Result<String<A>, AllocError> {
-    let name = EntryName {
-        kind: EntryKind::Folder,
-        number: folder,
-    };
-    format!(in alloc; "{dir}/{name}")
-}
-
-/// Returns the path of the file with this number in the folder `dir`.
-pub(crate) fn file_path<A: Allocator>(
-    alloc: A,
-    dir: &str,
-    file: u32,
-) -> Result<String<A>, AllocError> {
-    let name = EntryName {
-        kind: EntryKind::File,
-        number: file,
-    };
+    let name = EntryKind::Folder.name(folder);
     format!(in alloc; "{dir}/{name}")
 }
 
@@ -95,9 +70,11 @@ fn last_in_levels<R: Files + Alloc + Clone + Drop>(
         });
     };
     let path = folder_path(rt.alloc(), dir, folder)?;
-    let entries = entries_of(rt, path.as_str(), EntryKind::File)?;
-    let file = entries.highest.unwrap_or(0);
-    Ok(Location { folder, file })
+    let (file, _drafts) = entries_of(rt, path.as_str(), EntryKind::File)?;
+    Ok(Location {
+        folder,
+        file: file.unwrap_or(0),
+    })
 }
 
 /// Lists a folder of received files. Fails if it, or its last subfolder, cannot be listed.
@@ -106,21 +83,17 @@ pub(crate) fn contents_of<R: Files + Alloc + Clone + Drop>(
     dir: &str,
     layout: Layout,
 ) -> io::Result<FolderContents<R::A>> {
-    match layout {
-        Layout::Flat => {
-            let entries = entries_of(rt, dir, EntryKind::File)?;
-            let file = entries.highest.unwrap_or(0);
-            Ok(FolderContents {
-                last: Location { folder: 0, file },
-                drafts: entries.drafts,
-            })
-        }
-        Layout::Levels { per } => {
-            let entries = entries_of(rt, dir, EntryKind::Folder)?;
-            Ok(FolderContents {
-                last: last_in_levels(rt, dir, per, entries.highest)?,
-                drafts: entries.drafts,
-            })
-        }
-    }
+    let kind = match layout {
+        Layout::Flat => EntryKind::File,
+        Layout::Levels { .. } => EntryKind::Folder,
+    };
+    let (highest, drafts) = entries_of(rt, dir, kind)?;
+    let last = match layout {
+        Layout::Flat => Location {
+            folder: 0,
+            file: highest.unwrap_or(0),
+        },
+        Layout::Levels { per } => last_in_levels(rt, dir, per, highest)?,
+    };
+    Ok(FolderContents { last, drafts })
 }

@@ -2,7 +2,7 @@
 ghost use Rattle.std.specs.Prelude.{◌≡◌, ◌≤◌};
 ghost use Rattle.folder_filing.specs.Locations.{next_location, order};
 
-use crate::names::{EntryKind, EntryName};
+use crate::names::EntryKind;
 use std::fmt;
 
 /// The greatest number of seven digits.
@@ -70,17 +70,11 @@ impl Location {
 impl fmt::Display for Location {
     fn fmt<W: fmt::Write>(&self, f: &mut fmt::Formatter<W>) -> fmt::Result {
         let Location { folder, file } = *self;
-        let file = EntryName {
-            kind: EntryKind::File,
-            number: file,
-        };
+        let file = EntryKind::File.name(file);
         if folder == 0 {
             return write!(f, "{file}");
         }
-        let folder = EntryName {
-            kind: EntryKind::Folder,
-            number: folder,
-        };
+        let folder = EntryKind::Folder.name(folder);
         write!(f, "{folder}/{file}")
     }
 }

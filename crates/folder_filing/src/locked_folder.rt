@@ -1,14 +1,15 @@
 //! A locked folder, in which the filings of one writer create drafts and name them.
 ghost use Rattle.std.specs.Prelude.{◌≡◌, ◌+◌, [], ◌∷◌, IfOk, OnOk, OnErr};
-ghost use Rattle.folder_filing.specs.Naming.{Asks, IsOrderly, refusals, standing};
-ghost use Rattle.folder_filing.specs.declared.call.Call.TheVariants as seen;
+ghost use Rattle.folder_filing.specs.Naming.{Asks, IsCreated, IsOrderly, refusals, standing};
 
 use crate::drafts::DraftPath;
+use crate::entered_file::SyncedEntry;
 use crate::folder_calls::{FolderCalls, create_draft};
 use crate::folder_identity::FolderIdentity;
 use crate::given_names::GivenNames;
 use crate::group::Group;
-use crate::listing::{contents_of, file_path, folder_path};
+use crate::kept_numbers::KeptNumbers;
+use crate::listing::contents_of;
 use crate::location::{Layout, Location};
 use crate::numbers::{Numbers, NumbersFile};
 use crate::open_folder::{OpenFolder, lock};
@@ -44,13 +45,13 @@ where
     /// The location of the last file that was found or committed, by any filing.
     last: Cell<Location>,
     /// The numbers that some filing last wrote to the file of numbers; `NONE` without such a file.
-    kept: Cell<Numbers>,
+    kept: Cell<KeptNumbers>,
     /// The last subfolder whose entry in the folder was synced.
-    entered: Cell<Option<FolderIdentity>>,
+    entered: Cell<Option<SyncedEntry>>,
     group: Group<R::File, R::A>,
     /// Whether the warning that few numbers remain was returned.
     has_run_low: Cell<bool>,
-    ghost own: { folder ≡ 0 },
+    ghost own: { folder.number ≡ 0 },
 }
 
 /// Removes a draft of a killed writer. Fails with a message of its own if a folder has the draft's
@@ -98,7 +99,7 @@ where
             folder,
             layout,
             last: Cell::new(contents.last),
-            kept: Cell::new(Numbers::NONE),
+            kept: Cell::new(KeptNumbers::found(Numbers::NONE)),
             entered: Cell::new(None),
             group,
             has_run_low: Cell::new(false),
@@ -118,7 +119,7 @@ where
     /// a system call fails; then there is no such file.
     pub(crate) fn try_rename(&self, path: &str) -> io::Result<()> {
         let draft = self.draft_path(0)?;
-        drop(create_draft(&self.rt, draft.as_str())?);
+        drop(create_draft(&self.rt, draft.as_str())?.0);
         if let Err(error) = fs::rename(&self.rt, draft.as_str(), path) {
             let _ = draft.remove(&self.rt);
             return Err(error);
@@ -127,8 +128,9 @@ where
     }
 
     /// Continues the numbering after the numbers of a file of numbers.
-    pub(crate) fn continue_behind(&self, kept: Numbers) {
-        self.last.set(kept.last(self.layout, self.last.get()));
+    pub(crate) fn continue_behind(&self, kept: KeptNumbers) {
+        self.last
+            .set(kept.numbers().last(self.layout, self.last.get()));
         self.kept.set(kept);
     }
 
@@ -177,7 +179,7 @@ where
         draft: &DraftPath<R::A>,
         calls: &mut FolderCalls,
     ) -> io::Result<R::File>
-        ensures created { OnOk result (calls.new ≡ seen.Created draft.now ∷ calls.old) }
+        ensures created { OnOk result (IsCreated draft.now calls.old calls.new) }
         ensures refused { OnErr result (Asks (standing calls.old) (refusals calls.old + 1) calls.old calls.new) }
     {
         self.check_path(calls)?;
@@ -206,10 +208,6 @@ where
 
     fn path_of(&self, location: Location) -> Result<String<R::A>, AllocError> {
         let dir = self.dir.as_str();
-        if location.folder == 0 {
-            return file_path(self.rt.alloc(), dir, location.file);
-        }
-        let folder = folder_path(self.rt.alloc(), dir, location.folder)?;
-        file_path(self.rt.alloc(), folder.as_str(), location.file)
+        format!(in self.rt.alloc(); "{dir}/{location}")
     }
 }

@@ -1,7 +1,7 @@
 //! Files that were just named.
 ghost use Rattle.std.specs.Prelude.{◌≡◌};
 ghost use Rattle.folder_filing.specs.Naming.{IsNewest, standing};
-ghost use Rattle.folder_filing.specs.Synced.{is_at};
+ghost use Rattle.folder_filing.specs.Synced.{is_moved};
 
 use crate::folder_calls::FolderCalls;
 use crate::folder_identity::FolderIdentity;
@@ -43,19 +43,16 @@ impl NamedFile {
         self.how
     }
 
-    pub(crate) fn folder(self) -> Option<FolderIdentity> {
+    pub(crate) fn folder(self) -> Option<FolderIdentity>
+        ensures { result ≡ self.folder }
+    {
         self.folder
     }
 
-    /// Returns whether the file is at this location.
-    pub(crate) fn is_at(self, location: Location) -> bool
-        ensures { result ≡ is_at location self }
-    {
-        self.location.folder == location.folder && self.location.file == location.file
-    }
-
     /// Returns whether the draft of the file was renamed from another folder.
-    pub(crate) fn has_remaining(self) -> bool {
+    pub(crate) fn has_remaining(self) -> bool
+        ensures { result ≡ is_moved self }
+    {
         self.location.folder != 0 && self.how == Named::Renamed
     }
 }

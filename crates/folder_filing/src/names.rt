@@ -43,6 +43,11 @@ impl EntryKind {
         }
     }
 
+    /// Returns the name of this kind with this number.
+    pub fn name(self, number: u32) -> EntryName {
+        EntryName { kind: self, number }
+    }
+
     /// Returns the number in a name of this kind, at most 9,999,999, or `None` if the name has
     /// another form.
     pub fn number_in(self, name: &str) -> Option<u32>

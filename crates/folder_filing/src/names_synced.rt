@@ -1,9 +1,10 @@
 //! Reports which names of files are on the disk.
-ghost use Rattle.std.specs.Prelude.{◌≡◌, [], IfOk, ◌++◌, ◌∷◌};
+ghost use Rattle.std.specs.Prelude.{◌≡◌, [], IfOk, IfSome, is_some, ◌++◌, ◌∷◌};
 
+use crate::entered_file::{EnteredFile, have_remaining};
 use crate::folder_calls::FolderCalls;
+use crate::folder_identity::NumberedFolder;
 use crate::location::Location;
-use crate::named_file::NamedFile;
 use crate::open_folder::OpenFolder;
 use std::alloc::Allocator;
 use std::fs::OpenFile;
@@ -14,58 +15,63 @@ use std::marker::Model;
 /// The files of a folder that were named before the folder was synced.
 #[derive(Drop)]
 struct SyncedFolder<A: Allocator> {
-    number: u32,
-    files: Vec<NamedFile, A>,
-    /// The recorded sync of the folder.
+    folder: NumberedFolder,
+    files: Vec<EnteredFile, A>,
+    /// The recorded syncs of the folder and of that of the drafts.
     calls: FolderCalls,
 }
 
 impl<A: Allocator> Model for SyncedFolder<A> {
-    ghost use Rattle.std.specs.Prelude.{◌≡◌, [], ◌∷◌};
-    ghost use Rattle.folder_filing.specs.declared.call.Call.TheVariants as seen;
-    ghost use Rattle.folder_filing.specs.Synced.{FolderNames};
+    ghost use Rattle.std.specs.Prelude.{◌≡◌, true};
+    ghost use Rattle.folder_filing.specs.Synced.{FolderNames, are_synced};
 
     ghost Value = { FolderNames };
 
-    ghost view = { λ f. record { folder = f.number; files = f.files.items; calls = f.calls } };
+    ghost view = { λ f. record { folder = f.folder; files = f.files.items; calls = f.calls } };
 
-    /// The system has synced this folder.
-    ghost invariant = { λ f. f.calls ≡ seen.Synced f.number ∷ [] };
+    /// The system has synced this folder, and that of the drafts that were renamed.
+    ghost invariant = { λ f. are_synced (record { folder = f.folder; files = f.files.items; calls = f.calls }) ≡ true };
 }
 
 impl<A: Allocator> SyncedFolder<A> {
     ghost use Rattle.folder_filing.specs.Synced.{is_synced_in};
 
-    /// Syncs an open folder, in which these files were named. Fails if a system call fails.
+    /// Syncs an open folder, in which these files were named, after that of the drafts if one of
+    /// them was renamed from there. Fails if a system call fails.
     fn by_sync<F: OpenFile + Drop>(
+        drafts: &OpenFolder<F>,
         folder: &OpenFolder<F>,
-        files: Vec<NamedFile, A>,
+        files: Vec<EnteredFile, A>,
     ) -> io::Result<SyncedFolder<A>>
-        ensures number { IfOk result (λ f. f.folder ≡ folder.now) }
+        requires { drafts.now.number ≡ 0 }
+        ensures folder { IfOk result (λ f. f.folder ≡ folder.now) }
         ensures files { IfOk result (λ f. f.files ≡ files.items) }
     {
         let mut calls = FolderCalls::new();
-        calls.sync_names(folder)?;
+        calls.sync_both(drafts, folder, have_remaining(files.as_slice()))?;
         Ok(SyncedFolder {
-            number: folder.number(),
+            folder: folder.numbered(),
             files,
             calls,
         })
     }
 
-    /// Returns whether the file at this location is among the files.
-    fn has(&self, location: Location) -> bool
-        ensures { result ≡ is_synced_in location self.now }
+    /// Returns the file at this location, if it is among the files and in the folder.
+    fn file_at(&self, location: Location) -> Option<EnteredFile>
+        ensures covers { is_some result ≡ is_synced_in location self.now }
+        ensures location { IfSome result (λ file. file.file.location ≡ location) }
+        ensures number { IfSome result (λ file. file.folder.number ≡ location.folder) }
     {
-        if self.number != location.folder {
-            return false;
+        let folder = self.folder;
+        if folder.number != location.folder {
+            return None;
         }
         for file in &self.files {
-            if file.is_at(location) {
-                return true;
+            if file.is_at(location, folder) {
+                return Some(*file);
             }
         }
-        false
+        None
     }
 }
 
@@ -114,13 +120,17 @@ impl<A: Allocator> NamesSynced<A> {
         self.failure = Some(error);
     }
 
-    /// Syncs an open folder, in which these files were named, and records them, or the failure.
+    /// Syncs an open folder, in which these files were named, after that of the drafts if one of
+    /// them was renamed from there, and records the files, or the failure.
     pub(crate) fn sync<F: OpenFile + Drop>(
         &mut self,
+        drafts: &OpenFolder<F>,
         folder: &OpenFolder<F>,
-        files: Vec<NamedFile, A>,
-    ) {
-        let added = match SyncedFolder::by_sync(folder, files) {
+        files: Vec<EnteredFile, A>,
+    )
+        requires { drafts.now.number ≡ 0 }
+    {
+        let added = match SyncedFolder::by_sync(drafts, folder, files) {
             Ok(folder) => self.add(folder),
             Err(error) => Err(error),
         };
@@ -133,15 +143,17 @@ impl<A: Allocator> NamesSynced<A> {
         Ok(self.folders.push(folder)?)
     }
 
-    /// Returns whether the file at this location has its name on the disk.
-    pub(crate) fn has(&self, location: Location) -> bool
-        ensures { result ≡ is_synced location self.now }
+    /// Returns the file at this location, if it has its name on the disk.
+    pub(crate) fn file_at(&self, location: Location) -> Option<EnteredFile>
+        ensures covers { is_some result ≡ is_synced location self.now }
+        ensures location { IfSome result (λ file. file.file.location ≡ location) }
+        ensures number { IfSome result (λ file. file.folder.number ≡ location.folder) }
     {
         for folder in &self.folders {
-            if folder.has(location) {
-                return true;
+            if let Some(file) = folder.file_at(location) {
+                return Some(file);
             }
         }
-        false
+        None
     }
 }

@@ -1,9 +1,10 @@
 //! The file of numbers: the greatest numbers that the files and subfolders of a folder were given,
 //! so that no number is given again after its file was moved away.
-ghost use Rattle.std.specs.Prelude.{◌≡◌, IfOk, OnOk, OnErr, true, false};
+ghost use Rattle.std.specs.Prelude.{◌≡◌, IfOk, OnOk, OnErr, true};
 
+use crate::kept_numbers::{KeptNumbers, NumbersCalls};
 use crate::location::{GREATEST, Layout, Location};
-use crate::names::{EntryKind, EntryName};
+use crate::names::EntryKind;
 use std::alloc::{AllocError, Allocator};
 use std::fs::{File, OpenFile};
 use std::io::{Error, ErrorKind, Read, Write};
@@ -27,14 +28,8 @@ pub(crate) struct Numbers {
 /// Prints the line of the file of numbers, as `I0000100 S0000007`.
 impl fmt::Display for Numbers {
     fn fmt<W: fmt::Write>(&self, f: &mut fmt::Formatter<W>) -> fmt::Result {
-        let file = EntryName {
-            kind: EntryKind::File,
-            number: self.file,
-        };
-        let folder = EntryName {
-            kind: EntryKind::Folder,
-            number: self.folder,
-        };
+        let file = EntryKind::File.name(self.file);
+        let folder = EntryKind::Folder.name(self.folder);
         writeln!(f, "{file} {folder}")
     }
 }
@@ -68,13 +63,15 @@ impl Numbers {
         }
     }
 
-    /// Returns the numbers to write before a number that these do not cover is given, that of this
-    /// location. Without subfolders they reserve 100 numbers, starting with it.
+    /// Returns the numbers to write before the number of this location is given: these, if they
+    /// cover it. Else, without subfolders, they reserve 100 numbers, starting with it.
     fn with(self, layout: Layout, location: Location) -> Numbers
-        requires uncovered { is_covered layout self location ≡ false }
         ensures covers { is_covered layout result location ≡ true }
         ensures keeps { Keeps self result }
     {
+        if self.covers(layout, location) {
+            return self;
+        }
         match layout {
             Layout::Flat => Numbers {
                 file: location
@@ -123,7 +120,7 @@ impl Numbers {
 #[derive(Drop)]
 pub(crate) struct NumbersFile<A: Allocator> {
     path: String<A>,
-    kept: Numbers,
+    kept: KeptNumbers,
 }
 
 /// Returns the folder part of a path, or `.` if it has none.
@@ -138,15 +135,19 @@ fn folder_of(path: &str) -> &str {
 /// Replaces the file by one with these numbers, and syncs it and its folder. The new file is
 /// written next to it, with `.new` appended to its name, and renamed. Whatever has that name is
 /// removed first and not written to, since it may be a link.
-fn replace<R: Files + Alloc>(rt: &R, path: &str, numbers: Numbers) -> io::Result<()> {
+fn replace<R: Files + Alloc>(rt: &R, path: &str, numbers: Numbers) -> io::Result<KeptNumbers>
+    ensures { IfOk result (λ kept. kept ≡ record { numbers = numbers; is_on_disk = true }) }
+{
+    let mut calls = NumbersCalls::new();
     let draft = format!(in rt.alloc(); "{path}.new")?;
     let line = format!(in rt.alloc(); "{numbers}")?;
     let _ = fs::remove_file(rt, draft.as_str());
     let mut file = File::create_new(rt, draft.as_str())?;
     file.write_all(line.as_bytes())?;
-    file.sync_all()?;
-    fs::rename(rt, draft.as_str(), path)?;
-    fs::open(rt, folder_of(path))?.sync_all()
+    calls.sync_file(&file)?;
+    calls.rename(rt, draft.as_str(), path)?;
+    calls.sync_folder(rt, folder_of(path))?;
+    Ok(KeptNumbers::on_disk(numbers, &calls))
 }
 
 /// Reads the file, or returns `None` if it does not exist.
@@ -175,11 +176,8 @@ impl<A: Allocator> NumbersFile<A> {
     /// it cannot be read or created.
     pub(crate) fn open<R: Files + Alloc<A = A>>(rt: &R, path: &str) -> io::Result<NumbersFile<A>> {
         let kept = match read(rt, path)? {
-            Some(numbers) => numbers,
-            None => {
-                replace(rt, path, Numbers::NONE)?;
-                Numbers::NONE
-            }
+            Some(numbers) => KeptNumbers::found(numbers),
+            None => replace(rt, path, Numbers::NONE)?,
         };
         let path = String::from_str(rt.alloc(), path)?;
         Ok(NumbersFile { path, kept })
@@ -197,22 +195,24 @@ impl<A: Allocator> NumbersFile<A> {
     }
 
     /// Records the numbers that another filing of the folder has written to the file.
-    pub(crate) fn take_over(&mut self, kept: Numbers)
-        ensures keeps { Keeps self.old.kept self.new.kept }
-        ensures covers { Keeps kept self.new.kept }
+    pub(crate) fn take_over(&mut self, kept: KeptNumbers)
+        ensures keeps { Keeps self.old.kept.numbers self.new.kept.numbers }
+        ensures covers { Keeps kept.numbers self.new.kept.numbers }
     {
-        self.kept = self.kept.max(kept);
+        self.kept = self.kept.later(kept);
     }
 
     /// Returns the greatest numbers that may have been given.
-    pub(crate) fn kept(&self) -> Numbers
+    pub(crate) fn kept(&self) -> KeptNumbers
         ensures { result ≡ self.now.kept }
     {
         self.kept
     }
 
-    /// Makes sure that the file covers the number of this location: writes and syncs it if it does
-    /// not.
+    /// Makes sure that the file covers the number of this location and, with `has_sync`, has its
+    /// numbers on the disk: else writes and syncs it. Numbers that were found in the file may not
+    /// be there after a loss of power: a killed program may have renamed the file, but not synced
+    /// its folder.
     ///
     /// Fails if the file cannot be written; then the numbers are unchanged.
     pub(crate) fn keep<R: Files + Alloc<A = A>>(
@@ -220,16 +220,18 @@ impl<A: Allocator> NumbersFile<A> {
         rt: &R,
         layout: Layout,
         location: Location,
+        has_sync: bool,
     ) -> io::Result<()>
-        ensures kept { OnOk result (is_covered layout self.new.kept location ≡ true) }
-        ensures keeps { Keeps self.old.kept self.new.kept }
+        ensures kept { OnOk result (is_covered layout self.new.kept.numbers location ≡ true) }
+        ensures on_disk { has_sync ≡ true → OnOk result (self.new.kept.is_on_disk ≡ true) }
+        ensures keeps { Keeps self.old.kept.numbers self.new.kept.numbers }
         ensures failed { OnErr result (self.new.kept ≡ self.old.kept) }
     {
-        if !self.kept.covers(layout, location) {
-            let numbers = self.kept.with(layout, location);
-            replace(rt, self.path.as_str(), numbers)?;
-            self.kept = numbers;
+        let numbers = self.kept.numbers();
+        if numbers.covers(layout, location) && (self.kept.is_on_disk() || !has_sync) {
+            return Ok(());
         }
+        self.kept = replace(rt, self.path.as_str(), numbers.with(layout, location))?;
         Ok(())
     }
 }

@@ -1,7 +1,7 @@
 //! An open folder, with the number in its path.
-ghost use Rattle.std.specs.Prelude.{◌≡◌, IfOk};
+ghost use Rattle.std.specs.Prelude.{◌≡◌, IfOk, true};
 
-use crate::folder_identity::FolderIdentity;
+use crate::folder_identity::{FolderIdentity, NumberedFolder};
 use crate::listing::folder_path;
 use crate::stored_file::StoredFile;
 use std::fs::{OpenFile, TryLockError};
@@ -10,33 +10,29 @@ use std::marker::Model;
 use std::rt::Files;
 use std::{fs, io};
 
-/// The open folder of the files, or a subfolder of it. Its value in contracts is its number.
+/// The open folder of the files, or a subfolder of it. Its value in contracts is its number with
+/// its identity.
 #[derive(Drop)]
 pub(crate) struct OpenFolder<F: Drop> {
-    /// The number in the path by which it was opened; 0 for the folder of the files itself.
-    number: u32,
-    identity: FolderIdentity,
+    folder: NumberedFolder,
     file: F,
 }
 
 impl<F: Drop> Model for OpenFolder<F> {
-    ghost use Rattle.std.specs.Prelude.{ℕ};
+    ghost use Rattle.folder_filing.specs.declared.folder_identity.NumberedFolder.{NumberedFolder as Numbered};
 
-    ghost Value = { ℕ };
+    ghost Value = { Numbered };
 
-    ghost view = { λ f. f.number };
+    ghost view = { λ f. f.folder };
 }
 
 fn open<R: Files>(rt: &R, path: &str, number: u32) -> io::Result<OpenFolder<R::File>>
-    ensures { IfOk result (λ f. f ≡ number) }
+    ensures { IfOk result (λ f. f.number ≡ number) }
 {
     let file = fs::open(rt, path)?;
     let identity = FolderIdentity::of(&file.metadata()?);
-    Ok(OpenFolder {
-        number,
-        identity,
-        file,
-    })
+    let folder = NumberedFolder { number, identity };
+    Ok(OpenFolder { folder, file })
 }
 
 /// Opens the folder of the files or a quarantine, and locks it.
@@ -46,7 +42,7 @@ fn open<R: Files>(rt: &R, path: &str, number: u32) -> io::Result<OpenFolder<R::F
 pub(crate) fn lock<R: Files>(rt: &R, dir: &str) -> io::Result<OpenFolder<R::File>>
 where
     R::File: StoredFile,
-    ensures { IfOk result (λ f. f ≡ 0) }
+    ensures { IfOk result (λ f. f.number ≡ 0) }
 {
     let folder = open(rt, dir, 0)?;
     match folder.file.try_lock() {
@@ -59,7 +55,7 @@ where
         }
         Err(TryLockError::Error(error)) => return Err(error),
     }
-    folder.identity.check_at(rt, dir)?;
+    folder.identity().check_at(rt, dir)?;
     Ok(folder)
 }
 
@@ -69,27 +65,31 @@ pub(crate) fn open_subfolder<R: Files + Alloc>(
     dir: &str,
     number: u32,
 ) -> io::Result<OpenFolder<R::File>>
-    ensures { IfOk result (λ f. f ≡ number) }
+    ensures { IfOk result (λ f. f.number ≡ number) }
 {
     let path = folder_path(rt.alloc(), dir, number)?;
     open(rt, path.as_str(), number)
 }
 
 impl<F: Drop> OpenFolder<F> {
-    pub(crate) fn number(&self) -> u32
+    pub(crate) fn numbered(&self) -> NumberedFolder
         ensures { result ≡ self.now }
     {
-        self.number
+        self.folder
     }
 
-    pub(crate) fn identity(&self) -> FolderIdentity {
-        self.identity
+    pub(crate) fn identity(&self) -> FolderIdentity
+        ensures { result ≡ self.now.identity }
+    {
+        self.folder.identity
     }
 
     /// Returns whether both are the same folder. A subfolder that replaced one that was moved away
     /// has the same number, but is another folder.
-    pub(crate) fn is(&self, other: &OpenFolder<F>) -> bool {
-        self.number == other.number && self.identity == other.identity
+    pub(crate) fn is(&self, other: &OpenFolder<F>) -> bool
+        ensures { result ≡ true → self.now ≡ other.now }
+    {
+        self.folder == other.folder
     }
 
     /// Syncs the folder to the disk.

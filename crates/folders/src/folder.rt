@@ -83,7 +83,7 @@ pub fn try_draft<R: Files<File = File> + Alloc + Clone + Drop>(
         filing.discard();
         return Ok(());
     }
-    let error = match filing.notes()?.take_error() {
+    let error = match filing.notes()?.error.take() {
         Some(error) => error,
         None => Error::from(ErrorKind::Other),
     };

@@ -1,1 +1,3 @@
+pub mod LeftOut
 pub mod Sharing
+pub mod Sorting

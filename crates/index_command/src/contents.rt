@@ -1,31 +1,63 @@
 //! Reads the rows of a folder's files for `dcmbox index`, and why a file has none.
 ghost use Rattle.std.specs.Prelude.{◌≡◌, ◌∷◌, IfOk, OnOk, IsPermutation};
+ghost use Rattle.index_command.specs.LeftOut.{left_out};
 ghost use Rattle.index_command.specs.Sharing.{files_of};
 
 use crate::instances::report_other_instance;
-use crate::kept::IndexedFiles;
-use crate::names::path_of;
+use crate::kept::{IndexedFiles, path_of};
 use arguments::Index;
-use checkdir_command::PathText;
 use dicomdir::FileId;
 use dicomdir_writing::{Row, Skip, described_row_of, rows_of};
 use dictionary::{Transfer, storage_class};
-use element::Uid;
+use element::{Tag, Uid};
 use failures::ProgramError;
 use inspection::{FileFront, Printable, TagText};
 use keyed_files::open_file;
 use part10::{MetaFault, read_any_meta};
 use std::alloc::{AllocError, Allocator};
-use std::io::{self, Write};
+use std::fmt;
+use std::io::Write;
 use std::rt::Files;
 
-/// Why a file gets no row.
-#[derive(Drop)]
+/// Why a file gets no row. It prints as the number of the fault, the tag or the UID.
+#[derive(PartialEq, Eq, Drop)]
 pub(crate) enum Reason {
-    /// The file's row can't be read.
-    Unread(Skip),
+    /// The file has the fault with this number.
+    Fault(u8),
+    /// The file has a compressed transfer syntax, fault 53, which `--all-syntaxes` accepts.
+    Compressed,
+    /// The file has no value of this element.
+    Missing(Tag),
     /// A directory has no IMAGE records for instances of the file's SOP Class.
     Class(Uid),
+}
+
+impl Reason {
+    /// Returns the word for the reason in the output.
+    pub(crate) fn name(&self) -> &'static str {
+        match self {
+            Reason::Fault(_) | Reason::Compressed => "fault",
+            Reason::Missing(_) => "missing",
+            Reason::Class(_) => "class",
+        }
+    }
+}
+
+impl fmt::Display for Reason {
+    fn fmt<W: fmt::Write>(&self, f: &mut fmt::Formatter<W>) -> fmt::Result {
+        match self {
+            Reason::Fault(number) => write!(f, "{number}"),
+            Reason::Compressed => write!(f, "{}", MetaFault::OtherSyntax.number()),
+            Reason::Missing(tag) => {
+                let tag = TagText(*tag);
+                write!(f, "{tag}")
+            }
+            Reason::Class(class) => {
+                let class = Printable(class.as_bytes());
+                write!(f, "{class}")
+            }
+        }
+    }
 }
 
 /// Returns whether a directory has IMAGE records for instances of this class; `true` for a class
@@ -63,6 +95,18 @@ fn other_class<R: Files>(rt: &R, path: &str) -> Option<Uid> {
     Some(class)
 }
 
+/// Returns the reason for a file with this fault.
+fn fault_of<R: Files>(rt: &R, path: &str, number: u8) -> Reason {
+    if number == MetaFault::OtherSyntax.number() {
+        if let Ok(mut file) = open_file(rt, path) {
+            if read_any_meta(&mut file).is_ok() {
+                return Reason::Compressed;
+            }
+        }
+    }
+    Reason::Fault(number)
+}
+
 /// The options for reading rows.
 #[derive(Clone, Copy)]
 struct RowOptions<'a> {
@@ -73,49 +117,9 @@ struct RowOptions<'a> {
     additional: &'a [Transfer],
 }
 
-/// Reads the row of a file of any class, if its transfer syntax is accepted. Reports a data set
-/// with another SOP Instance UID than the file's header.
-fn short_row<R: Files + Alloc, E: Write>(
-    rt: &R,
-    path: &str,
-    id: &FileId,
-    additional: &[Transfer],
-    err: &mut E,
-) -> Result<Row<R::A>, Skip>
-where
-    R::A: Copy,
-    ensures own { IfOk result (λ row. row.file_id ≡ id.now) }
-{
-    let mut file = opened(rt, path, err)?;
-    let mut front = FileFront::new(&mut file);
-    let row = rows_of(rt.alloc(), &mut front, id, additional)?;
-    let mut beginning = front.kept();
-    report_other_instance(path, &mut beginning, row.instance(), err);
-    Ok(row)
-}
-
-/// Reads the row of a file as `short_row` does, with Series Description.
-fn long_row<R: Files + Alloc, E: Write>(
-    rt: &R,
-    path: &str,
-    id: &FileId,
-    additional: &[Transfer],
-    err: &mut E,
-) -> Result<Row<R::A>, Skip>
-where
-    R::A: Copy,
-    ensures own { IfOk result (λ row. row.file_id ≡ id.now) }
-{
-    let mut file = opened(rt, path, err)?;
-    let mut again = opened(rt, path, err)?;
-    let row = described_row_of(rt.alloc(), &mut file, &mut again, id, additional)?;
-    if let Ok(mut front) = open_file(rt, path) {
-        report_other_instance(path, &mut front, row.instance(), err);
-    }
-    Ok(row)
-}
-
-/// Reads the row of the file at this path, with Series Description if the options ask for it.
+/// Reads the row of a file of any class, if its transfer syntax is accepted, with Series Description
+/// if the options ask for it. Reports a data set with another SOP Instance UID than the file's
+/// header.
 fn read_row<R: Files + Alloc, E: Write>(
     rt: &R,
     path: &str,
@@ -127,37 +131,45 @@ where
     R::A: Copy,
     ensures own { IfOk result (λ row. row.file_id ≡ id.now) }
 {
+    let mut file = opened(rt, path, err)?;
     if reading.descriptions {
-        long_row(rt, path, id, reading.additional, err)
-    } else {
-        short_row(rt, path, id, reading.additional, err)
+        let mut again = opened(rt, path, err)?;
+        let row = described_row_of(rt.alloc(), &mut file, &mut again, id, reading.additional)?;
+        if let Ok(mut front) = open_file(rt, path) {
+            report_other_instance(path, &mut front, row.instance(), err);
+        }
+        return Ok(row);
     }
+    let mut front = FileFront::new(&mut file);
+    let row = rows_of(rt.alloc(), &mut front, id, reading.additional)?;
+    let mut beginning = front.kept();
+    report_other_instance(path, &mut beginning, row.instance(), err);
+    Ok(row)
 }
 
 /// Reads the row of the file with this file ID. A file of a class without IMAGE records need not
-/// have the keys of a row.
+/// have the keys of a row. Fails if memory runs out.
 fn row_of<R: Files + Alloc, E: Write>(
     rt: &R,
     id: &FileId,
     reading: RowOptions<'_>,
     err: &mut E,
-) -> Result<Row<R::A>, Reason>
+) -> Result<Result<Row<R::A>, Reason>, AllocError>
 where
     R::A: Copy,
-    ensures own { IfOk result (λ row. row.file_id ≡ id.now) }
+    ensures own { IfOk result (λ row. IfOk row (λ row. row.file_id ≡ id.now)) }
 {
-    let Ok(path) = path_of(rt.alloc(), reading.dir, id) else {
-        return Err(Reason::Unread(Skip::OutOfMemory));
-    };
+    let path = path_of(rt.alloc(), reading.dir, id)?;
     let reason = match read_row(rt, path.as_str(), id, reading, err) {
-        Ok(row) if is_image_class(row.class()) => return Ok(row),
-        Ok(_) => Skip::Fault(MetaFault::ReadFailed.number()),
-        Err(Skip::Missing(tag)) => Skip::Missing(tag),
-        Err(reason) => return Err(Reason::Unread(reason)),
+        Ok(row) if is_image_class(row.class()) => return Ok(Ok(row)),
+        Ok(_) => Reason::Fault(MetaFault::ReadFailed.number()),
+        Err(Skip::Missing(tag)) => Reason::Missing(tag),
+        Err(Skip::Fault(number)) => return Ok(Err(fault_of(rt, path.as_str(), number))),
+        Err(Skip::OutOfMemory) => return Err(AllocError),
     };
     match other_class(rt, path.as_str()) {
-        Some(class) => Err(Reason::Class(class)),
-        None => Err(Reason::Unread(reason)),
+        Some(class) => Ok(Err(Reason::Class(class))),
+        None => Ok(Err(reason)),
     }
 }
 
@@ -181,23 +193,22 @@ pub(crate) struct Contents<A: Allocator> {
 
 impl<A: Allocator> Contents<A> {
     /// Returns how many files are left out, with this number of duplicates.
-    pub(crate) fn count(&self, duplicates: usize) -> usize {
+    pub(crate) fn count(&self, duplicates: usize) -> usize
+        ensures { result ≡ left_out self.now duplicates }
+    {
         let unlisted = self.skipped.len().saturating_add(self.omitted);
         unlisted
             .saturating_add(self.others)
             .saturating_add(duplicates)
     }
 
-    /// Adds the row of a file, or why it has none. Fails if memory ran out.
-    fn push(&mut self, id: &FileId, row: Result<Row<A>, Reason>) -> Result<(), ProgramError>
+    /// Adds the row of a file, or why it has none. Fails if memory runs out.
+    fn push(&mut self, id: &FileId, row: Result<Row<A>, Reason>) -> Result<(), AllocError>
         requires own { IfOk row (λ row. row.file_id ≡ id.now) }
         ensures one { OnOk result (IsPermutation (id.now ∷ files_of self.old.rows.items self.old.skipped.items) (files_of self.new.rows.items self.new.skipped.items)) }
     {
         match row {
             Ok(row) => self.rows.push(row)?,
-            Err(Reason::Unread(Skip::OutOfMemory)) => {
-                return Err(ProgramError::Memory(AllocError));
-            }
             Err(reason) => self.skipped.push(Skipped { id: *id, reason })?,
         }
         Ok(())
@@ -231,30 +242,7 @@ where
         others: files.others,
     };
     for id in &files.ids {
-        contents.push(id, row_of(rt, id, reading, err))?;
+        contents.push(id, row_of(rt, id, reading, err)?)?;
     }
     Ok(contents)
-}
-
-/// Writes a line for each file that has no row.
-pub(crate) fn report_skipped<O: Write>(skipped: &[Skipped], out: &mut O) -> io::Result<()> {
-    for Skipped { id, reason } in skipped {
-        let path = PathText(*id);
-        let reported = match reason {
-            Reason::Unread(Skip::Fault(number)) => {
-                writeln!(out, "skipped {path} fault {number}")
-            }
-            Reason::Unread(Skip::Missing(tag)) => {
-                let tag = TagText(*tag);
-                writeln!(out, "skipped {path} missing {tag}")
-            }
-            Reason::Unread(Skip::OutOfMemory) => writeln!(out, "skipped {path}"),
-            Reason::Class(class) => {
-                let class = Printable(class.as_bytes());
-                writeln!(out, "skipped {path} class {class}")
-            }
-        };
-        reported?;
-    }
-    Ok(())
 }

@@ -1,12 +1,15 @@
 //! `dcmbox index`: writes the DICOMDIR of a folder of received files.
+ghost use Rattle.std.specs.Prelude.{◌≡◌, ◌&&◌, length, nat_lt};
+ghost use Rattle.dicomdir_writing.specs.Positions.{duplicates_of};
+ghost use Rattle.index_command.specs.LeftOut.{left_out};
+
 use crate::contents::{Contents, read_rows};
 use crate::duplicates::report_duplicates;
+use crate::files::{ListedNames, files_below};
 use crate::indexed::{IndexCounts, Indexed};
-use crate::kept::{DIRECTORY, IndexedFiles, kept_files};
-use crate::names::received_files;
+use crate::kept::{DIRECTORY, IndexedFiles, kept_files, of_directory};
 use crate::new_uid::new_uid;
 use crate::omitted::report_reasons;
-use crate::others::{ListedNames, other_files};
 use crate::output::{form_of, refuse, report_built};
 use arguments::Index;
 use dicomdir::DirFault;
@@ -33,16 +36,17 @@ fn report_others<E: Write>(dir: &str, count: usize, names: ListedNames, err: &mu
         return;
     }
     let dir = Printable(dir.as_bytes());
-    let text = match names {
-        ListedNames::Received =>
-            "have other names than I0000001, or S0000001/I0000001; name them so, or take those whose paths are file IDs with --any-name",
-        ListedNames::Any =>
-            "have paths that are no file IDs: up to eight names of at most eight capital letters, digits and underscores; name them so",
+    let text = match (names, count) {
+        (ListedNames::Received, 1) =>
+            "file is left out: it has another name than I0000001, or S0000001/I0000001; name it so, or take it with --any-name if its path is a file ID",
+        (ListedNames::Received, _) =>
+            "files are left out: they have other names than I0000001, or S0000001/I0000001; name them so, or take those whose paths are file IDs with --any-name",
+        (ListedNames::Any, 1) =>
+            "file is left out: it has a path that is no file ID: up to eight names of at most eight capital letters, digits and underscores; name it so",
+        (ListedNames::Any, _) =>
+            "files are left out: they have paths that are no file IDs: up to eight names of at most eight capital letters, digits and underscores; name them so",
     };
-    let _ = writeln!(
-        err,
-        "dcmbox: {dir}: {count} DICOM files are left out: they {text}"
-    );
+    let _ = writeln!(err, "dcmbox: {dir}: {count} DICOM {text}");
 }
 
 /// Returns the files of a folder that are to be listed, and reports how many are not.
@@ -59,20 +63,14 @@ where
     } else {
         ListedNames::Received
     };
-    let received = match names {
-        ListedNames::Received => received_files(rt, settings.dir)?,
-        ListedNames::Any => Vec::new(rt.alloc()),
-    };
-    let others = other_files(rt, settings.dir, names)?;
-    let count = others.count;
-    report_others(settings.dir, count, names, err);
+    let others = (settings.ignore_others, settings.follow);
+    let found = files_below(rt, settings.dir, names, others)?;
+    found.tally.report_passed_by(err);
+    report_others(settings.dir, found.others, names, err);
     Ok(IndexedFiles {
-        ids: match names {
-            ListedNames::Received => received,
-            ListedNames::Any => others.ids,
-        },
+        ids: found.ids,
         omitted: 0,
-        others: count,
+        others: found.others,
     })
 }
 
@@ -117,7 +115,7 @@ fn spare_others<R: Files + Alloc>(rt: &R, dir: &str) -> Result<(), ProgramError>
     match beginning {
         Ok(bytes) if is_own(bytes.as_slice()) => Ok(()),
         Ok(_) => Err(ProgramError::OtherDirectory),
-        Err(error) => Err(ProgramError::of(Failure::UnreadDirectory, error)),
+        Err(error) => Err(of_directory(Failure::UnreadDirectory, error)),
     }
 }
 
@@ -144,33 +142,14 @@ where
     file.sync_all()
 }
 
-/// Writes the directory to the draft and renames the draft; removes the draft if either fails.
-fn replace<R: Files + Alloc>(
-    rt: &R,
-    draft: &str,
-    path: &str,
-    built: &Built<'_, R::A>,
-) -> io::Result<()>
-where
-    R::A: Copy,
-{
-    let written = match write_draft(rt, draft, built) {
-        Ok(()) => fs::rename(rt, draft, path),
-        Err(error) => Err(error),
-    };
-    if written.is_err() {
-        let _ = fs::remove_file(rt, draft);
-    }
-    written
-}
-
 /// Syncs the names in the folder to the disk.
 fn sync<R: Files>(rt: &R, dir: &str) -> io::Result<()> {
     let folder = fs::open(rt, dir)?;
     folder.sync_all()
 }
 
-/// Puts the directory into the folder, replacing an old one once the new one is complete.
+/// Puts the directory into the folder: writes it to the draft, and renames the draft once it is
+/// complete. Removes the draft if either fails.
 fn put_directory<R: Files + Alloc>(
     rt: &R,
     dir: &str,
@@ -181,13 +160,15 @@ where
 {
     let draft = format!(in rt.alloc(); "{dir}/{DRAFT}")?;
     let path = format!(in rt.alloc(); "{dir}/{DIRECTORY}")?;
-    match replace(rt, draft.as_str(), path.as_str(), built) {
-        Ok(()) => match sync(rt, dir) {
-            Ok(()) => Ok(()),
-            Err(error) => Err(ProgramError::System(Failure::Directory, error)),
-        },
-        Err(error) => Err(ProgramError::of(Failure::Directory, error)),
+    let written = match write_draft(rt, draft.as_str(), built) {
+        Ok(()) => fs::rename(rt, draft.as_str(), path.as_str()),
+        Err(error) => Err(error),
+    };
+    if let Err(error) = written {
+        let _ = fs::remove_file(rt, draft.as_str());
+        return Err(ProgramError::of(Failure::Directory, error));
     }
+    sync(rt, dir).map_err(|error| ProgramError::System(Failure::Directory, error))
 }
 
 /// Reports what a new directory would lose of the present one, which stays unchanged.
@@ -210,7 +191,7 @@ fn keep_old<A: Allocator, O: Write, E: Write>(
     );
     let _ = writeln!(
         err,
-        "dcmbox: {dir}: the DICOMDIR stays as it is: {count} of its records would be lost; leave them out with --drop"
+        "dcmbox: {dir}: the DICOMDIR stays as it is: {count} of its records would be lost; without --strict they are left out"
     );
     report_reasons(contents, duplicates, err);
     Ok(Indexed::Kept)
@@ -250,9 +231,11 @@ fn uid_of<R: Files + Alloc>(rt: &R, settings: &Index) -> Result<Uid, ProgramErro
     }
 }
 
-/// Returns whether a new directory would lose records of the present one that must be kept.
-fn loses<A: Allocator>(settings: &Index, built: &Built<'_, A>, contents: &Contents<A>) -> bool {
-    settings.keep && !settings.drop && contents.count(built.duplicates().len()) > 0
+/// Returns whether the present directory stays as it is, as a new one would lose records of it.
+fn stays<A: Allocator>(settings: &Index, built: &Built<'_, A>, contents: &Contents<A>) -> bool
+    ensures { result ≡ (settings.now.keep && settings.now.strict && nat_lt 0 (left_out contents.now (length (duplicates_of built.now.rows)))) }
+{
+    settings.keep && settings.strict && contents.count(built.duplicates().len()) > 0
 }
 
 /// Writes the directory of these files, of at most `most` bytes, and reports the files left out or
@@ -270,7 +253,7 @@ where
     let uid = uid_of(rt, settings)?;
     match build_within(rt.alloc(), contents.rows.as_slice(), uid, most) {
         Ok(built) => {
-            if loses(settings, &built, contents) {
+            if stays(settings, &built, contents) {
                 keep_old(settings, &built, contents, (out, err))
             } else {
                 put_and_report(rt, settings, &built, contents, (out, err))
@@ -290,12 +273,12 @@ fn additional_syntaxes(all: bool) -> &'static [Transfer] {
 /// with the reason, a line for each duplicate, and the number of records; in JSON, one object.
 /// Returns how many images are listed and how many files left out. If no directory can be built
 /// (for example one of more than `most` bytes), an old directory stays unchanged and the fault is
-/// written. With `keep` and without `drop`, an old directory also stays unchanged if the new one
-/// would lose an image of it.
+/// written. With `keep` and `strict`, an old directory also stays unchanged if the new one would lose
+/// a record of it.
 ///
 /// On `err` a line reports each record of the present directory that names a file and is no IMAGE
-/// record, each file whose data set has another SOP Instance UID than its header, the number of
-/// DICOM files with names that are not listed, and for each duplicate whether it has the same bytes
+/// record, each file whose data set has another SOP Instance UID than its header, the numbers of
+/// files that are ignored and of DICOM files with names that are not listed, and for each duplicate whether it has the same bytes
 /// as the file before it; then the numbers of images listed and files left out, and the reasons.
 ///
 /// Memory for the rows is from `rt`'s allocator.
@@ -343,8 +326,8 @@ where
 }
 
 /// Writes the directory of a folder and prints the files left out; `index_folder` reports on
-/// standard error. With `strict`, a file left out is a fault. Output written before an error is
-/// printed as well.
+/// standard error. With `strict`, a file left out is a fault, and with `keep` the old directory then
+/// stays unchanged. Output written before an error is printed as well.
 pub fn index(rt: &HostRuntime, settings: &Index) -> Result<Outcome, ProgramError> {
     let mut out = BufWriter::new(rt.alloc(), io::writer(rt)).map_err(ProgramError::of_output)?;
     let indexed = index_folder(rt, settings, u32::MAX, &mut out, &mut rt.stderr());

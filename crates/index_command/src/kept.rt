@@ -3,9 +3,9 @@ use checkdir_command::PathText;
 use dicomdir::{DirFault, FileId, Tree, check, kept_of, omitted};
 use failures::{Failure, ProgramError, read_whole};
 use inspection::Printable;
-use std::alloc::Allocator;
+use std::alloc::{AllocError, Allocator};
 use std::fs;
-use std::io::Write;
+use std::io::{self, ErrorKind, Write};
 use std::rt::Files;
 
 /// The name of a folder's directory.
@@ -21,6 +21,25 @@ pub(crate) struct IndexedFiles<A: Allocator> {
     pub others: usize,
 }
 
+/// Returns the path of a file below a folder, from its file ID.
+pub(crate) fn path_of<A: Allocator>(
+    alloc: A,
+    dir: &str,
+    id: &FileId,
+) -> Result<String<A>, AllocError> {
+    let path = PathText(*id);
+    format!(in alloc; "{dir}/{path}")
+}
+
+/// Returns the error for the directory of a folder: `failure`, or that there is a file instead of
+/// the folder.
+pub(crate) fn of_directory(failure: Failure, error: io::Error) -> ProgramError {
+    match error.kind() {
+        ErrorKind::NotADirectory => ProgramError::of(Failure::ReadFolder, error),
+        _ => ProgramError::of(failure, error),
+    }
+}
+
 /// Reads the folder's directory completely.
 fn present_directory<R: Files + Alloc>(rt: &R, dir: &str) -> Result<Vec<u8, R::A>, ProgramError>
 where
@@ -29,7 +48,7 @@ where
     let path = format!(in rt.alloc(); "{dir}/{DIRECTORY}")?;
     match fs::open(rt, path.as_str()) {
         Ok(mut file) => read_whole(rt.alloc(), &mut file, Failure::NoDirectory),
-        Err(error) => Err(ProgramError::System(Failure::NoDirectory, error)),
+        Err(error) => Err(of_directory(Failure::NoDirectory, error)),
     }
 }
 

@@ -4,14 +4,12 @@
 mod contents;
 mod directory;
 mod duplicates;
+mod files;
 mod indexed;
 mod instances;
-mod json;
 mod kept;
-mod names;
 mod new_uid;
 mod omitted;
-mod others;
 mod output;
 
 pub use directory::{index, index_dir, index_folder};

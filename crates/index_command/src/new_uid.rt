@@ -22,10 +22,7 @@ fn random_bits<R: Files>(rt: &R) -> io::Result<[u8; 16]> {
 ///
 /// Fails if the system yields no random bytes.
 pub fn new_uid<R: Files + Alloc>(rt: &R) -> Result<Uid, ProgramError> {
-    let bits = match random_bits(rt) {
-        Ok(bits) => bits,
-        Err(error) => return Err(ProgramError::System(Failure::Random, error)),
-    };
+    let bits = random_bits(rt).map_err(|error| ProgramError::System(Failure::Random, error))?;
     let number = Builder::from_random_bytes(bits).into_uuid().as_u128();
     let text = format!(in rt.alloc(); "2.25.{number}")?;
     match Uid::read(text.as_bytes()) {

@@ -1,9 +1,8 @@
 //! Reports why files are left out of a directory.
 use crate::contents::{Contents, Reason, Skipped};
 use dicomdir::DirFault;
-use dicomdir_writing::Skip;
 use element::Tag;
-use inspection::{Printable, TagText, known_keyword};
+use inspection::known_keyword;
 use part10::MetaFault;
 use std::alloc::Allocator;
 use std::fmt;
@@ -28,52 +27,29 @@ fn fault_name(number: u8) -> &'static str {
 
 impl fmt::Display for ReasonText<'_> {
     fn fmt<W: fmt::Write>(&self, f: &mut fmt::Formatter<W>) -> fmt::Result {
-        match self.0 {
-            Reason::Unread(Skip::Fault(number)) => {
-                let name = fault_name(*number);
-                write!(f, "fault {number} {name}")
-            }
-            Reason::Unread(Skip::Missing(tag)) => {
-                let (keyword, tag) = (known_keyword(*tag).unwrap_or("?"), TagText(*tag));
-                write!(f, "missing {tag} {keyword}")
-            }
-            Reason::Unread(Skip::OutOfMemory) => f.write_str("out of memory"),
-            Reason::Class(class) => {
-                let class = Printable(class.as_bytes());
-                write!(f, "class {class}")
-            }
-        }
-    }
-}
-
-/// Returns whether two files are left out for the same reason.
-fn are_same(one: &Reason, other: &Reason) -> bool {
-    match (one, other) {
-        (Reason::Unread(Skip::Fault(one)), Reason::Unread(Skip::Fault(other))) => one == other,
-        (Reason::Unread(Skip::Missing(one)), Reason::Unread(Skip::Missing(other))) => one == other,
-        (Reason::Class(one), Reason::Class(other)) => one == other,
-        (Reason::Unread(Skip::OutOfMemory), Reason::Unread(Skip::OutOfMemory)) => true,
-        _ => false,
+        let (name, reason) = (self.0.name(), self.0);
+        write!(f, "{name} {reason}")?;
+        let explanation = match reason {
+            Reason::Fault(number) => fault_name(*number),
+            Reason::Compressed => MetaFault::OtherSyntax.name(),
+            Reason::Missing(tag) => known_keyword(*tag).unwrap_or("?"),
+            Reason::Class(_) => return Ok(()),
+        };
+        write!(f, " {explanation}")
     }
 }
 
 /// Returns how many files are left out for this reason.
 fn count_of(skipped: &[Skipped], reason: &Reason) -> usize {
-    let mut count: usize = 0;
-    for file in skipped {
-        if are_same(&file.reason, reason) {
-            count = count.saturating_add(1);
-        }
-    }
-    count
+    skipped.iter().filter(|file| file.reason == *reason).count()
 }
 
-/// Writes how many files are left out for a reason, after `comma`, unless none are.
-fn write_count<E: Write>(count: usize, text: &str, comma: &str, err: &mut E) -> io::Result<()> {
-    if count == 0 {
-        return Ok(());
+/// Returns what accepts the files that are left out for this reason, if an option does.
+fn hint_for(reason: &Reason) -> &'static str {
+    match reason {
+        Reason::Compressed => " (taken with --all-syntaxes)",
+        _ => "",
     }
-    write!(err, "{comma}{text} {count}")
 }
 
 /// Writes each reason once, with its number of files.
@@ -81,12 +57,10 @@ fn write_reasons<E: Write>(skipped: &[Skipped], err: &mut E) -> io::Result<()> {
     let mut comma = "";
     for (index, file) in skipped.iter().enumerate() {
         let before = skipped.get(..index).unwrap_or(&[]);
-        if !before
-            .iter()
-            .any(|other: &Skipped| are_same(&other.reason, &file.reason))
-        {
+        if count_of(before, &file.reason) == 0 {
             let (count, reason) = (count_of(skipped, &file.reason), ReasonText(&file.reason));
-            write!(err, "{comma}{reason} {count}")?;
+            let hint = hint_for(&file.reason);
+            write!(err, "{comma}{reason} {count}{hint}")?;
             comma = ", ";
         }
     }
@@ -111,8 +85,8 @@ fn write_omitted<A: Allocator, E: Write>(
         (contents.omitted, "records of other types"),
         (contents.others, "other names"),
     ] {
-        write_count(count, text, comma, err)?;
         if count > 0 {
+            write!(err, "{comma}{text} {count}")?;
             comma = ", ";
         }
     }

@@ -6,7 +6,7 @@ ghost use Rattle.inspection.specs.BareForm as bare;
 use element::{Header, Need, Syntax, Tag, need, read_header};
 
 /// Returns whether `DICM` follows a preamble of 128 bytes (PS3.10 section 7.1).
-fn has_letters(beginning: &[u8]) -> bool
+pub(crate) fn has_letters(beginning: &[u8]) -> bool
     ensures { result ≡ bare.has_letters beginning.now }
 {
     132 <= beginning.len() && &beginning[128..132] == b"DICM".as_slice()

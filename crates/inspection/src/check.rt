@@ -1,17 +1,16 @@
 //! `dcmbox check`: reports the first fault of a file, and the values that break a rule of their VR.
 use crate::error::InspectionError;
-use crate::judgement::Judgement;
+use crate::front::FileFront;
+use crate::judgement::{Note, Rule};
 use crate::notes::Notes;
 use crate::options::{CheckOptions, Syntaxes, Vocabulary};
-use crate::outcome::{Inspected, Outcome};
+use crate::outcome::Inspected;
 use crate::strict::StrictValues;
-use crate::walk::{Listing, list};
+use crate::walk::{Finding, Listing, list};
 use arrayvec::ArrayVec;
-use dictionary::{Transfer, vr_of};
+use dictionary::vr_of;
 use element::{Header, Tag, Vr, check_value};
-use part10::Meta;
-use std::io;
-use std::io::{Read, Write};
+use std::io::{self, Read, Write};
 use values::Repertoire;
 
 /// The longest value, in bytes, that is checked without `strict`.
@@ -19,68 +18,49 @@ const SHORT: usize = 1024;
 
 /// A value that is checked once all of its bytes were read.
 #[derive(Clone, Copy)]
-struct Due {
+pub(crate) struct Due {
     /// The offset of the value's header.
-    offset: u64,
-    tag: Tag,
-    vr: Vr,
-    length: usize,
+    pub offset: u64,
+    pub level: usize,
+    pub tag: Tag,
+    pub vr: Vr,
+    pub length: usize,
 }
 
-/// Returns the value to check after a header, or `None` if it is longer than `SHORT` or its VR is
-/// unknown.
-fn due_of(offset: u64, header: Header) -> Option<Due> {
-    let length = header.length as usize;
-    if SHORT < length {
-        return None;
+impl Due {
+    /// Returns the value of a header at this offset, or `None` if its VR is unknown.
+    pub(crate) fn of(offset: u64, level: usize, header: &Header) -> Option<Due> {
+        Some(Due {
+            offset,
+            level,
+            tag: header.tag,
+            vr: header.vr.or(vr_of(header.tag))?,
+            length: header.length as usize,
+        })
     }
-    let vr = header.vr.or(vr_of(header.tag))?;
-    Some(Due {
-        offset,
-        tag: header.tag,
-        vr,
-        length,
-    })
+
+    /// Returns the note that the value breaks a rule.
+    pub(crate) fn note(&self, rule: Rule) -> Note {
+        Note {
+            offset: self.offset,
+            tag: self.tag,
+            vr: Some(self.vr),
+            rule,
+        }
+    }
 }
 
 /// Checks each value of at most `SHORT` bytes.
 #[derive(Drop)]
-struct Values {
+struct Values<'a, O: Write> {
     due: Option<Due>,
     value: ArrayVec<u8, SHORT>,
-    notes: Notes,
+    notes: Notes<'a, O>,
 }
 
-/// Returns the note of a value, or `None` if the value breaks no rule of its VR.
-fn note_of(due: Due, value: &[u8]) -> Option<Judgement> {
-    match check_value(due.vr, value) {
-        Ok(()) => None,
-        Err(fault) => Some(Judgement::Note(due.offset, due.tag, due.vr, fault)),
-    }
-}
-
-impl<O: Write> Listing<O> for Values {
-    fn on_meta(&mut self, _meta: &Meta, _out: &mut O) -> io::Result<()> {
-        Ok(())
-    }
-
-    fn on_bare(&mut self, _syntax: Transfer, _out: &mut O) -> io::Result<()> {
-        Ok(())
-    }
-
-    fn on_header(
-        &mut self,
-        offset: u64,
-        _levels: usize,
-        header: &Header,
-        _out: &mut O,
-    ) -> io::Result<()> {
-        self.value.clear();
-        self.due = due_of(offset, *header);
-        Ok(())
-    }
-
-    fn on_bytes(&mut self, bytes: &[u8], out: &mut O) -> io::Result<()> {
+impl<O: Write> Values<'_, O> {
+    /// Stores bytes of the last header's value, and checks the value once it is complete.
+    fn on_bytes(&mut self, bytes: &[u8]) -> io::Result<()> {
         let Some(due) = self.due else {
             return Ok(());
         };
@@ -88,74 +68,68 @@ impl<O: Write> Listing<O> for Values {
             return Ok(());
         }
         self.due = None;
-        let (notes, vr) = (self.notes, due.vr);
-        let Some(note) = note_of(due, self.value.as_slice()) else {
-            return Ok(());
-        };
-        // Only `strict` checks the VRs whose text may be in another character set.
-        let shown = notes.shown(vr, self.value.as_slice(), Repertoire::Ascii);
-        self.notes.add_value(&note, &shown, out)
-    }
-
-    fn on_items_fault(&mut self, _offset: u64, _tag: Tag, _out: &mut O) -> io::Result<()> {
-        Ok(())
-    }
-
-    fn on_end(&mut self, judgement: &Judgement, out: &mut O) -> io::Result<()> {
-        self.notes.end(judgement, out)
+        let value = self.value.as_slice();
+        match check_value(due.vr, value) {
+            Ok(()) => Ok(()),
+            Err(fault) => {
+                let note = due.note((fault.number(), fault.name()));
+                // Only `strict` checks the VRs whose text may be in another character set.
+                self.notes
+                    .add_value(&note, due.vr, value, Repertoire::Ascii)
+            }
+        }
     }
 }
 
-/// The notes written so far, and the number of values that were not judged.
-#[derive(Clone, Copy)]
-struct NoteCounts {
-    notes: Notes,
-    unjudged: u64,
+impl<O: Write> Listing for Values<'_, O> {
+    fn take(&mut self, finding: &Finding<'_>) -> io::Result<()> {
+        match finding {
+            Finding::Header(offset, level, header) => {
+                self.value.clear();
+                self.due = None;
+                if header.length as usize <= SHORT {
+                    self.due = Due::of(*offset, *level, header);
+                }
+                Ok(())
+            }
+            Finding::Bytes(bytes) => self.on_bytes(*bytes),
+            Finding::End(judgement) => self.notes.end(judgement),
+            Finding::Meta(_) | Finding::Bare(_) | Finding::WrongItems(..) => Ok(()),
+        }
+    }
 }
 
-/// Checks a file by the rules of VRs in the dictionary. Returns the outcome and the counts.
+/// Checks a file by the rules of VRs in the dictionary.
 fn check_usual<R: Read, O: Write>(
-    input: &mut R,
+    input: &mut FileFront<'_, R>,
     syntaxes: Syntaxes,
-    notes: Notes,
-    out: &mut O,
-) -> (Result<Outcome, InspectionError>, NoteCounts) {
+    notes: Notes<'_, O>,
+) -> Result<Inspected, InspectionError> {
     let mut values = Values {
         due: None,
         value: ArrayVec::new(),
         notes,
     };
-    let accepted = (syntaxes, Vocabulary::Dictionary);
-    let outcome = list(input, accepted, &mut values, out);
-    let notes = values.notes;
-    (outcome, NoteCounts { notes, unjudged: 0 })
+    let accepted = (syntaxes, Vocabulary::Dictionary, false);
+    let outcome = list(input, accepted, &mut values);
+    values.notes.finish(outcome, 0)
 }
 
-/// Checks a file by the whole table of VRs. Returns the outcome and the counts.
+/// Checks a file by the whole table of VRs.
 fn check_all<R: Read, O: Write>(
-    input: &mut R,
+    input: &mut FileFront<'_, R>,
     syntaxes: Syntaxes,
-    notes: Notes,
-    out: &mut O,
-) -> (Result<Outcome, InspectionError>, NoteCounts) {
+    notes: Notes<'_, O>,
+) -> Result<Inspected, InspectionError> {
     let mut values = StrictValues::new(notes);
-    let outcome = list(input, (syntaxes, Vocabulary::Standard), &mut values, out);
-    let (notes, unjudged) = (values.notes(), values.unjudged());
-    (outcome, NoteCounts { notes, unjudged })
+    let accepted = (syntaxes, Vocabulary::Standard, false);
+    let outcome = list(input, accepted, &mut values);
+    values.finish(outcome)
 }
 
-/// Ends the output for a file that can't be read, and returns the error.
-fn released<O: Write>(error: InspectionError, notes: Notes, out: &mut O) -> InspectionError {
-    if let InspectionError::Read(_) = &error {
-        if let Err(error) = notes.give_up(out) {
-            return InspectionError::Write(error);
-        }
-    }
-    error
-}
-
-/// Checks the file that `input` yields: writes a note for each value of at most 1024 bytes that
-/// breaks a rule of its VR (a note is no fault), and then the file's length or its first fault.
+/// Checks the file that `input` yields from its start: writes a note for each value of at most 1024
+/// bytes that breaks a rule of its VR (a note is no fault), and then the file's length or its first
+/// fault.
 ///
 /// With `strict`, each value of at most 65,536 bytes is also checked against the table of VRs, and a
 /// longer value against the size of its numbers; an element without a VR in its header gets its VR
@@ -165,23 +139,15 @@ fn released<O: Write>(error: InspectionError, notes: Notes, out: &mut O) -> Insp
 ///
 /// Fails if the file can't be read or the output can't be written.
 pub fn check_with<R: Read, O: Write>(
-    input: &mut R,
+    input: &mut FileFront<'_, R>,
     options: CheckOptions,
     out: &mut O,
 ) -> Result<Inspected, InspectionError> {
-    let notes = Notes::new(options);
-    notes.begin(out).map_err(InspectionError::Write)?;
-    let (outcome, NoteCounts { notes, unjudged }) = if options.strict {
-        check_all(input, options.syntaxes, notes, out)
+    let mut notes = Notes::new(options, out);
+    notes.begin().map_err(InspectionError::Write)?;
+    if options.strict {
+        check_all(input, options.syntaxes, notes)
     } else {
-        check_usual(input, options.syntaxes, notes, out)
-    };
-    match outcome {
-        Ok(outcome) => Ok(Inspected {
-            outcome,
-            notes: notes.count(),
-            unjudged,
-        }),
-        Err(error) => Err(released(error, notes, out)),
+        check_usual(input, options.syntaxes, notes)
     }
 }

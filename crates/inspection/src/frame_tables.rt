@@ -1,9 +1,8 @@
 //! Compares the offset tables of encapsulated Pixel Data with its fragments: the Basic Offset Table
 //! (PS3.5 section A.4), and the Extended Offset Table with its lengths (PS3.3 section C.7.6.3.1.8).
 use crate::fragments::{FragmentEvent, Fragments};
-use crate::judgement::Judgement;
-use crate::number_table::{Met, NumberSize, NumberTable};
-use crate::table_fault::TableFault;
+use crate::judgement::{Note, Rule};
+use crate::number_table::{Met, NumberTable};
 use element::{Header, Tag, Vr};
 
 /// The tag of Extended Offset Table.
@@ -11,6 +10,30 @@ const OFFSETS: Tag = Tag(0x7fe0, 0x0001);
 
 /// The tag of Extended Offset Table Lengths.
 const LENGTHS: Tag = Tag(0x7fe0, 0x0002);
+
+/// The rule that the first offset is 0, and each other that of a fragment after the fragment of the
+/// offset before it.
+const WRONG_OFFSET: Rule = (15, "WrongOffset");
+
+/// The rule that there are as many offsets as frames, and as many lengths as offsets.
+const WRONG_COUNT: Rule = (16, "WrongCount");
+
+/// The rule that a length is that of the fragment at its offset.
+const WRONG_LENGTH: Rule = (17, "WrongLength");
+
+/// The rule that the Basic Offset Table is empty if there is an Extended Offset Table.
+const SECOND_TABLE: Rule = (18, "SecondTable");
+
+/// Returns the note that the table whose header is at this offset breaks a rule.
+fn note_of(offset: u64, tag: Tag, rule: Rule) -> Note {
+    let vr = if tag == Tag::ITEM { None } else { Some(Vr::OV) };
+    Note {
+        offset,
+        tag,
+        vr,
+        rule,
+    }
+}
 
 /// Returns the number that an integer string of digits spells, or `None` for any other string.
 fn number_of(value: &[u8]) -> Option<u64> {
@@ -54,9 +77,9 @@ impl FrameTables {
         FrameTables {
             fragments: Fragments::new(),
             value: TableValue::Other,
-            basic: NumberTable::new(NumberSize::Four),
-            offsets: NumberTable::new(NumberSize::Eight),
-            lengths: NumberTable::new(NumberSize::Eight),
+            basic: NumberTable::new(4),
+            offsets: NumberTable::new(8),
+            lengths: NumberTable::new(8),
             level: 0,
             frames: None,
             count: None,
@@ -95,7 +118,7 @@ impl FrameTables {
     }
 
     /// Starts Pixel Data. Returns a note unless there are as many lengths as offsets.
-    fn open(&mut self, level: usize) -> Option<Judgement> {
+    fn open(&mut self, level: usize) -> Option<Note> {
         if level != self.level {
             self.forget();
         }
@@ -111,43 +134,39 @@ impl FrameTables {
         } else {
             (self.offsets.offset(), OFFSETS)
         };
-        let fault = TableFault::WrongCount;
-        Some(Judgement::TableNote(offset, tag, Some(Vr::OV), fault))
+        Some(note_of(offset, tag, WRONG_COUNT))
     }
 
     /// Starts the Basic Offset Table. Returns a note if there is an extended table as well.
-    fn begin_basic(&mut self, offset: u64, length: u32) -> Option<Judgement> {
+    fn begin_basic(&mut self, offset: u64, length: u32) -> Option<Note> {
         if length > 0 && self.offsets.length() > 0 {
-            let fault = TableFault::SecondTable;
-            return Some(Judgement::TableNote(offset, Tag::ITEM, None, fault));
+            return Some(note_of(offset, Tag::ITEM, SECOND_TABLE));
         }
         self.basic.begin(offset, length);
         self.value = TableValue::Basic;
         None
     }
 
-    /// Returns the note of this fault for the table of offsets in use.
-    fn note(&self, fault: TableFault) -> Judgement {
+    /// Returns the note that the table of offsets in use breaks a rule.
+    fn note(&self, rule: Rule) -> Note {
         if self.offsets.length() > 0 {
-            Judgement::TableNote(self.offsets.offset(), OFFSETS, Some(Vr::OV), fault)
+            note_of(self.offsets.offset(), OFFSETS, rule)
         } else {
-            Judgement::TableNote(self.basic.offset(), Tag::ITEM, None, fault)
+            note_of(self.basic.offset(), Tag::ITEM, rule)
         }
     }
 
     /// Compares the length of a frame's only fragment with the table of lengths.
-    fn meet_length(&mut self, length: u32) -> Option<Judgement> {
+    fn meet_length(&mut self, length: u32) -> Option<Note> {
         if !self.lengths.is_held() || self.lengths.meet_length(length) {
             return None;
         }
         self.lengths.close();
-        let fault = TableFault::WrongLength;
-        let offset = self.lengths.offset();
-        Some(Judgement::TableNote(offset, LENGTHS, Some(Vr::OV), fault))
+        Some(note_of(self.lengths.offset(), LENGTHS, WRONG_LENGTH))
     }
 
     /// Compares a fragment, at offset `at` from the first fragment, with the table of offsets.
-    fn meet(&mut self, at: u64, length: u32) -> Option<Judgement> {
+    fn meet(&mut self, at: u64, length: u32) -> Option<Note> {
         let table = if self.offsets.is_held() {
             &mut self.offsets
         } else if self.basic.is_held() {
@@ -160,33 +179,32 @@ impl FrameTables {
             Met::Additional => None,
             Met::Wrong => {
                 self.lengths.close();
-                Some(self.note(TableFault::WrongOffset))
+                Some(self.note(WRONG_OFFSET))
             }
         }
     }
 
-    /// Returns the fault of a table of offsets after the last fragment, if any.
-    fn fault_at_end(&self, table: &NumberTable) -> Option<TableFault> {
+    /// Returns the rule that a table of offsets breaks after the last fragment, if any.
+    fn broken_at_end(&self, table: &NumberTable) -> Option<Rule> {
         if !table.is_held() {
             return None;
         }
         if table.has_more() {
-            return Some(TableFault::WrongOffset);
+            return Some(WRONG_OFFSET);
         }
         match self.count {
-            Some(count) if count != table.count() => Some(TableFault::WrongCount),
+            Some(count) if count != table.count() => Some(WRONG_COUNT),
             _ => None,
         }
     }
 
     /// Ends Pixel Data. Returns the note of a wrong table, if any.
-    fn end(&mut self) -> Option<Judgement> {
-        let fault = match self.fault_at_end(&self.offsets) {
-            None => self.fault_at_end(&self.basic),
-            found => found,
-        };
-        let note = match fault {
-            Some(fault) => Some(self.note(fault)),
+    fn end(&mut self) -> Option<Note> {
+        let broken = self
+            .broken_at_end(&self.offsets)
+            .or(self.broken_at_end(&self.basic));
+        let note = match broken {
+            Some(rule) => Some(self.note(rule)),
             None => None,
         };
         self.forget();
@@ -194,12 +212,7 @@ impl FrameTables {
     }
 
     /// Applies a header. Returns the note of a wrong table, if any.
-    pub(crate) fn on_header(
-        &mut self,
-        offset: u64,
-        level: usize,
-        header: &Header,
-    ) -> Option<Judgement> {
+    pub(crate) fn on_header(&mut self, offset: u64, level: usize, header: &Header) -> Option<Note> {
         self.value = TableValue::Other;
         match self.fragments.on_header(offset, header) {
             FragmentEvent::Outside => {

@@ -1,4 +1,6 @@
 //! The UIDs of the instance and of the study that a strict check requires of a data set.
+use crate::judgement::Rule;
+use crate::origin::DIRECTORY_CLASS;
 use element::{Header, Tag, Uid, unpadded};
 use part10::Meta;
 
@@ -10,9 +12,6 @@ const STUDY_INSTANCE_UID: Tag = Tag(0x0020, 0x000d);
 
 /// The most UIDs that a data set must have.
 pub(crate) const MOST_DUE: usize = 2;
-
-/// Media Storage Directory Storage: the data set of a DICOMDIR has neither UID (PS3.3 section F.3).
-const DIRECTORY_CLASS: &[u8] = b"1.2.840.10008.1.3.10";
 
 /// The SOP Classes whose instances belong to no patient, hence to no study (PS3.4 section GG.3).
 const OF_NO_STUDY: [&[u8]; 9] = [
@@ -29,12 +28,12 @@ const OF_NO_STUDY: [&[u8]; 9] = [
 
 /// The number and name of the rule that the SOP Instance UID equals that in the file's header
 /// (PS3.10 section 7.1).
-pub(crate) const OTHER_INSTANCE: (u8, &str) = (20, "OtherInstance");
+pub(crate) const OTHER_INSTANCE: Rule = (20, "OtherInstance");
 
 /// The number and name of the rule that a data set has a SOP Instance UID and a Study Instance UID
 /// (PS3.3 sections C.12.1 and C.7.2.1), and a file's header a Transfer Syntax UID (PS3.10 section
 /// 7.1).
-pub(crate) const MISSING_UID: (u8, &str) = (21, "MissingUid");
+pub(crate) const MISSING_UID: Rule = (21, "MissingUid");
 
 /// Follows the elements of a data set and finds whether its instance and study UIDs are there.
 #[derive(Drop)]
@@ -58,6 +57,7 @@ impl Identity {
     pub(crate) fn begin(&mut self, meta: &Meta) {
         let class = meta.class.as_bytes();
         if class == DIRECTORY_CLASS {
+            // The data set of a DICOMDIR has neither UID (PS3.3 section F.3).
             return;
         }
         self.instance = Some(meta.instance.copied());

@@ -45,43 +45,24 @@ pub enum MetaRule {
     Needed(Tag),
 }
 
-/// A tag and its keyword.
-#[derive(Clone, Copy)]
-struct NamedTag(Tag);
-
-impl fmt::Display for NamedTag {
-    fn fmt<W: fmt::Write>(&self, f: &mut fmt::Formatter<W>) -> fmt::Result {
-        let tag = TagText(self.0);
-        match known_keyword(self.0) {
-            Some(keyword) => write!(f, "{tag} {keyword}"),
-            None => write!(f, "{tag}"),
-        }
-    }
-}
-
 impl fmt::Display for MetaRule {
     fn fmt<W: fmt::Write>(&self, f: &mut fmt::Formatter<W>) -> fmt::Result {
-        match *self {
-            MetaRule::Length => f.write_str("group 0002 does not begin with its length"),
-            MetaRule::Whole => f.write_str("the file ends inside group 0002"),
-            MetaRule::Vr => f.write_str("an element of group 0002 has no VR"),
-            MetaRule::End => f.write_str("the length of group 0002 ends inside an element"),
-            MetaRule::Group(tag) => {
-                let tag = NamedTag(tag);
-                write!(f, "{tag} stands within the length of group 0002")
+        let (tag, text) = match *self {
+            MetaRule::Length => return f.write_str("group 0002 does not begin with its length"),
+            MetaRule::Whole => return f.write_str("the file ends inside group 0002"),
+            MetaRule::Vr => return f.write_str("an element of group 0002 has no VR"),
+            MetaRule::End => {
+                return f.write_str("the length of group 0002 ends inside an element");
             }
-            MetaRule::Order(tag) => {
-                let tag = NamedTag(tag);
-                write!(f, "{tag} does not rise above the tag before it")
-            }
-            MetaRule::Even(tag) => {
-                let tag = NamedTag(tag);
-                write!(f, "{tag} has an odd or undefined length")
-            }
-            MetaRule::Needed(tag) => {
-                let tag = NamedTag(tag);
-                write!(f, "{tag} is missing or no UID")
-            }
+            MetaRule::Group(tag) => (tag, "stands within the length of group 0002"),
+            MetaRule::Order(tag) => (tag, "does not rise above the tag before it"),
+            MetaRule::Even(tag) => (tag, "has an odd or undefined length"),
+            MetaRule::Needed(tag) => (tag, "is missing or no UID"),
+        };
+        let (keyword, tag) = (known_keyword(tag), TagText(tag));
+        match keyword {
+            Some(keyword) => write!(f, "{tag} {keyword} {text}"),
+            None => write!(f, "{tag} {text}"),
         }
     }
 }

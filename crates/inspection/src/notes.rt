@@ -1,191 +1,179 @@
 //! Writes the notes of a check and its final line.
-use crate::json::JudgementJson;
-use crate::judgement::Judgement;
+use crate::error::InspectionError;
+use crate::json::{JudgementJson, NoteJson};
+use crate::judgement::{Judgement, Note};
 use crate::keyword::known_keyword;
 use crate::options::{CheckOptions, OutputForm};
+use crate::outcome::{Inspected, Outcome};
 use crate::shown_value::ShownText;
 use crate::texts::Printable;
 use crate::value_text::ValueText;
 use element::{Tag, Uid, Vr};
-use std::io;
-use std::io::Write;
+use std::io::{self, Write};
 use values::Repertoire;
 
 /// The longest value, in bytes, that is written with its note.
 const LONGEST_NOTED: usize = 256;
 
 /// Writes the notes of a check and counts them.
-#[derive(Clone, Copy)]
-pub(crate) struct Notes {
+#[derive(Drop)]
+pub(crate) struct Notes<'a, O: Write> {
     form: OutputForm,
     /// Whether values are written with their notes.
     values: bool,
     count: u64,
+    out: &'a mut O,
 }
 
-/// Writes the line with the keyword that follows a note or a fault.
-fn write_keyword<O: Write>(tag: Tag, out: &mut O) -> io::Result<()> {
-    let keyword = known_keyword(tag).unwrap_or("?");
-    writeln!(out, "           {keyword}")
+/// Returns the printed form of a value in this repertoire, of which lines have ASCII only, or its
+/// length if it is longer than `LONGEST_NOTED`.
+fn shown(form: OutputForm, vr: Vr, value: &[u8], repertoire: Repertoire) -> ShownText<'_> {
+    if value.len() > LONGEST_NOTED {
+        return ShownText::Long(value.len());
+    }
+    ShownText::Value(ValueText {
+        vr: Some(vr),
+        value,
+        form,
+        repertoire: match form {
+            OutputForm::Lines => Repertoire::Ascii,
+            OutputForm::Json => repertoire,
+        },
+    })
 }
 
-/// Writes the line with keyword and value that follows a note.
-fn write_value<O: Write>(tag: Tag, value: &ShownText<'_>, out: &mut O) -> io::Result<()> {
-    let keyword = known_keyword(tag).unwrap_or("?");
-    writeln!(out, "           {keyword} = {value}")
-}
-
-impl Notes {
-    pub(crate) fn new(options: CheckOptions) -> Notes {
+impl<'a, O: Write> Notes<'a, O> {
+    /// Creates a writer that has written no note.
+    pub(crate) fn new(options: CheckOptions, out: &'a mut O) -> Notes<'a, O> {
         Notes {
             form: options.form,
             values: options.values,
             count: 0,
+            out,
         }
-    }
-
-    pub(crate) fn count(&self) -> u64 {
-        self.count
-    }
-
-    /// Returns the printed form of a value in this repertoire, of which lines have ASCII only, or
-    /// its length if it is longer than `LONGEST_NOTED`.
-    pub(crate) fn shown<'a>(
-        &self,
-        vr: Vr,
-        value: &'a [u8],
-        repertoire: Repertoire,
-    ) -> ShownText<'a> {
-        if value.len() > LONGEST_NOTED {
-            return ShownText::Long(value.len());
-        }
-        ShownText::Value(ValueText {
-            vr: Some(vr),
-            value,
-            form: self.form,
-            repertoire: match self.form {
-                OutputForm::Lines => Repertoire::Ascii,
-                OutputForm::Json => repertoire,
-            },
-        })
     }
 
     /// Writes the text before the first note.
-    pub(crate) fn begin<O: Write>(&self, out: &mut O) -> io::Result<()> {
+    pub(crate) fn begin(&mut self) -> io::Result<()> {
         match self.form {
             OutputForm::Lines => Ok(()),
-            OutputForm::Json => write!(out, "\"notes\":["),
+            OutputForm::Json => write!(self.out, "\"notes\":["),
         }
     }
 
-    /// Writes the line of a note or a fault, and a line with the keyword if values are written.
-    fn write_lines<O: Write>(&self, judgement: &Judgement, out: &mut O) -> io::Result<()> {
-        writeln!(out, "{judgement}")?;
-        match judgement.tag() {
-            Some(tag) if self.values => write_keyword(tag, out),
-            _ => Ok(()),
+    /// Writes the line with the keyword that follows a note or a fault, if values are written. It
+    /// has the value of the note, if any.
+    fn write_keyword(&mut self, tag: Tag, value: Option<&ShownText<'_>>) -> io::Result<()> {
+        if !self.values {
+            return Ok(());
         }
-    }
-
-    /// Writes the lines of a note about a value.
-    fn write_value_lines<O: Write>(
-        &self,
-        note: &Judgement,
-        value: &ShownText<'_>,
-        out: &mut O,
-    ) -> io::Result<()> {
-        writeln!(out, "{note}")?;
-        match note.tag() {
-            Some(tag) if self.values => write_value(tag, value, out),
-            _ => Ok(()),
-        }
-    }
-
-    /// Opens the JSON object of a note.
-    fn open<O: Write>(&self, note: &Judgement, out: &mut O) -> io::Result<()> {
-        let comma = if self.count > 0 { "," } else { "" };
-        let note = JudgementJson(note);
-        write!(out, "{comma}{{{note}")
-    }
-
-    /// Closes the JSON object of a note, after the value if values are written.
-    fn close<O: Write>(&self, value: &ShownText<'_>, out: &mut O) -> io::Result<()> {
+        let keyword = known_keyword(tag).unwrap_or("?");
         match value {
-            ShownText::Value(value) if self.values => { write!(out, ",\"value\":\"{value}\"}}") }
-            _ => write!(out, "}}"),
+            Some(value) => writeln!(self.out, "           {keyword} = {value}"),
+            None => writeln!(self.out, "           {keyword}"),
+        }
+    }
+
+    /// Counts a note, and begins to write it.
+    fn open(&mut self, note: &Note) -> io::Result<()> {
+        let comma = if self.count > 0 { "," } else { "" };
+        self.count = self.count.saturating_add(1);
+        if self.form == OutputForm::Lines {
+            return write!(self.out, "{note}");
+        }
+        let note = NoteJson(note);
+        write!(self.out, "{comma}{{{note}")
+    }
+
+    /// Writes a note, with this value if there is one and the options ask for it.
+    fn add_shown(&mut self, note: &Note, value: Option<&ShownText<'_>>) -> io::Result<()> {
+        self.open(note)?;
+        if self.form == OutputForm::Lines {
+            writeln!(self.out)?;
+            return self.write_keyword(note.tag, value);
+        }
+        match value {
+            Some(ShownText::Value(value)) if self.values => {
+                write!(self.out, ",\"value\":\"{value}\"}}")
+            }
+            _ => write!(self.out, "}}"),
         }
     }
 
     /// Writes a note that has no value.
-    pub(crate) fn add<O: Write>(&mut self, note: &Judgement, out: &mut O) -> io::Result<()> {
-        match self.form {
-            OutputForm::Lines => self.write_lines(note, out)?,
-            OutputForm::Json => {
-                self.open(note, out)?;
-                write!(out, "}}")?;
-            }
-        }
-        self.count = self.count.saturating_add(1);
-        Ok(())
+    pub(crate) fn add(&mut self, note: &Note) -> io::Result<()> {
+        self.add_shown(note, None)
     }
 
-    /// Writes a note about a value, with the value if the options ask for it.
-    pub(crate) fn add_value<O: Write>(
+    /// Writes a note about a value whose text is in this repertoire.
+    pub(crate) fn add_value(
         &mut self,
-        note: &Judgement,
-        value: &ShownText<'_>,
-        out: &mut O,
+        note: &Note,
+        vr: Vr,
+        value: &[u8],
+        repertoire: Repertoire,
     ) -> io::Result<()> {
-        match self.form {
-            OutputForm::Lines => self.write_value_lines(note, value, out)?,
-            OutputForm::Json => {
-                self.open(note, out)?;
-                self.close(value, out)?;
-            }
-        }
-        self.count = self.count.saturating_add(1);
-        Ok(())
+        let value = shown(self.form, vr, value, repertoire);
+        self.add_shown(note, Some(&value))
     }
 
-    /// Writes the note that the data set's SOP Instance UID, `value`, differs from that in the
-    /// file's header.
-    pub(crate) fn add_instance<O: Write>(
+    /// Writes a note about a value of this length, which was not kept.
+    pub(crate) fn add_long(&mut self, note: &Note, length: usize) -> io::Result<()> {
+        self.add_shown(note, Some(&ShownText::Long(length)))
+    }
+
+    /// Writes a note that the data set's SOP Instance UID, `value`, differs from that in the file's
+    /// header.
+    pub(crate) fn add_instance(
         &mut self,
-        offset: u64,
+        note: &Note,
         value: &[u8],
         header: &Uid,
-        out: &mut O,
     ) -> io::Result<()> {
-        let note = Judgement::InstanceNote(offset);
-        let value = self.shown(Vr::UI, value, Repertoire::Ascii);
+        let value = shown(self.form, Vr::UI, value, Repertoire::Ascii);
         let header = Printable(header.as_bytes());
+        self.open(note)?;
         match self.form {
-            OutputForm::Lines => writeln!(out, "{note} {value} header {header}")?,
+            OutputForm::Lines => writeln!(self.out, " {value} header {header}"),
             OutputForm::Json => {
-                self.open(&note, out)?;
-                write!(out, ",\"value\":\"{value}\",\"header\":\"{header}\"}}")?;
+                write!(self.out, ",\"value\":\"{value}\",\"header\":\"{header}\"}}")
             }
         }
-        self.count = self.count.saturating_add(1);
-        Ok(())
     }
 
     /// Writes the final judgement of the file.
-    pub(crate) fn end<O: Write>(&self, judgement: &Judgement, out: &mut O) -> io::Result<()> {
-        match self.form {
-            OutputForm::Lines => self.write_lines(judgement, out),
-            OutputForm::Json => {
-                let judgement = JudgementJson(judgement);
-                writeln!(out, "],{judgement}}}")
-            }
+    pub(crate) fn end(&mut self, judgement: &Judgement) -> io::Result<()> {
+        if self.form == OutputForm::Json {
+            let judgement = JudgementJson(judgement);
+            return writeln!(self.out, "],{judgement}}}");
+        }
+        writeln!(self.out, "{judgement}")?;
+        match *judgement {
+            Judgement::BadData(_, fault) => self.write_keyword(fault.tag, None),
+            _ => Ok(()),
         }
     }
 
-    /// Writes that the file can't be read to its end.
-    pub(crate) fn give_up<O: Write>(&self, out: &mut O) -> io::Result<()> {
-        match self.form {
-            OutputForm::Lines => Ok(()),
-            OutputForm::Json => writeln!(out, "],\"result\":\"unread\"}}"),
+    /// Returns the result of the check that ended so, and ends the output for a file that can't be
+    /// read to its end.
+    pub(crate) fn finish(
+        &mut self,
+        outcome: Result<Outcome, InspectionError>,
+        unjudged: u64,
+    ) -> Result<Inspected, InspectionError> {
+        match outcome {
+            Ok(outcome) => Ok(Inspected {
+                outcome,
+                notes: self.count,
+                unjudged,
+            }),
+            Err(InspectionError::Read(error)) if self.form == OutputForm::Json => {
+                match writeln!(self.out, "],\"result\":\"unread\"}}") {
+                    Ok(()) => Err(InspectionError::Read(error)),
+                    Err(error) => Err(InspectionError::Write(error)),
+                }
+            }
+            Err(error) => Err(error),
         }
     }
 }

@@ -2,39 +2,6 @@
 use crate::limits::LONGEST;
 use arrayvec::ArrayVec;
 
-/// The size of a number in a table; numbers are little-endian.
-#[derive(Clone, Copy)]
-pub(crate) enum NumberSize {
-    Four,
-    Eight,
-}
-
-impl NumberSize {
-    /// Returns the first number of the bytes, or `None` if they are too few.
-    fn first(self, bytes: &[u8]) -> Option<u64> {
-        match self {
-            NumberSize::Four => match bytes {
-                [a, b, c, d, ..] => Some(u64::from(u32::from_le_bytes([*a, *b, *c, *d]))),
-                _ => None,
-            },
-            NumberSize::Eight => match bytes {
-                [a, b, c, d, e, f, g, h, ..] => {
-                    Some(u64::from_le_bytes([*a, *b, *c, *d, *e, *f, *g, *h]))
-                }
-                _ => None,
-            },
-        }
-    }
-
-    /// Returns the size in bytes.
-    fn bytes(self) -> usize {
-        match self {
-            NumberSize::Four => 4,
-            NumberSize::Eight => 8,
-        }
-    }
-}
-
 /// How a fragment compares with a table of offsets.
 #[derive(Clone, Copy)]
 pub(crate) enum Met {
@@ -49,7 +16,8 @@ pub(crate) enum Met {
 /// A table that is compared with the fragments after it.
 #[derive(Drop)]
 pub(crate) struct NumberTable {
-    size: NumberSize,
+    /// The size of a number in bytes: 4 or 8. Numbers are little-endian.
+    size: usize,
     /// Whether the table is still checked.
     is_held: bool,
     /// The offset of the table's header.
@@ -62,7 +30,8 @@ pub(crate) struct NumberTable {
 }
 
 impl NumberTable {
-    pub(crate) fn new(size: NumberSize) -> NumberTable {
+    /// Returns a table of numbers of this size in bytes that is not there yet.
+    pub(crate) fn new(size: usize) -> NumberTable {
         NumberTable {
             size,
             is_held: false,
@@ -115,13 +84,18 @@ impl NumberTable {
 
     /// Returns the next number, or `None` after the last.
     fn next(&self) -> Option<u64> {
-        let rest = self.bytes.as_slice().get(self.met..)?;
-        self.size.first(rest)
+        match (self.size, self.bytes.as_slice().get(self.met..)?) {
+            (4, [a, b, c, d, ..]) => Some(u64::from(u32::from_le_bytes([*a, *b, *c, *d]))),
+            (8, [a, b, c, d, e, f, g, h, ..]) => {
+                Some(u64::from_le_bytes([*a, *b, *c, *d, *e, *f, *g, *h]))
+            }
+            _ => None,
+        }
     }
 
     /// Moves on to the number after `next`.
     fn advance(&mut self) {
-        self.met = self.met.saturating_add(self.size.bytes());
+        self.met = self.met.saturating_add(self.size);
     }
 
     /// Compares the next offset of the table with a fragment at offset `at` from the first: the
@@ -160,9 +134,6 @@ impl NumberTable {
 
     /// Returns how many numbers the table has.
     pub(crate) fn count(&self) -> u64 {
-        match self.size {
-            NumberSize::Four => (self.bytes.len() / 4) as u64,
-            NumberSize::Eight => (self.bytes.len() / 8) as u64,
-        }
+        self.bytes.len().checked_div(self.size).unwrap_or(0) as u64
     }
 }

@@ -1,4 +1,5 @@
 //! The options of an inspection.
+use crate::keyword::{keyword, known_keyword};
 use crate::limits::{LONGEST, LONGEST_SHOWN};
 use element::Tag;
 
@@ -30,6 +31,16 @@ pub(crate) enum Vocabulary {
     Dictionary,
     /// The dictionary and PS3.6.
     Standard,
+}
+
+impl Vocabulary {
+    /// Returns the keyword of a tag.
+    pub(crate) fn keyword(self, tag: Tag) -> Option<&'static str> {
+        match self {
+            Vocabulary::Dictionary => keyword(tag),
+            Vocabulary::Standard => known_keyword(tag),
+        }
+    }
 }
 
 /// The options of a check.
@@ -87,6 +98,17 @@ impl ShowOptions<'_> {
         } else {
             Vocabulary::Standard
         }
+    }
+
+    /// Returns whether the output has characters of values beyond ASCII.
+    pub(crate) fn has_unicode(&self) -> bool {
+        self.unicode || self.form == OutputForm::Json
+    }
+
+    /// Returns what a listing accepts: the transfer syntaxes, the source of VRs, and whether
+    /// elements of the File Meta Information are listed.
+    pub(crate) fn accepted(&self) -> (Syntaxes, Vocabulary, bool) {
+        (self.syntaxes, self.vocabulary(), self.has_meta())
     }
 
     /// Returns whether elements of this tag are shown.

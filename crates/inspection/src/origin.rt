@@ -7,6 +7,9 @@ use part10::MetaFault;
 /// The size of the preamble and the letters `DICM` (PS3.10 section 7.1).
 pub(crate) const PREFIX: usize = 132;
 
+/// The SOP Class UID of a DICOMDIR: Media Storage Directory Storage.
+pub const DIRECTORY_CLASS: &[u8] = b"1.2.840.10008.1.3.10";
+
 /// The tag of the Media Storage SOP Class UID.
 const SOP_CLASS_UID: Tag = Tag(0x0002, 0x0002);
 

@@ -1,49 +1,40 @@
 //! `dcmbox check --strict`: also checks values against the whole table of VRs.
+use crate::check::Due;
+use crate::error::InspectionError;
 use crate::followed_sets::SPECIFIC_CHARACTER_SET;
 use crate::frame_tables::FrameTables;
-use crate::identity::{Identity, MOST_DUE, SOP_INSTANCE_UID};
-use crate::judgement::Judgement;
+use crate::identity::{Identity, MISSING_UID, MOST_DUE, OTHER_INSTANCE, SOP_INSTANCE_UID};
+use crate::judgement::{Judgement, Note, Rule};
+use crate::keyword::UNDEFINED;
 use crate::limits::LONGEST;
 use crate::notes::Notes;
 use crate::origin::TRANSFER_SYNTAX_UID;
+use crate::outcome::{Inspected, Outcome};
 use crate::sets::Sets;
-use crate::shown_value::ShownText;
-use crate::walk::Listing;
+use crate::walk::{Finding, Listing};
 use arrayvec::ArrayVec;
-use dictionary::{Transfer, vr_of};
+use dictionary::vr_of;
 use element::{Header, Tag, ValueFault, Vr, check_value};
-use part10::Meta;
-use std::io;
-use std::io::Write;
+use std::io::{self, Write};
 use values::{Reading, check_form, number_size};
 
 /// The tag of Number of Frames.
 const NUMBER_OF_FRAMES: Tag = Tag(0x0028, 0x0008);
 
-/// The value of a length field that means undefined length.
-const UNDEFINED: u32 = 0xffff_ffff;
-
-/// A value that is checked once all of its bytes were read.
-#[derive(Clone, Copy)]
-struct DueText {
-    /// The offset of the value's header.
-    offset: u64,
-    level: usize,
-    tag: Tag,
-    vr: Vr,
-    length: usize,
-}
+/// The rule that the items of a sequence of defined length whose tag is not in the dictionary are
+/// valid.
+const WRONG_ITEMS: Rule = (19, "WrongItems");
 
 /// Checks each value of at most `LONGEST` bytes, and the size of the numbers in longer values.
 #[derive(Drop)]
-pub(crate) struct StrictValues {
-    due: Option<DueText>,
+pub(crate) struct StrictValues<'a, O: Write> {
+    due: Option<Due>,
     value: ArrayVec<u8, LONGEST>,
     text: ArrayVec<u8, LONGEST>,
     sets: Sets,
     tables: FrameTables,
     identity: Identity,
-    notes: Notes,
+    notes: Notes<'a, O>,
     /// How many values were not judged.
     unjudged: u64,
 }
@@ -58,8 +49,8 @@ fn is_opaque(header: &Header) -> bool {
     !is_known && 0 < length && length != UNDEFINED
 }
 
-impl StrictValues {
-    pub(crate) fn new(notes: Notes) -> StrictValues {
+impl<'a, O: Write> StrictValues<'a, O> {
+    pub(crate) fn new(notes: Notes<'a, O>) -> StrictValues<'a, O> {
         StrictValues {
             due: None,
             value: ArrayVec::new(),
@@ -72,39 +63,33 @@ impl StrictValues {
         }
     }
 
-    /// Returns how many values were not judged.
-    pub(crate) fn unjudged(&self) -> u64 {
-        self.unjudged
+    /// Returns the result of the check that ended so.
+    pub(crate) fn finish(
+        &mut self,
+        outcome: Result<Outcome, InspectionError>,
+    ) -> Result<Inspected, InspectionError> {
+        self.notes.finish(outcome, self.unjudged)
     }
 
-    pub(crate) fn notes(&self) -> Notes {
-        self.notes
-    }
-
-    /// Returns the note of a value, or `None` if the value breaks no rule of its VR.
-    fn note_of(&mut self, due: DueText) -> Option<Judgement> {
+    /// Returns the rule of its VR that a value breaks, if any.
+    fn broken(&mut self, due: Due) -> Option<Rule> {
         let value = self.value.as_slice();
         if let Err(fault) = check_value(due.vr, value) {
-            return Some(Judgement::Note(due.offset, due.tag, due.vr, fault));
+            return Some((fault.number(), fault.name()));
         }
         self.text.clear();
         Reading::new(self.sets.of(due.level, due.vr)).read(value, &mut self.text);
         match check_form(due.vr, self.text.as_slice()) {
             Ok(()) => None,
-            Err(fault) => Some(Judgement::FormNote(due.offset, due.tag, due.vr, fault)),
+            Err(fault) => Some((fault.number(), fault.name())),
         }
     }
 
     /// Writes a note for each required UID that is absent before an element with this tag number.
-    fn report_missing<O: Write>(
-        &mut self,
-        offset: u64,
-        number: u32,
-        out: &mut O,
-    ) -> io::Result<()> {
+    fn report_missing(&mut self, offset: u64, number: u32) -> io::Result<()> {
         for _ in 0..MOST_DUE {
             match self.identity.take_missing(number) {
-                Some(tag) => self.notes.add(&Judgement::MissingNote(offset, tag), out)?,
+                Some(tag) => self.notes.add(&Note::of_uid(offset, tag, MISSING_UID))?,
                 None => break,
             }
         }
@@ -113,16 +98,17 @@ impl StrictValues {
 
     /// Writes a note if the data set's SOP Instance UID, whose header is at offset `offset`, differs
     /// from that in the file's header.
-    fn compare<O: Write>(&mut self, offset: u64, out: &mut O) -> io::Result<()> {
+    fn compare(&mut self, offset: u64) -> io::Result<()> {
         let value = self.value.as_slice();
+        let note = Note::of_uid(offset, SOP_INSTANCE_UID, OTHER_INSTANCE);
         match self.identity.other_than(value) {
-            Some(header) => self.notes.add_instance(offset, value, header, out),
+            Some(header) => self.notes.add_instance(&note, value, header),
             None => Ok(()),
         }
     }
 
     /// Checks a value of which all bytes were read.
-    fn check<O: Write>(&mut self, due: DueText, out: &mut O) -> io::Result<()> {
+    fn check(&mut self, due: Due) -> io::Result<()> {
         if due.tag == SPECIFIC_CHARACTER_SET {
             self.sets.name(due.level, self.value.as_slice());
         }
@@ -130,80 +116,53 @@ impl StrictValues {
             self.tables.set_frames(self.value.as_slice());
         }
         if due.tag == SOP_INSTANCE_UID && due.level == 0 {
-            self.compare(due.offset, out)?;
+            self.compare(due.offset)?;
         }
-        let Some(note) = self.note_of(due) else {
+        let Some(rule) = self.broken(due) else {
             return Ok(());
         };
         let repertoire = self.sets.repertoire_of(due.level, due.vr);
-        let notes = self.notes;
-        let shown = notes.shown(due.vr, self.value.as_slice(), repertoire);
-        self.notes.add_value(&note, &shown, out)
+        self.notes
+            .add_value(&due.note(rule), due.vr, self.value.as_slice(), repertoire)
     }
 
     /// Checks the length of a value that is longer than `LONGEST`.
-    fn check_length<O: Write>(&mut self, due: DueText, out: &mut O) -> io::Result<()> {
+    fn check_length(&mut self, due: Due) -> io::Result<()> {
         if due.length % number_size(due.vr) == 0 {
             return Ok(());
         }
         let fault = ValueFault::WrongSize;
-        let note = Judgement::Note(due.offset, due.tag, due.vr, fault);
-        let shown = ShownText::Long(due.length);
-        self.notes.add_value(&note, &shown, out)
-    }
-}
-
-impl<O: Write> Listing<O> for StrictValues {
-    fn on_meta(&mut self, meta: &Meta, _out: &mut O) -> io::Result<()> {
-        self.identity.begin(meta);
-        Ok(())
-    }
-
-    fn on_bare(&mut self, _syntax: Transfer, out: &mut O) -> io::Result<()> {
         self.notes
-            .add(&Judgement::MissingNote(0, TRANSFER_SYNTAX_UID), out)
+            .add_long(&due.note((fault.number(), fault.name())), due.length)
     }
 
-    fn on_header(
-        &mut self,
-        offset: u64,
-        levels: usize,
-        header: &Header,
-        out: &mut O,
-    ) -> io::Result<()> {
-        let Header { tag, length, vr } = *header;
+    /// Checks a header and, if its value is long, the length of the value.
+    fn on_header(&mut self, offset: u64, level: usize, header: &Header) -> io::Result<()> {
         self.value.clear();
         self.due = None;
-        self.sets.hand_down(levels);
-        if levels == 0 {
-            self.report_missing(offset, tag.number(), out)?;
+        self.sets.hand_down(level);
+        if level == 0 {
+            self.report_missing(offset, header.tag.number())?;
             self.identity.meet(header);
         }
-        if let Some(note) = self.tables.on_header(offset, levels, header) {
-            self.notes.add(&note, out)?;
+        if let Some(note) = self.tables.on_header(offset, level, header) {
+            self.notes.add(&note)?;
         }
         if is_opaque(header) {
             self.unjudged = self.unjudged.saturating_add(1);
         }
-        let Some(vr) = vr.or(vr_of(tag)) else {
-            return Ok(());
-        };
-        let due = DueText {
-            offset,
-            level: levels,
-            tag,
-            vr,
-            length: length as usize,
-        };
-        if due.length <= LONGEST {
-            self.due = Some(due);
-        } else if length != UNDEFINED {
-            return self.check_length(due, out);
+        match Due::of(offset, level, header) {
+            Some(due) if due.length <= LONGEST => {
+                self.due = Some(due);
+                Ok(())
+            }
+            Some(due) if header.length != UNDEFINED => self.check_length(due),
+            _ => Ok(()),
         }
-        Ok(())
     }
 
-    fn on_bytes(&mut self, bytes: &[u8], out: &mut O) -> io::Result<()> {
+    /// Stores bytes of the last header's value, and checks the value once it is complete.
+    fn on_bytes(&mut self, bytes: &[u8]) -> io::Result<()> {
         self.tables.on_bytes(bytes);
         let Some(due) = self.due else {
             return Ok(());
@@ -212,17 +171,34 @@ impl<O: Write> Listing<O> for StrictValues {
             return Ok(());
         }
         self.due = None;
-        self.check(due, out)
+        self.check(due)
     }
+}
 
-    fn on_items_fault(&mut self, offset: u64, tag: Tag, out: &mut O) -> io::Result<()> {
-        self.notes.add(&Judgement::ItemsNote(offset, tag), out)
-    }
-
-    fn on_end(&mut self, judgement: &Judgement, out: &mut O) -> io::Result<()> {
-        if let Judgement::Good(length) = judgement {
-            self.report_missing(*length, u32::MAX, out)?;
+impl<O: Write> Listing for StrictValues<'_, O> {
+    fn take(&mut self, finding: &Finding<'_>) -> io::Result<()> {
+        match finding {
+            Finding::Meta(meta) => {
+                self.identity.begin(*meta);
+                Ok(())
+            }
+            Finding::Bare(_) => self
+                .notes
+                .add(&Note::of_uid(0, TRANSFER_SYNTAX_UID, MISSING_UID)),
+            Finding::Header(offset, level, header) => self.on_header(*offset, *level, header),
+            Finding::Bytes(bytes) => self.on_bytes(*bytes),
+            Finding::WrongItems(offset, tag) => self.notes.add(&Note {
+                offset: *offset,
+                tag: *tag,
+                vr: Some(Vr::SQ),
+                rule: WRONG_ITEMS,
+            }),
+            Finding::End(judgement) => {
+                if let Judgement::Good(length) = judgement {
+                    self.report_missing(*length, u32::MAX)?;
+                }
+                self.notes.end(judgement)
+            }
         }
-        self.notes.end(judgement, out)
     }
 }

@@ -1,4 +1,8 @@
 //! Prints values.
+ghost use Rattle.std.specs.Prelude.{◌≡◌, ◌&&◌, nat_eq, if◌then◌else◌};
+ghost use Rattle.std.specs.List.{list_any};
+ghost use Rattle.element.specs.Padding.{is_empty, is_padding, without_trailing};
+
 use crate::json_text::write_text;
 use crate::options::OutputForm;
 use crate::texts::TagText;
@@ -19,52 +23,26 @@ enum Notation {
     Bytes,
 }
 
-/// Returns whether these letters are among the names.
-fn is_one_of(letters: [u8; 2], names: &[[u8; 2]]) -> bool {
-    names.iter().any(|name| *name == letters)
-}
-
 /// Returns how the values of a VR are printed, and the size of one value in bytes.
 fn notation_of(vr: Option<Vr>) -> (Notation, usize) {
     let Some(vr) = vr else {
         return (Notation::Bytes, 1);
     };
-    let letters = vr.letters();
-    if letters == *b"US" {
-        (Notation::Unsigned, 2)
-    } else if letters == *b"UL" {
-        (Notation::Unsigned, 4)
-    } else if letters == *b"UV" {
-        (Notation::Unsigned, 8)
-    } else if letters == *b"AT" {
-        (Notation::Tags, 4)
-    } else {
-        notation_of_letters(letters)
-    }
-}
-
-/// Returns what `notation_of` returns, for the letters of the remaining VRs.
-fn notation_of_letters(letters: [u8; 2]) -> (Notation, usize) {
-    if letters == *b"SS" {
-        (Notation::Signed, 2)
-    } else if letters == *b"SL" {
-        (Notation::Signed, 4)
-    } else if letters == *b"SV" {
-        (Notation::Signed, 8)
-    } else if is_one_of(letters, &[*b"FL", *b"OF"]) {
-        (Notation::Float, 4)
-    } else if is_one_of(letters, &[*b"FD", *b"OD"]) {
-        (Notation::Float, 8)
-    } else if letters == *b"OW" {
-        (Notation::Bytes, 2)
-    } else if letters == *b"OL" {
-        (Notation::Bytes, 4)
-    } else if letters == *b"OV" {
-        (Notation::Bytes, 8)
-    } else if is_one_of(letters, &[*b"OB", *b"UN"]) {
-        (Notation::Bytes, 1)
-    } else {
-        (Notation::Text, 1)
+    match vr.letters() {
+        [b'U', b'S'] => (Notation::Unsigned, 2),
+        [b'U', b'L'] => (Notation::Unsigned, 4),
+        [b'U', b'V'] => (Notation::Unsigned, 8),
+        [b'S', b'S'] => (Notation::Signed, 2),
+        [b'S', b'L'] => (Notation::Signed, 4),
+        [b'S', b'V'] => (Notation::Signed, 8),
+        [b'F', b'L'] | [b'O', b'F'] => (Notation::Float, 4),
+        [b'F', b'D'] | [b'O', b'D'] => (Notation::Float, 8),
+        [b'A', b'T'] => (Notation::Tags, 4),
+        [b'O', b'B'] | [b'U', b'N'] => (Notation::Bytes, 1),
+        [b'O', b'W'] => (Notation::Bytes, 2),
+        [b'O', b'L'] => (Notation::Bytes, 4),
+        [b'O', b'V'] => (Notation::Bytes, 8),
+        _ => (Notation::Text, 1),
     }
 }
 
@@ -76,66 +54,6 @@ fn write_backslash<W: fmt::Write>(f: &mut fmt::Formatter<W>, form: OutputForm) -
     }
 }
 
-/// Prints an unsigned little-endian number.
-fn write_unsigned<W: fmt::Write>(f: &mut fmt::Formatter<W>, bytes: &[u8]) -> fmt::Result {
-    match bytes {
-        [a, b] => write!(f, "{}", u16::from_le_bytes([*a, *b])),
-        [a, b, c, d] => write!(f, "{}", u32::from_le_bytes([*a, *b, *c, *d])),
-        [a, b, c, d, e, g, h, i] => {
-            write!(
-                f,
-                "{}",
-                u64::from_le_bytes([*a, *b, *c, *d, *e, *g, *h, *i])
-            )
-        }
-        _ => write_bytes(f, bytes),
-    }
-}
-
-/// Prints a signed little-endian number.
-fn write_signed<W: fmt::Write>(f: &mut fmt::Formatter<W>, bytes: &[u8]) -> fmt::Result {
-    match bytes {
-        [a, b] => write!(f, "{}", i16::from_le_bytes([*a, *b])),
-        [a, b, c, d] => write!(f, "{}", i32::from_le_bytes([*a, *b, *c, *d])),
-        [a, b, c, d, e, g, h, i] => {
-            write!(
-                f,
-                "{}",
-                i64::from_le_bytes([*a, *b, *c, *d, *e, *g, *h, *i])
-            )
-        }
-        _ => write_bytes(f, bytes),
-    }
-}
-
-/// Prints a little-endian floating-point number.
-fn write_float<W: fmt::Write>(f: &mut fmt::Formatter<W>, bytes: &[u8]) -> fmt::Result {
-    match bytes {
-        [a, b, c, d] => {
-            let number = f32_from_bits_with_nan(u32::from_le_bytes([*a, *b, *c, *d]));
-            write!(f, "{number}")
-        }
-        [a, b, c, d, e, g, h, i] => {
-            let bits = u64::from_le_bytes([*a, *b, *c, *d, *e, *g, *h, *i]);
-            let number = f64_from_bits_with_nan(bits);
-            write!(f, "{number}")
-        }
-        _ => write_bytes(f, bytes),
-    }
-}
-
-/// Prints a tag.
-fn write_tag<W: fmt::Write>(f: &mut fmt::Formatter<W>, bytes: &[u8]) -> fmt::Result {
-    match bytes {
-        [a, b, c, d] => {
-            let tag = Tag(u16::from_le_bytes([*a, *b]), u16::from_le_bytes([*c, *d]));
-            let tag = TagText(tag);
-            write!(f, "{tag}")
-        }
-        _ => write_bytes(f, bytes),
-    }
-}
-
 /// Prints a little-endian word in hexadecimal.
 fn write_bytes<W: fmt::Write>(f: &mut fmt::Formatter<W>, bytes: &[u8]) -> fmt::Result {
     for byte in bytes.iter().rev() {
@@ -144,18 +62,47 @@ fn write_bytes<W: fmt::Write>(f: &mut fmt::Formatter<W>, bytes: &[u8]) -> fmt::R
     Ok(())
 }
 
-/// Prints one number, tag or word.
+/// Prints a number or word of eight bytes.
+fn write_long<W: fmt::Write>(
+    f: &mut fmt::Formatter<W>,
+    notation: Notation,
+    bytes: [u8; 8],
+) -> fmt::Result {
+    match notation {
+        Notation::Unsigned => write!(f, "{}", u64::from_le_bytes(bytes)),
+        Notation::Signed => write!(f, "{}", i64::from_le_bytes(bytes)),
+        Notation::Float => {
+            let number = f64_from_bits_with_nan(u64::from_le_bytes(bytes));
+            write!(f, "{number}")
+        }
+        Notation::Tags | Notation::Bytes | Notation::Text => write_bytes(f, &bytes),
+    }
+}
+
+/// Prints one little-endian number, tag or word.
 fn write_one<W: fmt::Write>(
     f: &mut fmt::Formatter<W>,
     notation: Notation,
     bytes: &[u8],
 ) -> fmt::Result {
-    match notation {
-        Notation::Unsigned => write_unsigned(f, bytes),
-        Notation::Signed => write_signed(f, bytes),
-        Notation::Float => write_float(f, bytes),
-        Notation::Tags => write_tag(f, bytes),
-        Notation::Bytes | Notation::Text => write_bytes(f, bytes),
+    match (notation, bytes) {
+        (_, [a, b, c, d, e, g, h, i]) => write_long(f, notation, [*a, *b, *c, *d, *e, *g, *h, *i]),
+        (Notation::Unsigned, [a, b]) => write!(f, "{}", u16::from_le_bytes([*a, *b])),
+        (Notation::Unsigned, [a, b, c, d]) => {
+            write!(f, "{}", u32::from_le_bytes([*a, *b, *c, *d]))
+        }
+        (Notation::Signed, [a, b]) => write!(f, "{}", i16::from_le_bytes([*a, *b])),
+        (Notation::Signed, [a, b, c, d]) => write!(f, "{}", i32::from_le_bytes([*a, *b, *c, *d])),
+        (Notation::Float, [a, b, c, d]) => {
+            let number = f32_from_bits_with_nan(u32::from_le_bytes([*a, *b, *c, *d]));
+            write!(f, "{number}")
+        }
+        (Notation::Tags, [a, b, c, d]) => {
+            let tag = Tag(u16::from_le_bytes([*a, *b]), u16::from_le_bytes([*c, *d]));
+            let tag = TagText(tag);
+            write!(f, "{tag}")
+        }
+        _ => write_bytes(f, bytes),
     }
 }
 
@@ -183,6 +130,18 @@ fn write_all<W: fmt::Write>(
     Ok(())
 }
 
+/// Returns a text without its padding; one of padding alone whole if it has a zero byte.
+fn shown_text(value: &[u8]) -> &[u8]
+    ensures { result.now ≡ (if is_empty (without_trailing is_padding value.now) && list_any (λ c. nat_eq c 0) value.now then value.now else without_trailing is_padding value.now) }
+{
+    let text = unpadded(value);
+    if text.is_empty() && value.contains(&0) {
+        value
+    } else {
+        text
+    }
+}
+
 /// Prints a value: text without its padding, numbers, tags, or words in hexadecimal, with a
 /// backslash between values. No control character is printed.
 #[derive(Clone, Copy)]
@@ -203,7 +162,7 @@ impl fmt::Display for ValueText<'_> {
             repertoire,
         } = *self;
         match notation_of(vr) {
-            (Notation::Text, _) => write_text(f, form, repertoire, unpadded(value)),
+            (Notation::Text, _) => write_text(f, form, repertoire, shown_text(value)),
             notation => write_all(f, notation, form, value),
         }
     }

@@ -1,11 +1,10 @@
 -- Which decisions end an association, how, and how its end is counted (PS3.8 sections 7 and 9). This product's own
 -- profile.
-use Rattle.std.specs.Prelude.{ℕ, ◌&&◌, Bool, true, false, Option, Some, None, nat_le, if◌then◌else◌}
+use Rattle.std.specs.Prelude.{◌≡◌, ℕ, List, ◌++◌, Option, Some, None}
+use Rattle.pdu.specs.Texts.{abort_text}
 use Rattle.service.specs.declared.observer.ReadEnd.TheVariants as read
 use Rattle.decisions.specs.declared.decision.Decision.{Decision}
 use Rattle.decisions.specs.declared.decision.Decision.TheVariants as decision
-use Rattle.journal.specs.declared.cause.Cause.{Cause}
-use Rattle.journal.specs.declared.cause.Cause.TheVariants as cause
 use Rattle.journal.specs.declared.end.Abort.{Abort}
 use Rattle.journal.specs.declared.end.End.{End}
 use Rattle.journal.specs.declared.end.End.TheVariants as ends
@@ -17,7 +16,7 @@ abbrev pub counted_as : End → CountedEnd
 counted_as ends.Released = counted.Released
 counted_as (ends.Rejected rejection) = counted.Rejected
 counted_as (ends.AbortedByPeer abort) = counted.AbortedByPeer
-counted_as (ends.Aborted abort cause) = counted.AbortedByBox
+counted_as (ends.Aborted abort why) = counted.AbortedByBox
 counted_as (ends.Read read.Closed) = counted.Closed
 counted_as (ends.Read read.Timer) = counted.TimerExpired
 counted_as (ends.Read read.Idle) = counted.Idle
@@ -35,47 +34,27 @@ counted_where None = counted.Unknown
 -- how an association that ends with this decision is counted
 abbrev pub counted_by : Decision → CountedEnd
 counted_by decision.Nothing = counted.Unknown
-counted_by (decision.PduRefused head) = counted.AbortedByBox
+counted_by (decision.PduRefused head fault) = counted.AbortedByBox
 counted_by (decision.RequestTooLong length) = counted.Rejected
 counted_by (decision.RequestInvalid fault) = counted.AbortedByBox
 counted_by (decision.RequestJudged answer.Accept) = counted.Unknown
 counted_by (decision.RequestJudged (answer.Reject result source reason)) = counted.Rejected
 counted_by (decision.Fragment head) = counted.Unknown
 counted_by (decision.ContextRefused head) = counted.AbortedByBox
-counted_by (decision.FragmentRefused head fault) = counted.AbortedByBox
-counted_by decision.ValueInvalid = counted.AbortedByBox
-counted_by (decision.BytesRemaining end) = counted.AbortedByBox
+counted_by (decision.FragmentRefused head fault before) = counted.AbortedByBox
+counted_by decision.BadPdv = counted.AbortedByBox
+counted_by (decision.Leftover end) = counted.AbortedByBox
 counted_by (decision.CommandRefused fault field) = counted.AbortedByBox
 counted_by decision.DataDue = counted.Unknown
 counted_by (decision.Replied status detail) = counted.Unknown
 counted_by decision.Released = counted.Released
 counted_by decision.Aborted = counted.AbortedByPeer
 
--- the A-ABORT of the service user, and that of the service provider for this reason
-abbrev pub user : Abort
-user = record { source = 0; reason = 0 }
+-- of the A-ABORT with which these bytes end, if they end with one, these are the source and the reason
+abbrev pub IsEndOf : List ℕ → Abort → Type 0
+IsEndOf bytes abort = (front : List ℕ) (source reason : ℕ) → bytes ≡ front ++ abort_text source reason → abort ≡ record { source = source; reason = reason }
 
-abbrev pub provider : ℕ → Abort
-provider r = record { source = 2; reason = r }
-
--- a PDU of one of the seven types is unexpected, another one unrecognized (PS3.8 Table 9-26)
-abbrev pub reason_for : ℕ → ℕ
-reason_for kind = if nat_le 1 kind && nat_le kind 7 then 2 else 1
-
--- the A-ABORT for a cause, of an association that is established
-abbrev pub abort_of : Cause → Abort
-abort_of (cause.Pdu kind) = provider (reason_for kind)
-abort_of cause.Tls = provider 1
-abort_of (cause.Length kind length) = provider 6
-abort_of (cause.LongData length limit) = provider 6
-abort_of (cause.ShortData length) = provider 6
-abort_of (cause.Request fault) = provider 6
-abort_of cause.Value = provider 6
-abort_of cause.Leftover = provider 6
-abort_of (cause.Context id) = provider 6
-abort_of (cause.Fragment misplaced) = user
-abort_of (cause.Command fault field) = user
-
-abbrev pub abort_for : Bool → Cause → Abort
-abort_for true c = abort_of c
-abort_for false c = user
+-- an association that dcmbox aborts: the A-ABORT is the one at the end of the reply, and the cause is the decision
+abbrev pub IsAbortedBy : Decision → List ℕ → Option End → Type 0
+IsAbortedBy d reply (Some (ends.Aborted abort why)) = IsEndOf reply abort × (why ≡ d)
+IsAbortedBy d reply other = Unit {0}

@@ -1,54 +1,20 @@
 //! The class and instance of a store, and its reply.
-use crate::refused::shown_class;
+use crate::event::{Value, shown};
 use crate::text::Text;
 use dimse::element_numbers::{CLASS, FIELD, INSTANCE};
-use dimse::{Command, CommandSet, Detail};
+use dimse::{Command, CommandSet, Detail, cause_name};
 use element::unpadded;
 
 /// A UID, or its keyword, as the log shows it.
-pub(crate) type Value = Text<64>;
-
-/// The class and the instance of a store, by their UIDs.
-#[derive(Drop)]
-pub(crate) struct Asked {
-    class: Value,
-    pub instance: Value,
-}
+pub(crate) type UidText = Text<64>;
 
 /// Returns a UID of a command set without padding, or an empty text if it has none.
-fn uid_of(set: &CommandSet, number: u16) -> Value {
-    let mut uid = Value::new();
+fn uid_of(set: &CommandSet, number: u16) -> UidText {
+    let mut uid = UidText::new();
     if let Some(bytes) = set.value(number) {
         uid.add(unpadded(bytes));
     }
     uid
-}
-
-impl Asked {
-    /// Returns an empty class and instance.
-    pub(crate) fn nothing() -> Asked {
-        Asked {
-            class: Value::new(),
-            instance: Value::new(),
-        }
-    }
-
-    /// Reads the class and the instance of a C-STORE from its command set, or returns empty ones if
-    /// it is invalid.
-    pub(crate) fn read(command: &[u8]) -> Asked {
-        match CommandSet::read(command) {
-            Some(set) => Asked {
-                class: uid_of(&set, CLASS),
-                instance: uid_of(&set, INSTANCE),
-            },
-            None => Asked::nothing(),
-        }
-    }
-
-    /// Returns the keyword of the class, or its UID if it has none.
-    pub(crate) fn class(&self) -> Value {
-        shown_class(self.class.as_str().as_bytes())
-    }
 }
 
 /// A UID element of a command set that is invalid or missing.
@@ -56,7 +22,7 @@ impl Asked {
 pub(crate) struct BadElement {
     pub number: u16,
     /// The value, empty if missing.
-    pub value: Value,
+    pub value: UidText,
 }
 
 impl BadElement {
@@ -85,4 +51,32 @@ impl BadElement {
 pub(crate) struct Reply {
     pub status: u16,
     pub detail: Option<Detail>,
+}
+
+/// Returns a status in hexadecimal.
+pub(crate) fn shown_status<'a>(status: u16) -> Value<'a> {
+    shown(format_args!("{status:04X}"))
+}
+
+impl Reply {
+    /// Returns the status, the cause of a failure, and its tag, as the response's Error Comment and
+    /// Offending Element name them.
+    pub(crate) fn values<'a>(self) -> (Value<'a>, Value<'a>, Value<'a>) {
+        let status = shown_status(self.status);
+        let Some(Detail { number, tag }) = self.detail else {
+            return (status, Value::Absent, Value::Absent);
+        };
+        let Some(name) = cause_name(number) else {
+            return (status, Value::Absent, Value::Absent);
+        };
+        let fault = shown(format_args!("fault {number:02} {name}"));
+        if tag.0 == 0 && tag.1 == 0 {
+            return (status, fault, Value::Absent);
+        }
+        (
+            status,
+            fault,
+            shown(format_args!("{:04x},{:04x}", tag.0, tag.1)),
+        )
+    }
 }

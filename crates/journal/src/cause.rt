@@ -1,118 +1,82 @@
-//! Why dcmbox aborted an association.
-ghost use Rattle.std.specs.Prelude.{◌≡◌};
-
+//! Why dcmbox aborted an association, in words.
 use crate::end::Abort;
 use crate::fields::field_name;
-use crate::limits::Limits;
-use crate::message::Misplaced;
-use dimse::DimseFault;
-use pdu::pdu_type::{A_ABORT, A_ASSOCIATE_RJ, A_ASSOCIATE_RQ, A_RELEASE_RQ, P_DATA_TF};
-use pdu::{PduFault, PduHead};
+use decisions::{Decision, HeadFault};
+use dimse::{DimseFault, Unfinished};
+use pdu::{PduFault, PduHead, PdvHead};
 use service::COMMAND;
 use std::fmt;
-
-/// The size in bytes of the body of an A-ASSOCIATE-RQ before its items.
-const BEFORE_ITEMS: u32 = 68;
 
 /// The type of a TLS handshake record (RFC 8446 section 5.1), which is not the type of a PDU.
 const HANDSHAKE: u8 = 0x16;
 
-/// The size in bytes of the header of a presentation data value.
-const VALUE_HEAD: u32 = 6;
-
-/// The reason unrecognized-PDU of an A-ABORT of the service provider (PS3.8 Table 9-26).
-const UNRECOGNIZED: u8 = 1;
-
-/// The reason unexpected-PDU of an A-ABORT of the service provider.
-const UNEXPECTED: u8 = 2;
-
-/// The reason invalid-PDU-parameter-value of an A-ABORT of the service provider.
-const INVALID_PARAMETER: u8 = 6;
-
-/// What the peer sent for which the association was aborted.
-#[derive(Clone, Copy, Debug, PartialEq, Eq)]
-pub(crate) enum Cause {
-    /// A PDU of this type, which is unknown or unexpected.
-    Pdu(u8),
-    /// The first bytes of a TLS connection.
-    Tls,
-    /// A PDU of this type and length, whose body must have four bytes.
-    Length(u8, u32),
-    /// A P-DATA-TF PDU of this length, above this limit, in bytes.
-    LongData(u32, u32),
-    /// A P-DATA-TF PDU of this length, too short for a presentation data value.
-    ShortData(u32),
-    /// An A-ASSOCIATE-RQ with this fault.
-    Request(PduFault),
-    /// A presentation data value whose length is below 2 or exceeds the PDU.
-    Value,
-    /// Bytes after the last presentation data value, too few for another header.
-    Leftover,
-    /// A presentation data value in the context with this ID, which is not accepted.
-    Context(u8),
-    /// A fragment that does not continue its message.
-    Fragment(Misplaced),
-    /// A command set with this fault, and its command field, if that could be read.
-    Command(DimseFault, Option<u16>),
+/// Returns whether the header of a PDU may be the first bytes of a TLS connection. Bytes 3 to 6 of
+/// a ClientHello are the minor version, at most 4, the length of the record, and the message type
+/// 1.
+fn is_hello(head: PduHead) -> bool {
+    head.kind == HANDSHAKE && head.length >> 24 <= 4 && head.length & 0xff == 1
 }
 
-/// Returns whether a PDU length may be bytes 3 to 6 of a TLS ClientHello: the minor version, at
-/// most 4, the length of the record, and the message type 1.
-fn is_hello(length: u32) -> bool {
-    length >> 24 <= 4 && length & 0xff == 1
-}
+/// An A-ABORT of dcmbox, and the decision for which it was sent. It is displayed as the cause.
+#[derive(Clone, Copy)]
+pub(crate) struct Cause(pub Abort, pub Decision);
 
-/// Returns why the header of a PDU aborts an association, which is established or not (PS3.8
-/// section 9.2).
-pub(crate) fn head_cause(head: PduHead, is_established: bool, limits: Limits) -> Cause {
+/// Writes the fault of the header of a PDU. If no association was established, the A-ABORT is of
+/// the service user (AA-1 of PS3.8 Table 9-9): then the PDU may be of another protocol.
+fn write_head<W: fmt::Write>(
+    f: &mut fmt::Formatter<W>,
+    head: PduHead,
+    fault: HeadFault,
+    abort: Abort,
+) -> fmt::Result {
     let PduHead { kind, length } = head;
-    match kind {
-        A_ASSOCIATE_RJ | A_RELEASE_RQ..=A_ABORT if length != 4 => Cause::Length(kind, length),
-        A_ASSOCIATE_RQ if !is_established && length < BEFORE_ITEMS => {
-            Cause::Request(PduFault::BadLength)
+    match fault {
+        HeadFault::Unrecognized if abort.source == 0 && is_hello(head) => {
+            write!(f, "PDU type {kind:02X}, is it TLS?")
         }
-        P_DATA_TF if is_established && length > limits.max_pdu => {
-            Cause::LongData(length, limits.max_pdu)
+        HeadFault::Unrecognized | HeadFault::Unexpected => write!(f, "PDU type {kind:02X}"),
+        HeadFault::OtherLength => write!(f, "PDU type {kind:02X} of {length} bytes, not 4"),
+        HeadFault::ShortRequest => write!(f, "request: {}", PduFault::BadLength),
+        HeadFault::LongData(most) => {
+            write!(f, "P-DATA-TF PDU of {length} bytes, at most {most}")
         }
-        P_DATA_TF if is_established && length < VALUE_HEAD => Cause::ShortData(length),
-        HANDSHAKE if !is_established && is_hello(length) => Cause::Tls,
-        _ => Cause::Pdu(kind),
+        HeadFault::ShortData => write!(f, "P-DATA-TF PDU of {length} bytes, at least 6"),
     }
 }
 
-impl Cause {
-    ghost use Rattle.journal.specs.Ends.{abort_for};
-
-    /// Returns the A-ABORT that is sent for the cause. If no association is established, its source
-    /// is the service user (AA-1 of PS3.8 Table 9-9).
-    pub(crate) fn abort(self, is_established: bool) -> Abort
-        ensures { result ≡ abort_for is_established self }
-    {
-        if !is_established {
-            return Abort::of_user();
+/// Writes why a fragment with this header does not continue a message of which this was received.
+fn write_fragment<W: fmt::Write>(
+    f: &mut fmt::Formatter<W>,
+    head: PdvHead,
+    fault: DimseFault,
+    before: Unfinished,
+) -> fmt::Result {
+    write!(f, "command: {fault}, ")?;
+    let id = head.context;
+    match (fault, before) {
+        (DimseFault::OtherContext, Unfinished::Command(own, _) | Unfinished::Set(own)) => {
+            write!(f, "context {id} inside a message of context {own}")
         }
-        match self {
-            Cause::Fragment(_) | Cause::Command(_, _) => Abort::of_user(),
-            Cause::Pdu(A_ASSOCIATE_RQ..=A_ABORT) => Abort::of_provider(UNEXPECTED),
-            Cause::Pdu(_) | Cause::Tls => Abort::of_provider(UNRECOGNIZED),
-            _ => Abort::of_provider(INVALID_PARAMETER),
+        (DimseFault::CommandTooLong, Unfinished::Command(_, received)) => {
+            write_size(f, head, received)
         }
+        (DimseFault::CommandTooLong, _) => write_size(f, head, 0),
+        (_, Unfinished::Nothing) => f.write_str("data without a command"),
+        (_, Unfinished::Command(_, _)) => f.write_str("data before its end"),
+        (_, Unfinished::Set(_)) => f.write_str("two commands without data"),
     }
 }
 
-impl fmt::Display for Misplaced {
-    fn fmt<W: fmt::Write>(&self, f: &mut fmt::Formatter<W>) -> fmt::Result {
-        let fault = self.fault();
-        match *self {
-            Misplaced::TooLong(size) => write!(f, "{fault}, {size} bytes of at most {COMMAND}"),
-            Misplaced::DataFirst => write!(f, "{fault}, data without a command"),
-            Misplaced::DataInside => write!(f, "{fault}, data before its end"),
-            Misplaced::TwoCommands => write!(f, "{fault}, two commands without data"),
-            Misplaced::OtherContext(id, own) => {
-                write!(f, "{fault}, context {id} inside a message of context {own}")
-            }
-        }
-    }
+/// Writes the size of a command set of which this was received before the fragment with this
+/// header.
+fn write_size<W: fmt::Write>(
+    f: &mut fmt::Formatter<W>,
+    head: PdvHead,
+    received: usize,
+) -> fmt::Result {
+    let size = u64::from(head.length).saturating_sub(2);
+    let size = size.saturating_add(received as u64);
+    write!(f, "{size} bytes of at most {COMMAND}")
 }
 
 /// Writes the fault of a command set, and its command field with the name in PS3.7.
@@ -132,22 +96,21 @@ fn write_command<W: fmt::Write>(
 
 impl fmt::Display for Cause {
     fn fmt<W: fmt::Write>(&self, f: &mut fmt::Formatter<W>) -> fmt::Result {
-        match *self {
-            Cause::Pdu(kind) => write!(f, "PDU type {kind:02X}"),
-            Cause::Tls => write!(f, "PDU type {HANDSHAKE:02X}, is it TLS?"),
-            Cause::Length(kind, length) => {
-                write!(f, "PDU type {kind:02X} of {length} bytes, not 4")
+        let Cause(abort, decision) = *self;
+        match decision {
+            Decision::PduRefused(head, fault) => write_head(f, head, fault, abort),
+            Decision::RequestInvalid(fault) => write!(f, "request: {fault}"),
+            Decision::BadPdv => f.write_str("bad presentation data value"),
+            Decision::Leftover(_) => { f.write_str("bytes after the last presentation data value") }
+            Decision::ContextRefused(head) => {
+                let id = head.context;
+                write!(f, "presentation context {id} is not accepted")
             }
-            Cause::LongData(length, limit) => {
-                write!(f, "P-DATA-TF PDU of {length} bytes, at most {limit}")
+            Decision::FragmentRefused(head, fault, before) => {
+                write_fragment(f, head, fault, before)
             }
-            Cause::ShortData(length) => write!(f, "P-DATA-TF PDU of {length} bytes, at least 6"),
-            Cause::Request(fault) => write!(f, "request: {fault}"),
-            Cause::Value => f.write_str("bad presentation data value"),
-            Cause::Leftover => f.write_str("bytes after the last presentation data value"),
-            Cause::Context(id) => write!(f, "presentation context {id} is not accepted"),
-            Cause::Fragment(misplaced) => write!(f, "command: {misplaced}"),
-            Cause::Command(fault, field) => write_command(f, fault, field),
+            Decision::CommandRefused(fault, field) => write_command(f, fault, field),
+            _ => Ok(()),
         }
     }
 }

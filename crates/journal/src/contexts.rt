@@ -1,15 +1,18 @@
 //! The log lines about the presentation contexts of a request.
-use crate::accepted::Results;
-use crate::association_entries::{ClassesRefused, ContextRefused, SyntaxesRefused};
+use crate::accepted::Accepted;
 use crate::end::End;
+use crate::event::{Event, Value, known, shown};
+use crate::events;
 use crate::journal::Journal;
 use crate::refused::{RefusedClasses, shown_class, shown_syntax};
+use crate::request::{Title, body_of};
 use crate::state::{Phase, State};
 use crate::text::Text;
+use crate::words::context_words;
 use arrayvec::ArrayVec;
 use folder_filing::StoredFile;
 use log::{Level, Log};
-use negotiate::{Answer, Config, ContextRow, compact};
+use negotiate::{Answer, compact, result_of};
 use pdu::{Proposal, Request, read_request};
 use service::Consumed;
 use std::rt::Files;
@@ -27,73 +30,43 @@ fn shown_syntaxes(proposal: &Proposal) -> Text<300> {
     syntaxes
 }
 
-/// The size in bytes of the header of a PDU.
-const HEAD: usize = 6;
-
-/// The presentation contexts of a request, with their results.
-#[derive(Drop)]
-struct AskedContexts {
-    /// The maximum length of a P-DATA-TF PDU that the peer receives.
-    maximum: u32,
-    proposed: u64,
-    accepted: ArrayVec<ContextRow, 128>,
-    /// The classes of which no context was accepted.
-    refused: RefusedClasses,
-    /// The storage classes of which some contexts were accepted and others were not.
-    in_part: RefusedClasses,
-}
-
-impl AskedContexts {
-    /// Returns the contexts of a request with these results.
-    fn of(config: &Config, request: &Request, results: &Results) -> AskedContexts {
-        let mut proposed: u64 = 0;
-        for _ in request.contexts() {
-            proposed = proposed.saturating_add(1);
-        }
-        let mut accepted = ArrayVec::new();
-        compact(config, request, &mut accepted);
-        let (refused, in_part) = RefusedClasses::of(request, results);
-        AskedContexts {
-            maximum: request.maximum(),
-            proposed,
-            accepted,
-            refused,
-            in_part,
-        }
-    }
-}
-
 impl<R: Log + Clock, S: Files + Alloc + Clone + Drop> Journal<'_, R, S>
 where
     S::File: StoredFile,
 {
-    /// Records the answer to the request, and its contexts. If it was accepted, counts the contexts
-    /// that were not, and logs the classes of which none was.
+    /// Records the answer to the request, the first PDU received, and its contexts.
     pub(crate) fn judge(&self, state: &mut State, answer: Answer, consumed: &Consumed<'_>) {
-        let contexts = self.contexts(consumed, answer);
         let is_accepted = answer == Answer::Accept;
         if is_accepted {
             state.phase = Phase::Established;
         }
-        let Some(contexts) = contexts else {
+        let Ok(request) = read_request(body_of(consumed)) else {
             return;
         };
-        state.maximum = Some(contexts.maximum);
-        state.proposed = contexts.proposed;
-        if !is_accepted {
-            return;
+        state.maximum = Some(request.maximum());
+        state.proposed = 0;
+        for _ in request.contexts() {
+            state.proposed = state.proposed.saturating_add(1);
         }
-        let AskedContexts {
-            maximum: _maximum,
-            proposed,
-            accepted,
-            refused,
-            in_part,
-        } = contexts;
+        if is_accepted {
+            self.accept(state, &request);
+        }
+    }
+
+    /// Records the contexts of an accepted request, and counts those that were not accepted. Logs
+    /// the classes of which none was, and at level trace each that was not.
+    fn accept(&self, state: &mut State, request: &Request) {
+        let mut rows = ArrayVec::new();
+        compact(self.config, request, &mut rows);
+        let accepted = Accepted::of(rows.as_slice());
+        if self.logger.reports(Level::Trace) {
+            self.report_refused(request, &accepted);
+        }
         if let Some(metrics) = self.logger.metrics() {
-            metrics.count_refused_contexts(proposed.saturating_sub(accepted.len() as u64));
+            metrics.count_refused_contexts(state.proposed.saturating_sub(rows.len() as u64));
         }
-        state.accepted = accepted;
+        state.accepted = rows;
+        let (refused, in_part) = RefusedClasses::of(self.config, request, &accepted);
         state.refused_in_part = in_part;
         let level = if refused.has_storage {
             Level::Warn
@@ -101,12 +74,23 @@ where
             Level::Info
         };
         if !refused.is_empty() && self.has_lines(state, level) {
-            self.logger.report(&ClassesRefused {
+            let event = Event {
                 level,
-                refused: &refused,
-                calling: &state.calling,
-            });
+                ..events::CLASSES_REFUSED
+            };
+            self.report_classes(event, &refused, &state.calling);
         }
+    }
+
+    fn report_classes(&self, event: Event, refused: &RefusedClasses, calling: &Title) {
+        let others = match refused.others {
+            0 => Value::Absent,
+            others => Value::Number(others),
+        };
+        self.logger.report(
+            event,
+            &[Value::List(refused.named.as_str()), others, known(calling)],
+        );
     }
 
     /// Logs the storage classes that were accepted in some transfer syntaxes only, if the peer
@@ -114,35 +98,24 @@ where
     pub(crate) fn report_unused(&self, state: &mut State) {
         let is_unused = state.counts.asked == 0 || matches!(state.end, Some(End::AbortedByPeer(_)));
         if is_unused && !state.refused_in_part.is_empty() && self.has_lines(state, Level::Warn) {
-            self.logger.report(&SyntaxesRefused {
-                refused: &state.refused_in_part,
-                calling: &state.calling,
-            });
+            let refused = &state.refused_in_part;
+            self.report_classes(events::SYNTAXES_REFUSED, refused, &state.calling);
         }
-    }
-
-    /// Returns the contexts of the judged request, the first PDU received, or `None` if it cannot
-    /// be read. Logs the refused ones at level trace.
-    fn contexts(&self, consumed: &Consumed<'_>, answer: Answer) -> Option<AskedContexts> {
-        let request = read_request(consumed.whole.get(HEAD..)?).ok()?;
-        let results = Results::of(self.config, &request);
-        if answer == Answer::Accept && self.logger.reports(Level::Trace) {
-            self.report_refused(&request, &results);
-        }
-        Some(AskedContexts::of(self.config, &request, &results))
     }
 
     /// Logs each context that was not accepted.
-    fn report_refused(&self, request: &Request, results: &Results) {
+    fn report_refused(&self, request: &Request, accepted: &Accepted) {
         for proposal in request.contexts() {
-            match results.result(proposal.id()) {
-                None | Some(0) => {}
-                Some(answer) => self.logger.report(&ContextRefused {
-                    id: proposal.id(),
-                    answer,
-                    class: &shown_class(proposal.abstract_syntax()),
-                    syntaxes: &shown_syntaxes(&proposal),
-                }),
+            if !accepted.has(proposal.id()) {
+                self.logger.report(
+                    events::CONTEXT_REFUSED,
+                    &[
+                        Value::Number(u64::from(proposal.id())),
+                        shown(context_words(result_of(self.config, &proposal))),
+                        shown(shown_class(proposal.abstract_syntax())),
+                        Value::Text(shown_syntaxes(&proposal).as_str()),
+                    ],
+                );
             }
         }
     }

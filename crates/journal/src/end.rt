@@ -3,6 +3,7 @@ ghost use Rattle.std.specs.Prelude.{◌≡◌};
 
 use crate::cause::Cause;
 use crate::words::{provider_words, rejection_words};
+use decisions::Decision;
 use metrics::CountedEnd;
 use service::{REQUEST, ReadEnd};
 use std::fmt;
@@ -58,23 +59,22 @@ pub(crate) struct Abort {
 }
 
 impl Abort {
-    ghost use Rattle.journal.specs.Ends.{provider, user};
+    ghost use Rattle.journal.specs.Ends.{IsEndOf};
 
-    /// Returns the A-ABORT of the service user.
-    pub(crate) fn of_user() -> Abort
-        ensures { result ≡ user }
+    /// Returns the source and the reason of the A-ABORT with which these bytes end.
+    pub(crate) fn ending(bytes: &[u8]) -> Abort
+        ensures { IsEndOf bytes.now result }
     {
-        Abort {
-            source: 0,
-            reason: 0,
+        if bytes.len() < 2 {
+            return Abort {
+                source: 0,
+                reason: 0,
+            };
         }
-    }
-
-    /// Returns the A-ABORT of the service provider, with this reason.
-    pub(crate) fn of_provider(reason: u8) -> Abort
-        ensures { result ≡ provider reason }
-    {
-        Abort { source: 2, reason }
+        Abort {
+            source: bytes[bytes.len() - 2],
+            reason: bytes[bytes.len() - 1],
+        }
     }
 }
 
@@ -101,8 +101,8 @@ pub(crate) enum End {
     Rejected(Rejection),
     /// The peer aborted it.
     AbortedByPeer(Abort),
-    /// dcmbox aborted it, for what the peer had sent.
-    Aborted(Abort, Cause),
+    /// dcmbox aborted it by this A-ABORT, with this decision on what the peer had sent.
+    Aborted(Abort, Decision),
     /// Reading ended.
     Read(ReadEnd),
     /// A send failed.
@@ -146,7 +146,10 @@ impl fmt::Display for End {
                     "aborted by the peer, {abort} (source {source} reason {reason})"
                 )
             }
-            End::Aborted(abort, cause) => write!(f, "aborted by dcmbox, {abort} ({cause})"),
+            End::Aborted(abort, decision) => {
+                let cause = Cause(abort, decision);
+                write!(f, "aborted by dcmbox, {abort} ({cause})")
+            }
             End::Read(ReadEnd::Closed) => f.write_str("closed by the peer"),
             End::Read(ReadEnd::Timer) => f.write_str("ARTIM timer expired"),
             End::Read(ReadEnd::Idle) => f.write_str("aborted: the peer was idle"),

@@ -1,20 +1,15 @@
 //! Observes one connection, and writes its log lines.
 ghost use Rattle.std.specs.Prelude.{◌≡◌, []};
 
-use crate::asked::{BadElement, Reply};
-use crate::association_entries::{Aborted, EchoRefused, Ended, Rejected, Served};
-use crate::cause::Cause;
-use crate::end::End;
-use crate::entry::Entry;
-use crate::limits::Limits;
+use crate::asked::{BadElement, Reply, shown_status};
+use crate::end::{About, End};
+use crate::event::{Value, known, shown, some};
+use crate::events;
 use crate::line_limits::Limited;
 use crate::logger::Logger;
 use crate::outcome::Outcome;
-use crate::refusal::{Reason, resources_words};
-use crate::server_entries::NumbersLow;
-use crate::sheet::sheet_of;
+use crate::refusal::resources_reason;
 use crate::state::State;
-use crate::store_entries::{Answered, FilingFailed, NotConfirmed, NotStored, Unanswered};
 use decisions::{Decision, ValueEnd};
 use dimse::{DimseFault, status};
 use element::history::History;
@@ -22,12 +17,26 @@ use folder_filing::{DraftNotes, Location, StoredFile};
 use log::{Level, Log};
 use negotiate::Config;
 use service::{Consumed, Observer, ReadEnd};
-use std::alloc::{AllocError, Global};
+use std::alloc::Global;
 use std::cell::RefCell;
 use std::io;
 use std::rc::Rc;
 use std::rt::Files;
 use std::time::Clock;
+
+/// A summary of an association that has ended.
+#[derive(Clone, Copy)]
+pub struct Served {
+    /// The state of the association.
+    pub standing: &'static str,
+    /// How many received bytes the association still holds.
+    pub held: usize,
+    /// How many files the association added to the folder.
+    pub files: u32,
+    /// How many bytes were received.
+    pub received: u64,
+    pub seconds: u64,
+}
 
 /// Observes one connection, and writes its log lines: at once what needs an operator's action, and
 /// a summary of the association at its end. It is not `Drop`: only `end` consumes it, so each
@@ -43,7 +52,7 @@ where
     state: RefCell<State>,
     /// For contracts: the portions of input of which it was notified.
     heard: History<History<u8>>,
-    alloc: Global,
+    pub(crate) alloc: Global,
 }
 
 impl<'a, R: Log + Clock, S: Files + Alloc + Clone + Drop> Journal<'a, R, S>
@@ -70,17 +79,6 @@ where
         }
     }
 
-    /// Returns the limits of the connection that the log names.
-    pub(crate) fn limits(&self) -> Limits {
-        Limits::of(self.config)
-    }
-
-    /// Returns an entry about this connection as text, a line for each field. Fails if memory runs
-    /// out.
-    pub(crate) fn sheet<E: Entry>(&self, entry: &E) -> Result<String, AllocError> {
-        sheet_of(self.alloc, self.logger.head(), entry)
-    }
-
     /// Writes the last lines of an association that has ended.
     pub fn end(self, served: Served) {
         self.report_association(served);
@@ -105,11 +103,31 @@ where
         self.report_unused(&mut state);
         self.count_end(&state, served.received);
         if self.has_lines(&mut state, Level::Info) {
-            self.logger.report(&Ended {
-                served,
-                state: &state,
-            });
+            self.report_ended(&state, served);
         }
+    }
+
+    fn report_ended(&self, state: &State, served: Served) {
+        let counts = state.counts;
+        self.logger.report(
+            events::ENDED,
+            &[
+                Value::Text(served.standing),
+                Value::Number(served.held as u64),
+                Value::Number(u64::from(served.files)),
+                Value::Number(counts.dropped()),
+                Value::Number(served.received),
+                Value::Number(served.seconds),
+                shown(&state.calling),
+                shown(&state.called),
+                state.shown_end(),
+                Value::Number(state.accepted.len() as u64),
+                Value::Number(state.proposed),
+                Value::Number(counts.stored),
+                Value::Number(counts.refused),
+                Value::Number(counts.failed),
+            ],
+        );
     }
 
     /// Returns whether lines of this level are written about the association. They are if it stored
@@ -150,39 +168,40 @@ where
         {
             return;
         }
-        let class = state.asked.class();
-        let calling = &state.calling;
+        let (class, instance) = state.asked();
         if let Some(location) = state.unconfirmed {
-            self.logger.report(&NotConfirmed {
-                end: state.end,
-                location,
-                class: &class,
-                instance: &state.asked.instance,
-                calling,
-            });
+            self.logger.report(
+                events::NOT_CONFIRMED,
+                &[
+                    state.shown_end(),
+                    some(location),
+                    class,
+                    instance,
+                    known(&state.calling),
+                ],
+            );
         } else {
-            self.logger.report(&Unanswered {
-                end: state.end,
-                count,
-                class: &class,
-                instance: &state.asked.instance,
-                calling,
-            });
+            self.logger.report(
+                events::UNANSWERED,
+                &[
+                    state.shown_end(),
+                    class,
+                    instance,
+                    Value::Number(count),
+                    known(&state.calling),
+                ],
+            );
         }
     }
 
     /// Logs the system error of a failed call of the filing, once, with its store.
     fn report_filing(&self, state: &mut State) {
-        if let Some(error) = self.notes.take_error() {
+        if let Some(error) = self.notes.error.take() {
             state.has_filing_failed = true;
-            self.logger.report_limited(
-                Limited::File,
-                &FilingFailed {
-                    error: &error,
-                    class: &state.asked.class(),
-                    instance: &state.asked.instance,
-                    calling: &state.calling,
-                },
+            let (class, instance) = state.asked();
+            self.logger.report(
+                events::FILING_FAILED,
+                &[shown(&error), class, instance, known(&state.calling)],
             );
         }
     }
@@ -217,7 +236,7 @@ where
             }
             _ => {}
         }
-        if let Some(end) = state.end_by(decision, self.limits()) {
+        if let Some(end) = state.end_by(decision, consumed.reply) {
             state.end(end);
             self.report_end(state, end, consumed);
         }
@@ -226,10 +245,10 @@ where
     /// Logs that an echo was refused, once.
     fn report_echo(&self, state: &mut State, status: u16) {
         if !state.is_echo_reported && self.has_lines(state, Level::Warn) {
-            self.logger.report(&EchoRefused {
-                status,
-                calling: &state.calling,
-            });
+            self.logger.report(
+                events::ECHO_REFUSED,
+                &[shown_status(status), known(&state.calling)],
+            );
         }
         state.is_echo_reported = true;
     }
@@ -238,16 +257,21 @@ where
     fn report_end(&self, state: &mut State, end: End, consumed: &Consumed<'_>) {
         match end {
             End::Rejected(rejection) => {
-                state.take_titles(consumed.ahead);
+                if let About::Length(_) = rejection.about {
+                    state.take_titles(consumed.ahead);
+                }
                 if self.has_lines(state, Level::Warn) {
-                    self.logger.report(&Rejected {
-                        rejection,
-                        called: &state.called,
-                        calling: &state.calling,
-                    });
+                    self.logger.report(
+                        events::REJECTED,
+                        &[
+                            shown(rejection),
+                            shown(&state.calling),
+                            shown(&state.called),
+                        ],
+                    );
                 }
             }
-            End::Aborted(_, Cause::Command(DimseFault::BadCommand, _)) => {
+            End::Aborted(_, Decision::CommandRefused(DimseFault::BadCommand, _)) => {
                 self.report_abort(state, BadElement::of(consumed.bytes));
             }
             End::Aborted(..) => self.report_abort(state, None),
@@ -258,11 +282,16 @@ where
     /// Logs that the association was aborted, with the invalid element, if any.
     fn report_abort(&self, state: &mut State, bad: Option<BadElement>) {
         if self.has_lines(state, Level::Warn) {
-            self.logger.report(&Aborted {
-                end: state.end,
-                bad: bad.as_ref(),
-                calling: &state.calling,
-            });
+            let (element, value) = match bad {
+                Some(BadElement { number, value }) => {
+                    (shown(format_args!("0000,{number:04x}")), shown(value))
+                }
+                None => (Value::Absent, Value::Absent),
+            };
+            self.logger.report(
+                events::ABORTED,
+                &[state.shown_end(), element, value, known(&state.calling)],
+            );
         }
     }
 
@@ -273,7 +302,7 @@ where
             metrics.count_answer(counted);
         }
         self.settle_aside(state, reply);
-        let location = self.notes.take_location();
+        let location = self.notes.location.take();
         let is_stored = Outcome::counted(counted) == Outcome::Stored;
         if is_stored {
             state.unconfirmed = Some(location);
@@ -281,45 +310,60 @@ where
         if !is_stored || self.logger.reports(Level::Debug) {
             self.report_store(state, reply, location);
         }
-        if let Some(location) = self.notes.take_low() {
-            self.logger.report(&NumbersLow(location));
+        if let Some(location) = self.notes.low.take() {
+            self.logger.report(events::NUMBERS_LOW, &[shown(location)]);
         }
     }
 
-    /// Returns the reason for a reply that its status does not give, or an empty text.
-    pub(crate) fn reason(&self, state: &State, reply: Reply) -> Reason {
+    /// Returns the reason for a reply, if its status does not give it.
+    pub(crate) fn reason<'b>(&self, state: &State, reply: Reply) -> Value<'b> {
         if reply.status == status::OUT_OF_RESOURCES {
-            resources_words(state.message.data_size, self.limits())
+            resources_reason(state.message.data_size, self.config.max_data)
         } else {
-            Reason::new()
+            Value::Absent
         }
     }
 
     /// Logs the reply to a store, unless it was logged why its file could not be written.
     fn report_store(&self, state: &mut State, reply: Reply, location: Option<Location>) {
-        let class = state.asked.class();
-        let syntax = state.syntax();
         let is_reported = state.has_filing_failed && reply.status == status::OUT_OF_RESOURCES;
         let is_stored = Outcome::of(reply.status) == Outcome::Stored;
-        if !is_stored && !is_reported && self.has_line(state, reply) {
-            let reason = self.reason(state, reply);
-            self.logger.report(&NotStored {
-                reply,
-                class: &class,
-                instance: &state.asked.instance,
-                syntax: &syntax,
-                reason: &reason,
-                calling: &state.calling,
-            });
+        let has_line = !is_stored && !is_reported && self.has_line(state, reply);
+        let syntax = state.syntax();
+        if has_line {
+            let (status, fault, tag) = reply.values();
+            let (class, instance) = state.asked();
+            self.logger.report(
+                events::NOT_STORED,
+                &[
+                    status,
+                    fault,
+                    tag,
+                    self.reason(state, reply),
+                    class,
+                    instance,
+                    known(&syntax),
+                    known(&state.calling),
+                ],
+            );
         }
-        self.logger.report(&Answered {
-            reply,
-            class: &class,
-            instance: &state.asked.instance,
-            syntax: &syntax,
-            bytes: state.message.data_size,
-            location,
-        });
+        if self.logger.reports(Level::Debug) {
+            let (status, fault, tag) = reply.values();
+            let (class, instance) = state.asked();
+            self.logger.report(
+                events::ANSWERED,
+                &[
+                    class,
+                    instance,
+                    known(&syntax),
+                    Value::Number(state.message.data_size),
+                    status,
+                    fault,
+                    tag,
+                    some(location),
+                ],
+            );
+        }
     }
 }
 
@@ -341,10 +385,7 @@ where
             return;
         };
         self.report_filing(&mut state);
-        let held = state.held.take();
-        if !is_kept {
-            state.end(End::FileLost);
-        } else if let Some(reply) = held {
+        if let Some(reply) = state.settle(is_kept) {
             self.report_reply(&mut state, reply);
         }
     }

@@ -1,9 +1,9 @@
 //! Log lines: printable ASCII, of bounded length.
-use crate::entry::{Entry, Fields, Name};
+use crate::event::{Event, Form, Value, write_parts};
 use crate::form::LineForm;
 use crate::text::Text;
 use jiff::Timestamp;
-use serde_json::{Map, Value};
+use serde_json::{Map, Value as Json};
 use std::alloc::{AllocError, Global};
 use std::fmt::Write;
 use std::net::SocketAddr;
@@ -34,17 +34,20 @@ const NO_MEMORY: &[u8] =
 /// The line that replaces a JSON line of more than `LINE` characters.
 const TOO_LONG: &[u8] = b"{\"event\":\"lost line\",\"level\":\"ERROR\",\"error\":\"too long\"}";
 
-impl Fields for Line {
-    fn number(&mut self, name: Name, value: u64) {
-        let _ = write!(self, "{}{value}{}", name.before, name.after);
+impl Form for Line {
+    fn text(&mut self, text: &str) {
+        self.add(text.as_bytes());
     }
 
-    fn text(&mut self, name: Name, value: &str) {
-        let _ = write!(self, "{}{value}{}", name.before, name.after);
-    }
-
-    fn list(&mut self, name: Name, values: &str) {
-        self.text(name, values);
+    fn field(&mut self, _name: &str, value: &Value<'_>) {
+        match value {
+            Value::Absent => {}
+            Value::Number(number) => {
+                let _ = write!(self, "{number}");
+            }
+            Value::Shown(words) => self.add(words.as_str().as_bytes()),
+            Value::Text(text) | Value::List(text) => self.add(text.as_bytes()),
+        }
     }
 }
 
@@ -62,8 +65,8 @@ pub(crate) fn shown_peer(peer: SocketAddr) -> Peer {
     text
 }
 
-/// Returns the text line of an entry.
-fn text_line<E: Entry>(head: Head, entry: &E) -> Line {
+/// Returns the text line of an event.
+fn text_line(head: Head, event: Event, values: &[Value<'_>]) -> Line {
     let mut line = Line::new();
     if let Some(time) = head.time {
         line.add(shown_time(time).as_str().as_bytes());
@@ -73,8 +76,7 @@ fn text_line<E: Entry>(head: Head, entry: &E) -> Line {
         line.add(shown_peer(peer).as_str().as_bytes());
         line.add(b" ");
     }
-    line.add(E::EVENT.words.as_bytes());
-    entry.fields(&mut line);
+    write_parts(event, values, &mut line);
     line
 }
 
@@ -82,13 +84,13 @@ fn text_line<E: Entry>(head: Head, entry: &E) -> Line {
 #[derive(Drop)]
 struct Object {
     alloc: Global,
-    members: Map<String, Value>,
+    members: Map<String, Json>,
     is_lost: bool,
 }
 
 impl Object {
     /// Adds a member, or records that memory ran out.
-    fn put(&mut self, key: &str, value: Result<Value, AllocError>) {
+    fn put(&mut self, key: &str, value: Result<Json, AllocError>) {
         let added = match value {
             Ok(value) => serde_json::put(&mut self.members, self.alloc, key, value),
             Err(error) => Err(error),
@@ -99,37 +101,39 @@ impl Object {
     }
 
     fn put_text(&mut self, key: &str, value: &str) {
-        let value = Value::try_from_str(self.alloc, value);
+        let value = Json::try_from_str(self.alloc, value);
         self.put(key, value);
     }
 }
 
-impl Fields for Object {
-    fn number(&mut self, name: Name, value: u64) {
-        self.put(name.key, Ok(Value::from(value)));
-    }
+impl Form for Object {
+    fn text(&mut self, _text: &str) {}
 
-    fn text(&mut self, name: Name, value: &str) {
-        self.put_text(name.key, value);
-    }
-
-    fn list(&mut self, name: Name, values: &str) {
-        let list = list_of(self.alloc, values);
-        self.put(name.key, list);
+    fn field(&mut self, name: &str, value: &Value<'_>) {
+        match value {
+            Value::Absent => {}
+            Value::Number(number) => self.put(name, Ok(Json::from(*number))),
+            Value::Shown(words) => self.put_text(name, words.as_str()),
+            Value::Text(text) => self.put_text(name, text),
+            Value::List(texts) => {
+                let list = list_of(self.alloc, texts);
+                self.put(name, list);
+            }
+        }
     }
 }
 
 /// Returns the parts of a text that a comma and a space separate.
-fn list_of(alloc: Global, values: &str) -> Result<Value, AllocError> {
+fn list_of(alloc: Global, values: &str) -> Result<Json, AllocError> {
     let mut list = Vec::new(alloc);
     for value in values.split(", ") {
-        list.push(Value::try_from_str(alloc, value)?)?;
+        list.push(Json::try_from_str(alloc, value)?)?;
     }
-    Ok(Value::Array(list))
+    Ok(Json::Array(list))
 }
 
 /// Returns the members of a JSON line.
-fn object_of<E: Entry>(alloc: Global, head: Head, entry: &E) -> Object {
+fn object_of(alloc: Global, head: Head, event: Event, values: &[Value<'_>]) -> Object {
     let mut object = Object {
         alloc,
         members: Map::new(alloc),
@@ -138,24 +142,24 @@ fn object_of<E: Entry>(alloc: Global, head: Head, entry: &E) -> Object {
     if let Some(time) = head.time {
         object.put_text("time", shown_time(time).as_str());
     }
-    object.put_text("level", entry.level().as_str());
-    object.put_text("event", E::EVENT.key);
+    object.put_text("level", event.level.as_str());
+    object.put_text("event", event.name);
     if let Some(peer) = head.peer {
         object.put_text("peer", shown_peer(peer).as_str());
     }
-    entry.fields(&mut object);
+    write_parts(event, values, &mut object);
     object
 }
 
-/// Returns the JSON line of an entry.
-fn json_line<E: Entry>(alloc: Global, head: Head, entry: &E) -> Line {
-    let object = object_of(alloc, head, entry);
+/// Returns the JSON line of an event.
+fn json_line(alloc: Global, head: Head, event: Event, values: &[Value<'_>]) -> Line {
+    let object = object_of(alloc, head, event, values);
     let mut line = Line::new();
     if object.is_lost {
         line.add(NO_MEMORY);
         return line;
     }
-    match Value::Object(object.members).to_string(alloc) {
+    match Json::Object(object.members).to_string(alloc) {
         Ok(text) if text.len() <= LINE => line.add(text.as_bytes()),
         Ok(_) => line.add(TOO_LONG),
         Err(_) => line.add(NO_MEMORY),
@@ -163,10 +167,10 @@ fn json_line<E: Entry>(alloc: Global, head: Head, entry: &E) -> Line {
     line
 }
 
-/// Returns the line of an entry.
-pub(crate) fn line_of<E: Entry>(form: LineForm, head: Head, entry: &E) -> Line {
+/// Returns the line of an event with these values.
+pub(crate) fn line_of(form: LineForm, head: Head, event: Event, values: &[Value<'_>]) -> Line {
     match form {
-        LineForm::Text => text_line(head, entry),
-        LineForm::Json(alloc) => json_line(alloc, head, entry),
+        LineForm::Text => text_line(head, event, values),
+        LineForm::Json(alloc) => json_line(alloc, head, event, values),
     }
 }

@@ -123,60 +123,38 @@ impl Limited {
 /// The rate limits that all connections share, by reference.
 #[derive(Drop)]
 pub struct LineLimits {
-    association: Cell<LineLimit>,
-    store: Cell<LineLimit>,
-    quarantined: Cell<LineLimit>,
-    not_quarantined: Cell<LineLimit>,
-    file: Cell<LineLimit>,
-    names: Cell<LineLimit>,
-    connection: Cell<LineLimit>,
+    /// For each kind its limit.
+    limits: Cell<[LineLimit; 7]>,
 }
 
 impl LineLimits {
     /// Creates the limits before the first line.
     pub fn new() -> LineLimits {
         LineLimits {
-            association: Cell::new(LineLimit::new()),
-            store: Cell::new(LineLimit::new()),
-            quarantined: Cell::new(LineLimit::new()),
-            not_quarantined: Cell::new(LineLimit::new()),
-            file: Cell::new(LineLimit::new()),
-            names: Cell::new(LineLimit::new()),
-            connection: Cell::new(LineLimit::new()),
-        }
-    }
-
-    /// Returns the limit of lines of this kind.
-    fn of(&self, kind: Limited) -> &Cell<LineLimit> {
-        match kind {
-            Limited::Association => &self.association,
-            Limited::Store => &self.store,
-            Limited::Quarantined => &self.quarantined,
-            Limited::NotQuarantined => &self.not_quarantined,
-            Limited::File => &self.file,
-            Limited::Names => &self.names,
-            Limited::Connection => &self.connection,
+            limits: Cell::new([LineLimit::new(); 7]),
         }
     }
 
     /// Counts a line of this kind. Returns whether it is to be written.
     pub(crate) fn admit(&self, kind: Limited, now: Option<Instant>) -> bool {
         let (most, _) = kind.rate();
-        let mut limit = self.of(kind).get();
-        let is_written = limit.admit(now, most);
-        self.of(kind).set(limit);
+        let mut limits = self.limits.get();
+        let is_written = limits[kind as usize].admit(now, most);
+        self.limits.set(limits);
         is_written
     }
 
     /// Starts a new span if the last one is over or `now` is `None`. Returns how many lines of this
     /// kind were left out in the last one.
     pub(crate) fn renew(&self, kind: Limited, now: Option<Instant>) -> u64 {
-        let limit = self.of(kind).get();
+        let mut limits = self.limits.get();
+        let limit = limits[kind as usize];
         let (_, seconds) = kind.rate();
         if now.is_some_and(|now| !limit.is_over(now, seconds)) {
             return 0;
         }
-        self.of(kind).set(LineLimit::new());
+        limits[kind as usize] = LineLimit::new();
+        self.limits.set(limits);
         limit.omitted
     }
 }

@@ -1,9 +1,9 @@
 //! Writes lines to the log.
-use crate::entry::Entry;
+use crate::event::{Event, Value};
+use crate::events::LINES_OMITTED;
 use crate::form::LineForm;
 use crate::line::{Head, line_of};
 use crate::line_limits::{Limited, LineLimits};
-use crate::server_entries::LinesOmitted;
 use jiff::Timestamp;
 use log::{Level, Log, log, log_enabled};
 use metrics::MetricsFile;
@@ -80,13 +80,23 @@ impl<'a, R: Log + Clock> Logger<'a, R> {
         Instant::now(self.rt).ok()
     }
 
-    /// Writes a line, if lines of its level are written.
-    pub fn report<E: Entry>(&self, entry: &E) {
-        let level = entry.level();
-        if self.reports(level) {
-            let line = line_of(self.form, self.head(), entry);
-            log!(self.rt; target: TARGET, level, "{line}");
+    /// Writes the line of an event with these values of its fields, if lines of its level are
+    /// written. If it exceeds its rate limit, it is counted as left out.
+    pub fn report(&self, event: Event, values: &[Value<'_>]) {
+        let is_written = self.reports(event.level)
+            && match event.limit {
+                Some(kind) => self.admits(kind),
+                None => true,
+            };
+        if is_written {
+            self.write(event, values);
         }
+    }
+
+    /// Writes the line of an event, if lines of its level are written.
+    fn write(&self, event: Event, values: &[Value<'_>]) {
+        let line = line_of(self.form, self.head(), event, values);
+        log!(self.rt; target: TARGET, event.level, "{line}");
     }
 
     /// Returns whether a line of this kind may be written now. If not, it is counted as left out.
@@ -97,14 +107,6 @@ impl<'a, R: Log + Clock> Logger<'a, R> {
         let now = self.now();
         self.report_lines_of(limits, kind, now);
         limits.admit(kind, now)
-    }
-
-    /// Writes a line of this kind, if lines of its level are written. If it exceeds its rate limit,
-    /// it is counted as left out.
-    pub fn report_limited<E: Entry>(&self, kind: Limited, entry: &E) {
-        if self.reports(entry.level()) && self.admits(kind) {
-            self.report(entry);
-        }
     }
 
     /// Logs how many lines of each kind were left out, if its span is over or `now` is `None`.
@@ -124,7 +126,7 @@ impl<'a, R: Log + Clock> Logger<'a, R> {
                 peer: None,
                 ..*self
             }
-            .report(&LinesOmitted { count, of });
+            .write(LINES_OMITTED, &[Value::Number(count), Value::Text(of)]);
         }
     }
 }

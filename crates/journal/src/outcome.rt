@@ -3,7 +3,6 @@ ghost use Rattle.std.specs.Prelude.{◌≡◌, ◌-◌, ◌+◌, ℕ};
 ghost use Rattle.journal.specs.Outcomes as spelling;
 ghost use Rattle.metrics.specs.Statuses.{status_of};
 
-use dimse::status;
 use metrics::CountedStatus;
 
 /// The outcome of a store, which its reply reports.
@@ -17,26 +16,13 @@ pub enum Outcome {
     Failed,
 }
 
-/// Returns whether the name of the status in the standard starts with "refused".
-fn is_refusal(status: u16) -> bool
-    ensures { result ≡ spelling.is_refusal status }
-{
-    status == status::CLASS_NOT_SUPPORTED || status == status::OUT_OF_RESOURCES
-}
-
 impl Outcome {
     /// Returns the outcome of a store from the status of its reply (PS3.7 annex C, PS3.4 annex
     /// B.2.3).
     pub fn of(status: u16) -> Outcome
         ensures { result ≡ spelling.outcome_of status }
     {
-        if status == status::SUCCESS {
-            Outcome::Stored
-        } else if is_refusal(status) {
-            Outcome::Refused
-        } else {
-            Outcome::Failed
-        }
+        Outcome::counted(CountedStatus::of(status))
     }
 
     /// Returns the outcome of a store from the counter of its status, so that the counts in the log

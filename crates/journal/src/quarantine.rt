@@ -3,13 +3,15 @@ ghost use Rattle.std.specs.Prelude.{◌≡◌};
 ghost use Rattle.journal.specs.Outcomes as spelling;
 
 use crate::asked::Reply;
+use crate::event::{Value, known, shown};
+use crate::events;
 use crate::journal::Journal;
-use crate::line_limits::Limited;
-use crate::quarantine_entries::{NotQuarantined, QuarantineFull, QuarantineSheet, Quarantined};
+use crate::sheet::sheet_of;
 use crate::state::State;
 use dimse::status;
 use folder_filing::{SetAside, StoredFile};
 use log::Log;
+use std::alloc::AllocError;
 use std::io;
 use std::io::{Error, ErrorKind};
 use std::rt::Files;
@@ -35,9 +37,8 @@ where
 {
     /// Logs why a draft could not be moved to the quarantine, if that failed.
     pub(crate) fn report_not_aside(&self) {
-        if let Some(error) = self.notes.take_aside_error() {
-            self.logger
-                .report_limited(Limited::NotQuarantined, &NotQuarantined(&error));
+        if let Some(error) = self.notes.aside_error.take() {
+            self.report_failed(Err(error));
         }
     }
 
@@ -45,7 +46,7 @@ where
     /// reply.
     pub(crate) fn remove_aside(&self) {
         self.report_not_aside();
-        if let Some(aside) = self.notes.take_aside() {
+        if let Some(aside) = self.notes.aside.take() {
             self.report_failed(aside.remove());
         }
     }
@@ -53,14 +54,14 @@ where
     fn report_failed(&self, done: io::Result<()>) {
         if let Err(error) = done {
             self.logger
-                .report_limited(Limited::NotQuarantined, &NotQuarantined(&error));
+                .report(events::NOT_QUARANTINED, &[shown(&error)]);
         }
     }
 
     /// Keeps the draft that was moved to the quarantine, or removes it, by the reply to its store.
     pub(crate) fn settle_aside(&self, state: &State, reply: Reply) {
         self.report_not_aside();
-        let Some(aside) = self.notes.take_aside() else {
+        let Some(aside) = self.notes.aside.take() else {
             return;
         };
         let done = if is_quarantined(reply.status, state.has_filing_failed) {
@@ -73,34 +74,48 @@ where
 
     /// Keeps a draft in the quarantine with a text beside it, and logs that.
     fn keep(&self, state: &State, reply: Reply, aside: SetAside<S>) -> io::Result<()> {
-        let class = state.asked.class();
-        let reason = self.reason(state, reply);
         let kept = aside.data();
-        let text = self.sheet(&QuarantineSheet {
-            reply,
-            class: &class,
-            instance: &state.asked.instance,
-            reason: &reason,
-            called: &state.called,
-            calling: &state.calling,
-            received: state.message.data_size,
-            kept,
-        });
-        let Ok(text) = text else {
+        let Ok(text) = self.sheet(state, reply, kept) else {
             aside.remove()?;
             return Err(Error::from(ErrorKind::OutOfMemory));
         };
         let done = aside.keep(text.as_str())?;
-        self.logger.report_limited(
-            Limited::Quarantined,
-            &Quarantined {
-                number: done.number,
-                kept,
-            },
+        self.logger.report(
+            events::QUARANTINED,
+            &[
+                shown(format_args!("{:06}.dcm", done.number)),
+                Value::Number(kept),
+            ],
         );
         if done.is_full {
-            self.logger.report(&QuarantineFull);
+            self.logger.report(events::QUARANTINE_FULL, &[]);
         }
         Ok(())
+    }
+
+    /// Returns the text beside a quarantined data set, of which `kept` bytes are kept. Fails if
+    /// memory runs out.
+    fn sheet(&self, state: &State, reply: Reply, kept: u64) -> Result<String, AllocError> {
+        let (status, fault, tag) = reply.values();
+        let (class, instance) = state.asked();
+        let received = state.message.data_size;
+        sheet_of(
+            self.alloc,
+            self.logger.head(),
+            events::QUARANTINE_SHEET,
+            &[
+                known(&state.calling),
+                shown(&state.called),
+                status,
+                fault,
+                tag,
+                self.reason(state, reply),
+                class,
+                instance,
+                Value::Number(received),
+                Value::Number(kept),
+                shown(if kept == received { "yes" } else { "no" }),
+            ],
+        )
     }
 }

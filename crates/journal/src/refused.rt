@@ -1,11 +1,12 @@
 //! The classes of a request of which presentation contexts were refused.
-use crate::accepted::Results;
-use crate::asked::Value;
-use crate::entry_fields::Words;
+use crate::accepted::Accepted;
+use crate::asked::UidText;
+use crate::event::Words;
 use crate::text::Text;
 use dictionary::{Transfer, storage_class, syntax_of};
 use element::Uid;
 use keywords::{class_keyword, syntax_keyword};
+use negotiate::{Config, result_of};
 use pdu::{Proposal, Request};
 use std::fmt::Write;
 
@@ -34,14 +35,24 @@ pub(crate) struct RefusedClasses {
     pub has_storage: bool,
 }
 
-/// Returns the keyword of a class, or its UID if it has none.
-pub(crate) fn shown_class(uid: &[u8]) -> Value {
-    let mut class = Value::new();
-    match class_keyword(uid) {
-        Some(keyword) => class.add(keyword.as_bytes()),
-        None => class.add(uid),
+/// Returns a keyword, or the UID if it has none.
+fn shown_uid(uid: &[u8], keyword: Option<&str>) -> UidText {
+    let mut text = UidText::new();
+    match keyword {
+        Some(keyword) => text.add(keyword.as_bytes()),
+        None => text.add(uid),
     }
-    class
+    text
+}
+
+/// Returns the keyword of a class, or its UID if it has none.
+pub(crate) fn shown_class(uid: &[u8]) -> UidText {
+    shown_uid(uid, class_keyword(uid))
+}
+
+/// Returns the keyword of a transfer syntax, or its UID if it has none.
+pub(crate) fn shown_syntax(uid: &[u8]) -> UidText {
+    shown_uid(uid, syntax_keyword(uid))
 }
 
 /// Returns whether the class is in the standard's table of storage classes.
@@ -82,19 +93,9 @@ struct RefusedSyntaxes {
     has_compressed: bool,
 }
 
-/// Returns the keyword of a transfer syntax, or its UID if it has none.
-pub(crate) fn shown_syntax(uid: &[u8]) -> Value {
-    let mut syntax = Value::new();
-    match syntax_keyword(uid) {
-        Some(keyword) => syntax.add(keyword.as_bytes()),
-        None => syntax.add(uid),
-    }
-    syntax
-}
-
 impl RefusedSyntaxes {
     /// Returns the transfer syntaxes of the refused contexts of this class.
-    fn of(request: &Request, results: &Results, class: &[u8]) -> RefusedSyntaxes {
+    fn of(request: &Request, accepted: &Accepted, class: &[u8]) -> RefusedSyntaxes {
         let mut syntaxes = RefusedSyntaxes {
             named: Text::new(),
             count: 0,
@@ -102,7 +103,7 @@ impl RefusedSyntaxes {
             has_compressed: false,
         };
         for proposal in request.contexts() {
-            if proposal.abstract_syntax() == class && !results.is_accepted(proposal.id()) {
+            if proposal.abstract_syntax() == class && !accepted.has(proposal.id()) {
                 for uid in proposal.transfer_syntaxes() {
                     syntaxes.add(uid);
                 }
@@ -154,14 +155,14 @@ impl RefusedSyntaxes {
 
 /// Returns whether another context of the same class was accepted, or `None` if an earlier context
 /// of the class was refused too.
-fn accepts_class(request: &Request, results: &Results, proposal: &Proposal) -> Option<bool> {
+fn accepts_class(request: &Request, accepted: &Accepted, proposal: &Proposal) -> Option<bool> {
     let mut is_accepted = false;
     let mut is_before = true;
     for other in request.contexts() {
         if other.id() == proposal.id() {
             is_before = false;
         } else if other.abstract_syntax() == proposal.abstract_syntax() {
-            if results.is_accepted(other.id()) {
+            if accepted.has(other.id()) {
                 is_accepted = true;
             } else if is_before {
                 return None;
@@ -184,18 +185,24 @@ impl RefusedClasses {
 
     /// Returns the classes of which no context was accepted, and the storage classes of which some
     /// contexts were accepted and others were not.
-    pub(crate) fn of(request: &Request, results: &Results) -> (RefusedClasses, RefusedClasses) {
+    pub(crate) fn of(
+        config: &Config,
+        request: &Request,
+        accepted: &Accepted,
+    ) -> (RefusedClasses, RefusedClasses) {
         let mut refused = RefusedClasses::new();
         let mut in_part = RefusedClasses::new();
         for proposal in request.contexts() {
-            if let Some(answer @ 1..) = results.result(proposal.id()) {
-                match accepts_class(request, results, &proposal) {
-                    Some(false) => refused.add(request, results, &proposal, answer),
-                    Some(true) if !class_option(proposal.abstract_syntax()).is_empty() => {
-                        in_part.add(request, results, &proposal, answer);
-                    }
-                    _ => {}
+            if accepted.has(proposal.id()) {
+                continue;
+            }
+            let answer = result_of(config, &proposal);
+            match accepts_class(request, accepted, &proposal) {
+                Some(false) => refused.add(request, accepted, &proposal, answer),
+                Some(true) if !class_option(proposal.abstract_syntax()).is_empty() => {
+                    in_part.add(request, accepted, &proposal, answer);
                 }
+                _ => {}
             }
         }
         (refused, in_part)
@@ -207,7 +214,7 @@ impl RefusedClasses {
     }
 
     /// Adds the class of a refused context with this result.
-    fn add(&mut self, request: &Request, results: &Results, proposal: &Proposal, answer: u8) {
+    fn add(&mut self, request: &Request, accepted: &Accepted, proposal: &Proposal, answer: u8) {
         let class = proposal.abstract_syntax();
         self.has_storage |= !class_option(class).is_empty();
         if self.named_count == MOST_NAMED {
@@ -218,7 +225,7 @@ impl RefusedClasses {
             self.named.add(b", ");
         }
         self.named_count = self.named_count.saturating_add(1);
-        let syntaxes = RefusedSyntaxes::of(request, results, class);
+        let syntaxes = RefusedSyntaxes::of(request, accepted, class);
         let _ = write!(self.named, "{} (", shown_class(class));
         if answer == CLASS_REFUSED {
             self.named.add(b"class");

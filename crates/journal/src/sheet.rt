@@ -1,7 +1,6 @@
 //! The text beside a quarantined data set: a line for each field.
-use crate::entry::{Entry, Fields, Name};
+use crate::event::{Event, Form, Value, Words, write_parts};
 use crate::line::{Head, shown_peer, shown_time};
-use crate::text::Text;
 use std::alloc::{AllocError, Global};
 use std::fmt::Write;
 
@@ -28,28 +27,30 @@ impl Sheet {
     }
 }
 
-impl Fields for Sheet {
-    fn number(&mut self, name: Name, value: u64) {
-        let mut digits = Text::<20>::new();
-        let _ = write!(digits, "{value}");
-        self.put(name.key, digits.as_str());
-    }
+impl Form for Sheet {
+    fn text(&mut self, _text: &str) {}
 
-    fn text(&mut self, name: Name, value: &str) {
-        self.put(name.key, value);
-    }
-
-    fn list(&mut self, name: Name, values: &str) {
-        self.put(name.key, values);
+    fn field(&mut self, name: &str, value: &Value<'_>) {
+        match value {
+            Value::Absent => {}
+            Value::Number(number) => {
+                let mut digits = Words::new();
+                let _ = write!(digits, "{number}");
+                self.put(name, digits.as_str());
+            }
+            Value::Shown(words) => self.put(name, words.as_str()),
+            Value::Text(text) | Value::List(text) => self.put(name, text),
+        }
     }
 }
 
-/// Returns an entry as text, a line for each field, after lines for the time and the peer. Fails if
+/// Returns an event as text, a line for each field, after lines for the time and the peer. Fails if
 /// memory runs out.
-pub(crate) fn sheet_of<E: Entry>(
+pub(crate) fn sheet_of(
     alloc: Global,
     head: Head,
-    entry: &E,
+    event: Event,
+    values: &[Value<'_>],
 ) -> Result<String, AllocError> {
     let mut sheet = Sheet {
         text: String::new(alloc),
@@ -61,7 +62,7 @@ pub(crate) fn sheet_of<E: Entry>(
     if let Some(peer) = head.peer {
         sheet.put("peer", shown_peer(peer).as_str());
     }
-    entry.fields(&mut sheet);
+    write_parts(event, values, &mut sheet);
     if sheet.is_lost {
         return Err(AllocError);
     }

@@ -1,20 +1,21 @@
 //! What the log knows of an association.
-ghost use Rattle.std.specs.Prelude.{◌≡◌, ◌<◌, ◌+◌, Some, true, false, min};
+ghost use Rattle.std.specs.Prelude.{◌≡◌, ◌<◌, ◌+◌, None, Some, true, false, min};
 
-use crate::asked::{Asked, Reply, Value};
-use crate::cause::{Cause, head_cause};
+use crate::asked::{Reply, UidText};
 use crate::end::{Abort, About, End, Rejection};
-use crate::limits::Limits;
+use crate::event::{Value, known, shown};
 use crate::line_limits::LineLimit;
 use crate::message::Message;
 use crate::outcome::{Counts, Outcome};
-use crate::refused::{RefusedClasses, shown_syntax};
-use crate::request::{RequestFront, Title};
+use crate::refused::{RefusedClasses, shown_class, shown_syntax};
+use crate::request::{Title, body_of, shown_titles};
 use arrayvec::ArrayVec;
 use decisions::{Decision, ValueEnd};
+use dimse::{Command, read_command};
 use folder_filing::Location;
 use metrics::{CountedEnd, CountedStatus};
 use negotiate::{Answer, ContextRow, rejection};
+use pdu::TITLES_END;
 use service::Consumed;
 use std::time::Instant;
 
@@ -34,12 +35,11 @@ pub(crate) enum Phase {
 #[derive(Drop)]
 pub(crate) struct State {
     pub phase: Phase,
-    pub request: RequestFront,
     /// The maximum length of a P-DATA-TF PDU that the peer receives, once the request was read.
     pub maximum: Option<u32>,
     pub message: Message,
-    /// The class and the instance of the last store.
-    pub asked: Asked,
+    /// The command of the last store, unless the association ended with it.
+    asked: Option<Command>,
     pub counts: Counts,
     /// The rate limit of lines about stores not filed.
     pub lines: LineLimit,
@@ -64,6 +64,8 @@ pub(crate) struct State {
     pub held: Option<Reply>,
     /// The location of the file of a store whose reply is not sent completely, if there is one.
     pub unconfirmed: Option<Option<Location>>,
+    /// The first bytes of the body of a request that is rejected for its length.
+    front: ArrayVec<u8, TITLES_END>,
     /// The last two bytes that were consumed: in an A-ABORT its source and reason.
     last: (u8, u8),
     /// How many bytes the association was to send.
@@ -73,20 +75,20 @@ pub(crate) struct State {
 }
 
 impl State {
-    ghost use Rattle.journal.specs.Ends.{counted_as, counted_by, counted_where};
+    ghost use Rattle.std.specs.Result.{result_ok};
+    ghost use Rattle.dimse.specs.Reading.{command_in};
+    ghost use Rattle.journal.specs.Ends.{IsAbortedBy, counted_by, counted_where};
     ghost use Rattle.journal.specs.Outcomes.{counted, outcome_of};
-    ghost use Rattle.journal.specs.Reported.{asked_by, asked_more, reported_by};
+    ghost use Rattle.journal.specs.Reported.{asked_by, asked_more, command_by, reported_by};
     ghost use Rattle.metrics.specs.Statuses.{status_of};
-    ghost use Rattle.metrics.specs.declared.ends.CountedEnd.TheVariants.{AbortedByBox};
 
     /// Creates the state before any byte is received.
     pub(crate) fn new() -> State {
         State {
             phase: Phase::Awaited,
-            request: RequestFront::new(),
             maximum: None,
             message: Message::new(),
-            asked: Asked::nothing(),
+            asked: None,
             counts: Counts::default(),
             lines: LineLimit::new(),
             last_omitted: None,
@@ -101,6 +103,7 @@ impl State {
             has_filing_failed: false,
             held: None,
             unconfirmed: None,
+            front: ArrayVec::new(),
             last: (0, 0),
             answered: 0,
             sent: 0,
@@ -112,15 +115,16 @@ impl State {
     pub(crate) fn take(&mut self, consumed: &Consumed<'_>) -> Decision
         ensures reported { result ≡ reported_by consumed.now.is_complete self.old.phase consumed.now.decision }
         ensures asked { self.new.counts ≡ asked_by result self.old.counts }
+        ensures command { self.new.asked ≡ command_by result consumed.now.command.now self.old.asked }
     {
-        self.answer(consumed.answered);
+        self.answer(consumed.reply.len());
         self.keep(consumed.bytes);
         if !consumed.is_complete {
             return Decision::Nothing;
         }
         match self.phase {
             Phase::Awaited => self.phase = Phase::InRequest,
-            Phase::InRequest => self.take_titles(&[]),
+            Phase::InRequest => self.take_titles(body_of(consumed)),
             Phase::Established => {}
             Phase::Over => return Decision::Nothing,
         }
@@ -131,36 +135,42 @@ impl State {
         consumed.decision
     }
 
-    /// Keeps the last two bytes, and those of the request that have its titles.
+    /// Keeps the last two bytes, and those of a request that was too long which have its titles.
     fn keep(&mut self, bytes: &[u8])
         ensures phase { self.new.phase ≡ self.old.phase }
         ensures counts { self.new.counts ≡ self.old.counts }
+        ensures asked { self.new.asked ≡ self.old.asked }
     {
         self.last = match bytes {
             [.., source, reason] => (*source, *reason),
             [reason] => (self.last.1, *reason),
             [] => self.last,
         };
-        match self.phase {
-            Phase::Awaited | Phase::Established => {}
-            Phase::InRequest => self.request.keep(bytes),
-            Phase::Over => {
-                if matches!(self.end, Some(End::Rejected(_))) {
-                    self.request.keep(bytes);
-                    self.take_titles(&[]);
-                }
+        if let Some(
+            End::Rejected(
+                Rejection {
+                    about: About::Length(_),
+                    ..
+                },
+            ),
+        ) = self.end
+        {
+            let count = self.front.remaining_capacity().min(bytes.len());
+            let _ = self.front.try_extend_from_slice(&bytes[..count]);
+            if let Some(titles) = shown_titles(self.front.as_slice()) {
+                (self.called, self.calling) = titles;
             }
         }
     }
 
-    /// Reads the titles of the request, if the consumed bytes, followed by `ahead`, have them.
-    pub(crate) fn take_titles(&mut self, ahead: &[u8])
+    /// Reads the titles of the request, if this beginning of its body has them.
+    pub(crate) fn take_titles(&mut self, body: &[u8])
         ensures phase { self.new.phase ≡ self.old.phase }
         ensures counts { self.new.counts ≡ self.old.counts }
+        ensures asked { self.new.asked ≡ self.old.asked }
     {
-        if let Some(titles) = self.request.titles(ahead) {
-            self.called = titles.called;
-            self.calling = titles.calling;
+        if let Some(titles) = shown_titles(body) {
+            (self.called, self.calling) = titles;
         }
     }
 
@@ -168,6 +178,7 @@ impl State {
     pub(crate) fn answer(&mut self, count: usize)
         ensures phase { self.new.phase ≡ self.old.phase }
         ensures counts { self.new.counts ≡ self.old.counts }
+        ensures asked { self.new.asked ≡ self.old.asked }
     {
         self.answered = self.answered.saturating_add(count as u64);
     }
@@ -183,22 +194,39 @@ impl State {
     /// Records a C-STORE request with this command set, which is empty if the association ended
     /// with it.
     fn ask(&mut self, command: &[u8])
-        ensures { self.new.counts ≡ asked_more self.old.counts }
+        ensures counts { self.new.counts ≡ asked_more self.old.counts }
+        ensures asked { self.new.asked ≡ result_ok (command_in command.now) }
     {
         self.counts.ask();
         self.has_filing_failed = false;
-        self.asked = Asked::read(command);
+        self.asked = read_command(command).ok();
+    }
+
+    /// Returns the class of the last store, by its keyword or else its UID, and its instance, each
+    /// absent if it is unknown.
+    pub(crate) fn asked<'a>(&self) -> (Value<'a>, Value<'a>) {
+        let Some(command) = &self.asked else {
+            return (Value::Absent, Value::Absent);
+        };
+        let mut instance = UidText::new();
+        if let Some(uid) = command.instance() {
+            instance.add(uid.as_bytes());
+        }
+        (
+            shown(shown_class(command.class().as_bytes())),
+            known(&instance),
+        )
     }
 
     /// Returns the transfer syntax of the context of the message, as the log shows it, or an empty
     /// text if unknown.
-    pub(crate) fn syntax(&self) -> Value {
+    pub(crate) fn syntax(&self) -> UidText {
         for row in &self.accepted {
             if row.id == self.message.context {
                 return shown_syntax(row.syntax.uid());
             }
         }
-        Value::new()
+        UidText::new()
     }
 
     /// Counts a store that was not filed. Returns whether it is among the first `most` of its
@@ -226,12 +254,39 @@ impl State {
         status
     }
 
+    /// Records whether the file of a store is durable. Returns the reply to the store that was held
+    /// for it, which counts as an answer, or `None` if the file is lost.
+    pub(crate) fn settle(&mut self, is_kept: bool) -> Option<Reply>
+        ensures kept { is_kept ≡ true → result ≡ self.old.held }
+        ensures lost { is_kept ≡ false → result ≡ None }
+        ensures once { self.new.held ≡ None }
+        ensures counts { self.new.counts ≡ self.old.counts }
+    {
+        let held = self.held.take();
+        if is_kept {
+            return held;
+        }
+        self.end(End::FileLost);
+        None
+    }
+
     /// Records how the association ended, unless it had before. Only the titles of a rejected
     /// request may still be received.
-    pub(crate) fn end(&mut self, end: End) {
+    pub(crate) fn end(&mut self, end: End)
+        ensures counts { self.new.counts ≡ self.old.counts }
+        ensures held { self.new.held ≡ self.old.held }
+    {
         self.phase = Phase::Over;
         if self.end.is_none() {
             self.end = Some(end);
+        }
+    }
+
+    /// Returns how the association ended, or an empty text if it has not.
+    pub(crate) fn shown_end<'a>(&self) -> Value<'a> {
+        match self.end {
+            Some(end) => shown(end),
+            None => Value::Text(""),
         }
     }
 
@@ -245,9 +300,10 @@ impl State {
         }
     }
 
-    /// Returns how the association ended by this decision, or `None` if it continues.
-    pub(crate) fn end_by(&self, decision: Decision, limits: Limits) -> Option<End>
-        ensures { counted_where result ≡ counted_by decision }
+    /// Returns how the association ended by this decision and its reply, or `None` if it continues.
+    pub(crate) fn end_by(&self, decision: Decision, reply: &[u8]) -> Option<End>
+        ensures counted { counted_where result ≡ counted_by decision }
+        ensures aborted { IsAbortedBy decision reply.now result }
     {
         match decision {
             Decision::Nothing
@@ -268,54 +324,32 @@ impl State {
                 let (source, reason) = self.last;
                 Some(End::AbortedByPeer(Abort { source, reason }))
             }
-            Decision::PduRefused(head) => {
-                let cause = head_cause(head, self.phase == Phase::Established, limits);
-                Some(self.abort(cause))
-            }
-            Decision::RequestInvalid(fault) => Some(self.abort(Cause::Request(fault))),
-            Decision::ContextRefused(head) => Some(self.abort(Cause::Context(head.context))),
-            Decision::FragmentRefused(head, fault) => {
-                Some(self.abort(match self.message.misplaced(head, fault) {
-                    Some(misplaced) => Cause::Fragment(misplaced),
-                    None => Cause::Command(fault, None),
-                }))
-            }
-            Decision::ValueInvalid => Some(self.abort(Cause::Value)),
-            Decision::BytesRemaining(_) => Some(self.abort(Cause::Leftover)),
-            Decision::CommandRefused(fault, field) => {
-                Some(self.abort(Cause::Command(fault, field)))
+            Decision::PduRefused(_, _)
+            | Decision::RequestInvalid(_)
+            | Decision::ContextRefused(_)
+            | Decision::FragmentRefused(_, _, _)
+            | Decision::BadPdv
+            | Decision::Leftover(_)
+            | Decision::CommandRefused(_, _) => {
+                Some(End::Aborted(Abort::ending(reply), decision))
             }
         }
-    }
-
-    /// Returns the end of an association that dcmbox aborted for this cause.
-    fn abort(&self, cause: Cause) -> End
-        ensures { counted_as result ≡ AbortedByBox }
-    {
-        End::Aborted(cause.abort(self.phase == Phase::Established), cause)
     }
 
     /// Returns the rejection with this source and reason, and the number in the request that caused
     /// it.
     fn rejection(&self, source: u8, reason: u8) -> Rejection {
         let is_of_user = source == rejection::SERVICE_USER;
-        let about = if is_of_user && reason == rejection::NO_REASON_GIVEN {
-            self.maximum()
-        } else {
-            About::Nothing
+        let about = match self.maximum {
+            Some(maximum) if is_of_user && reason == rejection::NO_REASON_GIVEN => {
+                About::Maximum(maximum)
+            }
+            _ => About::Nothing,
         };
         Rejection {
             source,
             reason,
             about,
-        }
-    }
-
-    /// Returns the maximum length of a P-DATA-TF PDU that the peer receives, if it is known.
-    fn maximum(&self) -> About {
-        match self.maximum {
-            Some(maximum) => About::Maximum(maximum),
-            None => About::Nothing,
         }
     }
 }

@@ -1,9 +1,10 @@
 //! Decides which stores that were not filed have lines of their own.
 use crate::asked::Reply;
+use crate::event::{Value, known};
+use crate::events::MORE_NOT_STORED;
 use crate::journal::Journal;
 use crate::line_limits::{Limited, LineLimit};
 use crate::state::State;
-use crate::store_entries::MoreNotStored;
 use folder_filing::StoredFile;
 use log::{Level, Log};
 use std::rt::Files;
@@ -27,11 +28,17 @@ where
             return;
         };
         if self.has_lines(state, Level::Warn) {
-            self.logger.report(&MoreNotStored {
-                count,
-                reply,
-                calling: &state.calling,
-            });
+            let (status, fault, tag) = reply.values();
+            self.logger.report(
+                MORE_NOT_STORED,
+                &[
+                    Value::Number(count),
+                    status,
+                    fault,
+                    tag,
+                    known(&state.calling),
+                ],
+            );
         }
     }
 

@@ -1,4 +1,5 @@
 pub mod Counting
+pub mod DraftNames
 pub mod Visiting
 pub mod Keys
 pub mod SameBytes

@@ -1,11 +1,9 @@
 //! Opens files, and distinguishes DICOM files from others and from vanished files.
 use failures::ProgramError;
+use inspection::{FileFront, FileKind, kind_of};
 use std::fs;
-use std::io::{self, Error, ErrorKind, Read};
+use std::io::{self, Error, ErrorKind};
 use std::rt::Files;
-
-/// The size of the preamble and the letters `DICM` (PS3.10 section 7.1).
-const PREFIX: usize = 132;
 
 /// The reason why a path that is no regular file is skipped.
 pub const NO_FILE: &str = "it is a pipe, a socket or a device, and no file";
@@ -32,11 +30,13 @@ pub fn has_vanished<R: Files>(rt: &R, path: &str, error: &ProgramError) -> bool 
         && fs::symlink_metadata(rt, path).is_err_and(|error| error.kind() == ErrorKind::NotFound)
 }
 
-/// Returns whether a file begins as a DICOM file does; `false` if it can't be read.
-pub fn is_dicom<R: Files>(rt: &R, path: &str) -> bool {
-    let mut front = [0; PREFIX];
+/// Returns what the file at a path seems to be by its first bytes, or `None` if it can't be opened.
+pub fn kind_at<R: Files>(rt: &R, path: &str) -> Option<FileKind> {
     match open_file(rt, path) {
-        Ok(mut file) => file.read_exact(&mut front).is_ok() && front.ends_with(b"DICM"),
-        Err(_) => false,
+        Ok(mut file) => {
+            let mut front = FileFront::new(&mut file);
+            Some(kind_of(front.look_ahead()))
+        }
+        Err(_) => None,
     }
 }

@@ -3,7 +3,7 @@ use std::fs::Metadata;
 use std::os::unix::fs::MetadataExt;
 
 /// The device and inode numbers of a file or folder, equal for all paths that lead to it.
-#[derive(Clone, Copy, PartialEq, Eq)]
+#[derive(Clone, Copy, PartialEq, Eq, Hash)]
 pub struct NodeId {
     device: u64,
     inode: u64,

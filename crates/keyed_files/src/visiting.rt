@@ -1,24 +1,24 @@
 //! Visits the files in a folder and its subfolders.
 ghost use Rattle.std.specs.Prelude.{◌≡◌, ℕ, List, Result, true, IfErr, IfOk, OnErr, OnOk, is_ok};
-ghost use Rattle.keyed_files.specs.Counting.{after_fault, after_read, is_over};
-ghost use Rattle.keyed_files.specs.Visiting.{state_of_visit, unvisited, with_read, CountsUnread, FailsUncounted, IsDone, Stops, Visited};
+ghost use Rattle.keyed_files.specs.Counting.{after_fault, after_read, is_over, with_omitted};
+ghost use Rattle.keyed_files.specs.Visiting.{after_link, state_of_visit, unvisited, with_read, CountsUnread, FailsUncounted, IsDone, Stops, Visited};
 
 use crate::counter::Counter;
 use crate::drafts::is_draft;
-use crate::folder_names::{FolderName, NameListing, masked_path_in, path_in, split_name};
+use crate::folder_walk::{FolderWalk, WalkEntry, WalkOrder, last_name};
 use crate::keys::FileKeys;
 use crate::kinds::{NO_FILE, has_vanished, open_file};
 use crate::node_id::NodeId;
 use crate::reading::{NoKeys, read_keys};
-use crate::tally::{Tally, report_passed_by};
+use crate::tally::Tally;
 use element::Tag;
 use element::history::History;
 use failures::{Failure, ProgramError};
 use inspection::{Judgement, Printable};
 use part10::MetaFault;
 use std::fmt::Display;
-use std::fs::{self, Metadata};
-use std::io::{BufReader, Error, ErrorKind, Write};
+use std::fs::Metadata;
+use std::io::{BufReader, Write};
 use std::rt::Files;
 
 /// The size in bytes of the buffer through which files are read.
@@ -49,8 +49,9 @@ pub trait Consumer {
 /// them, and reports those that are left out. It allocates for folders still to be visited, not for
 /// files.
 ///
-/// Drafts, DICOMDIR files and symbolic links are skipped. Pipes, sockets and devices are reported,
-/// but not counted. Vanished files and folders have a count of their own.
+/// Drafts and DICOMDIR files are skipped. Symbolic links are counted unless they are followed. Pipes,
+/// sockets and devices are reported, but not counted. Vanished files and folders have a count of
+/// their own.
 #[derive(Drop)]
 pub struct Visitor<'a, R, E: Write + Drop> {
     rt: &'a R,
@@ -58,6 +59,8 @@ pub struct Visitor<'a, R, E: Write + Drop> {
     tags: &'a [Tag],
     /// The folder to skip, if any.
     spared: Option<NodeId>,
+    /// Whether symbolic links are followed.
+    follows: bool,
     /// Whether files that are no DICOM files are ignored.
     ignores_others: bool,
     err: E,
@@ -72,15 +75,23 @@ where
     R::A: Copy,
 {
     /// Creates a visitor that reads the values with these tags, at most 27, and reports files that
-    /// are left out on `err`.
-    pub fn new(rt: &'a R, tags: &'a [Tag], err: E, counter: Counter) -> Visitor<'a, R, E>
-        ensures { state_of_visit result ≡ unvisited }
+    /// are left out on `reporting.0`. With `ignores_others`, files that are no DICOM files, and not
+    /// empty, are counted, but not left out.
+    pub fn new(
+        rt: &'a R,
+        tags: &'a [Tag],
+        ignores_others: bool,
+        reporting: (E, Counter),
+    ) -> Visitor<'a, R, E>
+        ensures { state_of_visit result ≡ unvisited ignores_others }
     {
+        let (err, counter) = reporting;
         Visitor {
             rt,
             tags,
             spared: None,
-            ignores_others: false,
+            follows: false,
+            ignores_others,
             err,
             counter,
             tally: Tally::new(),
@@ -95,11 +106,11 @@ where
         self.spared = Some(folder);
     }
 
-    /// Ignores files that are no DICOM files: they are counted, but not left out.
-    pub fn ignore_others(&mut self)
-        ensures { state_of_visit self.new ≡ record (state_of_visit self.old) { ignores_others = true } }
+    /// Follows symbolic links, or not.
+    pub fn follow(&mut self, follows: bool)
+        ensures { state_of_visit self.new ≡ state_of_visit self.old }
     {
-        self.ignores_others = true;
+        self.follows = follows;
     }
 
     /// Reports `what` about this path on standard error.
@@ -139,6 +150,16 @@ where
         self.report_failure(path, error)
     }
 
+    /// Counts and reports a file that is left out for this fault.
+    fn leave_out(&mut self, path: &str, fault: &Judgement)
+        ensures counted { state_of_visit self.new ≡ record (state_of_visit self.old) { tally = with_omitted self.old.tally } }
+    {
+        let path = Printable(path.as_bytes());
+        self.tally.add_omitted();
+        self.counter.clear(&mut self.err);
+        let _ = writeln!(self.err, "dcmbox: {path}: left out: {fault}");
+    }
+
     /// Counts a file with a fault, and reports it unless it is ignored.
     fn report_fault(&mut self, path: &str, fault: &Judgement)
         ensures counted { state_of_visit self.new ≡ record (state_of_visit self.old) { tally = after_fault self.old.ignores_others fault.now self.old.tally } }
@@ -147,10 +168,7 @@ where
             self.tally.add_ignored();
             return;
         }
-        let path = Printable(path.as_bytes());
-        self.tally.add_omitted();
-        self.counter.clear(&mut self.err);
-        let _ = writeln!(self.err, "dcmbox: {path}: left out: {fault}");
+        self.leave_out(path, fault);
     }
 
     /// Reads the requested values of a file. The outer error is that the file cannot be opened or
@@ -173,8 +191,8 @@ where
         }
     }
 
-    /// Handles a file by the result of reading it: a file with a fault is counted, a DICOMDIR is
-    /// skipped.
+    /// Handles a file by the result of reading it: an empty file and one with a fault are counted, a
+    /// DICOMDIR is skipped.
     fn handle<T: Consumer>(
         &mut self,
         path: &str,
@@ -194,6 +212,10 @@ where
                 keys: &keys,
             }),
             Err(NoKeys::Directory) => Ok(()),
+            Err(NoKeys::Empty) => {
+                self.leave_out(path, &Judgement::BadHeader(MetaFault::NotPart10));
+                Ok(())
+            }
             Err(NoKeys::Faulty(fault)) => {
                 self.report_fault(path, &fault);
                 Ok(())
@@ -217,112 +239,57 @@ where
         self.handle(path, metadata, read, consumer)
     }
 
-    /// Visits a path that was found in a folder: handles a file unless it is a draft, and appends a
-    /// folder to those still to be visited. Symbolic links are not followed.
-    fn visit<T: Consumer>(
+    /// Counts a symbolic link.
+    fn pass_link(&mut self)
+        ensures counted { state_of_visit self.new ≡ after_link (state_of_visit self.old) }
+    {
+        self.tally.add_link();
+    }
+
+    /// Visits what is at a path in a folder: handles a file unless it is a draft, and counts a link.
+    fn visit_found<T: Consumer>(
         &mut self,
         path: &str,
-        is_draft: bool,
-        folders: &mut Vec<String<R::A>, R::A>,
+        found: &Metadata,
         consumer: &mut T,
     ) -> Result<(), ProgramError>
         ensures visited { OnOk result (Visited T.consumed consumer.old consumer.new (state_of_visit self.old) (state_of_visit self.new)) }
         ensures fails { OnErr result (FailsUncounted T.consumed consumer.old consumer.new (state_of_visit self.old) (state_of_visit self.new)) }
     {
-        match fs::symlink_metadata(self.rt, path) {
-            Ok(found) if found.is_dir() => {
-                if self.spared != Some(NodeId::of(&found)) {
-                    folders.push(String::from_str(self.rt.alloc(), path)?)?;
-                }
-                Ok(())
-            }
-            Ok(found) if found.is_symlink() || is_draft => Ok(()),
-            Ok(found) if found.is_file() => self.take(path, &found, consumer),
-            Ok(_) => {
-                self.report(path, &NO_FILE);
-                Ok(())
-            }
-            Err(error) => Err(ProgramError::of(Failure::Open, error)),
+        if found.is_dir() || is_draft(last_name(path)) {
+            return Ok(());
+        }
+        if found.is_symlink() {
+            self.pass_link();
+            return Ok(());
+        }
+        if !found.is_file() {
+            self.report(path, &NO_FILE);
+            return Ok(());
+        }
+        match self.take(path, found, consumer) {
+            Ok(()) => Ok(()),
+            Err(error) => self.report_unread(path, error),
         }
     }
 
-    /// Visits a name that was found in a folder. A name that is not UTF-8 is reported as
-    /// unreadable.
-    fn visit_name<T: Consumer>(
+    /// Visits an entry of a walk.
+    fn visit<T: Consumer>(
         &mut self,
-        dir: &str,
-        name: FolderName<'_>,
-        folders: &mut Vec<String<R::A>, R::A>,
+        entry: WalkEntry<R::A>,
         consumer: &mut T,
     ) -> Result<(), ProgramError>
         ensures visited { OnOk result (Visited T.consumed consumer.old consumer.new (state_of_visit self.old) (state_of_visit self.new)) }
         ensures fails { OnErr result (FailsUncounted T.consumed consumer.old consumer.new (state_of_visit self.old) (state_of_visit self.new)) }
     {
-        let text = match name {
-            FolderName::Text(text) => text,
-            FolderName::Bytes(bytes) => {
-                let path = masked_path_in(self.rt.alloc(), dir, bytes)?;
-                let error = Error::from(ErrorKind::InvalidFilename);
-                return self.report_unread(
-                    path.as_str(),
-                    ProgramError::System(Failure::Open, error),
-                );
-            }
-        };
-        let path = path_in(self.rt.alloc(), dir, text)?;
-        match self.visit(path.as_str(), is_draft(text), folders, consumer) {
-            Ok(()) => Ok(()),
+        let WalkEntry { path, found } = entry;
+        match found {
+            Ok(found) => self.visit_found(path.as_str(), &found, consumer),
             Err(error) => self.report_unread(path.as_str(), error),
         }
     }
 
-    /// Visits zero-terminated names in a folder.
-    fn visit_names<T: Consumer>(
-        &mut self,
-        dir: &str,
-        names: &[u8],
-        folders: &mut Vec<String<R::A>, R::A>,
-        consumer: &mut T,
-    ) -> Result<(), ProgramError>
-        ensures visited { OnOk result (Visited T.consumed consumer.old consumer.new (state_of_visit self.old) (state_of_visit self.new)) }
-        ensures stops { OnErr result (Stops T.consumed consumer.old consumer.new (state_of_visit self.old) (state_of_visit self.new)) }
-    {
-        let mut rest = names;
-        for _ in 0..names.len() {
-            if rest.is_empty() {
-                break;
-            }
-            let (name, others) = split_name(rest);
-            rest = others;
-            if let Some(name) = name {
-                self.visit_name(dir, name, folders, consumer)?;
-            }
-        }
-        Ok(())
-    }
-
-    /// Visits the entries of a folder, but not of its subfolders.
-    fn visit_folder<T: Consumer>(
-        &mut self,
-        dir: &str,
-        folders: &mut Vec<String<R::A>, R::A>,
-        consumer: &mut T,
-    ) -> Result<(), ProgramError>
-        ensures visited { OnOk result (Visited T.consumed consumer.old consumer.new (state_of_visit self.old) (state_of_visit self.new)) }
-        ensures stops { OnErr result (Stops T.consumed consumer.old consumer.new (state_of_visit self.old) (state_of_visit self.new)) }
-    {
-        let mut listing = NameListing::open(self.rt, dir).map_err(ProgramError::of_folder)?;
-        for _ in 0..u64::MAX {
-            match listing.read() {
-                Ok([]) => break,
-                Ok(names) => self.visit_names(dir, names, folders, consumer)?,
-                Err(error) => return self.report_unread(dir, ProgramError::of_folder(error)),
-            }
-        }
-        Ok(())
-    }
-
-    /// Visits a folder and its subfolders. Fails if the folder itself can't be listed.
+    /// Visits a folder and its subfolders. Fails if the folder itself can't be opened.
     fn visit_folders<T: Consumer>(
         &mut self,
         dir: &str,
@@ -331,15 +298,13 @@ where
         ensures visited { OnOk result (Visited T.consumed consumer.old consumer.new (state_of_visit self.old) (state_of_visit self.new)) }
         ensures stops { OnErr result (Stops T.consumed consumer.old consumer.new (state_of_visit self.old) (state_of_visit self.new)) }
     {
-        let mut folders = Vec::new(self.rt.alloc());
-        self.visit_folder(dir, &mut folders, consumer)?;
+        let mut walk = FolderWalk::below(self.rt, dir, WalkOrder::System)?;
+        walk.spare(self.spared);
+        walk.follow(self.follows);
         for _ in 0..u64::MAX {
-            let Some(dir) = folders.pop() else {
-                break;
-            };
-            match self.visit_folder(dir.as_str(), &mut folders, consumer) {
-                Ok(()) => {}
-                Err(error) => self.report_unread(dir.as_str(), error)?,
+            match walk.next()? {
+                Some(entry) => self.visit(entry, consumer)?,
+                None => break,
             }
         }
         Ok(())
@@ -380,7 +345,7 @@ where
     {
         let visited = self.visit_each(dirs, consumer);
         self.counter.clear(&mut self.err);
-        report_passed_by(self.tally.ignored, self.tally.vanished, &mut self.err);
+        self.tally.report_passed_by(&mut self.err);
         visited?;
         Ok(self.tally)
     }

@@ -4,12 +4,11 @@
 mod columns;
 mod conditions;
 mod grouping;
-mod json;
-mod lines;
 mod listing;
 mod order;
 mod studies;
 mod texts;
+mod writing;
 
 pub use columns::{Column, MOST_COLUMNS};
 pub use conditions::{Condition, MOST_CONDITIONS};

@@ -2,10 +2,9 @@
 use crate::columns::Column;
 use crate::conditions::{Condition, Selection, tags_of};
 use crate::grouping::{Grouping, LISTED};
-use crate::json::write_json;
-use crate::lines::write_lines;
 use crate::studies::{ByUid, Study};
-use crate::texts::LineText;
+use crate::texts::{ColumnTexts, Text};
+use crate::writing::Writer;
 use failures::{ProgramError, flushed};
 use inspection::{Outcome, OutputForm};
 use keyed_files::{Counter, Visitor};
@@ -29,6 +28,8 @@ pub struct ListOptions<'a> {
     pub columns: &'a [Column<'a>],
     /// Whether files that are no DICOM files are ignored.
     pub ignore_others: bool,
+    /// Whether symbolic links are followed.
+    pub follow: bool,
     pub form: OutputForm,
     /// Whether lines have characters beyond ASCII, in UTF-8. JSON always has them.
     pub unicode: bool,
@@ -40,12 +41,42 @@ impl ListOptions<'_> {
         self.series || self.instances
     }
 
-    /// Returns the repertoire in which lines print texts of this repertoire.
-    pub(crate) fn in_lines(self, of_texts: Repertoire) -> Repertoire {
-        if self.unicode {
+    /// Returns the repertoire in which texts of this repertoire are printed.
+    fn printed(self, of_texts: Repertoire) -> Repertoire {
+        if self.unicode || self.form == OutputForm::Json {
             of_texts
         } else {
             Repertoire::Ascii
+        }
+    }
+
+    /// Returns the printed form of a text of this repertoire.
+    pub(crate) fn text<'t>(self, text: &'t [u8], of_text: Repertoire) -> Text<'t> {
+        Text {
+            text,
+            repertoire: self.printed(of_text),
+            form: self.form,
+        }
+    }
+
+    /// Returns the printed form of an ASCII text.
+    pub(crate) fn ascii<'t>(self, text: &'t [u8]) -> Text<'t> {
+        self.text(text, Repertoire::Ascii)
+    }
+}
+
+impl<'a> ListOptions<'a> {
+    /// Returns the printed form of the further columns, whose values have this repertoire.
+    pub(crate) fn column_texts<A: Allocator>(
+        self,
+        values: &'a [Vec<u8, A>],
+        of_texts: Repertoire,
+    ) -> ColumnTexts<'a, A> {
+        ColumnTexts {
+            columns: self.columns,
+            values,
+            repertoire: self.printed(of_texts),
+            form: self.form,
         }
     }
 }
@@ -54,7 +85,11 @@ impl ListOptions<'_> {
 fn report_several_patients<A: Allocator, E: Write>(studies: &ByUid<Study<A>, A>, err: &mut E) {
     for (uid, study) in studies {
         if study.has_several_patients {
-            let uid = LineText::ascii(uid.as_slice());
+            let uid = Text {
+                text: uid.as_slice(),
+                repertoire: Repertoire::Ascii,
+                form: OutputForm::Lines,
+            };
             let _ = writeln!(
                 err,
                 "dcmbox: study {uid}: its files have several Patient IDs"
@@ -93,17 +128,21 @@ where
     };
     let tags = tags_of(rt.alloc(), &LISTED, options.conditions, options.columns)?;
     let mut err = err;
-    let mut visitor = Visitor::new(rt, tags.as_slice(), &mut err, counter);
-    if options.ignore_others {
-        visitor.ignore_others();
-    }
+    let ignores_others = options.ignore_others;
+    let mut visitor = Visitor::new(rt, tags.as_slice(), ignores_others, (&mut err, counter));
+    visitor.follow(options.follow);
     let tally = visitor.visit_all(dirs, &mut selection)?;
     let grouping = selection.grouping;
     report_several_patients(&grouping.studies, &mut err);
-    match options.form {
-        OutputForm::Lines => write_lines(rt.alloc(), &grouping, options, out)?,
-        OutputForm::Json => write_json(rt.alloc(), &grouping, options, tally.omitted, out)?,
-    }
+    let alloc = rt.alloc();
+    let mut writer = Writer {
+        alloc,
+        options,
+        out,
+    };
+    writer
+        .studies(&grouping.studies, tally.omitted)
+        .map_err(ProgramError::of_output)?;
     tally.outcome()
 }
 

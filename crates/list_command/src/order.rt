@@ -34,10 +34,8 @@ pub(crate) fn order_of_studies<A: Allocator + Copy>(
     studies: &ByUid<Study<A>, A>,
 ) -> Result<Vec<usize, A>, AllocError> {
     let mut ranks = Vec::new(alloc);
-    for index in 0..studies.len() {
-        if let Some((uid, study)) = studies.get_index(index) {
-            ranks.push((study.date.as_slice(), uid.as_slice(), index))?;
-        }
+    for (index, (uid, study)) in studies.iter().enumerate() {
+        ranks.push((study.date.as_slice(), uid.as_slice(), index))?;
     }
     indices_of(alloc, ranks)
 }
@@ -49,11 +47,9 @@ pub(crate) fn order_of_series<A: Allocator + Copy>(
     series: &ByUid<Series<A>, A>,
 ) -> Result<Vec<usize, A>, AllocError> {
     let mut ranks = Vec::new(alloc);
-    for index in 0..series.len() {
-        if let Some((uid, series)) = series.get_index(index) {
-            let number = number_in(series.number.as_slice());
-            ranks.push((number, uid.as_slice(), index))?;
-        }
+    for (index, (uid, series)) in series.iter().enumerate() {
+        let number = number_in(series.number.as_slice());
+        ranks.push((number, uid.as_slice(), index))?;
     }
     indices_of(alloc, ranks)
 }
@@ -65,8 +61,7 @@ pub(crate) fn order_of_instances<A: Allocator + Copy>(
     instances: &[Instance<A>],
 ) -> Result<Vec<usize, A>, AllocError> {
     let mut ranks = Vec::new(alloc);
-    for index in 0..instances.len() {
-        let instance = &instances[index];
+    for (index, instance) in instances.iter().enumerate() {
         let number = number_in(instance.number.as_slice());
         ranks.push((number, instance.uid.as_slice(), index))?;
     }

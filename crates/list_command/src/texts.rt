@@ -16,80 +16,87 @@ fn in_line(text: &[u8], repertoire: Repertoire) -> ValueText<'_> {
     }
 }
 
-/// Prints a text of a repertoire in a line, or `-` if it is empty.
+/// Prints a text of a repertoire. An empty text is `-` in a line and `null` in JSON.
 #[derive(Clone, Copy)]
-pub(crate) struct LineText<'a>(pub &'a [u8], pub Repertoire);
-
-impl<'a> LineText<'a> {
-    /// Returns the printed form of an ASCII text.
-    pub fn ascii(text: &'a [u8]) -> LineText<'a> {
-        LineText(text, Repertoire::Ascii)
-    }
+pub(crate) struct Text<'a> {
+    pub text: &'a [u8],
+    pub repertoire: Repertoire,
+    pub form: OutputForm,
 }
 
-impl fmt::Display for LineText<'_> {
+impl fmt::Display for Text<'_> {
     fn fmt<W: fmt::Write>(&self, f: &mut fmt::Formatter<W>) -> fmt::Result {
-        if self.0.is_empty() {
+        if self.form == OutputForm::Json {
+            let text = JsonText(self.text, self.repertoire);
+            return write!(f, "{text}");
+        }
+        if self.text.is_empty() {
             return f.write_char('-');
         }
-        let text = in_line(self.0, self.1);
+        let text = in_line(self.text, self.repertoire);
         write!(f, "{text}")
     }
 }
 
-/// Prints the further columns of a line, each after a tab; an empty text has no characters.
+/// Prints the further columns, if any: in a line, each after a tab, an empty text without
+/// characters; in JSON, as the member `columns`, an object.
 #[derive(Drop)]
 pub(crate) struct ColumnTexts<'a, A: Allocator> {
     pub columns: &'a [Column<'a>],
     pub values: &'a [Vec<u8, A>],
     /// The repertoire of the texts.
     pub repertoire: Repertoire,
+    pub form: OutputForm,
 }
 
 impl<A: Allocator> fmt::Display for ColumnTexts<'_, A> {
     fn fmt<W: fmt::Write>(&self, f: &mut fmt::Formatter<W>) -> fmt::Result {
-        for (column, value) in self.columns.iter().zip(self.values) {
-            let text = in_line(value.as_slice(), column.repertoire_in(self.repertoire));
-            write!(f, "\t{text}")?;
+        let is_json = self.form == OutputForm::Json;
+        for (index, (column, value)) in self.columns.iter().zip(self.values).enumerate() {
+            let (text, repertoire) = (value.as_slice(), column.repertoire_in(self.repertoire));
+            if is_json {
+                let before = if index > 0 { "," } else { ",\"columns\":{" };
+                let (keyword, text) = (column.keyword, JsonText(text, repertoire));
+                write!(f, "{before}\"{keyword}\":{text}")?;
+            } else {
+                let text = in_line(text, repertoire);
+                write!(f, "\t{text}")?;
+            }
         }
-        Ok(())
+        f.write_str(if is_json && !self.columns.is_empty() {
+            "}"
+        } else {
+            ""
+        })
     }
 }
 
-/// Prints texts in a line with a backslash between them, or `-` if there are none.
+/// Prints ASCII texts: in a line with a backslash between them, or `-` if there are none; in JSON
+/// as an array.
 #[derive(Clone, Copy)]
-pub(crate) struct LineTexts<'a>(pub &'a [&'a [u8]]);
-
-impl fmt::Display for LineTexts<'_> {
-    fn fmt<W: fmt::Write>(&self, f: &mut fmt::Formatter<W>) -> fmt::Result {
-        if self.0.is_empty() {
-            return f.write_char('-');
-        }
-        let mut between = "";
-        for text in self.0 {
-            let text = LineText::ascii(*text);
-            write!(f, "{between}{text}")?;
-            between = "\\";
-        }
-        Ok(())
-    }
+pub(crate) struct Texts<'a> {
+    pub texts: &'a [&'a [u8]],
+    pub form: OutputForm,
 }
 
-/// Prints ASCII texts as a JSON array.
-#[derive(Clone, Copy)]
-pub(crate) struct JsonTexts<'a>(pub &'a [&'a [u8]]);
-
-impl fmt::Display for JsonTexts<'_> {
+impl fmt::Display for Texts<'_> {
     fn fmt<W: fmt::Write>(&self, f: &mut fmt::Formatter<W>) -> fmt::Result {
-        let mut between = "[";
-        for text in self.0 {
-            let text = JsonText::ascii(*text);
-            write!(f, "{between}{text}")?;
-            between = ",";
+        let form = self.form;
+        let (open, separator, close) = match form {
+            OutputForm::Lines if self.texts.is_empty() => ("-", "", ""),
+            OutputForm::Lines => ("", "\\", ""),
+            OutputForm::Json => ("[", ",", "]"),
+        };
+        f.write_str(open)?;
+        for (index, text) in self.texts.iter().enumerate() {
+            let before = if index > 0 { separator } else { "" };
+            let text = Text {
+                text: *text,
+                repertoire: Repertoire::Ascii,
+                form,
+            };
+            write!(f, "{before}{text}")?;
         }
-        if self.0.is_empty() {
-            f.write_char('[')?;
-        }
-        f.write_char(']')
+        f.write_str(close)
     }
 }

@@ -1,4 +1,3 @@
-pub mod Saturating
 pub mod Ends
 pub mod Statuses
 pub mod Counting

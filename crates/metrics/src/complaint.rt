@@ -1,19 +1,7 @@
 //! Decides what is logged about a file that cannot be written.
-ghost use Rattle.std.specs.Prelude.{◌≡◌, ◌≢◌, IsSome, None};
-ghost use Rattle.metrics.specs.declared.complaint.News.TheVariants as news;
+ghost use Rattle.std.specs.Prelude.{◌≡◌, ◌≢◌, None, true, false};
 
 use std::io::ErrorKind;
-
-/// What is to be logged about an attempt to write the file.
-#[derive(Clone, Copy, Debug, PartialEq, Eq)]
-pub enum News {
-    /// Nothing new.
-    Nothing,
-    /// The attempt failed, and the one before did not, or for another reason.
-    Fails,
-    /// The attempt succeeded, after one had failed.
-    Works,
-}
 
 /// Why the last attempt to write the file failed, or `None` if it succeeded.
 #[derive(Clone, Copy)]
@@ -29,28 +17,16 @@ impl Complaint {
         Complaint { failure: None }
     }
 
-    /// Records an attempt: why it failed, or `None` if it succeeded. Returns what is to be logged.
-    ///
-    /// A failure is logged once, and again only for another reason or after a success.
-    pub fn note(&mut self, failure: Option<ErrorKind>) -> News
+    /// Records an attempt: why it failed, or `None` if it succeeded. Returns whether that is to be
+    /// logged: a failure is logged once, and again only for another reason or after a success; a
+    /// success is logged after a failure.
+    pub fn note(&mut self, failure: Option<ErrorKind>) -> bool
         ensures noted { self.new.failure ≡ failure }
-        ensures known { self.old.failure ≡ failure → result ≡ news.Nothing }
-        ensures fails { IsSome failure → self.old.failure ≢ failure → result ≡ news.Fails }
-        ensures works { IsSome self.old.failure → failure ≡ None → result ≡ news.Works }
+        ensures known { self.old.failure ≡ failure → result ≡ false }
+        ensures news { self.old.failure ≢ failure → result ≡ true }
     {
-        let before = self.failure;
+        let is_news = self.failure != failure;
         self.failure = failure;
-        match (before, failure) {
-            (None, None) => News::Nothing,
-            (Some(_), None) => News::Works,
-            (None, Some(_)) => News::Fails,
-            (Some(old), Some(new)) => {
-                if old == new {
-                    News::Nothing
-                } else {
-                    News::Fails
-                }
-            }
-        }
+        is_news
     }
 }

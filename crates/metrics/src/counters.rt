@@ -1,18 +1,20 @@
 //! Counts what the program has done.
 ghost use Rattle.std.specs.Prelude.{◌≡◌};
-ghost use Rattle.metrics.specs.Counting.{after_answer, after_end, after_refused, after_unanswered, no_counts};
+ghost use Rattle.metrics.specs.Counting.{after_answer, after_end, after_refused, after_unanswered, answered_with, ended_by, no_counts};
 
-use crate::ends::{CountedEnd, EndCounts};
-use crate::statuses::{CountedStatus, StatusCounts};
+use crate::ends::CountedEnd;
+use crate::statuses::CountedStatus;
 
 /// What the program has done since its start, in numbers, each of which stops at the greatest
 /// `u64`.
 #[derive(Clone, Copy)]
 pub struct Counters {
-    /// Associations that have ended.
-    pub ends: EndCounts,
-    /// C-STOREs that were requested.
-    pub stores: StatusCounts,
+    /// Associations that have ended, in each way.
+    ends: [u64; CountedEnd::ALL.len()],
+    /// C-STOREs that were answered, with each status.
+    answers: [u64; CountedStatus::ALL.len()],
+    /// C-STOREs whose association ended before their response.
+    pub unanswered: u64,
     /// Bytes received by associations that have ended.
     pub received: u64,
     /// Presentation contexts that were rejected in accepted requests.
@@ -25,29 +27,9 @@ impl Counters {
         ensures { result ≡ no_counts }
     {
         Counters {
-            ends: EndCounts {
-                released: 0,
-                rejected: 0,
-                aborted_by_peer: 0,
-                aborted_by_box: 0,
-                closed: 0,
-                timer_expired: 0,
-                idle: 0,
-                too_long: 0,
-                stopping: 0,
-                connection_failed: 0,
-                file_lost: 0,
-                unknown: 0,
-            },
-            stores: StatusCounts {
-                success: 0,
-                class_not_supported: 0,
-                out_of_resources: 0,
-                data_set_mismatch: 0,
-                cannot_understand: 0,
-                other: 0,
-                without_reply: 0,
-            },
+            ends: [0; CountedEnd::ALL.len()],
+            answers: [0; CountedStatus::ALL.len()],
+            unanswered: 0,
             received: 0,
             refused_contexts: 0,
         }
@@ -57,7 +39,8 @@ impl Counters {
     pub fn end(&mut self, end: CountedEnd, received: u64)
         ensures { self.new ≡ after_end end received self.old }
     {
-        self.ends.add(end);
+        let index = end as usize;
+        self.ends[index] = self.ends[index].saturating_add(1);
         self.received = self.received.saturating_add(received);
     }
 
@@ -65,14 +48,15 @@ impl Counters {
     pub fn answer(&mut self, status: CountedStatus)
         ensures { self.new ≡ after_answer status self.old }
     {
-        self.stores.add(status);
+        let index = status as usize;
+        self.answers[index] = self.answers[index].saturating_add(1);
     }
 
     /// Counts this many C-STOREs whose association ended before their response.
     pub fn leave_unanswered(&mut self, stores: u64)
         ensures { self.new ≡ after_unanswered stores self.old }
     {
-        self.stores.add_without_reply(stores);
+        self.unanswered = self.unanswered.saturating_add(stores);
     }
 
     /// Counts this many rejected presentation contexts.
@@ -80,5 +64,19 @@ impl Counters {
         ensures { self.new ≡ after_refused contexts self.old }
     {
         self.refused_contexts = self.refused_contexts.saturating_add(contexts);
+    }
+
+    /// Returns how many associations ended in this way.
+    pub fn ended(&self, end: CountedEnd) -> u64
+        ensures { result ≡ ended_by end self.now }
+    {
+        self.ends[end as usize]
+    }
+
+    /// Returns how many C-STOREs were answered with this status.
+    pub fn answered(&self, status: CountedStatus) -> u64
+        ensures { result ≡ answered_with status self.now }
+    {
+        self.answers[status as usize]
     }
 }

@@ -50,9 +50,9 @@ impl Figures<'_> {
     fn write_ends<W: fmt::Write>(&self, f: &mut fmt::Formatter<W>) -> fmt::Result {
         let name = "dcmbox_associations_total";
         write_head(f, name, "counter", "Associations that have ended, by how.")?;
-        for end in CountedEnd::ALL {
-            let count = self.counters.ends.count(end);
-            writeln!(f, "{name}{{end=\"{}\"}} {count}", end.label())?;
+        for (end, label) in CountedEnd::ALL {
+            let count = self.counters.ended(end);
+            writeln!(f, "{name}{{end=\"{label}\"}} {count}")?;
         }
         Ok(())
     }
@@ -62,12 +62,11 @@ impl Figures<'_> {
         let name = "dcmbox_stores_total";
         let help = "Stores by the status of their replies; none is of those without a reply.";
         write_head(f, name, "counter", help)?;
-        for status in CountedStatus::ALL {
-            let count = self.counters.stores.count(status);
-            writeln!(f, "{name}{{status=\"{}\"}} {count}", status.label())?;
+        for (status, label) in CountedStatus::ALL {
+            let count = self.counters.answered(status);
+            writeln!(f, "{name}{{status=\"{label}\"}} {count}")?;
         }
-        let without = self.counters.stores.without_reply;
-        writeln!(f, "{name}{{status=\"none\"}} {without}")
+        writeln!(f, "{name}{{status=\"none\"}} {}", self.counters.unanswered)
     }
 }
 

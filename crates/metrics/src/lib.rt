@@ -11,10 +11,10 @@ mod metrics_file;
 mod pace;
 mod statuses;
 
-pub use complaint::{Complaint, News};
+pub use complaint::Complaint;
 pub use counters::Counters;
-pub use ends::{CountedEnd, EndCounts};
+pub use ends::CountedEnd;
 pub use figures::Figures;
 pub use metrics_file::{MetricsFile, WriteReport};
 pub use pace::Pace;
-pub use statuses::{CountedStatus, StatusCounts};
+pub use statuses::CountedStatus;

@@ -1,5 +1,5 @@
 //! The metrics file.
-use crate::complaint::{Complaint, News};
+use crate::complaint::Complaint;
 use crate::counters::Counters;
 use crate::ends::CountedEnd;
 use crate::figures::Figures;
@@ -163,15 +163,17 @@ impl MetricsFile {
     /// Records whether the file was written, and returns what is to be logged.
     fn report(&self, written: io::Result<()>) -> WriteReport {
         let mut complaint = self.complaint.get();
-        let (news, error) = match written {
-            Ok(()) => (complaint.note(None), None),
-            Err(error) => (complaint.note(Some(error.kind())), Some(error)),
+        let (is_news, report) = match written {
+            Ok(()) => (complaint.note(None), WriteReport::Works),
+            Err(error) => (
+                complaint.note(Some(error.kind())),
+                WriteReport::Fails(error),
+            ),
         };
         self.complaint.set(complaint);
-        match (news, error) {
-            (News::Fails, Some(error)) => WriteReport::Fails(error),
-            (News::Works, _) => WriteReport::Works,
-            _ => WriteReport::Nothing,
+        if is_news {
+            return report;
         }
+        WriteReport::Nothing
     }
 }

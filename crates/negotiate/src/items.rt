@@ -20,8 +20,9 @@ pub(crate) fn extend<const N: usize>(room: &mut ArrayVec<u8, N>, bytes: &[u8])
     let _ = room.try_extend_from_slice(bytes);
 }
 
-/// Appends an item to an array that has capacity for it.
-pub(crate) fn extend_by_item<const N: usize>(room: &mut ArrayVec<u8, N>, kind: u8, content: &[u8])
+/// Appends an item with this type and content to an array that has capacity for it: one byte type,
+/// one reserved, two bytes length, then the content (PS3.8 section 9.3.2).
+pub fn extend_by_item<const N: usize>(room: &mut ArrayVec<u8, N>, kind: u8, content: &[u8])
     requires short { length content.now < 65536 }
     requires fits { array_vec_len room.old + (length content.now + 4) ≤ N }
     ensures { room.new.items ≡ room.old.items ++ item_text kind content.now }

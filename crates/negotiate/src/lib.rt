@@ -15,6 +15,7 @@ mod writing;
 pub use answer::{Answer, judge};
 pub use config::{Config, MOST_ALSO, MOST_NAMED};
 pub use contexts::context;
+pub use items::extend_by_item;
 pub use proposals::{Context, Service, result_of};
 pub use table::{ContextRow, RowClass, compact, context_of};
 pub use writing::{answer_size, write_answer};

@@ -1,5 +1,5 @@
 //! Reads association requests.
-ghost use Rattle.std.specs.Prelude.{◌≡◌, ◌≤◌, ◌+◌, length, take, drop, List, ℕ, IfOk, IfErr, OnErr, None};
+ghost use Rattle.std.specs.Prelude.{◌≡◌, ◌≤◌, ◌<◌, ◌↔◌, ◌+◌, length, take, drop, List, ℕ, IfOk, IfErr, IfSome, OnErr, None};
 ghost use Rattle.pdu.specs.Items.{request_record, maximum_in, items_of};
 ghost use Rattle.pdu.specs.Record.{RequestRecord};
 ghost use Rattle.pdu.specs.Request.{RequestText, IsRequest};
@@ -105,8 +105,32 @@ impl<'a> Request<'a> {
     }
 }
 
+/// The AE titles of a request.
+#[derive(Clone, Copy, Debug)]
+pub struct Titles {
+    pub called: AeTitle,
+    pub calling: AeTitle,
+}
+
+/// The number of bytes in the body of an A-ASSOCIATE-RQ up to the end of its AE titles.
+pub const TITLES_END: usize = 36;
+
 /// The number of bytes in the body of an A-ASSOCIATE-RQ before its first item.
 const BEFORE_ITEMS: usize = 68;
+
+/// Returns the AE titles in the body of an A-ASSOCIATE-RQ, even if it is invalid or unfinished, or
+/// `None` if it ends before they do.
+pub fn read_titles(body: &[u8]) -> Option<Titles>
+    ensures called { IfSome result (λ t. t.called.0 ≡ (request_record body.now).called) }
+    ensures calling { IfSome result (λ t. t.calling.0 ≡ (request_record body.now).calling) }
+    ensures none { (result ≡ None) ↔ (length body.now < 36) }
+{
+    if body.len() < TITLES_END {
+        return None;
+    }
+    let (called, calling) = (title_at(body, 4), title_at(body, 20));
+    Some(Titles { called, calling })
+}
 
 /// Reads the body of an A-ASSOCIATE-RQ (PS3.8 section 9.3.2), the bytes after the head of the PDU.
 /// Allocates nothing and takes time linear in the body. If the body is invalid, the error is the
@@ -137,7 +161,7 @@ fn view<'a>(body: &'a [u8]) -> Request<'a>
         version: BigEndian::read_u16(body),
         called: title_at(body, 4),
         calling: title_at(body, 20),
-        reserved: &body[36..BEFORE_ITEMS],
+        reserved: &body[TITLES_END..BEFORE_ITEMS],
         application_context: unpadded(content_in(item_type::APPLICATION_CONTEXT, items)),
         maximum: maximum_of(items),
         items,

@@ -3,9 +3,9 @@ ghost use Rattle.std.specs.Prelude.{◌≡◌, IfOk, IfSome, string_bytes};
 ghost use Rattle.negotiate.specs.Settings.{settings_of};
 ghost use Rattle.serve_command.specs.Renewed.{AreRenewed, MayFollow};
 
-use arguments::{ServeArguments, serve_settings};
+use arguments::{Given, serve_settings};
 use failures::{Failure, ProgramError, WordsError};
-use journal::{CallersNotRead, CallersRead, Logger};
+use journal::{Logger, Value, events, shown};
 use log::Log;
 use negotiate::Config;
 use server::ConfigSource;
@@ -43,10 +43,10 @@ pub fn callers_text<R: Files + Alloc<A = Global>>(
         Err(error) => return Err(ProgramError::of(Failure::Callers, error)),
     };
     if bytes.len() as u64 > MOST_BYTES {
-        let refused = format!(in rt.alloc();
-            "error: --callers names '{path}', which has more than {MOST_BYTES} bytes\n"
-        )?;
-        return Err(ProgramError::Words(WordsError::Refused(refused)));
+        return Err(ProgramError::Words(WordsError::refused(
+            rt.alloc(),
+            format_args!("--callers names '{path}', which has more than {MOST_BYTES} bytes"),
+        )));
     }
     Ok(String::from_utf8_lossy(rt.alloc(), bytes.as_slice())?)
 }
@@ -96,9 +96,9 @@ impl Stamp {
 
 /// The file of calling titles of a running server. When it has changed, the settings are read anew.
 #[derive(Drop)]
-pub(crate) struct CallersFile<'a, R> {
+pub(crate) struct CallersFile<'a, 'g, R> {
     rt: &'a HostRuntime,
-    arguments: &'a ServeArguments<'a>,
+    given: &'a Given<'g>,
     logger: Logger<'a, R>,
     /// The stamp of the file before it was last read, or `None` if that is not known.
     seen: Option<Stamp>,
@@ -106,17 +106,17 @@ pub(crate) struct CallersFile<'a, R> {
     text: String,
 }
 
-impl<'a, R: Log + Clock> CallersFile<'a, R> {
+impl<'a, 'g, R: Log + Clock> CallersFile<'a, 'g, R> {
     /// Creates the source of the settings that follow those of these arguments and this text of the
     /// file.
     pub(crate) fn new(
         rt: &'a HostRuntime,
-        (arguments, text): (&'a ServeArguments<'a>, String),
+        (given, text): (&'a Given<'g>, String),
         logger: Logger<'a, R>,
-    ) -> CallersFile<'a, R> {
+    ) -> CallersFile<'a, 'g, R> {
         CallersFile {
             rt,
-            arguments,
+            given,
             logger,
             seen: None,
             text,
@@ -128,8 +128,8 @@ impl<'a, R: Log + Clock> CallersFile<'a, R> {
     ///
     /// Fails if the file cannot be read, if its text is refused, or if memory runs out.
     fn read(&mut self, path: &str) -> Result<Option<Box<Config>>, ProgramError>
-        ensures renewed { IfOk result (λ found. IfSome found (λ c. AreRenewed self.old.arguments.now (string_bytes self.new.text) (settings_of c.value))) }
-        ensures arguments { self.new.arguments ≡ self.old.arguments }
+        ensures renewed { IfOk result (λ found. IfSome found (λ c. AreRenewed self.old.given.now (string_bytes self.new.text) (settings_of c.value))) }
+        ensures given { self.new.given ≡ self.old.given }
     {
         let alloc = self.rt.alloc();
         let text = match callers_text(self.rt, Some(path)) {
@@ -143,7 +143,7 @@ impl<'a, R: Log + Clock> CallersFile<'a, R> {
             return Ok(None);
         }
         self.text = text;
-        let settings = serve_settings(alloc, self.arguments, self.text.as_str())?;
+        let settings = serve_settings(alloc, self.given, self.text.as_str())?;
         Ok(Some(Box::new(alloc, settings.config)?))
     }
 
@@ -157,17 +157,18 @@ impl<'a, R: Log + Clock> CallersFile<'a, R> {
             Some(reason) => reason,
             None => text,
         };
-        self.logger.report(&CallersNotRead(reason));
+        self.logger
+            .report(events::CALLERS_NOT_READ, &[shown(reason)]);
     }
 }
 
-impl<R: Log + Clock> ConfigSource for CallersFile<'_, R> {
-    ghost gives = { λ file s. MayFollow file.arguments.now s };
+impl<R: Log + Clock> ConfigSource for CallersFile<'_, '_, R> {
+    ghost gives = { λ file s. MayFollow file.given.now s };
 
     /// Returns the settings with the titles of the file, if they were read anew, which is logged.
     /// If the file has changed and cannot be used, logs an error once.
     fn renewed(&mut self) -> Option<Box<Config>> {
-        let path = self.arguments.callers_file?;
+        let path = self.given.get("callers")?;
         let stamp = Stamp::of(self.rt, path);
         if self.seen == Some(stamp) {
             return None;
@@ -176,7 +177,8 @@ impl<R: Log + Clock> ConfigSource for CallersFile<'_, R> {
         match self.read(path) {
             Ok(Some(config)) => {
                 let callers = config.callers().len() as u64;
-                self.logger.report(&CallersRead(callers));
+                self.logger
+                    .report(events::CALLERS_READ, &[Value::Number(callers)]);
                 Some(config)
             }
             Ok(None) => None,

@@ -1,17 +1,18 @@
 //! `dcmbox serve` into a folder.
 use crate::callers::CallersFile;
 use crate::serve::{form_of, serve};
-use arguments::{Serve, ServeArguments, VERSION};
+use crate::started::report_started;
+use arguments::{Given, Serve};
 use failures::{Failure, ProgramError, WordsError};
 use folder_filing::QuarantineFound;
 use folders::{numbered, open_writer, quarantined, try_draft};
-use journal::{Logger, Output, QuarantineCleared, QuarantineFull, Started};
+use journal::{Logger, Output, Value, events};
 use log::{Log, Logged};
 use std::fs::{File, TryLockError};
 use std::io::{Error, ErrorKind};
 use std::os::unix::fs::MetadataExt;
 use std::time::Clock;
-use std::{env, fs};
+use std::{env, fs, io};
 
 /// Checks that the folder of the stop file exists. Fails as for invalid arguments if it does not.
 fn check_stop_file(rt: &HostRuntime, path: Option<&str>) -> Result<(), ProgramError> {
@@ -28,10 +29,8 @@ fn check_stop_file(rt: &HostRuntime, path: Option<&str>) -> Result<(), ProgramEr
     if is_there {
         return Ok(());
     }
-    let refused = format!(in rt.alloc();
-        "error: --stop-file names '{path}', but there is no folder '{folder}'\n"
-    )?;
-    Err(ProgramError::Words(WordsError::Refused(refused)))
+    let reason = format_args!("--stop-file names '{path}', but there is no folder '{folder}'");
+    Err(ProgramError::Words(WordsError::refused(rt.alloc(), reason)))
 }
 
 /// Returns whether a file name is that of a draft.
@@ -89,19 +88,42 @@ fn output_of(rt: &HostRuntime, settings: &Serve) -> Output<HostRuntime> {
 /// Logs what the quarantine had at the start: how many drafts were removed, and whether it is full.
 fn report_quarantine<R: Log + Clock>(logger: &Logger<'_, R>, found: QuarantineFound) {
     if found.removed > 0 {
-        logger.report(&QuarantineCleared(u64::from(found.removed)));
+        logger.report(
+            events::QUARANTINE_CLEARED,
+            &[Value::Number(u64::from(found.removed))],
+        );
     }
     if found.is_full {
-        logger.report(&QuarantineFull);
+        logger.report(events::QUARANTINE_FULL, &[]);
     }
 }
 
-/// Locks the file `.NAME.lock` beside the metrics file, until the result is dropped. Returns `None`
-/// without metrics, or if that file cannot be created: then the metrics cannot be written there
-/// either, which is logged.
+/// Opens a lock file for reading, and creates it if there is none. A link is not followed, and what
+/// is there is not changed: others may write to the folder.
 ///
-/// Fails if another program has locked it.
-fn lock_metrics(rt: &HostRuntime, path: Option<&str>) -> Result<Option<File>, ProgramError> {
+/// Fails with `InvalidInput` if what is there is a link or no regular file, and as a file that
+/// cannot be created or opened.
+fn open_lock(rt: &HostRuntime, path: &str) -> io::Result<File> {
+    match File::create_new(rt, path) {
+        Err(error) if error.kind() == ErrorKind::AlreadyExists => {}
+        created => return created,
+    }
+    if !fs::symlink_metadata(rt, path)?.is_file() {
+        return Err(Error::new(ErrorKind::InvalidInput, "its lock is no regular file"));
+    }
+    File::open(rt, path)
+}
+
+/// Locks the file `.NAME.lock` beside the file at this path, until the result is dropped. Returns
+/// `None` without a path, or if that lock cannot be created: then the file cannot be written there
+/// either.
+///
+/// Fails with `busy` if another program has locked it, or if it is a link or no regular file.
+fn lock_beside(
+    rt: &HostRuntime,
+    path: Option<&str>,
+    busy: Failure,
+) -> Result<Option<File>, ProgramError> {
     let Some(path) = path else {
         return Ok(None);
     };
@@ -109,13 +131,17 @@ fn lock_metrics(rt: &HostRuntime, path: Option<&str>) -> Result<Option<File>, Pr
         Some((folder, name)) => format!(in rt.alloc(); "{folder}/.{name}.lock")?,
         None => format!(in rt.alloc(); ".{path}.lock")?,
     };
-    let Ok(file) = File::create(rt, name.as_str()) else {
-        return Ok(None);
+    let file = match open_lock(rt, name.as_str()) {
+        Ok(file) => file,
+        Err(error) if error.kind() == ErrorKind::InvalidInput => {
+            return Err(ProgramError::System(busy, error));
+        }
+        Err(_) => return Ok(None),
     };
     match file.try_lock() {
         Err(TryLockError::WouldBlock) => {
             let error = Error::new(ErrorKind::WouldBlock, "it is in use by another program");
-            Err(ProgramError::System(Failure::BusyMetrics, error))
+            Err(ProgramError::System(busy, error))
         }
         _ => Ok(Some(file)),
     }
@@ -128,10 +154,11 @@ fn lock_metrics(rt: &HostRuntime, path: Option<&str>) -> Result<Option<File>, Pr
 pub fn serve_into(
     rt: &HostRuntime,
     settings: &Serve,
-    read: (&ServeArguments<'_>, String),
+    read: (&Given<'_>, String),
 ) -> Result<(), ProgramError> {
     check_stop_file(rt, settings.service.stop_file)?;
-    let _lock = lock_metrics(rt, settings.metrics)?;
+    let _metrics = lock_beside(rt, settings.metrics, Failure::BusyMetrics)?;
+    let _numbers = lock_beside(rt, settings.numbers, Failure::BusyNumbers)?;
     let drafts = drafts_in(rt, settings.out);
     let writer = open_writer(*rt, settings.out, settings.layout, settings.sync)?;
     let writer = numbered(writer, settings.numbers)?;
@@ -140,17 +167,7 @@ pub fn serve_into(
     try_draft(&mut filing)?;
     let logged = Logged::new(rt, settings.level, output_of(rt, settings));
     let logger = Logger::new(&logged, form_of(rt.alloc(), settings));
-    logger.report(&Started {
-        version: VERSION,
-        config: &settings.config,
-        folder: settings.out,
-        quarantine: match settings.quarantine {
-            Some(quarantine) => Some(quarantine.dir),
-            None => None,
-        },
-        at_once: settings.service.associations as u64,
-        drafts,
-    });
+    report_started(&logger, settings, drafts);
     if let Some(found) = found {
         report_quarantine(&logger, found);
     }

@@ -4,6 +4,7 @@
 mod callers;
 mod into_folder;
 mod serve;
+mod started;
 
 pub use callers::callers_text;
 pub use into_folder::serve_into;

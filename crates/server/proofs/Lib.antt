@@ -1,1 +1,4 @@
 pub mod SlotsLoseNone
+pub mod ReportsStay
+pub mod SuccessesAreFiles
+pub mod SuccessesSurvive

@@ -1,8 +1,9 @@
 -- The history of the connections of a server.
-use Rattle.std.specs.Prelude.{◌≡◌, ◌≢◌, ◌≤◌, ◌⊎◌, Bool, List, [], length, map, true, false}
+use Rattle.std.specs.Prelude.{◌≡◌, ◌≢◌, ◌≤◌, ◌-◌, ◌⊎◌, Bool, List, [], length, map, take, true, false}
 use Rattle.std.specs.List.{All, AllZip}
 use Rattle.negotiate.specs.Settings.{Settings, settings_of}
 use Rattle.part10.specs.Store.{Store}
+use Rattle.serving.specs.Causes.{IsCaused}
 use Rattle.serving.specs.Served.{IsServed}
 use Rattle.serving.specs.Settled.{SettlesFirst, sent_by}
 use Rattle.serving.specs.Timed.{GivenInTime, asked_at}
@@ -45,12 +46,18 @@ settings_in slot = map settings_of slot.configs
 abbrev pub EachClosed : {F : Type 0} → (F → Store) → (F → Bool) → Configuration → SlotHistory F → Type 0
 EachClosed store has_pending t slot = AllZip (λ s e. ClosedBy store has_pending (with_settings t s) e) (settings_in slot) (ended_in slot)
 
+-- all of these but the last
+abbrev pub AllButLast : {A : Type 0} → (A → Type 0) → List A → Type 0
+AllButLast P xs = All P (take (length xs - 1) xs)
+
 -- each connection that was opened in a slot of a server has ended, once and in the order in which they were opened, and
--- kept the promise with the settings of its association, which are allowed, and with these for the rest
+-- kept the promise with the settings of its association, which are allowed, and with these for the rest; and each was
+-- closed for a cause, but for the last, which the end of its server may have closed
 pub record AllEnded {F : Type 0} (store : F → Store) (has_pending : F → Bool) (allows : Settings → Type 0) (t : Configuration) (slot : SlotHistory F) : Type 0 where
   pub none_missing : opened_in slot ≡ map opened_over (ended_in slot)
   pub closed : ∥ EachClosed store has_pending t slot ∥₁
   pub allowed : ∥ All allows (settings_in slot) ∥₁
+  pub caused : ∥ AllButLast (λ e. IsCaused e) (ended_in slot) ∥₁
 
 -- settings are the first of a server, or of those that follow
 abbrev pub IsFirstOr : Settings → (Settings → Type 0) → Settings → Type 0

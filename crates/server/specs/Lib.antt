@@ -1,4 +1,5 @@
 pub mod FolderStore
 pub mod Configuration
 pub mod Histories
+pub mod PowerLoss
 pub mod machine

@@ -1,5 +1,5 @@
 //! The arrival times of connections that wait to be accepted, as far as the poll reports them.
-use journal::{Logger, Waited};
+use journal::{Logger, Value, events};
 use log::Log;
 use std::alloc::{AllocError, Global};
 use std::time::{Clock, Duration, Instant};
@@ -80,6 +80,6 @@ impl Arrivals {
 pub(crate) fn note_waiting<R: Log + Clock>(logger: Logger<'_, R>, waited: Duration) {
     let seconds = waited.as_secs();
     if seconds > LONG_SECONDS {
-        logger.report(&Waited(seconds));
+        logger.report(events::WAITED, &[Value::Number(seconds)]);
     }
 }

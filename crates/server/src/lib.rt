@@ -5,6 +5,7 @@
 mod arrivals;
 mod config_source;
 mod configuration;
+pub mod laws;
 mod listeners;
 mod policy;
 mod server;

@@ -20,10 +20,10 @@ use crate::slot::Slot;
 use crate::socket::{AcceptedStream, watched};
 use crate::stopping::is_asked;
 use accepting::PAUSE_MILLISECONDS;
-use admitting::{Notice, Queue, Slots};
+use admitting::{Notice, Occupiable, Queue, Slots};
 use folder_filing::{FolderFiling, FolderWriter};
 use group::Group;
-use journal::{ConnectionFailed, Journal, Limited, Logger, Stopping};
+use journal::{Journal, Logger, events, shown};
 use log::Log;
 use mio::{Events, Poll, Token};
 use opening::{ClosedSlots, close_all};
@@ -55,7 +55,7 @@ struct Server<'a, R: Log + Clock, P: Policy, B: Observer> {
     listeners: Listeners,
     configuration: ServerConfiguration<'a>,
     folder: FolderWriter<HostRuntime>,
-    /// Which slots are occupied, and by which peers.
+    /// The peers of the slots. A slot is free at the next admission if it has no connection.
     occupancy: Slots<Global>,
     /// The slots, whose memory and filings are reused by later connections. The first slot has both
     /// from the start.
@@ -97,7 +97,7 @@ impl<'a, R: Log + Clock, P: Policy> Server<'a, R, P, Journal<'a, R, HostRuntime>
     fn open_connections(&self) -> usize {
         let mut open: usize = 0;
         for slot in &self.slots {
-            if slot.connection.is_some() {
+            if slot.is_occupied() {
                 open = open.saturating_add(1);
             }
         }
@@ -133,74 +133,31 @@ impl<'a, R: Log + Clock, P: Policy> Server<'a, R, P, Journal<'a, R, HostRuntime>
         }
     }
 
-    /// Prepares the memory of a slot. Returns the filing of its next connection: that of the last
-    /// one, or a new one.
-    fn prepare(&mut self, index: usize) -> io::Result<FolderFiling<HostRuntime>> {
-        let alloc = *self.slots.allocator();
-        match self.slots.get_mut(index) {
-            Some(slot) => slot.prepare(alloc, &mut self.folder),
-            None => self.folder.filing(),
-        }
-    }
-
     /// Opens an association over an accepted connection, in its slot.
     #[inline(never)]
     fn occupy(&mut self, accepted: AcceptedStream, index: usize, now: Instant) -> io::Result<()> {
         let AcceptedStream { stream, peer } = accepted;
         let socket = watched(&self.poll, stream, index)?;
-        let filing = self.prepare(index)?;
         let logger = self
             .logger()
             .about(peer)
             .counting(self.configuration.metrics);
         let alloc = *self.slots.allocator();
         if let Some(slot) = self.slots.get_mut(index) {
+            let filing = slot.prepare(alloc, &mut self.folder)?;
             slot.open(alloc, (socket, filing, logger), &self.configuration, now)?;
         }
         Ok(())
     }
 
-    /// Opens an association over an accepted connection. If that fails, logs the error and frees
-    /// the slot.
+    /// Opens an association over an accepted connection. If that fails, logs the error.
     fn occupy_or_report(&mut self, accepted: AcceptedStream, index: usize, now: Instant) {
         let peer = accepted.peer;
         if let Err(failure) = self.occupy(accepted, index, now) {
             self.logger()
                 .about(peer)
-                .report_limited(Limited::Connection, &ConnectionFailed(&failure));
-            self.free(index);
+                .report(events::CONNECTION_FAILED, &[shown(&failure)]);
         }
-    }
-
-    /// Returns the number of the peer of a slot, or `None` if it is free.
-    fn peer(&self, index: usize) -> Option<u128> {
-        if index < self.occupancy.len() {
-            return self.occupancy.peer(index);
-        }
-        None
-    }
-
-    /// Marks a slot, which has no connection, as free.
-    fn free(&mut self, index: usize) {
-        if index < self.occupancy.len() {
-            self.occupancy.leave(index);
-        }
-    }
-
-    /// Runs a round of the connection of a slot, if it has one. Returns whether the connection is
-    /// to be closed.
-    fn turn(&mut self, index: usize, now: Instant) -> bool {
-        let (round, stop) = (self.round, self.stop);
-        if let Some(slot) = self.slots.get_mut(index) {
-            let is_ready = slot.is_ready();
-            if let Some(connection) = &mut slot.connection {
-                if is_ready {
-                    slot.turned = round;
-                }
-                return connection.round(now, stop);
-            }
-        }
-        false
     }
 
     /// Returns whether a slot is served in this round: its connection is not ready, or is the ready
@@ -213,9 +170,9 @@ impl<'a, R: Log + Clock, P: Policy> Server<'a, R, P, Journal<'a, R, HostRuntime>
         if !slot.is_ready() {
             return true;
         }
-        let peer = self.peer(index);
+        let peer = self.occupancy.peer(index);
         for (other_index, other) in self.slots.iter().enumerate() {
-            if self.peer(other_index) == peer {
+            if other.is_occupied() && self.occupancy.peer(other_index) == peer {
                 let is_earlier = other.turned < slot.turned
                     || (other.turned == slot.turned && other_index < index);
                 if other.turned == self.round || (is_earlier && other.is_ready()) {
@@ -230,19 +187,14 @@ impl<'a, R: Log + Clock, P: Policy> Server<'a, R, P, Journal<'a, R, HostRuntime>
     /// ready, and closes those that have ended.
     fn turn_each(&mut self, now: Instant) {
         self.round = self.round.saturating_add(1);
+        let (round, stop) = (self.round, self.stop);
         for index in 0..self.slots.len() {
-            if self.is_next(index) && self.turn(index, now) {
-                self.close_connection(index, now);
+            if self.is_next(index) {
+                if let Some(slot) = self.slots.get_mut(index) {
+                    slot.turn(round, now, stop);
+                }
             }
         }
-    }
-
-    /// Closes the connection of a slot, if it has one, and frees the slot.
-    fn close_connection(&mut self, index: usize, now: Instant) {
-        if let Some(slot) = self.slots.get_mut(index) {
-            slot.close_connection(now);
-        }
-        self.free(index);
     }
 
     /// Returns the maximum duration of the next poll.
@@ -282,7 +234,7 @@ impl<'a, R: Log + Clock, P: Policy> Server<'a, R, P, Journal<'a, R, HostRuntime>
         }
         self.looked = Some(now);
         if is_asked(files, self.configuration.service.stop_file) {
-            self.logger().report(&Stopping);
+            self.logger().report(events::STOPPING, &[]);
             self.stop = Some(Stop {
                 asked: now,
                 grace: self.configuration.service.grace,

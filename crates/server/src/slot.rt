@@ -1,9 +1,10 @@
 //! A slot of a server: its connection, memory and filing, and the results of its earlier
 //! connections.
-ghost use Rattle.std.specs.Prelude.{◌≡◌, [], ◌++◌, map, IfSome, false};
+ghost use Rattle.std.specs.Prelude.{◌≡◌, [], ◌++◌, map, IfSome, is_some, true, false};
 ghost use Rattle.std.specs.List.{All};
 ghost use Rattle.negotiate.specs.Settings.{settings_of};
-ghost use Rattle.serving.specs.Connections.{opening_of};
+ghost use Rattle.serving.specs.Causes.{IsCaused};
+ghost use Rattle.serving.specs.Connections.{is_to_close_at, opening_of};
 ghost use Rattle.folder_filing.specs.Settling.{is_unsettled};
 ghost use Rattle.server.specs.FolderStore.{folder_store};
 ghost use Rattle.server.specs.Histories.{AllEnded, EachClosed, ended_in, opened_in, opened_over, settings_in};
@@ -14,14 +15,15 @@ use crate::configuration::ServerConfiguration;
 use crate::policy::Policy;
 use crate::server::SlotHistory;
 use crate::socket::Socket;
+use admitting::Occupiable;
 use engine::Standing;
-use folder_filing::{FolderFiling, FolderWriter};
+use folder_filing::{FolderFiling, FolderWriter, NamesSynced};
 use journal::{Journal, Logger, Served};
 use log::Log;
 use negotiate::Config;
 use part10::Settling;
 use service::Observer;
-use serving::{Connection, ConnectionConfiguration, ConnectionMemory};
+use serving::{Connection, ConnectionConfiguration, ConnectionMemory, Stop};
 use std::alloc::{AllocError, Global};
 use std::io;
 use std::marker::PhantomData;
@@ -48,11 +50,20 @@ pub(crate) struct Slot<'a, B: Observer, P: Policy> {
     ghost rested: { ∥ IfSome filing (λ f. is_unsettled f ≡ false) ∥₁ },
     ghost closed: { ∥ EachClosed folder_store is_unsettled P.configuration history ∥₁ },
     ghost allowed: { ∥ All P.allows (settings_in history) ∥₁ },
+    ghost caused: { ∥ All (λ e. IsCaused e) (ended_in history) ∥₁ },
     ghost next_allowed: { ∥ P.allows (settings_of config.now) ∥₁ },
     /// The settings of the connection are those of `P` and `config`.
     ghost held: { seen_of connection (λ c. configuration_at c) ≡ seen_of connection (λ c. with_settings P.configuration (settings_of config.now)) },
     /// Each connection that was opened has ended, except the current one.
     ghost none_missing: { opened_in history ≡ map opened_over (ended_in history) ++ seen_of connection (λ c. opening_of c) },
+}
+
+impl<B: Observer, P: Policy> Occupiable for Slot<'_, B, P> {
+    ghost is_occupied = { λ slot. is_some slot.connection };
+
+    fn is_occupied(&self) -> bool {
+        self.connection.is_some()
+    }
 }
 
 impl<'a, B: Observer, P: Policy> Slot<'a, B, P> {
@@ -111,8 +122,8 @@ impl<'a, B: Observer, P: Policy> Slot<'a, B, P> {
 }
 
 impl<'a, R: Log + Clock, P: Policy> Slot<'a, Journal<'a, R, HostRuntime>, P> {
-    /// Opens an association over a socket at `now`, if the slot has its memory. Its journal writes
-    /// to `logger`. Fails if the notes of the filing cannot be shared.
+    /// Opens an association over a socket at `now`, if the slot is free and has its memory. Its
+    /// journal writes to `logger`. Fails if the notes of the filing cannot be shared.
     // Not inlined, like `closed`: its frame holds copies of a connection, and is released before
     // the first turn.
     #[inline(never)]
@@ -128,6 +139,9 @@ impl<'a, R: Log + Clock, P: Policy> Slot<'a, Journal<'a, R, HostRuntime>, P> {
     {
         let (socket, filing, logger) = parts;
         let notes = filing.notes()?;
+        if self.connection.is_some() {
+            return Ok(());
+        }
         let Some(memory) = self.memory.take() else {
             return Ok(());
         };
@@ -147,9 +161,36 @@ impl<'a, R: Log + Clock, P: Policy> Slot<'a, Journal<'a, R, HostRuntime>, P> {
         Ok(())
     }
 
-    /// Closes the connection, if there is one. Its filing serves the next connection, unless a file
-    /// was lost.
-    pub(crate) fn close_connection(&mut self, now: Instant) {
+    /// Runs a round of the connection, if there is one, in the server's round `round`, and closes the
+    /// connection if it is to be closed.
+    pub(crate) fn turn(&mut self, round: u64, now: Instant, stop: Option<Stop>) {
+        let is_ready = self.is_ready();
+        if let Some(connection) = &mut self.connection {
+            let is_over = connection.round(now, stop);
+            if is_ready {
+                self.turned = round;
+            }
+            if is_over {
+                self.close_connection(now);
+            }
+        }
+    }
+
+    /// Settles the file of the connection, if one waits, and closes the connection if the file is
+    /// lost.
+    pub(crate) fn settle(&mut self, synced: &NamesSynced<Global>, now: Instant) {
+        if let Some(connection) = &mut self.connection {
+            if connection.settle(synced, now) {
+                self.close_connection(now);
+            }
+        }
+    }
+
+    /// Closes the connection, if there is one, which is to be closed. Its filing serves the next
+    /// connection, unless a file was lost.
+    fn close_connection(&mut self, now: Instant)
+        requires due { seen_of self.old.connection (λ c. is_to_close_at is_unsettled c) ≡ seen_of self.old.connection (λ c. true) }
+    {
         let last = self.connection.take();
         if let Some((filing, memory)) = closed::<R, P>(
             last,
@@ -162,7 +203,7 @@ impl<'a, R: Log + Clock, P: Policy> Slot<'a, Journal<'a, R, HostRuntime>, P> {
         }
     }
 
-    /// Closes the connection, if there is one. Returns the history of the slot.
+    /// Closes the connection, if there is one, in any state. Returns the history of the slot.
     pub(crate) fn close(self, now: Instant) -> SlotHistory<FolderFiling<HostRuntime>>
         ensures { AllEnded folder_store is_unsettled P.allows P.configuration result }
     {
@@ -207,7 +248,8 @@ fn closed<'a, R: Log + Clock, P: Policy>(
 ) -> Option<(FolderFiling<HostRuntime>, ConnectionMemory<'a>)>
     requires held { seen_of connection (λ c. configuration_at c) ≡ seen_of connection (λ c. with_settings P.configuration (settings_of start.0.now)) }
     requires allowed { ∥ P.allows (settings_of start.0.now) ∥₁ }
-    ensures { HaveEnded folder_store is_unsettled P.allows P.configuration (seen_of connection.entry (λ c. opening_of c)) history.old history.new }
+    ensures { HaveEnded folder_store is_unsettled P.allows P.configuration (seen_of connection.entry (λ c. is_to_close_at is_unsettled c) ≡ seen_of connection.entry (λ c. true))
+        (seen_of connection.entry (λ c. opening_of c)) history.old history.new }
 {
     let (config, committed) = start;
     match connection {

@@ -39,9 +39,9 @@ pub struct Consumed<'a> {
     pub decision: Decision,
     /// The command set of the unfinished message, as far as it was received.
     pub command: &'a [u8],
-    /// How many bytes the association sends in reply. They are buffered until the peer accepts
+    /// The bytes that the association sends in reply. They are buffered until the peer accepts
     /// them, and, if `is_held`, until [`settled`](Observer::settled) is called.
-    pub answered: usize,
+    pub reply: &'a [u8],
     /// Whether the reply is held until the file of a store is settled (durable).
     pub is_held: bool,
 }

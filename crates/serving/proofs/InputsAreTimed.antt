@@ -11,7 +11,7 @@ use Rattle.serving.proofs.InputsAddTheirPieces.{inputs_more}
 use Rattle.serving.specs.declared.moment.Moment.{Moment}
 use Rattle.serving.specs.Own.{own_of}
 use Rattle.serving.specs.Timed.{Follows, Hears, IsDue, SameTimes, Timed, asked_at, with_asked}
-use Rattle.serving.specs.TimeLimits.{TimeLimits, HasExpired, IsSilent, started_anew}
+use Rattle.serving.specs.TimeLimits.{TimeLimits, HasExpired, IsSilent, IsSince, started_anew}
 
 -- ---- the server's own
 
@@ -98,6 +98,7 @@ follows_as input a b new now same h = record {
   stays = λ e. h.stays (e ∙ sym same.state) ∙ same.started;
   anew = λ n. h.anew (λ e. n (e ∙ same.state));
   hears = hears_as input a b new now same.heard h.hears;
+  since = h.since;
 }
 
 -- an input more, which is due at its moment
@@ -116,11 +117,12 @@ timed_more limits inputs moments last remaining input moment is due follows h =
 
 -- what follows an input, from what is noted of it
 pub follows_state : (input : Received) (old new : TimeLimits) (state : State) (now : ℕ) → (state ≡ old.state → new ≡ old) → new.state ≡ state → (state ≢ old.state → new ≡ record old { state = state; started = started_anew (timer_runs state) now })
-    → (new.artim ≡ old.artim) × (new.idle ≡ old.idle) → Hears input old new now → Follows input old new now
-follows_state input old new state now stays is anew lasting hears = record {
+    → (new.artim ≡ old.artim) × (new.idle ≡ old.idle) → IsSince new.consumed new.heard → Hears input old new now → Follows input old new now
+follows_state input old new state now stays is anew lasting since hears = record {
   artim = lasting.0;
   idle = lasting.1;
   hears = hears;
+  since = since;
   stays = λ e. ap (λ (w : TimeLimits). w.started) (stays (sym is ∙ e));
   anew = λ n. subst (λ (s : State). new.started ≡ started_anew (timer_runs s) now) (sym is) (ap (λ (w : TimeLimits). w.started) (anew (λ e. n (is ∙ e))));
 }
@@ -142,8 +144,8 @@ pub nothing_timed : (limits initial : TimeLimits) (inputs : List Received) (mome
 nothing_timed limits initial inputs moments e f g = rw (e, f, g) (same_times limits)
 
 -- the peer consumed something
-pub only_consumed : (old new : TimeLimits) (now : ℕ) → new ≡ record old { consumed = Some now } → SameTimes old new
-only_consumed old new now e = rw e (record { artim = refl; idle = refl; state = refl; started = refl; heard = refl })
+pub only_consumed : (old new : TimeLimits) (consumed : Option ℕ) → new ≡ record old { consumed = consumed } → SameTimes old new
+only_consumed old new consumed e = rw e (record { artim = refl; idle = refl; state = refl; started = refl; heard = refl })
 
 -- an input that has no bytes is not heard
 pub hears_none : (kind : Input) (old new : TimeLimits) (now : ℕ) → kind ≢ Piece → new.heard ≡ old.heard → Hears (input_of kind []) old new now
@@ -154,10 +156,10 @@ hears_none LocalAbort old new now no_piece same = same
 
 -- a piece was heard, then consumed
 pub heard_then : (piece : List ℕ) (old mid new : TimeLimits) (state : State) (now : ℕ) → mid ≡ record old { heard = now; consumed = None }
-    → (state ≡ mid.state → new ≡ mid) → new.state ≡ state → (state ≢ mid.state → new ≡ record mid { state = state; started = started_anew (timer_runs state) now }) → (new.artim ≡ mid.artim) × (new.idle ≡ mid.idle) → (new.heard ≡ mid.heard) × (new.consumed ≡ mid.consumed)
+    → (state ≡ mid.state → new ≡ mid) → new.state ≡ state → (state ≢ mid.state → new ≡ record mid { state = state; started = started_anew (timer_runs state) now }) → (new.artim ≡ mid.artim) × (new.idle ≡ mid.idle) → (new.heard ≡ mid.heard) × (new.consumed ≡ mid.consumed) → IsSince new.consumed new.heard
     → Follows (Bytes piece) old new now
-heard_then piece old mid new state now e stays is anew lasting same =
-    let h = follows_state (Bytes piece) mid new state now stays is anew lasting (same.0 ∙ ap (λ (w : TimeLimits). w.heard) e, same.1 ∙ ap (λ (w : TimeLimits). w.consumed) e) in
+heard_then piece old mid new state now e stays is anew lasting same since =
+    let h = follows_state (Bytes piece) mid new state now stays is anew lasting since (same.0 ∙ ap (λ (w : TimeLimits). w.heard) e, same.1 ∙ ap (λ (w : TimeLimits). w.consumed) e) in
     let state_is : mid.state ≡ old.state = ap (λ (w : TimeLimits). w.state) e in
     record {
       artim = h.artim ∙ ap (λ (w : TimeLimits). w.artim) e;
@@ -165,4 +167,5 @@ heard_then piece old mid new state now e stays is anew lasting same =
       stays = λ k. h.stays (k ∙ sym state_is) ∙ ap (λ (w : TimeLimits). w.started) e;
       anew = λ n. h.anew (λ k. n (k ∙ state_is));
       hears = h.hears;
+      since = since;
     }

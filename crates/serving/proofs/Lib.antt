@@ -1,6 +1,7 @@
 pub mod SocketAcceptsTheFront
 pub mod InputsAddTheirPieces
 pub mod ClosesWithItsSocket
+pub mod ClosesForACause
 pub mod ConsumedInputsAreARun
 pub mod InboxLosesNothing
 pub mod SentIsSettledFirst

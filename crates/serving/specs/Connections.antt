@@ -11,7 +11,11 @@ use Rattle.engine.specs.Inputs.{Received, inputs_of}
 use Rattle.element.specs.declared.traced_stream.TracedStream.{TracedStream}
 use Rattle.serving.specs.declared.moment.Moment.{Moment}
 use Rattle.serving.specs.declared.open_connection.Connection.{Connection}
+use Rattle.engine.specs.Held.{is_ended}
+use Rattle.serving.specs.Causes.{is_to_close}
+use Rattle.serving.specs.Own.{own_of}
 use Rattle.serving.specs.TimeLimits.{TimeLimits}
+use Rattle.serving.specs.Timed.{asked_at}
 use Rattle.serving.specs.Wires.{IsClosed, pending_in, unconsumed_in}
 
 -- the settings of a connection's association
@@ -71,10 +75,39 @@ moments_at c = c.moments
 abbrev pub initial_of : {S F B Y : Type 0} {G : Settling.Ghosts F Y} {H : Filing.Ghosts F} {O : Observer.Ghosts B} → Connection S F B Y G H O → TimeLimits
 initial_of c = c.initial.value
 
+-- what a connection was opened with, which no call changes: the settings of its association, its filing as it was then,
+-- and how long its peer was waited for
+pub record Origin (F : Type 0) : Type 0 where
+  pub settings : Settings
+  pub filing : F
+  pub initial : TimeLimits
+
+abbrev pub origin_of : {S F B Y : Type 0} {G : Settling.Ghosts F Y} {H : Filing.Ghosts F} {O : Observer.Ghosts B} → Connection S F B Y G H O → Origin F
+origin_of c = record { settings = settings_at c; filing = opening_of c; initial = initial_of c }
+
 -- whether a connection has to end because its server does
 abbrev pub stopped_at : {S F B Y : Type 0} {G : Settling.Ghosts F Y} {H : Filing.Ghosts F} {O : Observer.Ghosts B} → Connection S F B Y G H O → Bool
 stopped_at c = c.is_stopped
 
+-- whether a file of a connection was lost while it waited to be settled
+abbrev pub lost_at : {S F B Y : Type 0} {G : Settling.Ghosts F Y} {H : Filing.Ghosts F} {O : Observer.Ghosts B} → Connection S F B Y G H O → Bool
+lost_at c = c.is_lost
+
+-- whether a connection is to be closed, by whether a file of its filing waits to be settled
+abbrev pub is_to_close_at : {S F B Y : Type 0} {G : Settling.Ghosts F Y} {H : Filing.Ghosts F} {O : Observer.Ghosts B} → (F → Bool) → Connection S F B Y G H O → Bool
+is_to_close_at has_pending c = is_to_close (is_ended (state_at c)) (lost_at c) (stopped_at c) (has_pending (filing_of c))
+
 -- when a connection's association was aborted for its server, if it was
 abbrev pub aborted_at : {S F B Y : Type 0} {G : Settling.Ghosts F Y} {H : Filing.Ghosts F} {O : Observer.Ghosts B} → Connection S F B Y G H O → Option Instant
 aborted_at c = c.aborted
+
+-- what a server itself did to a connection: the inputs of its own, when it requested aborts, when it aborted the
+-- association, and whether the connection has to end because the server does
+pub record Interventions : Type 0 where
+  pub own : List Received
+  pub asked : List ℕ
+  pub aborted : Option Instant
+  pub stopped : Bool
+
+abbrev pub interventions_in : {S F B Y : Type 0} {G : Settling.Ghosts F Y} {H : Filing.Ghosts F} {O : Observer.Ghosts B} → Connection S F B Y G H O → Interventions
+interventions_in c = record { own = own_of (inputs_at c); asked = asked_at (moments_at c); aborted = aborted_at c; stopped = stopped_at c }

@@ -1,5 +1,6 @@
 pub mod TimeLimits
 pub mod Closes
+pub mod Causes
 pub mod Wires
 pub mod Rooms
 pub mod Capacities

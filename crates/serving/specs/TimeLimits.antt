@@ -31,6 +31,11 @@ abbrev pub silent_since : Option ℕ → ℕ → ℕ
 silent_since (Some consumed) heard = consumed
 silent_since None heard = heard
 
+-- the peer last accepted anything no earlier than it was last heard, if it did
+abbrev pub IsSince : Option ℕ → ℕ → Type 0
+IsSince (Some consumed) heard = heard ≤ consumed
+IsSince None heard = Unit {0}
+
 -- the start of the timer after it was started anew at this time, if it runs
 abbrev pub started_anew : Bool → ℕ → Option ℕ
 started_anew true now = Some now

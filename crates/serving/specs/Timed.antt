@@ -7,7 +7,7 @@ use Rattle.negotiate.specs.Settings.{Settings}
 use Rattle.part10.specs.Store.{Store}
 use Rattle.engine.specs.Inputs.{Received, Bytes, Close, Expiry, UserAbort}
 use Rattle.serving.specs.Served.{IsServed}
-use Rattle.serving.specs.TimeLimits.{TimeLimits, HasExpired, IsSilent, started_anew}
+use Rattle.serving.specs.TimeLimits.{TimeLimits, HasExpired, IsSilent, IsSince, started_anew}
 use Rattle.serving.specs.declared.exchange.Exchange.{Exchange}
 use Rattle.serving.specs.declared.moment.Moment.{Moment}
 
@@ -19,13 +19,14 @@ Hears Expiry old new now = new.heard ≡ old.heard
 Hears UserAbort old new now = new.heard ≡ old.heard
 
 -- The times before and after an input that occurred at this time: the timer starts anew exactly if another state is
--- entered in which it runs.
+-- entered in which it runs, and the peer accepted nothing before it was last heard.
 pub record Follows (input : Received) (old new : TimeLimits) (now : ℕ) : Type 0 where
   pub artim : new.artim ≡ old.artim
   pub idle : new.idle ≡ old.idle
   pub stays : new.state ≡ old.state → new.started ≡ old.started
   pub anew : new.state ≢ old.state → new.started ≡ started_anew (timer_runs new.state) now
   pub hears : Hears input old new now
+  pub since : IsSince new.consumed new.heard
 
 -- the same times, except when the peer last accepted anything
 pub record SameTimes (old new : TimeLimits) : Type 0 where

@@ -83,7 +83,7 @@ impl<S> BufferedSocket<S> {
         ensures kept { result.decision ≡ decided_in association.now }
         ensures decided { HasDecided association.now result.decision }
         ensures command { HasCommand association.now result.command.now }
-        ensures answered { result.answered ≡ length (pending_in self.now.outbox) }
+        ensures reply { result.reply.now ≡ pending_in self.now.outbox }
     {
         let (bytes, ahead) = self.inbox.pending().split_at(portion.len);
         Consumed {
@@ -93,7 +93,7 @@ impl<S> BufferedSocket<S> {
             is_complete: portion.is_complete,
             decision: association.decision(),
             command: association.command(),
-            answered: self.outbox.pending().len(),
+            reply: self.outbox.pending(),
             is_held: portion.is_held,
         }
     }

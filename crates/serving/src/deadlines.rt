@@ -4,7 +4,7 @@ ghost use Rattle.std.specs.Prelude.{◌≡◌, ◌≢◌, ◌≤◌, ◌⊎◌, 
 ghost use Rattle.std.specs.Duration.{as_nanos};
 ghost use Rattle.std.specs.Time.{instant_nanos};
 ghost use Rattle.acceptor.specs.Effect.{timer_runs};
-ghost use Rattle.serving.specs.TimeLimits.{HasExpired, IsSilent, Remaining, WaitsUntil, has_lasted, opened_at, started_anew};
+ghost use Rattle.serving.specs.TimeLimits.{HasExpired, IsSilent, IsSince, Remaining, WaitsUntil, has_lasted, opened_at, started_anew};
 
 use acceptor::State;
 use service::Timeouts;
@@ -47,7 +47,7 @@ impl Model for Deadlines {
     ghost use Rattle.std.specs.Prelude.{option_map};
     ghost use Rattle.std.specs.Duration.{as_nanos};
     ghost use Rattle.std.specs.Time.{instant_nanos};
-    ghost use Rattle.serving.specs.TimeLimits.{TimeLimits};
+    ghost use Rattle.serving.specs.TimeLimits.{IsSince, TimeLimits};
 
     ghost Value = { TimeLimits };
 
@@ -61,6 +61,8 @@ impl Model for Deadlines {
       heard = instant_nanos d.heard;
       consumed = option_map (λ t. instant_nanos t) d.consumed;
     } };
+
+    ghost invariant = { λ d. IsSince (option_map (λ t. instant_nanos t) d.consumed) (instant_nanos d.heard) };
 }
 
 /// Returns what remains of the duration `whole` since `from`, or `over` if nothing does.
@@ -100,11 +102,14 @@ impl Deadlines {
         self.consumed = None;
     }
 
-    /// Records that the peer accepted bytes at this instant.
+    /// Records that the peer accepted bytes at this instant, unless it sent some later.
     pub fn note_consumed(&mut self, now: Instant)
-        ensures { self.new ≡ record self.old { consumed = Some (instant_nanos now) } }
+        ensures only { self.new ≡ record self.old { consumed = self.new.consumed } }
+        ensures consumed { self.old.heard ≤ instant_nanos now → self.new.consumed ≡ Some (instant_nanos now) }
     {
-        self.consumed = Some(now);
+        if now.checked_duration_since(self.heard).is_some() {
+            self.consumed = Some(now);
+        }
     }
 
     /// Records the state of the association after an input. A new state starts or stops the ARTIM
@@ -118,6 +123,7 @@ impl Deadlines {
         ensures lasting { (self.new.artim ≡ self.old.artim) × (self.new.idle ≡ self.old.idle) }
         ensures bound { (self.new.longest ≡ self.old.longest) × (self.new.opened ≡ self.old.opened) }
         ensures same_peer { (self.new.heard ≡ self.old.heard) × (self.new.consumed ≡ self.old.consumed) }
+        ensures since { IsSince self.new.consumed self.new.heard }
         ensures anew { state ≢ self.old.state → self.new ≡ record self.old { state = state; started = started_anew (timer_runs state) (instant_nanos now) } }
     {
         if state != self.state {

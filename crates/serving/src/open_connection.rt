@@ -58,6 +58,8 @@ pub struct Connection<'c, S, F: Settling, B: Observer> {
     is_ready: bool,
     /// Whether the connection was asked to end because the server stops.
     is_stopped: bool,
+    /// Whether a file was lost while it waited to be settled.
+    is_lost: bool,
     /// When an abort was requested, because the server stops or the connection reached its maximum
     /// duration.
     aborted: Option<Instant>,
@@ -132,6 +134,10 @@ pub struct ConnectionEnd<S, F> {
     pub moments: History<Moment>,
     /// Whether the connection was asked to end because the server stopped.
     pub is_stopped: bool,
+    /// Whether a file was lost while it waited to be settled.
+    pub is_lost: bool,
+    /// Whether the last file waited to be settled, or was lost before that.
+    pub has_pending: bool,
     /// How long the connection lasted.
     pub lasted: Duration,
     /// The filing, without a draft. If a file of it still waits to be settled, nothing was sent for
@@ -153,7 +159,7 @@ impl<'c, S, F: Settling, B: Observer> Connection<'c, S, F, B> {
     ghost use Rattle.negotiate.specs.Settings.{settings_of};
     ghost use Rattle.engine.specs.Held.{is_ended};
     ghost use Rattle.std.specs.Time.{instant_nanos};
-    ghost use Rattle.serving.specs.Connections.{initial_of, filing_of, inputs_at, moments_at, settings_at, opening_of, state_at, stopped_at, times_at};
+    ghost use Rattle.serving.specs.Connections.{initial_of, inputs_at, moments_at, opening_of, origin_of, settings_at, state_at, stopped_at, times_at};
     ghost use Rattle.serving.specs.TimeLimits.{HasExpired, IsSilent, WaitsUntil};
     ghost use Rattle.std.specs.Duration.{as_nanos};
 
@@ -189,6 +195,7 @@ impl<'c, S, F: Settling, B: Observer> Connection<'c, S, F, B> {
             received: 0,
             is_ready: true,
             is_stopped: false,
+            is_lost: false,
             aborted: None,
             opened,
             settled,
@@ -211,9 +218,7 @@ impl<'c, S, F: Settling, B: Observer> Connection<'c, S, F, B> {
 
     /// Marks the connection as ready: the socket may be readable or writable.
     pub fn wake(&mut self)
-        ensures settings { settings_at self.new ≡ settings_at self.old }
-        ensures opening { opening_of self.new ≡ opening_of self.old }
-        ensures same_start { initial_of self.new ≡ initial_of self.old }
+        ensures same_origin { origin_of self.new ≡ origin_of self.old }
     {
         self.is_ready = true;
     }
@@ -250,7 +255,8 @@ fn report(association: &Box<ServedAssociation<'_>>) -> Report
 impl<'c, S: Drop, F: Settling, B: Observer> Connection<'c, S, F, B> {
     ghost use Rattle.engine.specs.Held.{is_ended};
     ghost use Rattle.engine.specs.declared.report.Standing.TheVariants as standing;
-    ghost use Rattle.serving.specs.Connections.{initial_of, inputs_at, moments_at, settings_at, opening_of, state_at, stopped_at};
+    ghost use Rattle.serving.specs.Causes.{IsCaused};
+    ghost use Rattle.serving.specs.Connections.{initial_of, inputs_at, is_to_close_at, moments_at, opening_of, settings_at, state_at, stopped_at};
     ghost use Rattle.serving.specs.Timed.{GivenInTime};
     ghost use Rattle.pdu.specs.Pieces.{joined};
     ghost use Rattle.serving.specs.Served.{IsServed};
@@ -259,6 +265,9 @@ impl<'c, S: Drop, F: Settling, B: Observer> Connection<'c, S, F, B> {
 
     /// Closes the connection in any state, and drops its draft, if there is one. Returns what
     /// remains of it, its observer, and the memory of its association.
+    ///
+    /// `cause`: if it was to be closed, its end has the cause: its association has ended, a file was
+    /// lost, or the server stops and no file waits to be settled.
     ///
     /// `served`: from the bytes that were read and consumed, the definitions give the bytes that the
     /// socket accepted followed by the outbox, the files, and the state of the association.
@@ -279,6 +288,7 @@ impl<'c, S: Drop, F: Settling, B: Observer> Connection<'c, S, F, B> {
     /// `once`: at most one abort was requested. `reasons`: it was requested because the server was
     /// stopping, or the connection had reached its maximum duration.
     pub fn close(self, now: Instant) -> (ConnectionEnd<S, F>, B, AssociationMemory<'c>)
+        ensures cause { is_to_close_at F.has_pending self.entry ≡ true → IsCaused result.0 }
         ensures served { ∥ IsServed (settings_at self.entry) result.0.exchange (F.store (opening_of self.entry)) (F.store result.0.filing) ∥₁ }
         ensures opened { result.0.opened.value ≡ opening_of self.entry }
         ensures reported { joined (B.heard result.1) ++ unconsumed_in result.0.exchange.unconsumed ≡ result.0.exchange.read.trace.bytes }
@@ -295,6 +305,7 @@ impl<'c, S: Drop, F: Settling, B: Observer> Connection<'c, S, F, B> {
         ensures heard { B.heard result.1 ≡ pieces_of (inputs_at self.entry) }
     {
         let mut filing = self.filing;
+        let has_pending = filing.has_pending();
         filing.discard();
         let report = report(&self.association);
         let (traces, unconsumed, unsent) = self.socket.end();
@@ -315,6 +326,8 @@ impl<'c, S: Drop, F: Settling, B: Observer> Connection<'c, S, F, B> {
             initial: self.initial,
             moments: self.moments,
             is_stopped: self.is_stopped,
+            is_lost: self.is_lost,
+            has_pending,
             lasted: self.deadlines.lasted(now),
             filing,
         };

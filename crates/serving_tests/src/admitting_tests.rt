@@ -1,14 +1,39 @@
 //! Tests of slots, queue, rate limit and peer numbers.
 
-use admitting::{Admission, Notice, Queue, Slots, Waiter, peer_number};
+use admitting::{Admission, Notice, Occupiable, Queue, Slots, Waiter, peer_number};
+use std::alloc::Global;
 use std::net::{IpAddr, Ipv4Addr, Ipv6Addr};
 use std::test::Fail;
 use std::time::{Duration, Instant};
 
-/// Returns whether these peers in turn get these admissions.
-fn get(slots: &mut Slots<std::alloc::Global>, rows: &[(u128, Admission)]) -> bool {
+/// A place of a test.
+#[derive(Clone, Copy)]
+struct Place {
+    has_connection: bool,
+}
+
+impl Occupiable for Place {
+    ghost is_occupied = { λ place. place.has_connection };
+
+    fn is_occupied(&self) -> bool {
+        self.has_connection
+    }
+}
+
+const USED: Place = Place {
+    has_connection: true,
+};
+
+const UNUSED: Place = Place {
+    has_connection: false,
+};
+
+const OCCUPIED: [Place; 4] = [USED; 4];
+
+/// Returns whether these peers in turn get these admissions, while these places have connections.
+fn get(slots: &mut Slots<Global>, rows: &[(u128, Admission)], places: &[Place]) -> bool {
     for (peer, admission) in rows {
-        if slots.admit(*peer) != *admission {
+        if slots.admit(*peer, places) != *admission {
             return false;
         }
     }
@@ -18,7 +43,6 @@ fn get(slots: &mut Slots<std::alloc::Global>, rows: &[(u128, Admission)]) -> boo
 #[test]
 fn peers_come_and_go(rt: HostRuntime) -> Result<(), Fail> {
     let mut slots = Slots::new(rt.alloc(), 4, 2)?;
-    assert!(rt; slots.len() == 4);
     let rows = [
         (7, Admission::Slot(0)),
         (7, Admission::Slot(1)),
@@ -28,26 +52,23 @@ fn peers_come_and_go(rt: HostRuntime) -> Result<(), Fail> {
         (8, Admission::Full),
         (7, Admission::PeerFull),
     ];
-    assert!(rt; get(&mut slots, &rows));
-    if slots.len() == 4 {
-        slots.leave(1);
-        assert!(rt; slots.peer(1).is_none() && slots.peer(0) == Some(7));
-    }
-    let rows = [
-        (7, Admission::Slot(1)),
-        (7, Admission::PeerFull),
-        (9, Admission::Full),
-    ];
-    assert!(rt; get(&mut slots, &rows));
+    assert!(rt; get(&mut slots, &rows, &OCCUPIED));
+    assert!(rt; slots.peer(0) == Some(7) && slots.peer(3) == Some(9) && slots.peer(4).is_none());
+    let rows = [(7, Admission::Slot(1))];
+    let without_second = [USED, UNUSED, USED, USED];
+    assert!(rt; get(&mut slots, &rows, &without_second));
+    let rows = [(7, Admission::PeerFull), (9, Admission::Full)];
+    assert!(rt; get(&mut slots, &rows, &OCCUPIED));
     Ok(())
 }
 
 /// Returns the next connection from the queue, and the index of its slot.
 fn next(
-    queue: &mut Queue<char, std::alloc::Global>,
-    slots: &mut Slots<std::alloc::Global>,
+    queue: &mut Queue<char, Global>,
+    slots: &mut Slots<Global>,
+    places: &[Place],
 ) -> Option<(char, usize)> {
-    let (waiter, slot) = queue.admit(slots)?;
+    let (waiter, slot) = queue.admit(slots, places)?;
     Some((waiter.waiting, slot))
 }
 
@@ -55,7 +76,7 @@ fn next(
 fn peers_wait_in_their_order(rt: HostRuntime) -> Result<(), Fail> {
     let mut slots = Slots::new(rt.alloc(), 3, 1)?;
     let mut queue = Queue::new(rt.alloc(), 4)?;
-    assert!(rt; slots.len() == 3 && slots.admit(7) == Admission::Slot(0));
+    assert!(rt; slots.admit(7, &OCCUPIED) == Admission::Slot(0));
     let rows = [(7, 'a', 64), (8, 'b', 65), (7, 'c', 66), (9, 'd', 67)];
     for (peer, waiting, number) in rows {
         assert!(rt;
@@ -73,14 +94,12 @@ fn peers_wait_in_their_order(rt: HostRuntime) -> Result<(), Fail> {
             waiting: 'e'
         })
     );
-    assert!(rt; next(&mut queue, &mut slots) == Some(('b', 1)));
-    assert!(rt; next(&mut queue, &mut slots) == Some(('d', 2)));
-    assert!(rt; next(&mut queue, &mut slots) == None);
-    if slots.len() == 3 {
-        slots.leave(0);
-    }
-    assert!(rt; next(&mut queue, &mut slots) == Some(('a', 0)));
-    assert!(rt; next(&mut queue, &mut slots) == None && !queue.is_empty());
+    assert!(rt; next(&mut queue, &mut slots, &OCCUPIED) == Some(('b', 1)));
+    assert!(rt; next(&mut queue, &mut slots, &OCCUPIED) == Some(('d', 2)));
+    assert!(rt; next(&mut queue, &mut slots, &OCCUPIED) == None);
+    let without_first = [UNUSED, USED, USED];
+    assert!(rt; next(&mut queue, &mut slots, &without_first) == Some(('a', 0)));
+    assert!(rt; next(&mut queue, &mut slots, &OCCUPIED) == None && !queue.is_empty());
     assert!(rt; !queue.leave(64) && queue.leave(66) && !queue.leave(66) && queue.is_empty());
     let last = Waiter {
         peer: 7,

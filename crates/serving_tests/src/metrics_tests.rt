@@ -51,14 +51,14 @@ dcmbox_refused_contexts_total 80
 fn counted() -> Counters {
     let mut counters = Counters::new();
     let mut times: u64 = 0;
-    for end in CountedEnd::ALL {
+    for (end, _) in CountedEnd::ALL {
         times = times.saturating_add(1);
         for _ in 0..times {
             counters.end(end, 100);
         }
     }
     times = 0;
-    for status in CountedStatus::ALL {
+    for (status, _) in CountedStatus::ALL {
         times = times.saturating_add(1);
         for _ in 0..times {
             counters.answer(status);
@@ -104,11 +104,11 @@ fn counters_stop_at_the_greatest_number(rt: HostRuntime) {
     counters.leave_unanswered(2);
     counters.end(CountedEnd::Idle, u64::MAX);
     counters.end(CountedEnd::Idle, 2);
-    assert!(rt; counters.stores.without_reply == u64::MAX && counters.received == u64::MAX);
+    assert!(rt; counters.unanswered == u64::MAX && counters.received == u64::MAX);
     counters.refuse_contexts(u64::MAX);
     counters.refuse_contexts(1);
     assert!(rt; counters.refused_contexts == u64::MAX);
-    assert!(rt; counters.ends.idle == 2);
+    assert!(rt; counters.ended(CountedEnd::Idle) == 2);
 }
 
 #[test]

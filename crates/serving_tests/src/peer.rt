@@ -150,7 +150,7 @@ impl Observer for Viewer<'_> {
         self.heard.push(&bytes);
         let audience = self.audience;
         keep(&audience.received, consumed.bytes);
-        audience.answer(consumed.answered);
+        audience.answer(consumed.reply.len());
         let ahead = consumed.ahead.len();
         audience
             .most_ahead

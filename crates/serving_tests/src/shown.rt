@@ -9,7 +9,7 @@ use folder_filing::FolderFiling;
 use journal::{Journal, LineForm, Logger, Served};
 use log::sink::Memory;
 use log::{Level, Logged};
-use metrics::{CountedEnd, Counters, MetricsFile};
+use metrics::{CountedEnd, CountedStatus, Counters, MetricsFile};
 use service::Observer;
 use serving::{Connection, ConnectionMemory};
 use std::alloc::Global;
@@ -175,8 +175,8 @@ fn words_of(end: CountedEnd) -> &'static str {
 /// Returns the end of the only counted association, or `None` if not exactly one was counted.
 fn end_of(counters: &Counters) -> Option<CountedEnd> {
     let mut found = None;
-    for end in CountedEnd::ALL {
-        match (counters.ends.count(end), found) {
+    for (end, _) in CountedEnd::ALL {
+        match (counters.ended(end), found) {
             (0, _) => {}
             (1, None) => found = Some(end),
             _ => return None,
@@ -196,15 +196,14 @@ fn agree(rt: &HostRuntime, counters: &Counters, lines: &[String]) -> Result<(), 
     let Some((_, line)) = last.as_str().split_once(" called \"") else {
         return Ok(());
     };
-    let stores = counters.stores;
-    let refused = stores
-        .class_not_supported
-        .saturating_add(stores.out_of_resources);
-    let failed = stores
-        .data_set_mismatch
-        .saturating_add(stores.cannot_understand)
-        .saturating_add(stores.other);
-    let stored = stores.success;
+    let stored = counters.answered(CountedStatus::Success);
+    let refused = counters
+        .answered(CountedStatus::ClassNotSupported)
+        .saturating_add(counters.answered(CountedStatus::OutOfResources));
+    let failed = counters
+        .answered(CountedStatus::DataSetMismatch)
+        .saturating_add(counters.answered(CountedStatus::CannotUnderstand))
+        .saturating_add(counters.answered(CountedStatus::Other));
     let counts = format!(in rt.alloc(); " stored {stored} refused {refused} failed {failed}")?;
     let ended = format!(in rt.alloc(); "\" {}", words_of(end))?;
     let is_reported = line.contains(ended.as_str()) && line.ends_with(counts.as_str());

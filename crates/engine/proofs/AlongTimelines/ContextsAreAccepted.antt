@@ -27,6 +27,7 @@ use Rattle.dimse.specs.Command.{CommandRecord}
 use Rattle.dimse.specs.Reading.{command_in}
 use Rattle.dimse.specs.Messages as messages
 use Rattle.dimse.specs.Messages.{Message, Started, NoMessage, InCommand, InSet, Brought, Goes, Ends, Refuses, refusal, with_command, completed, with_fragment, message_by, brought}
+use Rattle.dimse.specs.Joining.{unfinished_of}
 use Rattle.engine.specs.Inputs.{Received}
 use Rattle.engine.specs.Timeline.{Entry, At, Shut, TimedOut, Aborted, Finding, Outcome, Happened, entries, entries_of}
 use Rattle.decisions.specs.declared.decision.Decision.{Decision}
@@ -34,7 +35,7 @@ use Rattle.decisions.specs.declared.decision.Decision.TheVariants as decision
 use Rattle.decisions.specs.ValueEnds.{value_end}
 use Rattle.pdu.specs.declared.head.PdvHead as declared
 use Rattle.engine.specs.Progress.{Progress, Advance, at_start, deciding, deciding_unless_ended, absorb, remaining, moved, done, refusing, nothing, is_due, is_established}
-use Rattle.engine.specs.Heads.{HeadEvent, NoEvent, AtOnce, TooLong, head_event}
+use Rattle.engine.specs.Heads.{HeadEvent, NoEvent, AtOnce, TooLong, abort_reason, head_event}
 use Rattle.engine.specs.Requested.{Requested, request_record}
 use Rattle.engine.specs.Requests.{answered, keeping, judged_so, at_request}
 use Rattle.engine.specs.Replies.{invalid, user_aborts, value_head, aborted_if_refused, command_refused, at_pdv_head, at_pdv, replied, going_on}
@@ -158,7 +159,7 @@ by_context p head refused accepted = elim accepted [
 abbrev pub by_head : Progress → (kind n : ℕ) → HeadEvent → Advance
 by_head p kind n e = elim e [
   | NoEvent ↦ nothing (deciding_unless_ended decision.Nothing p)
-  | AtOnce ev reason ↦ refusing (done [] reason (deciding_unless_ended (decision.PduRefused (record { kind = kind; length = n })) p) ev)
+  | AtOnce ev fault ↦ refusing (done [] (abort_reason fault) (deciding_unless_ended (decision.PduRefused (record { kind = kind; length = n }) fault) p) ev)
   | TooLong ↦ refusing (done (reject_text 2 3 2) 0 (deciding_unless_ended (decision.RequestTooLong n) p) event.UnacceptableRq)
 ]
 
@@ -178,7 +179,7 @@ pdv_head_sound p o n id control None refused e h =
     refused_sound (done [] 6 q event.Invalid).next Between _ (event_sound q Between event.Invalid (stays_invalid p.state) (decided_sound q.decided p Between (without_head p o h)))
 pdv_head_sound p o n id control (Some context) None e h = record { message = h.message; quiet = h.quiet; head = λ t. (context, e) }
 pdv_head_sound p o n id control (Some context) (Some fault) e h =
-    let q = deciding (decision.FragmentRefused (value_head n id control) fault) p in
+    let q = deciding (decision.FragmentRefused (value_head n id control) fault (unfinished_of p.message)) p in
     refused_sound (done [] 0 q event.UserAborts).next Between _ (event_sound q Between event.UserAborts (stays_aborts p.state) (decided_sound q.decided p Between (without_head p o h)))
 
 invalid_sound : (d : Decision) (p : Progress) (o : Opened) → Sound p o → Sound (invalid (deciding d p)).next Between
@@ -189,9 +190,9 @@ invalid_sound d p o h =
 head_sound : (room most : ℕ) (p : Progress) (kind n : ℕ) (e : HeadEvent) → head_event room most p.state kind n ≡ e → Sound p Between
     → Sound (by_head p kind n e).next (OfPdu kind n)
 head_sound room most p kind n NoEvent e h = record { message = h.message; quiet = h.quiet; head = tt }
-head_sound room most p kind n (AtOnce ev reason) e h =
-    let q = deciding_unless_ended (decision.PduRefused (record { kind = kind; length = n })) p in
-    refused_sound (done [] reason q ev).next Between _ (event_sound q Between ev (head_stays room most p.state kind n ev reason e) (decided_sound q.decided p Between h))
+head_sound room most p kind n (AtOnce ev fault) e h =
+    let q = deciding_unless_ended (decision.PduRefused (record { kind = kind; length = n }) fault) p in
+    refused_sound (done [] (abort_reason fault) q ev).next Between _ (event_sound q Between ev (head_stays room most p.state kind n ev fault e) (decided_sound q.decided p Between h))
 head_sound room most p kind n TooLong e h =
     let stays : Stays p.state event.UnacceptableRq = subst (λ (st : State). Stays st event.UnacceptableRq) (sym (head_too_long room most p.state kind n e)) (λ l. absurd cc) in
     let q = deciding_unless_ended (decision.RequestTooLong n) p in
@@ -286,8 +287,8 @@ module _ (rooms : Rooms) (s : Settings) where
       let pdv : messages.Pdv = record { context = context; control = control; fragment = fragment } in
       counts p o Between p.refused (is_established p.state) (at_pdv p finding pdv) refl refl h
       (λ e r. pdv_sound p finding context control fragment o (brought p.message pdv) h e (row_known p.request _ (is_last control) (received_known p.request p.message context fragment h.message (head_is_known p o (length fragment + 2) context control h.head k.0 e r))))
-  entry_sound p finding o (At BadPdv) h k = counts p o Between p.refused (is_established p.state) (invalid (deciding decision.ValueInvalid p)) refl refl h (λ e r. invalid_sound decision.ValueInvalid p o h)
-  entry_sound p finding o (At Leftover) h k = counts p o Between p.refused (is_established p.state) (invalid (deciding (decision.BytesRemaining (value_end p.decided)) p)) refl refl h (λ e r. invalid_sound (decision.BytesRemaining (value_end p.decided)) p o h)
+  entry_sound p finding o (At BadPdv) h k = counts p o Between p.refused (is_established p.state) (invalid (deciding decision.BadPdv p)) refl refl h (λ e r. invalid_sound decision.BadPdv p o h)
+  entry_sound p finding o (At Leftover) h k = counts p o Between p.refused (is_established p.state) (invalid (deciding (decision.Leftover (value_end p.decided)) p)) refl refl h (λ e r. invalid_sound (decision.Leftover (value_end p.decided)) p o h)
   entry_sound p finding o (At (End kind body)) h k = by p.refused
     where
       by : (refused : Bool) → Sound (if refused then nothing p else at_end s p kind body).next Between

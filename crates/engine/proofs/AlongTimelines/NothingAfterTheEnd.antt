@@ -1,10 +1,10 @@
 -- No entry does anything to an association that has ended (`nothing_after_the_end`; PS3.8 section 9.2.2: in Sta1 there is
--- none), and its fields show so (`leaves_ended`). Stands on ContextsAreAccepted and FieldsShow/NothingCounts.
-use Rattle.std.proofs.Common.{◌≡◌, ◌⊎◌, ℕ, ◌-◌, Bool, true, false, not, ◌&&◌, nat_eq, if◌then◌else◌, List, [], ◌∷◌, ◌++◌, map, None, refl, sym, ap, subst, ◌∙◌, arith, inl, inr}
+-- none), and its fields show so (`leaves_ended`). Stands on ContextsAreAccepted,
+-- FieldsShow/NothingCounts and MarksAreDone/PduHead.
+use Rattle.std.proofs.Common.{◌≡◌, ◌⊎◌, ℕ, ◌-◌, Bool, true, false, ◌&&◌, nat_eq, if◌then◌else◌, List, [], ◌∷◌, ◌++◌, map, None, refl, sym, ap, subst, ◌∙◌, arith, inl, inr}
 use Rattle.std.proofs.lemmas.Grind.{common_steps}
 use Rattle.acceptor.specs.declared.state.State.{State}
 use Rattle.acceptor.specs.declared.state.State.TheVariants.{Sta1}
-use Rattle.acceptor.specs.declared.action.Action.{Action}
 use Rattle.acceptor.specs.declared.action.Action.TheVariants as action
 use Rattle.acceptor.specs.declared.event.Event.{Event}
 use Rattle.acceptor.specs.declared.event.Event.TheVariants as event
@@ -16,8 +16,9 @@ use Rattle.engine.specs.Requested.{Requested, no_request}
 use Rattle.engine.specs.Timeline.{Entry, At, Shut, TimedOut, Aborted, Happened, entries_of, Finding, good, Outcome}
 use Rattle.decisions.specs.declared.decision.Decision.{Decision}
 use Rattle.decisions.specs.declared.decision.Decision.TheVariants as decision
+use Rattle.decisions.specs.declared.head_fault.HeadFault.{HeadFault}
 use Rattle.engine.specs.Progress.{Progress, Advance, nothing, done}
-use Rattle.engine.specs.Heads.{HeadEvent, NoEvent, AtOnce, event_of, is_known, has_four_bytes, is_abort, request_length, data_length}
+use Rattle.engine.specs.Heads.{HeadEvent, NoEvent, AtOnce, TooLong, is_abort}
 use Rattle.engine.specs.Requests.{at_request}
 use Rattle.engine.specs.Run.{Rooms, released, at_entry, gives, progress_of, sent_of, files_of, wire_failures, filing_failures}
 use Rattle.engine.specs.Laws.{NothingAfterTheEnd}
@@ -28,6 +29,7 @@ use Rattle.engine.specs.declared.sending.Reaction.TheVariants as due
 use Rattle.engine.specs.machine.Judged.{LeavesDue}
 use Rattle.part10.specs.Store.{Store}
 use Rattle.engine.proofs.FieldsShow.NothingCounts.{pends_ended}
+use Rattle.engine.proofs.MarksAreDone.PduHead.{IsJudged, head_judged}
 use Rattle.engine.proofs.AlongTimelines.ContextsAreAccepted.{by_head}
 
 -- in Sta1, with all else as it may be
@@ -42,27 +44,24 @@ pub record IsStill (p : Progress) (g : Advance) : Type 0 where
   pub message : (next.message ≡ p.message) ⊎ (next.message ≡ NoMessage)
   pub decided : next.decided ≡ p.decided
 
--- no PDU's type has an event in Sta1
-idle_event : (a b c d e f g : Bool) → table Sta1 (if a then event.AcceptableRq else (if b then event.Ac else (if c then event.Rj else (if d then event.Data else (if e then event.ReleaseRq else (if f then event.ReleaseRp else (if g then event.Abort else event.Invalid))))))) ≡ (action.Nothing, Sta1)
-idle_event a b c d e f g = grind (arith, common_steps)
-
 -- a head by_head nothing, or an event that does nothing
 pub data BringsNothing : HeadEvent → Type 0 where
   no_event : BringsNothing NoEvent
-  at_once : (reason : ℕ) → BringsNothing (AtOnce event.Invalid reason)
+  at_once : (fault : HeadFault) → BringsNothing (AtOnce event.Invalid fault)
 
-idle_offset : (a : Action) (e : Event) → a ≡ action.Nothing → BringsNothing (if is_abort a then AtOnce e 2 else NoEvent)
-idle_offset a e is = subst (λ (x : Action). BringsNothing (if is_abort x then AtOnce e 2 else NoEvent)) (sym is) no_event
+never_aborts : (e : Event) → is_abort (table Sta1 e).0 ≡ true → ⊥
+never_aborts e h = grind (arith, common_steps)
 
-idle_head : (a b c d : Bool) (r1 r2 other : HeadEvent) → BringsNothing other → BringsNothing (if a then AtOnce event.Invalid 1 else (if b then AtOnce event.Invalid 6 else (if false && c then r1 else (if false && d then r2 else other))))
-idle_head true b c d r1 r2 other h = at_once 1
-idle_head false true c d r1 r2 other h = at_once 6
-idle_head false false c d r1 r2 other h = h
+idle_judged : (h : HeadEvent) → IsJudged Sta1 h → BringsNothing h
+idle_judged NoEvent j = no_event
+idle_judged (AtOnce e why) (inl is) = subst (λ (x : Event). BringsNothing (AtOnce x why)) (sym is) (at_once why)
+idle_judged (AtOnce e why) (inr aborts) = absurd (never_aborts e aborts)
+idle_judged TooLong j = absurd cc
 
 module _ (rq : Requested) (m : Started) (f : Bool) where
   head_still : (d : Decision) (b : Bool) (kind n : ℕ) {h : HeadEvent} → BringsNothing h → IsStill (at_end_with rq m f d b) (by_head (at_end_with rq m f d false) kind n h)
   head_still d b kind n no_event = record { next = at_end_with rq m f d false; is = refl; state = refl; message = inl refl; decided = refl }
-  head_still d b kind n (at_once reason) = record { next = at_end_with no_request NoMessage false d true; is = refl; state = refl; message = inr refl; decided = refl }
+  head_still d b kind n (at_once why) = record { next = at_end_with no_request NoMessage false d true; is = refl; state = refl; message = inr refl; decided = refl }
 
   kept_still : (d : Decision) (b : Bool) → IsStill (at_end_with rq m f d b) (nothing (at_end_with rq m f d b))
   kept_still d b = record { next = at_end_with rq m f d b; is = refl; state = refl; message = inl refl; decided = refl }
@@ -77,8 +76,7 @@ module _ (rq : Requested) (m : Started) (f : Bool) where
 
   mark_still : (rooms : Rooms) (s : Settings) (v : Finding) (d : Decision) (b : Bool) (x : Mark) → IsStill (at_end_with rq m f d b) (at_entry rooms s (at_end_with rq m f d b) v (At x))
   mark_still rooms s v d b (Head kind n) =
-      head_still d b kind n (idle_head (not (is_known kind)) (has_four_bytes kind && not (nat_eq n 4)) (nat_eq kind 1) (nat_eq kind 4) (request_length (rooms.request - 12) n) (data_length s.max_pdu n) _
-      (idle_offset _ (event_of kind) (ap (λ (step : Action × State). step.0) (idle_event (nat_eq kind 1) (nat_eq kind 2) (nat_eq kind 3) (nat_eq kind 4) (nat_eq kind 5) (nat_eq kind 6) (nat_eq kind 7)))))
+      head_still d b kind n (idle_judged _ (head_judged (rooms.request - 12) s.max_pdu Sta1 kind n))
   mark_still rooms s v d true (PdvHead n context control) = kept_still d true
   mark_still rooms s v d true (Pdv context control fragment) = kept_still d true
   mark_still rooms s v d true BadPdv = kept_still d true

@@ -131,16 +131,16 @@ pub consumed_when : (e r : Bool) (a b : Advance) → (if r then b else (if e the
 consumed_when e r a b = grind arith
 
 -- a PDV that is bad, and bytes that are remaining
-pub at_bad : (rooms : Rooms) (s : Settings) (p : Progress) → at_entry rooms s p good (At BadPdv) ≡ (if accepts_pdvs p then invalid (deciding decision.ValueInvalid p) else nothing p)
-at_bad rooms s p = consumed_when (is_established p.state) p.refused (invalid (deciding decision.ValueInvalid p)) (nothing p)
+pub at_bad : (rooms : Rooms) (s : Settings) (p : Progress) → at_entry rooms s p good (At BadPdv) ≡ (if accepts_pdvs p then invalid (deciding decision.BadPdv p) else nothing p)
+at_bad rooms s p = consumed_when (is_established p.state) p.refused (invalid (deciding decision.BadPdv p)) (nothing p)
 
-pub at_leftover : (rooms : Rooms) (s : Settings) (p : Progress) → at_entry rooms s p good (At Leftover) ≡ (if accepts_pdvs p then invalid (deciding (decision.BytesRemaining (value_end p.decided)) p) else nothing p)
-at_leftover rooms s p = consumed_when (is_established p.state) p.refused (invalid (deciding (decision.BytesRemaining (value_end p.decided)) p)) (nothing p)
+pub at_leftover : (rooms : Rooms) (s : Settings) (p : Progress) → at_entry rooms s p good (At Leftover) ≡ (if accepts_pdvs p then invalid (deciding (decision.Leftover (value_end p.decided)) p) else nothing p)
+at_leftover rooms s p = consumed_when (is_established p.state) p.refused (invalid (deciding (decision.Leftover (value_end p.decided)) p)) (nothing p)
 
 -- where the fields show what was decided before
 pub remaining_after : (p : Progress) (d : Decision) → d ≡ p.decided
-    → (if accepts_pdvs p then invalid (deciding (decision.BytesRemaining (value_end p.decided)) p) else nothing p) ≡ (if accepts_pdvs p then invalid (deciding (decision.BytesRemaining (value_end d)) p) else nothing p)
-remaining_after p d e = ap (λ (x : Decision). if accepts_pdvs p then invalid (deciding (decision.BytesRemaining (value_end x)) p) else nothing p) (sym e)
+    → (if accepts_pdvs p then invalid (deciding (decision.Leftover (value_end p.decided)) p) else nothing p) ≡ (if accepts_pdvs p then invalid (deciding (decision.Leftover (value_end d)) p) else nothing p)
+remaining_after p d e = ap (λ (x : Decision). if accepts_pdvs p then invalid (deciding (decision.Leftover (value_end x)) p) else nothing p) (sym e)
 
 -- ---- events that leave the association or keep its state
 

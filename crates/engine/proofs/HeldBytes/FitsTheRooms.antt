@@ -31,12 +31,14 @@ use Rattle.dimse.specs.declared.fault.DimseFault.TheVariants.{CommandTooLong, Wr
 use Rattle.dimse.specs.Command.{CommandRecord}
 use Rattle.dimse.specs.Messages as messages
 use Rattle.dimse.specs.Messages.{Started, NoMessage, InCommand, InSet, Brought, Goes, Ends, Refuses, Message, refusal, if_room, with_command, completed, with_fragment, brought}
+use Rattle.dimse.specs.Joining.{unfinished_of}
 use Rattle.dimse.specs.Reading.{command_in}
 use Rattle.sequence.proofs.Public.{both_bytes}
-use Rattle.engine.specs.Heads.{HeadEvent, NoEvent, AtOnce, TooLong, head_event}
+use Rattle.engine.specs.Heads.{HeadEvent, NoEvent, AtOnce, TooLong, abort_reason, head_event}
 use Rattle.engine.specs.Held.{of_command}
 use Rattle.decisions.specs.declared.decision.Decision.{Decision}
 use Rattle.decisions.specs.declared.decision.Decision.TheVariants as decision
+use Rattle.decisions.specs.declared.head_fault.HeadFault.TheVariants as fault
 use Rattle.decisions.specs.ValueEnds.{value_end}
 use Rattle.engine.specs.Progress.{Progress, Advance, deciding, deciding_unless_ended, absorb, remaining, moved, done, nothing, is_due, is_established}
 use Rattle.engine.specs.Reached.{accepts_pdvs}
@@ -98,7 +100,7 @@ small_request rooms additional body bytes none le =
       contexts = omega (arith, count, ids, length-map r.contexts (seen additional), length-map r.contexts (λ (p : Proposal). p.id));
     }
 
-length_fits : (room n : ℕ) (b : Bool) → nat_lt room n ≡ b → (if b then TooLong else (if nat_lt n 68 then AtOnce event.Invalid 6 else NoEvent)) ≡ NoEvent → n ≤ room
+length_fits : (room n : ℕ) (b : Bool) → nat_lt room n ≡ b → (if b then TooLong else (if nat_lt n 68 then AtOnce event.Invalid fault.ShortRequest else NoEvent)) ≡ NoEvent → n ≤ room
 length_fits room n true e h = absurd cc
 length_fits room n false e h = ltb-false room n e
 
@@ -229,7 +231,7 @@ module _ (rooms : Rooms) where
       refused_fits (done [] 6 q event.Invalid).next Between _ (event_fits q Between event.Invalid (stays_invalid p.state) (decided_fits q.decided p Between (with_nothing p o h)))
   pdv_head_fits p o n id control (Some context) None e h = record { command = h.command; bytes = h.bytes; agreed = h.agreed; room = λ accepts. e }
   pdv_head_fits p o n id control (Some context) (Some fault) e h =
-      let q = deciding (decision.FragmentRefused (value_head n id control) fault) p in
+      let q = deciding (decision.FragmentRefused (value_head n id control) fault (unfinished_of p.message)) p in
       refused_fits (done [] 0 q event.UserAborts).next Between _ (event_fits q Between event.UserAborts (stays_aborts p.state) (decided_fits q.decided p Between (with_nothing p o h)))
 
   invalid_fits : (d : Decision) (p : Progress) (o : Opened) → Fits rooms p o → Fits rooms (invalid (deciding d p)).next Between
@@ -238,9 +240,9 @@ module _ (rooms : Rooms) where
 
   pdu_head_fits : (most : ℕ) (p : Progress) (kind n : ℕ) (e : HeadEvent) → head_event (rooms.request - 12) most p.state kind n ≡ e → Fits rooms p Between → Fits rooms (by_head p kind n e).next (OfPdu kind n)
   pdu_head_fits most p kind n NoEvent e h = record { command = h.command; bytes = h.bytes; agreed = h.agreed; room = λ due r one. head_fits (rooms.request - 12) most p.state kind n e due one }
-  pdu_head_fits most p kind n (AtOnce ev reason) e h =
-      let q = deciding_unless_ended (decision.PduRefused (record { kind = kind; length = n })) p in
-      refused_fits (done [] reason q ev).next Between _ (event_fits q Between ev (head_stays (rooms.request - 12) most p.state kind n ev reason e) (decided_fits q.decided p Between h))
+  pdu_head_fits most p kind n (AtOnce ev why) e h =
+      let q = deciding_unless_ended (decision.PduRefused (record { kind = kind; length = n }) why) p in
+      refused_fits (done [] (abort_reason why) q ev).next Between _ (event_fits q Between ev (head_stays (rooms.request - 12) most p.state kind n ev why e) (decided_fits q.decided p Between h))
   pdu_head_fits most p kind n TooLong e h =
       let stays : Stays p.state event.UnacceptableRq = subst (λ (st : State). Stays st event.UnacceptableRq) (sym (head_too_long (rooms.request - 12) most p.state kind n e)) (λ l. absurd cc) in
       let q = deciding_unless_ended (decision.RequestTooLong n) p in
@@ -316,9 +318,9 @@ module _ (rooms : Rooms) where
       counted_fits p o Between p.refused (is_established p.state) (at_pdv p finding (record { context = context; control = control; fragment = fragment })) refl refl h (λ t. tt)
       (λ accepts. pdv_fits p finding o context control fragment h k.0 k.1 accepts)
   entry_fits s p finding o (At BadPdv) h k =
-      counted_fits p o Between p.refused (is_established p.state) (invalid (deciding decision.ValueInvalid p)) refl refl h (λ t. tt) (λ accepts. invalid_fits decision.ValueInvalid p o h)
+      counted_fits p o Between p.refused (is_established p.state) (invalid (deciding decision.BadPdv p)) refl refl h (λ t. tt) (λ accepts. invalid_fits decision.BadPdv p o h)
   entry_fits s p finding o (At Leftover) h k =
-      counted_fits p o Between p.refused (is_established p.state) (invalid (deciding (decision.BytesRemaining (value_end p.decided)) p)) refl refl h (λ t. tt) (λ accepts. invalid_fits (decision.BytesRemaining (value_end p.decided)) p o h)
+      counted_fits p o Between p.refused (is_established p.state) (invalid (deciding (decision.Leftover (value_end p.decided)) p)) refl refl h (λ t. tt) (λ accepts. invalid_fits (decision.Leftover (value_end p.decided)) p o h)
   entry_fits s p finding o (At (End kind body)) h k = by p.refused refl
     where
       by : (refused : Bool) → p.refused ≡ refused → Fits rooms (if refused then nothing p else at_end s p kind body).next Between

@@ -25,7 +25,7 @@ use Rattle.dimse.specs.declared.joined.Joined.TheVariants as joined
 use Rattle.dimse.specs.Command.{CommandRecord}
 use Rattle.dimse.specs.Reading.{command_in}
 use Rattle.dimse.specs.Messages.{Message, message_by, Started, NoMessage, InCommand, InSet, Brought, Goes, Ends, Refuses, brought, refusal, head_refusal, if_context, with_command, completed, with_fragment}
-use Rattle.dimse.specs.Joining.{Joining, ShowsMessage, InContext, Joins, ok_unless, without_set, pdv_of, continues, lending, with_pdv}
+use Rattle.dimse.specs.Joining.{Joining, ShowsMessage, InContext, Joins, ok_unless, without_set, pdv_of, continues, lending, unfinished_of, with_pdv}
 use Rattle.engine.specs.Timeline.{At, Finding, good}
 use Rattle.decisions.specs.declared.decision.Decision.TheVariants as decision
 use Rattle.dimse.specs.Messages as message
@@ -158,6 +158,12 @@ pub join_between : (k : Kept) (store : Store) (p : Progress) (body : List ℕ) �
 join_between k store p body h =
     let shows : ShowsMessage k.room k.join p.message [] = subst (λ (xs : List ℕ). ShowsMessage k.room k.join p.message xs) (if_nothing (accepts_pdvs p)) h.join_is in
     ap (λ (j : Joining). j.message) shows.shows
+
+-- what was received of a message shows without the bytes of its data set
+pub unfinished_kept : (message : Started) → unfinished_of (without_set message) ≡ unfinished_of message
+unfinished_kept NoMessage = refl
+unfinished_kept (InCommand context command) = refl
+unfinished_kept (InSet context command set) = refl
 
 pub context_shown : (k : Kept) (store : Store) (p : Progress) (body started : List ℕ) (id : ℕ) → Pends k store p body started → accepts_pdvs p ≡ true → context_in k.additional k.table id ≡ context_of (request_record p.request) id
 context_shown k store p body started id h t = (h.agreed (consumed_state p t)).contexts id

@@ -37,16 +37,18 @@ use Rattle.negotiate.specs.Settings.{Settings}
 use Rattle.dimse.specs.declared.fault.DimseFault.{DimseFault}
 use Rattle.dimse.specs.Command.{CommandRecord}
 use Rattle.dimse.specs.Messages.{Message, Brought, Goes, Ends, Refuses, brought, refusal}
+use Rattle.dimse.specs.Joining.{unfinished_of}
 use Rattle.dimse.specs.Reading.{command_in}
 use Rattle.dimse.proofs.Public.{reply_bounded}
-use Rattle.engine.specs.Heads.{HeadEvent, NoEvent, AtOnce, TooLong, head_event, invalid_parameter}
+use Rattle.engine.specs.Heads.{HeadEvent, NoEvent, AtOnce, TooLong, abort_reason, head_event, invalid_parameter}
 use Rattle.engine.specs.Inputs.{Bytes}
 use Rattle.decisions.specs.declared.decision.Decision.{Decision}
 use Rattle.decisions.specs.declared.decision.Decision.TheVariants as decision
+use Rattle.decisions.specs.declared.head_fault.HeadFault.{HeadFault}
 use Rattle.decisions.specs.ValueEnds.{value_end}
 use Rattle.pdu.specs.declared.head.PdvHead as declared
 use Rattle.dimse.specs.Messages as messages
-use Rattle.engine.specs.Progress.{Progress, Advance, deciding, deciding_unless_ended, absorb, nothing, followed_by, done, refusing, is_due, is_established}
+use Rattle.engine.specs.Progress.{Progress, Advance, decided_at, deciding, deciding_unless_ended, absorb, nothing, followed_by, done, refusing, is_due, is_established}
 use Rattle.engine.specs.Replies.{invalid, user_aborts, value_head, aborted_if_refused, command_refused, replied, finding_on, going_on}
 use Rattle.engine.specs.Requests.{keeping, accepting, declined, answered, judged_so}
 use Rattle.engine.specs.Run.{Rooms, released, at_end, at_mark, at_entry, cut, gives, sent_of}
@@ -176,19 +178,19 @@ done_few answer reason p e = bytes_few answer (sending (table p.state e).0 (tabl
 followed_few : (g : Advance) (f : Progress → Advance) (m n : ℕ) → Few m g → Few n (f g.next) → Few (m + n) (followed_by g f)
 followed_few g f m n a b = omega (arith, length-append g.sent (f g.next).sent, a, b)
 
-head_few : (p : Progress) (b c d : Decision) (n : ℕ) (h : HeadEvent) → Few (30 + n) (elim h [
+head_few : (p : Progress) (b d : Decision) (c : HeadFault → Decision) (n : ℕ) (h : HeadEvent) → Few (30 + n) (elim h [
   | NoEvent ↦ nothing (deciding b p)
-  | AtOnce e reason ↦ refusing (done [] reason (deciding c p) e)
+  | AtOnce e fault ↦ refusing (done [] (abort_reason fault) (deciding (c fault) p) e)
   | TooLong ↦ refusing (done (reject_text rejected_transient service_provider_presentation local_limit_exceeded) 0 (deciding d p) event.UnacceptableRq)
 ])
-head_few p b c d n NoEvent = omega arith
-head_few p b c d n (AtOnce e reason) = omega (arith, done_few [] reason (deciding c p) e)
-head_few p b c d n TooLong = omega (arith, done_few (reject_text rejected_transient service_provider_presentation local_limit_exceeded) 0 (deciding d p) event.UnacceptableRq)
+head_few p b d c n NoEvent = omega arith
+head_few p b d c n (AtOnce e fault) = omega (arith, done_few [] (abort_reason fault) (deciding (c fault) p) e)
+head_few p b d c n TooLong = omega (arith, done_few (reject_text rejected_transient service_provider_presentation local_limit_exceeded) 0 (deciding d p) event.UnacceptableRq)
 
 pdv_head_few : (p : Progress) (head : declared.PdvHead) (refused : Option DimseFault) (known : Option Context) → Few 30 (elim known [ None ↦ invalid (deciding (decision.ContextRefused head) p) | Some accepted ↦ aborted_if_refused head refused p ])
 pdv_head_few p head refused None = omega (arith, done_few [] invalid_parameter (deciding (decision.ContextRefused head) p) event.Invalid)
 pdv_head_few p head None (Some accepted) = omega arith
-pdv_head_few p head (Some fault) (Some accepted) = omega (arith, done_few [] 0 (deciding (decision.FragmentRefused head fault) p) event.UserAborts)
+pdv_head_few p head (Some fault) (Some accepted) = omega (arith, done_few [] 0 (deciding (decision.FragmentRefused head fault (unfinished_of p.message)) p) event.UserAborts)
 
 pdv_few : (p : Progress) (finding : Finding) (pdv : messages.Pdv) (b : Brought) → Few (30 + elim b [ Goes started ↦ 0 | Ends m ↦ length (replied p finding m (command_in m.command)).sent | Refuses fault ↦ 0 ]) (elim b [
   | Goes started ↦ nothing (going_on started p)
@@ -232,11 +234,11 @@ end_few s p kind body =
 
 module _ (rooms : Rooms) (s : Settings) where
   mark_few : (q : Progress) (finding : Finding) (mark : Mark) → Few (30 + answer_length s q finding (At mark)) (at_mark rooms s q finding mark)
-  mark_few q finding (Head kind n) = head_few q _ _ _ 0 (head_event (rooms.request - 12) s.max_pdu q.state kind n)
+  mark_few q finding (Head kind n) = head_few q _ _ (λ fault. decided_at q.state q.decided (decision.PduRefused (record { kind = kind; length = n }) fault)) 0 (head_event (rooms.request - 12) s.max_pdu q.state kind n)
   mark_few q finding (PdvHead n context control) = pick (is_established q.state) _ _ _ (pdv_head_few q (value_head n context control) (refusal rooms.command q.message n context control) (context_of (requested.request_record q.request) context)) (omega arith)
   mark_few q finding (Pdv context control fragment) = pick (is_established q.state) _ _ _ (pdv_few q finding (record { context = context; control = control; fragment = fragment }) (brought q.message (record { context = context; control = control; fragment = fragment }))) (omega arith)
-  mark_few q finding BadPdv = pick (is_established q.state) _ _ _ (omega (arith, done_few [] invalid_parameter (deciding decision.ValueInvalid q) event.Invalid)) (omega arith)
-  mark_few q finding Leftover = pick (is_established q.state) _ _ _ (omega (arith, done_few [] invalid_parameter (deciding (decision.BytesRemaining (value_end q.decided)) q) event.Invalid)) (omega arith)
+  mark_few q finding BadPdv = pick (is_established q.state) _ _ _ (omega (arith, done_few [] invalid_parameter (deciding decision.BadPdv q) event.Invalid)) (omega arith)
+  mark_few q finding Leftover = pick (is_established q.state) _ _ _ (omega (arith, done_few [] invalid_parameter (deciding (decision.Leftover (value_end q.decided)) q) event.Invalid)) (omega arith)
   mark_few q finding (End kind body) = end_few s q kind body
 
   -- the later marks of a refused PDU give nothing
@@ -245,7 +247,7 @@ module _ (rooms : Rooms) (s : Settings) where
   later_few false p finding mark = mark_few p finding mark
 
   entry_few : (p : Progress) (finding : Finding) (e : Entry) → length (at_entry rooms s p finding e).sent ≤ 30 + answer_length s p finding e
-  entry_few p finding (At (Head kind n)) = head_few (record p { refused = false }) _ _ _ 0 (head_event (rooms.request - 12) s.max_pdu p.state kind n)
+  entry_few p finding (At (Head kind n)) = head_few (record p { refused = false }) _ _ (λ fault. decided_at p.state p.decided (decision.PduRefused (record { kind = kind; length = n }) fault)) 0 (head_event (rooms.request - 12) s.max_pdu p.state kind n)
   entry_few p finding (At (PdvHead n context control)) = later_few p.refused p finding (PdvHead n context control)
   entry_few p finding (At (Pdv context control fragment)) = later_few p.refused p finding (Pdv context control fragment)
   entry_few p finding (At BadPdv) = later_few p.refused p finding BadPdv

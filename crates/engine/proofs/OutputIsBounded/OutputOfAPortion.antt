@@ -8,10 +8,6 @@ use Rattle.std.proofs.Math.Nat.{min-le_left, min-le_right}
 use Rattle.std.proofs.lemmas.Bool.{cases_lt}
 use Rattle.std.proofs.lemmas.List.{append-nil, append_cancel_left, length-append, length-drop, length-map, length-take, map-append, take-append-drop}
 use Rattle.std.specs.List.{AllByRecursion}
-use Rattle.acceptor.specs.declared.state.State.{State}
-use Rattle.acceptor.specs.declared.event.Event.TheVariants as event
-use Rattle.acceptor.specs.Effect.{sending, bytes_sent}
-use Rattle.acceptor.specs.Table.{table}
 use Rattle.element.specs.Numbers.{IsBytes}
 use Rattle.pdu.specs.declared.position.Position.{Position}
 use Rattle.pdu.specs.declared.position.Position.TheVariants as position
@@ -22,7 +18,6 @@ use Rattle.pdu.specs.Parts.{IsUnfinishedPdv, in_head, end_mark}
 use Rattle.pdu.specs.Parts as unfinished
 use Rattle.pdu.specs.Spot.{room_remaining}
 use Rattle.pdu.specs.Steps.{bytes_due}
-use Rattle.pdu.specs.Texts.{release_text, abort_text}
 use Rattle.pdu.proofs.Public.{new_nothing, new_then, new_rest, head_part, plain_part, pdv_head_part, fragment_part, unfinished_pdv, marks_within}
 use Rattle.negotiate.specs.Accept.{longest_accept}
 use Rattle.negotiate.specs.Settings.{Settings}
@@ -39,6 +34,7 @@ use Rattle.engine.specs.Stands.{Stands}
 use Rattle.engine.specs.Timeline as timeline
 use Rattle.engine.specs.Timeline.{Entry, Shut, TimedOut, Aborted, Finding, Happened, entries, entries_of}
 use Rattle.engine.proofs.HeldBytes.HeldIsWithinRooms.{bytes_parts}
+use Rattle.engine.proofs.AlongTimelines.AbortsAreSent.{closed_silent, expired_silent}
 use Rattle.engine.proofs.AlongTimelines.HeadsAreFirst.{Opened, Between, opens_at, AreHeadedAt, timeline_headed}
 use Rattle.engine.proofs.WholeRun.OneInputMore.{stream_then}
 use Rattle.engine.proofs.OutputIsBounded.OutputOfAPiece.{cut_few, few_bytes_but_answers, few_marks, sent_few, stories_answer_shortly}
@@ -216,12 +212,6 @@ entries_of_more rooms s inputs input story after failed failed_then h g =
     let all : entries_of story ++ entries_of after ≡ entries [] inputs ++ entries (stream_of inputs) (input ∷ []) =
     sym (map-append (λ (x : Happened). x.0) story after) ∙ g.reported ∙ entries_append inputs (input ∷ []) in
     append_cancel_left (entries [] inputs) (entries_of after) (entries (stream_of inputs) (input ∷ [])) (ap (λ (es : List Entry). es ++ entries_of after) (sym h.reported) ∙ all)
-
-closed_silent : (state : State) → bytes_sent [] release_text abort_text (sending (table state event.Closed).0 (table state event.Closed).1 0) ≡ []
-closed_silent state = grind (arith, common_steps)
-
-expired_silent : (state : State) → bytes_sent [] release_text abort_text (sending (table state event.Expired).0 (table state event.Expired).1 0) ≡ []
-expired_silent state = grind (arith, common_steps)
 
 entry_silent : (rooms : Rooms) (s : Settings) (p : Progress) (finding : Finding) (before : List ℕ) (input : Received) (e : Entry) → IsSilent input → entries before (input ∷ []) ≡ e ∷ [] → (at_entry rooms s p finding e).sent ≡ []
 entry_silent rooms s p finding before (Bytes piece) e i reported = absurd i

@@ -228,8 +228,8 @@ module _ (rooms : Rooms) (set : Settings) where
   does_within p (Pdv context control fragment) k body started d i t h =
       let pdv : messages.Pdv = record { context = context; control = control; fragment = fragment } in
       does_nothing rooms set p (timeline.At (Pdv context control fragment)) k body started d (dropped_by p (at_pdv p good pdv) t) (no_message p (ended p.message pdv) t) h
-  does_within p BadPdv k body started d i t h = does_nothing rooms set p (timeline.At BadPdv) k body started d (dropped_by p (invalid (deciding decision.ValueInvalid p)) t) tt h
-  does_within p Leftover k body started d i t h = does_nothing rooms set p (timeline.At Leftover) k body started d (dropped_by p (invalid (deciding (decision.BytesRemaining (value_end p.decided)) p)) t) tt h
+  does_within p BadPdv k body started d i t h = does_nothing rooms set p (timeline.At BadPdv) k body started d (dropped_by p (invalid (deciding decision.BadPdv p)) t) tt h
+  does_within p Leftover k body started d i t h = does_nothing rooms set p (timeline.At Leftover) k body started d (dropped_by p (invalid (deciding (decision.Leftover (value_end p.decided)) p)) t) tt h
   does_within p (End kind whole) k body started d i t h = absurd i
 
   does_inner : (ms : List Mark) → AreInner ms → (p : Progress) (k : Kept) (body started : List ℕ) (d : Devices) → accepts_pdvs_in k ≡ false → Pends k d.store p body started → DoesAll rooms set p (map timeline.At ms) k body started d d

@@ -5,5 +5,5 @@ use Rattle.engine.specs.declared.heads.HeadEvent.TheVariants as judged
 
 abbrev pub brings : code.HeadEvent → HeadEvent
 brings judged.Nothing = NoEvent
-brings (judged.AtOnce event reason) = AtOnce event reason
+brings (judged.AtOnce event fault) = AtOnce event fault
 brings judged.TooLong = TooLong

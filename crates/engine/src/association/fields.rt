@@ -7,8 +7,8 @@ use crate::phase::{Message, Peer, Phase};
 use crate::provider::Provider;
 use crate::stores::Storing;
 use arrayvec::ArrayVec;
-use decisions::{Decision, ValueEnd};
-use dimse::{Detail, Join};
+use decisions::{Decision, HeadFault, ValueEnd};
+use dimse::{Detail, Join, Unfinished};
 use element::Tag;
 use negotiate::{Answer, Config, ContextRow};
 use pdu::{Deframer, PduHead, PdvHead};
@@ -59,13 +59,14 @@ fn fields<const A: usize, const C: usize, const V: usize, const D: usize>(
 fn decision(decision: &Decision) {
     match decision {
         Decision::Nothing
-        | Decision::ValueInvalid
+        | Decision::BadPdv
         | Decision::DataDue
         | Decision::Released
         | Decision::Aborted => {}
-        Decision::PduRefused(PduHead { kind, length }) => {
+        Decision::PduRefused(PduHead { kind, length }, fault) => {
             let _: &u8 = kind;
             let _: &u32 = length;
+            head_fault(fault);
         }
         Decision::RequestTooLong(length) => {
             let _: &u32 = length;
@@ -81,11 +82,12 @@ fn decision(decision: &Decision) {
             let _: &u8 = reason;
         }
         Decision::Fragment(head) | Decision::ContextRefused(head) => pdv_head(head),
-        Decision::FragmentRefused(head, fault) => {
+        Decision::FragmentRefused(head, fault, before) => {
             pdv_head(head);
             let _ = *fault as u8;
+            unfinished(before);
         }
-        Decision::BytesRemaining(end) => match end {
+        Decision::Leftover(end) => match end {
             ValueEnd::Nothing | ValueEnd::DataDue => {}
             ValueEnd::Replied(status, detail) => reply(status, detail),
         },
@@ -94,6 +96,32 @@ fn decision(decision: &Decision) {
             let _: &Option<u16> = field;
         }
         Decision::Replied(status, detail) => reply(status, detail),
+    }
+}
+
+fn head_fault(fault: &HeadFault) {
+    match fault {
+        HeadFault::Unrecognized
+        | HeadFault::Unexpected
+        | HeadFault::OtherLength
+        | HeadFault::ShortRequest
+        | HeadFault::ShortData => {}
+        HeadFault::LongData(most) => {
+            let _: &u32 = most;
+        }
+    }
+}
+
+fn unfinished(unfinished: &Unfinished) {
+    match unfinished {
+        Unfinished::Nothing => {}
+        Unfinished::Command(context, size) => {
+            let _: &u8 = context;
+            let _: &usize = size;
+        }
+        Unfinished::Set(context) => {
+            let _: &u8 = context;
+        }
     }
 }
 

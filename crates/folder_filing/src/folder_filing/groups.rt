@@ -1,7 +1,7 @@
 //! Commits of a filing that are settled in groups.
 ghost use Rattle.std.specs.Prelude.{◌≡◌, ◌∷◌, ◌++◌, ◌<◌, ◌&&◌, [], None, IfOk, OnOk, OnErr, is_some, not, true, false};
-ghost use Rattle.folder_filing.specs.Naming.{LeavesNames, WasRefused, is_written, refusals, standing};
-ghost use Rattle.folder_filing.specs.Settling.{SettlesNames, WritesOut, is_on_disk, is_unsettled, is_waiting, reported, settled};
+ghost use Rattle.folder_filing.specs.Naming.{LeavesNames, WasRefused, is_unreported, is_written, refusals, standing};
+ghost use Rattle.folder_filing.specs.Settling.{IsReported, SettlesNames, WritesOut, is_on_disk, is_unsettled, is_waiting, settled};
 ghost use Rattle.folder_filing.specs.Synced.{is_synced};
 ghost use Rattle.part10.specs.Store.{or_nothing, store_of};
 ghost use Rattle.folder_filing.specs.declared.call.Call.TheVariants as seen;
@@ -71,6 +71,7 @@ where
         ensures sync { self.new.names.has_sync ≡ self.old.names.has_sync }
         ensures own { self.new.names.own ≡ self.old.names.own }
         ensures named { IfOk result (λ location. standing self.new.names.calls ≡ location ∷ standing self.old.names.calls) }
+        ensures unreported { OnOk result (is_unreported self.new.names.calls ≡ true) }
         ensures settled { OnOk result (refusals self.new.names.calls ≡ refusals self.old.names.calls) }
         ensures remaining { OnErr result (LeavesNames (standing self.old.names.calls) (standing self.new.names.calls)) }
         ensures refused { OnErr result (WasRefused self.old.names self.new.names) }
@@ -87,7 +88,7 @@ where
         ensures same_names { self.new.names ≡ self.old.names }
         ensures lost { self.new.pending ≡ pending.Lost }
     {
-        self.notes.failed(error);
+        self.notes.error.set(Some(error));
         self.handed = None;
         self.pending = Pending::Lost;
         self.dropped = self.dropped.saturating_add(1);
@@ -116,7 +117,7 @@ where
         ensures same { self.new.contents ≡ self.old.contents }
         ensures settled { result ≡ true → self.new.pending ≡ pending.Settled }
         ensures on_disk { result ≡ true → is_unsettled self.new ≡ false }
-        ensures reported { result ≡ true → self.new.names ≡ reported location self.old.names }
+        ensures reported { result ≡ true → IsReported location self.old.names self.new.names }
         ensures has_pending { result ≡ false → self.new ≡ self.old }
     {
         let has = self.names.calls.has_synced(synced, location);

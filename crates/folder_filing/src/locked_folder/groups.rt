@@ -1,14 +1,17 @@
 //! Syncs the names of several files together.
 ghost use Rattle.std.specs.Prelude.{◌≡◌, ◌<◌, ◌+◌, ◌∷◌, OnOk, OnErr, drop};
-ghost use Rattle.folder_filing.specs.Naming.{Asks, IsNewest, IsOrderly, refusals, standing};
+ghost use Rattle.folder_filing.specs.Naming.{IsOrderly, refusals, standing};
+ghost use Rattle.folder_filing.specs.Settling.{IsNamedLast};
 ghost use Rattle.folder_filing.specs.declared.call.Call.TheVariants as seen;
+ghost use Rattle.folder_filing.specs.declared.pending.Pending.TheVariants as pending;
 
 use super::LockedFolder;
+use crate::entered_file::EnteredFile;
 use crate::folder_calls::FolderCalls;
+use crate::folder_identity::FolderIdentity;
 use crate::given_names::GivenNames;
 use crate::group::NamedFolder;
 use crate::location::Location;
-use crate::named_file::NamedFile;
 use crate::names_synced::NamesSynced;
 use crate::naming::Target;
 use crate::open_folder::OpenFolder;
@@ -22,76 +25,52 @@ where
 {
     /// Returns whether commits are settled in groups.
     pub(crate) fn has_groups(&self) -> bool {
-        self.group.is_used()
+        self.group.is_used.get()
     }
 
     /// Sets whether commits are settled in groups from now on.
     pub(crate) fn set_groups(&self, is_used: bool) {
-        self.group.set_used(is_used);
-    }
-
-    /// Fails if the path leads to another folder than the locked one. In a group the path is
-    /// checked once, before the first file is named.
-    pub(super) fn check_group(&self, in_group: bool, calls: &mut FolderCalls) -> io::Result<()>
-        ensures unchanged { OnOk result (calls.new ≡ calls.old) }
-        ensures refused { OnErr result (Asks (standing calls.old) (refusals calls.old + 1) calls.old calls.new) }
-    {
-        if in_group && self.group.is_checked() {
-            return Ok(());
-        }
-        self.check_path(calls)?;
-        self.group.check();
-        Ok(())
+        self.group.is_used.set(is_used);
     }
 
     /// Records that the name of a file must be synced, and keeps its subfolder open until then,
     /// even if its path changes.
     pub(super) fn leave_unsynced(
         &self,
-        file: NamedFile,
+        file: EnteredFile,
         open: Option<OpenFolder<R::File>>,
         calls: &mut FolderCalls,
     ) -> io::Result<()>
         ensures unchanged { OnOk result (calls.new ≡ calls.old) }
         ensures refused { OnErr result (calls.new ≡ seen.Refused ∷ calls.old) }
     {
-        if file.has_remaining() {
-            self.group.leave();
-        }
         let folder = calls.passed(NamedFolder::of(self.rt.alloc(), open, file))?;
         calls.passed(self.group.add(self.rt.alloc(), folder))
     }
 
     /// Syncs the folders of all files that were named since the last call, after a rename to a
-    /// subfolder first that of the drafts. If that fails, no name is synced; any other folder that
-    /// cannot be synced affects only its own files.
+    /// subfolder first that of the drafts. A folder that cannot be synced affects only its own
+    /// files.
     pub(crate) fn sync_names(&self) -> NamesSynced<R::A> {
         let mut synced = NamesSynced::none(self.rt.alloc());
-        let (has_remaining, folders) = self.group.end(self.rt.alloc());
-        if has_remaining {
-            if let Err(error) = self.folder.sync() {
-                synced.fail(error);
-                return synced;
-            }
-        }
-        for folder in folders {
+        for folder in self.group.end(self.rt.alloc()) {
             let NamedFolder { open, files } = folder;
             match &open {
-                Some(open) => synced.sync(open, files),
-                None => synced.sync(&self.folder, files),
+                Some(open) => synced.sync(&self.folder, open, files),
+                None => synced.sync(&self.folder, &self.folder, files),
             }
         }
         synced
     }
 
     /// Removes the file at this location, the last one that the filing has named, because its name
-    /// could not be synced.
+    /// could not be synced, and whose commit was not reported. Fails if another file has its name.
     pub(crate) fn remove_at(
         &self,
         location: Location,
         names: &mut GivenNames<R::A>,
-    ) -> io::Result<()>
-        requires newest { ∥ IsNewest location (standing names.old.calls) ∥₁ }
+    ) -> io::Result<FolderIdentity>
+        requires newest { ∥ IsNamedLast (pending.Named location) names.old.calls ∥₁ }
         ensures sync { names.new.has_sync ≡ names.old.has_sync }
         ensures own { names.new.own ≡ names.old.own }
         ensures removed { OnOk result (standing names.new.calls ≡ drop 1 (standing names.old.calls)) }

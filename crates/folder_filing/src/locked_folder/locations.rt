@@ -1,7 +1,9 @@
 //! Names a draft: it gets the name of the next free location.
 ghost use Rattle.std.specs.Prelude.{◌≡◌, ◌≤◌, ◌<◌, ◌+◌, ◌∷◌, None, IfOk, OnOk, OnErr, true, false};
-ghost use Rattle.folder_filing.specs.Naming.{IsKept, IsNameSynced, IsOrderly, IsWritten, KeepsAll, LeavesNames, LosesNone, WasRefused, refusals, standing};
+ghost use Rattle.folder_filing.specs.Naming.{AreOnDisk, Asks, IsAfterAll, IsKept, IsNameSynced, IsNewest, IsOrderly, IsWritten, KeepsAll, LeavesNames, LosesNone, WasRefused, is_unreported, refusals, standing};
+ghost use Rattle.folder_filing.specs.Folders.{IsSwept};
 ghost use Rattle.folder_filing.specs.Locations.{next_location, order};
+ghost use Rattle.folder_filing.specs.Synced.{is_moved};
 ghost use Rattle.folder_filing.specs.declared.call.Call.TheVariants as seen;
 ghost use Rattle.folder_filing.specs.declared.location.Layout.TheVariants as layout;
 ghost use Rattle.folder_filing.specs.declared.naming.Named.TheVariants as how;
@@ -9,12 +11,14 @@ ghost use Rattle.folder_filing.specs.machine.Naming.{NameLeaves, LocationLeaves,
 
 use super::LockedFolder;
 use crate::drafts::DraftPath;
+use crate::entered_file::EnteredFile;
 use crate::folder_calls::FolderCalls;
 use crate::folder_identity::FolderIdentity;
 use crate::given_names::GivenNames;
 use crate::location::{GREATEST, Layout, Location};
 use crate::named_file::NamedFile;
 use crate::naming::{Attempt, Obstacle, Target, name_file};
+use crate::open_folder::OpenFolder;
 use crate::stored_file::StoredFile;
 use std::io::{Error, ErrorKind};
 use std::rt::Files;
@@ -45,20 +49,24 @@ impl<R: Files + Alloc + Clone + Drop> LockedFolder<R>
 where
     R::File: StoredFile,
 {
-    /// Makes sure that the file of numbers, if there is one, covers the number of this location.
+    /// Makes sure that the file of numbers, if there is one, covers the number of this location,
+    /// with syncs on the disk.
     fn keep_number(&self, location: Location, names: &mut GivenNames<R::A>) -> io::Result<()>
         ensures kept { OnOk result (IsKept names.old.layout names.new.kept location) }
+        ensures on_disk { OnOk result (names.new.has_sync ≡ true → AreOnDisk names.new.kept) }
         ensures keeps { KeepsAll names.old.kept names.new.kept }
         ensures same { (names.new.layout ≡ names.old.layout) × (names.new.last ≡ names.old.last) × (names.new.has_sync ≡ names.old.has_sync) × (names.new.own ≡ names.old.own) }
         ensures unchanged { OnOk result (names.new.calls ≡ names.old.calls) }
         ensures refused { OnErr result (names.new.calls ≡ seen.Refused ∷ names.old.calls) }
     {
-        let layout = names.layout;
+        let (layout, has_sync) = (names.layout, names.has_sync);
         let Some(file) = &mut names.numbers else {
             return Ok(());
         };
         file.take_over(self.kept.get());
-        names.calls.keep(&self.rt, file, layout, location)?;
+        names
+            .calls
+            .keep(&self.rt, file, layout, location, has_sync)?;
         self.kept.set(file.kept());
         Ok(())
     }
@@ -75,37 +83,60 @@ where
         in_group: bool,
         names: &mut GivenNames<R::A>,
     ) -> io::Result<bool>
+        requires newest { IsNewest file.location (standing names.old.calls) }
         ensures same { (names.new.last ≡ names.old.last) × SameTerms names.old names.new }
         ensures names { standing names.new.calls ≡ standing names.old.calls }
+        ensures unreported { is_unreported names.new.calls ≡ is_unreported names.old.calls }
         ensures loses { LosesNone names.old.has_sync names.old.own names.old.calls → LosesNone names.new.has_sync names.new.own names.new.calls }
         ensures settled { OnOk result (refusals names.new.calls ≡ refusals names.old.calls) }
         ensures refused { OnErr result (refusals names.old.calls < refusals names.new.calls) }
-        ensures synced { names.old.has_sync ≡ true → in_group ≡ false → IfOk result (λ is_there. is_there ≡ true → names.new.calls ≡ seen.Synced file.location.folder ∷ names.old.calls) }
+        ensures synced { names.old.has_sync ≡ true → in_group ≡ false → IfOk result (λ is_there. is_there ≡ true → IsNameSynced names.new.calls) }
         ensures moved { IfOk result (λ is_there. is_there ≡ false → (names.new.calls ≡ names.old.calls) × (file.how ≡ how.Linked)) }
     {
         if !names.has_sync {
             return Ok(true);
         }
         let calls = &mut names.calls;
-        let mut open = None;
-        if file.location().folder != 0 {
-            open = self.open_subfolder(file, calls)?;
-            if open.is_none() {
-                return Ok(false);
+        if file.location().folder == 0 {
+            let file = EnteredFile::in_folder(file, &self.folder);
+            if in_group {
+                self.leave_unsynced(file, None, calls)?;
+                return Ok(true);
             }
-        }
-        if in_group {
-            self.leave_unsynced(file, open, calls)?;
+            self.sync_entered(file, &self.folder, calls)?;
             return Ok(true);
         }
-        if file.has_remaining() {
-            calls.passed(self.folder.sync())?;
+        let Some(folder) = self.open_subfolder(file, calls)? else {
+            return Ok(false);
+        };
+        let entry = self.synced_entry(&folder, calls)?;
+        let file = EnteredFile::in_subfolder(file, &folder, entry);
+        if in_group {
+            self.leave_unsynced(file, Some(folder), calls)?;
+            return Ok(true);
         }
-        match &open {
-            Some(folder) => calls.sync_names(folder)?,
-            None => calls.sync_names(&self.folder)?,
-        }
+        self.sync_entered(file, &folder, calls)?;
         Ok(true)
+    }
+
+    /// Syncs the open folder in which a file was just named and, after a rename, before that the
+    /// folder of the draft.
+    fn sync_entered(
+        &self,
+        file: EnteredFile,
+        folder: &OpenFolder<R::File>,
+        calls: &mut FolderCalls,
+    ) -> io::Result<()>
+        requires folder { file.folder ≡ folder.now }
+        requires number { folder.now.number ≡ file.file.location.folder }
+        requires newest { IsNewest file.file.location (standing calls.old) }
+        ensures asked { OnOk result (Asks (standing calls.old) (refusals calls.old) calls.old calls.new) }
+        ensures synced { OnOk result (IsNameSynced calls.new) }
+        ensures swept { is_moved file.file ≡ true → OnOk result (IsSwept calls.new) }
+        ensures refused { OnErr result (Asks (standing calls.old) (refusals calls.old + 1) calls.old calls.new) }
+    {
+        calls.enter(file);
+        calls.sync_both(&self.folder, folder, file.has_remaining())
     }
 
     /// Gives a draft the target name. If its subfolder was moved or removed, creates it. A
@@ -147,8 +178,9 @@ where
 
     /// Gives the draft the name of this location, which the file of numbers covers, and syncs the
     /// folder as [`sync_name`](LockedFolder::sync_name) does. After an error or an obstacle the
-    /// file has only its draft name, unless the new name could not be removed. A subfolder that is
-    /// moved or removed meanwhile is an obstacle if `may_miss` is set, else an error.
+    /// file has only its draft name, unless the new name could not be removed, as where another
+    /// program has moved it away. A subfolder that is moved or removed meanwhile is an obstacle if
+    /// `may_miss` is set, else an error.
     fn name_at(
         &self,
         location: Location,
@@ -157,12 +189,13 @@ where
         names: &mut GivenNames<R::A>,
     ) -> io::Result<Attempt>
         requires kept { IsKept names.old.layout names.old.kept location }
+        requires on_disk { names.old.has_sync ≡ true → AreOnDisk names.old.kept }
         requires behind { order names.old.last < order location }
         requires written { IsWritten names.old.has_sync names.old.calls }
         ensures remaining { LocationLeaves location result names.old names.new }
         ensures same { SameTerms names.old names.new }
         ensures synced { names.old.has_sync ≡ true → in_group ≡ false → SyncsName result names.new.calls }
-        ensures loses { LosesNone names.old.has_sync names.old.own names.old.calls → LosesNone names.new.has_sync names.new.own names.new.calls }
+        ensures loses { IsAfterAll location (standing names.old.calls) → LosesNone names.old.has_sync names.old.own names.old.calls → LosesNone names.new.has_sync names.new.own names.new.calls }
     {
         let path = names.calls.text(self.path_of(location))?;
         let target = Target {
@@ -182,12 +215,9 @@ where
                 self.continues(location, names);
                 return Ok(Attempt::Named(file));
             }
-            Ok(false) => match names
-                .calls
-                .remove_link(&self.rt, names.draft.as_str(), target)
-            {
-                Ok(()) if may_miss => return Ok(Attempt::Met(Obstacle::Missing)),
-                Ok(()) => return names.calls.passed(Err(FolderIdentity::replaced())),
+            Ok(false) => match names.calls.remove_link(&self.rt, target) {
+                Ok(_) if may_miss => return Ok(Attempt::Met(Obstacle::Missing)),
+                Ok(_) => return names.calls.passed(Err(FolderIdentity::replaced())),
                 Err(error) => error,
             },
             Err(error) => error,
@@ -204,6 +234,7 @@ where
     /// Fails with `StorageFull` if all numbers are in use.
     fn next_location(&self, names: &mut GivenNames<R::A>) -> io::Result<Location>
         ensures kept { IfOk result (λ location. IsKept names.new.layout names.new.kept location) }
+        ensures on_disk { OnOk result (names.new.has_sync ≡ true → AreOnDisk names.new.kept) }
         ensures behind { IfOk result (λ location. order names.new.last < order location) }
         ensures rises { order names.old.last ≤ order names.new.last }
         ensures sync { names.new.has_sync ≡ names.old.has_sync }
@@ -272,8 +303,9 @@ where
         ensures refused { OnErr result (WasRefused names.old names.new) }
         ensures orderly { IsOrderly names.old → IsOrderly names.new }
         ensures synced { names.old.has_sync ≡ true → in_group ≡ false → OnOk result (IsNameSynced names.new.calls) }
+        ensures unreported { OnOk result (is_unreported names.new.calls ≡ true) }
     {
-        self.check_group(in_group, &mut names.calls)?;
+        self.check_path(&mut names.calls)?;
         names.last = names.last.later(self.last.get());
         for turn in 0..u64::MAX {
             let location = self.next_location(names)?;

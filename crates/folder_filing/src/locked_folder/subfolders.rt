@@ -1,14 +1,15 @@
 //! The subfolders of a locked folder.
-ghost use Rattle.std.specs.Prelude.{◌≡◌, ◌∷◌, None, IfOk, IfSome, OnOk, OnErr};
+ghost use Rattle.std.specs.Prelude.{◌≡◌, ◌∷◌, None, Some, IfOk, IfSome, OnOk, OnErr};
 ghost use Rattle.folder_filing.specs.declared.call.Call.TheVariants as seen;
 ghost use Rattle.folder_filing.specs.declared.naming.Named.TheVariants as how;
 
 use super::LockedFolder;
+use crate::entered_file::SyncedEntry;
 use crate::folder_calls::FolderCalls;
 use crate::folder_identity::FolderIdentity;
 use crate::listing::folder_path;
 use crate::named_file::NamedFile;
-use crate::names::{EntryKind, EntryName};
+use crate::names::EntryKind;
 use crate::naming::{Named, Target};
 use crate::open_folder::{OpenFolder, open_subfolder};
 use crate::stored_file::StoredFile;
@@ -19,10 +20,7 @@ use std::rt::Files;
 
 /// Returns the error for a subfolder that cannot be created, with its name in the message.
 fn unmade<A: Allocator>(alloc: A, folder: u32, error: &Error) -> Error {
-    let name = EntryName {
-        kind: EntryKind::Folder,
-        number: folder,
-    };
+    let name = EntryKind::Folder.name(folder);
     match format!(in alloc; "the folder {name} can't be made: {error}") {
         Ok(text) => Error::new(error.kind(), text.as_str()),
         Err(failed) => Error::from(failed),
@@ -70,8 +68,7 @@ where
         }
     }
 
-    /// Opens the subfolder in which a file was just named, and syncs its entry in the folder,
-    /// unless that was done since the subfolder is in it. Returns `None` if no subfolder has its
+    /// Opens the subfolder in which a file was just named. Returns `None` if no subfolder has its
     /// number now, or another one than right before the file was named: no system call shows which
     /// one has the file.
     ///
@@ -82,24 +79,45 @@ where
         file: NamedFile,
         calls: &mut FolderCalls,
     ) -> io::Result<Option<OpenFolder<R::File>>>
-        ensures number { IfOk result (λ opened. IfSome opened (λ folder. folder ≡ file.location.folder)) }
+        ensures number { IfOk result (λ opened. IfSome opened (λ folder. folder.number ≡ file.location.folder)) }
+        ensures same { IfOk result (λ opened. IfSome opened (λ folder. file.folder ≡ Some folder.identity)) }
         ensures moved { IfOk result (λ opened. opened ≡ None → file.how ≡ how.Linked) }
         ensures unchanged { OnOk result (calls.new ≡ calls.old) }
         ensures refused { OnErr result (calls.new ≡ seen.Refused ∷ calls.old) }
     {
         let number = file.location().folder;
-        let folder = match open_subfolder(&self.rt, self.dir.as_str(), number) {
-            Ok(folder) if file.folder() == Some(folder.identity()) => folder,
-            Err(error) if error.kind() != ErrorKind::NotFound => return calls.passed(Err(error)),
-            _ => return match file.how() {
+        match open_subfolder(&self.rt, self.dir.as_str(), number) {
+            Ok(folder) if file.folder() == Some(folder.identity()) => Ok(Some(folder)),
+            Err(error) if error.kind() != ErrorKind::NotFound => calls.passed(Err(error)),
+            _ => match file.how() {
                 Named::Linked => Ok(None),
                 Named::Renamed => calls.passed(Err(FolderIdentity::replaced())),
             },
-        };
-        if self.entered.get() != file.folder() {
-            calls.passed(self.folder.sync())?;
-            self.entered.set(file.folder());
         }
-        Ok(Some(folder))
+    }
+
+    /// Syncs the entry of an open subfolder in the folder, unless that was done since the subfolder
+    /// is in it.
+    pub(super) fn synced_entry(
+        &self,
+        folder: &OpenFolder<R::File>,
+        calls: &mut FolderCalls,
+    ) -> io::Result<SyncedEntry>
+        ensures entry { IfOk result (λ entry. entry.folder ≡ folder.now) }
+        ensures unchanged { OnOk result (calls.new ≡ calls.old) }
+        ensures refused { OnErr result (calls.new ≡ seen.Refused ∷ calls.old) }
+    {
+        if let Some(entry) = self.entered.get() {
+            if entry.is_of(folder) {
+                return Ok(entry);
+            }
+        }
+        let mut synced = FolderCalls::new();
+        if let Err(error) = synced.sync_names(&self.folder) {
+            return calls.passed(Err(error));
+        }
+        let entry = SyncedEntry::of(folder, &synced);
+        self.entered.set(Some(entry));
+        Ok(entry)
     }
 }

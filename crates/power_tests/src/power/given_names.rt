@@ -86,7 +86,8 @@ fn the_path_is_looked_at_first(rt: HostRuntime) -> Result<(), Fail> {
         let acts = acts.as_slice();
         let opens = [Act::LookAtFolder, Act::Lock, Act::LookAtFolder, Act::List];
         assert!(rt; times(acts, &opens) == 1);
-        assert!(rt; times(acts, &[Act::LookAtFolder, Act::Create, Act::Write]) == 2);
+        let starts = [Act::LookAtFolder, Act::Create, Act::Look, Act::Write];
+        assert!(rt; times(acts, &starts) == 2);
         assert!(rt; times(acts, &[Act::Sync, Act::LookAtFolder, Act::Link]) == 2);
         assert!(rt; times(acts, &[Act::LookAtFolder]) == 6);
     }

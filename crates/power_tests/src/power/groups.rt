@@ -123,38 +123,8 @@ fn a_group_of_two_in_one_folder(rt: HostRuntime) -> Result<(), Fail> {
 }
 
 #[test]
-fn a_group_of_two_in_one_folder_without_links(rt: HostRuntime) -> Result<(), Fail> {
-    assert!(rt; states(rt.alloc(), group(Kept::Flat, 2, false))? > Some(1000));
-    Ok(())
-}
-
-#[test]
-fn a_group_of_three_in_one_folder(rt: HostRuntime) -> Result<(), Fail> {
-    assert!(rt; states(rt.alloc(), group(Kept::Flat, 3, true))? > Some(1000));
-    Ok(())
-}
-
-#[test]
-fn a_group_of_three_in_one_folder_without_links(rt: HostRuntime) -> Result<(), Fail> {
-    assert!(rt; states(rt.alloc(), group(Kept::Flat, 3, false))? > Some(1000));
-    Ok(())
-}
-
-#[test]
-fn a_group_of_two_in_levels(rt: HostRuntime) -> Result<(), Fail> {
-    assert!(rt; states(rt.alloc(), group(Kept::Levels, 2, true))? > Some(1000));
-    Ok(())
-}
-
-#[test]
 fn a_group_of_three_in_two_levels(rt: HostRuntime) -> Result<(), Fail> {
     assert!(rt; states(rt.alloc(), group(Kept::Levels, 3, true))? > Some(1000));
-    Ok(())
-}
-
-#[test]
-fn a_group_of_three_in_two_levels_without_links(rt: HostRuntime) -> Result<(), Fail> {
-    assert!(rt; states(rt.alloc(), group(Kept::Levels, 3, false))? > Some(1000));
     Ok(())
 }
 

@@ -1,4 +1,8 @@
-//! Power is lost before each call to the disk in turn, and each state that may remain is tried.
+//! Power is lost before each call to the disk in turn, and each state that may remain is tried: a
+//! file that was answered is there, any other is whole or gone, and the next start continues.
+//!
+//! That answered files survive follows from the system calls that a filing records (the laws of
+//! `folder_filing`); here the disk sees the calls that are made.
 
 use crate::power::disk::{Disk, Shared};
 use crate::power::filed::{Due, Kept};
@@ -52,13 +56,12 @@ fn states_at(
 
 /// Loses power at each call in turn. Returns how many states were tried, or `None` if anything is
 /// not as expected.
-fn states(alloc: Global, kept: Kept, has_links: bool) -> io::Result<Option<u64>> {
+fn states(alloc: Global, kept: Kept) -> io::Result<Option<u64>> {
     let lives = [first_life(alloc)?, second_life(alloc)?];
     let mut states = 0u64;
     for at in 0..500usize {
         let trouble = Trouble {
             power_ends: Some(at),
-            has_links,
             ..Trouble::NONE
         };
         match states_at(alloc, &lives, kept, trouble)? {
@@ -72,24 +75,12 @@ fn states(alloc: Global, kept: Kept, has_links: bool) -> io::Result<Option<u64>>
 
 #[test]
 fn answered_files_survive_in_one_folder(rt: HostRuntime) -> Result<(), Fail> {
-    assert!(rt; states(rt.alloc(), Kept::Flat, true)? > Some(5000));
+    assert!(rt; states(rt.alloc(), Kept::Flat)? > Some(5000));
     Ok(())
 }
 
 #[test]
 fn answered_files_survive_in_levels(rt: HostRuntime) -> Result<(), Fail> {
-    assert!(rt; states(rt.alloc(), Kept::Levels, true)? > Some(5000));
-    Ok(())
-}
-
-#[test]
-fn answered_files_survive_in_one_folder_without_links(rt: HostRuntime) -> Result<(), Fail> {
-    assert!(rt; states(rt.alloc(), Kept::Flat, false)? > Some(5000));
-    Ok(())
-}
-
-#[test]
-fn answered_files_survive_in_levels_without_links(rt: HostRuntime) -> Result<(), Fail> {
-    assert!(rt; states(rt.alloc(), Kept::Levels, false)? > Some(5000));
+    assert!(rt; states(rt.alloc(), Kept::Levels)? > Some(5000));
     Ok(())
 }

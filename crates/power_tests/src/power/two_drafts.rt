@@ -1,11 +1,12 @@
-//! Two filings over the disk with drafts at the same time, while power is lost or a call fails.
+//! Two filings over the disk with drafts at the same time, while a call fails. That files survive
+//! beside other filings is a law of `folder_filing`.
 ghost use Rattle.std.specs.Prelude.{◌≡◌, true};
 
 use crate::power::disk::Shared;
 use crate::power::filed::Kept;
 use crate::power::lives::open_writer;
 use crate::power::mounted::Mounted;
-use crate::power::several::{Form, Row, TEXTS, failed_in_turn, states};
+use crate::power::several::{Form, Row, TEXTS, failed_in_turn};
 use folder_filing::FolderFiling;
 use part10::Filing;
 use std::alloc::Global;
@@ -80,38 +81,6 @@ fn drafts(kept: Kept, is_first_before: bool, has_links: bool) -> Row {
         kept,
         has_links,
     }
-}
-
-#[test]
-fn two_drafts_in_one_folder(rt: HostRuntime) -> Result<(), Fail> {
-    for is_first_before in [true, false] {
-        assert!(rt; states(rt.alloc(), drafts(Kept::Flat, is_first_before, true))? > Some(1000));
-    }
-    Ok(())
-}
-
-#[test]
-fn two_drafts_in_levels(rt: HostRuntime) -> Result<(), Fail> {
-    assert!(rt; states(rt.alloc(), drafts(Kept::Levels, true, true))? > Some(1000));
-    Ok(())
-}
-
-#[test]
-fn two_drafts_in_levels_whose_second_is_committed_first(rt: HostRuntime) -> Result<(), Fail> {
-    assert!(rt; states(rt.alloc(), drafts(Kept::Levels, false, true))? > Some(1000));
-    Ok(())
-}
-
-#[test]
-fn two_drafts_in_one_folder_without_links(rt: HostRuntime) -> Result<(), Fail> {
-    assert!(rt; states(rt.alloc(), drafts(Kept::Flat, true, false))? > Some(1000));
-    Ok(())
-}
-
-#[test]
-fn two_drafts_in_levels_without_links(rt: HostRuntime) -> Result<(), Fail> {
-    assert!(rt; states(rt.alloc(), drafts(Kept::Levels, true, false))? > Some(1000));
-    Ok(())
 }
 
 #[test]

@@ -8,7 +8,7 @@ use crate::configuration::MOST_AT_ONCE;
 use crate::policy::Policy;
 use crate::socket::AcceptedStream;
 use admitting::{Admission, Waiter, peer_number};
-use journal::{Journal, NotAccepted, PeerFull, TurnedAway};
+use journal::{Journal, Value, events, shown};
 use log::Log;
 use mio::{Interest, Token};
 use negotiate::Config;
@@ -24,14 +24,15 @@ impl<'a, R: Log + Clock, P: Policy> Server<'a, R, P, Journal<'a, R, HostRuntime>
     fn admit(&mut self, accepted: AcceptedStream, now: Instant) {
         let logger = self.logger().about(accepted.peer);
         let peer = peer_number(accepted.peer.ip());
-        match self.occupancy.admit(peer) {
+        match self.occupancy.admit(peer, self.slots.as_slice()) {
             Admission::Slot(index) => self.occupy_or_report(accepted, index, now),
             Admission::Full | Admission::PeerFull => {
                 if self.peer_reported.is_due(now) {
-                    logger.report(&PeerFull(self.configuration.service.per_peer as u64));
+                    let places = self.configuration.service.per_peer as u64;
+                    logger.report(events::PEER_FULL, &[Value::Number(places)]);
                 }
                 if !self.enqueue(accepted, peer) && self.closed_reported.is_due(now) {
-                    logger.report(&TurnedAway);
+                    logger.report(events::TURNED_AWAY, &[]);
                 }
             }
         }
@@ -75,7 +76,7 @@ impl<'a, R: Log + Clock, P: Policy> Server<'a, R, P, Journal<'a, R, HostRuntime>
         now: Instant,
     ) {
         for _ in 0..MOST_AT_ONCE {
-            match self.queue.admit(&mut self.occupancy) {
+            match self.queue.admit(&mut self.occupancy, self.slots.as_slice()) {
                 Some((waiter, index)) => self.occupy_next(waiter, index, now),
                 None => break,
             }
@@ -116,7 +117,8 @@ impl<'a, R: Log + Clock, P: Policy> Server<'a, R, P, Journal<'a, R, HostRuntime>
             }
             Err(failure) => {
                 if self.accept_reported.is_due(now) {
-                    self.logger().report(&NotAccepted(&failure));
+                    self.logger()
+                        .report(events::NOT_ACCEPTED, &[shown(&failure)]);
                 }
                 self.paused = now.checked_add(Duration::from_millis(PAUSE_MILLISECONDS));
             }

@@ -2,7 +2,7 @@
 use super::Server;
 use crate::configuration::ServerConfiguration;
 use crate::policy::Policy;
-use journal::{Journal, Logger, MetricsNotWritten, MetricsWritten};
+use journal::{Journal, Logger, events, shown};
 use log::Log;
 use metrics::WriteReport;
 use std::time::{Clock, Instant};
@@ -11,8 +11,11 @@ use std::time::{Clock, Instant};
 fn report<R: Log + Clock>(logger: Logger<'_, R>, report: WriteReport) {
     match report {
         WriteReport::Nothing => {}
-        WriteReport::Fails(failure) => logger.report(&MetricsNotWritten(&failure)),
-        WriteReport::Works => logger.report(&MetricsWritten),
+        WriteReport::Fails(failure) => logger.report(
+            events::METRICS_NOT_WRITTEN,
+            &[shown(&failure)],
+        ),
+        WriteReport::Works => logger.report(events::METRICS_WRITTEN, &[]),
     }
 }
 

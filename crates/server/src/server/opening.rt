@@ -18,13 +18,12 @@ use crate::configuration::ServerConfiguration;
 use crate::listeners::Listeners;
 use crate::policy::Policy;
 use crate::slot::Slot;
-use crate::socket::AcceptedStream;
 use crate::stopping::clear;
 use admitting::{Notice, Queue, Slots};
 use folder_filing::{FolderFiling, FolderWriter};
 pub(crate) use history::ClosedSlots;
 pub use history::{ServerHistory, SlotHistory};
-use journal::{Journal, Listening, Stopped};
+use journal::{Journal, events, shown};
 use log::Log;
 use mio::{Events, Poll, Token};
 use negotiate::Config;
@@ -33,28 +32,6 @@ use std::marker::Brand;
 use std::net::Net;
 use std::time::{Clock, Instant};
 use std::{io, net};
-
-/// The free slots of a new server, and an empty queue of connections.
-#[derive(Drop)]
-struct Vacancies {
-    occupancy: Slots<Global>,
-    queue: Queue<AcceptedStream, Global>,
-}
-
-/// Returns the free slots and the empty queue for these settings. Fails if memory runs out.
-fn vacancies_of(
-    alloc: Global,
-    configuration: &ServerConfiguration<'_>,
-) -> Result<Vacancies, AllocError> {
-    Ok(Vacancies {
-        occupancy: Slots::new(
-            alloc,
-            configuration.service.associations,
-            configuration.service.per_peer,
-        )?,
-        queue: Queue::new(alloc, configuration.service.associations)?,
-    })
-}
 
 /// Closes these slots. Returns `closed` with their histories added.
 pub(super) fn close_all<'a, R: Log + Clock, P: Policy>(
@@ -130,20 +107,15 @@ fn server_of<'a, R: Log + Clock + Net + Alloc<A = Global>, P: Policy>(
     requires at_once { configuration.service.associations ≡ P.at_once }
 {
     let now = Instant::now(rt)?;
+    let alloc = rt.alloc();
+    let associations = configuration.service.associations;
+    let occupancy = Slots::new(alloc, associations, configuration.service.per_peer)?;
+    let queue = Queue::new(alloc, associations)?;
+    let arrivals = Arrivals::new(alloc)?;
     let poll = Poll::new(rt)?;
     let listeners = Listeners::watched(&poll, Token(LISTENERS), listeners)?;
-    let alloc = rt.alloc();
-    let vacancies = vacancies_of(alloc, &configuration)?;
-    let arrivals = Arrivals::new(alloc)?;
     let (folder, first) = filings;
-    let Vacancies { occupancy, queue } = vacancies;
-    let slots = slots_of(
-        alloc,
-        configuration.service.associations,
-        first,
-        configuration.config,
-        now,
-    )?;
+    let slots = slots_of(alloc, associations, first, configuration.config, now)?;
     Ok(Server {
         rt,
         poll,
@@ -181,7 +153,9 @@ fn begin<R: Log + Clock + Alloc<A = Global>>(
     clear(files, configuration.service.stop_file)?;
     for listener in listeners {
         let address = listener.local_addr()?;
-        configuration.logger(rt).report(&Listening(address));
+        configuration
+            .logger(rt)
+            .report(events::LISTENING, &[shown(address)]);
     }
     let watched = configuration
         .service
@@ -251,7 +225,7 @@ pub fn serve_many<R: Log + Clock + Net + Alloc<A = Global>, C: ConfigSource + Dr
     let logger = configuration.logger(rt);
     logger.report_omitted(None);
     if served.is_ok() {
-        logger.report(&Stopped);
+        logger.report(events::STOPPED, &[]);
     }
     (history, served)
 }

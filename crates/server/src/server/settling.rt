@@ -3,7 +3,7 @@ use super::Server;
 use super::group::Waiting;
 use crate::policy::Policy;
 use folder_filing::NamesSynced;
-use journal::{Journal, Limited, NamesNotSynced};
+use journal::{Journal, events, shown};
 use log::Log;
 use std::alloc::Global;
 use std::io;
@@ -54,8 +54,8 @@ impl<'a, R: Log + Clock, P: Policy> Server<'a, R, P, Journal<'a, R, HostRuntime>
         }
         let synced = self.sync_names();
         for index in 0..self.slots.len() {
-            if self.settle(index, &synced, now) {
-                self.close_connection(index, now);
+            if let Some(slot) = self.slots.get_mut(index) {
+                slot.settle(&synced, now);
             }
         }
     }
@@ -66,19 +66,8 @@ impl<'a, R: Log + Clock, P: Policy> Server<'a, R, P, Journal<'a, R, HostRuntime>
         let synced = self.folder.sync_names();
         if let Some(failure) = synced.failure() {
             self.logger()
-                .report_limited(Limited::Names, &NamesNotSynced(failure));
+                .report(events::NAMES_NOT_SYNCED, &[shown(failure)]);
         }
         synced
-    }
-
-    /// Settles the file of a slot's connection, if one waits. Returns whether the connection is to
-    /// be closed.
-    fn settle(&mut self, index: usize, synced: &NamesSynced<Global>, now: Instant) -> bool {
-        if let Some(slot) = self.slots.get_mut(index) {
-            if let Some(connection) = &mut slot.connection {
-                return connection.settle(synced, now);
-            }
-        }
-        false
     }
 }

@@ -2,7 +2,7 @@
 use super::{LISTENERS, Server};
 use crate::arrivals::note_waiting;
 use crate::policy::Policy;
-use journal::{Journal, SlotsFull};
+use journal::{Journal, Value, events};
 use log::Log;
 use mio::Token;
 use std::net::SocketAddr;
@@ -15,8 +15,9 @@ impl<'a, R: Log + Clock, P: Policy> Server<'a, R, P, Journal<'a, R, HostRuntime>
     pub(super) fn note_full(&mut self, now: Instant) {
         if self.arrivals.is_known() {
             if !self.configuration.service.is_serial() && self.slots_reported.is_due(now) {
+                let places = self.configuration.service.associations as u64;
                 self.logger()
-                    .report(&SlotsFull(self.configuration.service.associations as u64));
+                    .report(events::SLOTS_FULL, &[Value::Number(places)]);
             }
         } else if self.arrivals.ask() {
             self.listeners.watch_anew(&self.poll, Token(LISTENERS));

@@ -20,7 +20,7 @@ use std::time::Instant;
 
 impl<'c, S: Write, F: Settling, B: Observer> Connection<'c, S, F, B> {
     ghost use Rattle.engine.specs.Held.{is_ended};
-    ghost use Rattle.serving.specs.Connections.{aborted_at, initial_of, filing_of, inputs_at, moments_at, settings_at, opening_of, refusals_at, socket_of, state_at, stopped_at, times_at, waiting_at};
+    ghost use Rattle.serving.specs.Connections.{aborted_at, filing_of, initial_of, inputs_at, interventions_in, moments_at, origin_of, refusals_at, socket_of, state_at, stopped_at, times_at, waiting_at};
 
     /// Aborts the association by request, unless it has ended or was aborted by request before. An
     /// A-ABORT is sent if the standard provides for one, and the ARTIM timer starts. The observer
@@ -33,8 +33,7 @@ impl<'c, S: Write, F: Settling, B: Observer> Connection<'c, S, F, B> {
     /// its store.
     pub(super) fn abort(&mut self, why: ReadEnd, now: Instant)
         requires reason { (stopped_at self.old || has_lasted (initial_of self.old).longest (initial_of self.old).opened (instant_nanos now)) ≡ true }
-        ensures settings { settings_at self.new ≡ settings_at self.old }
-        ensures opening { opening_of self.new ≡ opening_of self.old }
+        ensures same_origin { origin_of self.new ≡ origin_of self.old }
         ensures quiet { F.has_pending (filing_of self.old) ≡ true → socket_of self.new ≡ socket_of self.old }
         ensures over { is_ended (state_at self.old) ≡ true → self.new ≡ self.old }
         ensures once { IsSome (aborted_at self.old) → self.new ≡ self.old }
@@ -43,7 +42,6 @@ impl<'c, S: Write, F: Settling, B: Observer> Connection<'c, S, F, B> {
             → own_of (inputs_at self.new) ≡ own_of (inputs_at self.old) ++ UserAbort ∷ [] }
         ensures asked { asked_at (moments_at self.new) ≢ asked_at (moments_at self.old) → asked_at (moments_at self.new) ≡ asked_at (moments_at self.old) ++ instant_nanos now ∷ [] }
         ensures same_pieces { pieces_of (inputs_at self.new) ≡ pieces_of (inputs_at self.old) }
-        ensures same_start { initial_of self.new ≡ initial_of self.old }
         ensures unstopped { stopped_at self.new ≡ stopped_at self.old }
     {
         if self.is_over() || self.aborted.is_some() {
@@ -63,14 +61,12 @@ impl<'c, S: Write, F: Settling, B: Observer> Connection<'c, S, F, B> {
         requires first { is_asked ≡ true → asked_at (moments_at self.old) ≡ [] }
         requires noted { is_asked ≡ true → IsSome (aborted_at self.old) }
         requires reason { is_asked ≡ true → (stopped_at self.old || has_lasted (initial_of self.old).longest (initial_of self.old).opened (instant_nanos now)) ≡ true }
-        ensures settings { settings_at self.new ≡ settings_at self.old }
-        ensures opening { opening_of self.new ≡ opening_of self.old }
+        ensures same_origin { origin_of self.new ≡ origin_of self.old }
         ensures quiet { F.has_pending (filing_of self.old) ≡ true → socket_of self.new ≡ socket_of self.old }
         ensures aborts { own_of (inputs_at self.new) ≡ own_of (inputs_at self.old) ++ UserAbort ∷ [] }
         ensures asked { asked_at (moments_at self.new) ≡ asked_at (moments_at self.old) ++ with_asked is_asked (instant_nanos now) [] }
         ensures unasked { is_asked ≡ false → asked_at (moments_at self.new) ≡ asked_at (moments_at self.old) }
         ensures same_pieces { pieces_of (inputs_at self.new) ≡ pieces_of (inputs_at self.old) }
-        ensures same_start { initial_of self.new ≡ initial_of self.old }
         ensures same_flags { (aborted_at self.new ≡ aborted_at self.old) × (stopped_at self.new ≡ stopped_at self.old) }
     {
         let waited = self.filing.has_pending();
@@ -89,13 +85,9 @@ impl<'c, S: Write, F: Settling, B: Observer> Connection<'c, S, F, B> {
         requires open { is_ended (state_at self.old) ≡ false }
         requires some { waiting_at self.old ≢ [] }
         requires refused { 0 < refusals_at self.old }
-        ensures settings { settings_at self.new ≡ settings_at self.old }
-        ensures opening { opening_of self.new ≡ opening_of self.old }
-        ensures peers { own_of (inputs_at self.new) ≡ own_of (inputs_at self.old) }
+        ensures same_origin { origin_of self.new ≡ origin_of self.old }
+        ensures peers { interventions_in self.new ≡ interventions_in self.old }
         ensures same_pieces { pieces_of (inputs_at self.new) ≡ pieces_of (inputs_at self.old) }
-        ensures unasked { asked_at (moments_at self.new) ≡ asked_at (moments_at self.old) }
-        ensures same_start { initial_of self.new ≡ initial_of self.old }
-        ensures same_flags { (aborted_at self.new ≡ aborted_at self.old) × (stopped_at self.new ≡ stopped_at self.old) }
     {
         self.observer.send_failed(&Error::from(ErrorKind::TimedOut));
         self.give(Input::Closed, false, now);
@@ -108,14 +100,11 @@ impl<'c, S: Write, F: Settling, B: Observer> Connection<'c, S, F, B> {
         requires open { is_ended (state_at self.old) ≡ false }
         requires settled { F.has_pending (filing_of self.old) ≡ false }
         requires silent { IsSilent (times_at self.old) (instant_nanos now) (times_at self.old).started }
-        ensures settings { settings_at self.new ≡ settings_at self.old }
-        ensures opening { opening_of self.new ≡ opening_of self.old }
+        ensures same_origin { origin_of self.new ≡ origin_of self.old }
         ensures aborts { waiting_at self.old ≡ [] → own_of (inputs_at self.new) ≡ own_of (inputs_at self.old) ++ UserAbort ∷ [] }
         ensures spares { waiting_at self.old ≢ [] → own_of (inputs_at self.new) ≡ own_of (inputs_at self.old) }
         ensures same_pieces { pieces_of (inputs_at self.new) ≡ pieces_of (inputs_at self.old) }
-        ensures unasked { asked_at (moments_at self.new) ≡ asked_at (moments_at self.old) }
-        ensures same_start { initial_of self.new ≡ initial_of self.old }
-        ensures same_flags { (aborted_at self.new ≡ aborted_at self.old) × (stopped_at self.new ≡ stopped_at self.old) }
+        ensures unasked { interventions_in self.new ≡ record (interventions_in self.old) { own = own_of (inputs_at self.new) } }
     {
         let has_pending = self.socket.outbox.pending().len();
         if has_pending == 0 {
@@ -140,8 +129,7 @@ impl<'c, S: Write, F: Settling, B: Observer> Connection<'c, S, F, B> {
     /// `expires`, `aborts`, `spares`: the expiry is the one input of an expired timer, and the
     /// abort of a silent peer, unless the outbox has bytes.
     pub fn expire(&mut self, now: Instant)
-        ensures settings { settings_at self.new ≡ settings_at self.old }
-        ensures opening { opening_of self.new ≡ opening_of self.old }
+        ensures same_origin { origin_of self.new ≡ origin_of self.old }
         ensures quiet { F.has_pending (filing_of self.old) ≡ true → self.new ≡ self.old }
         ensures over { is_ended (state_at self.old) ≡ true → self.new ≡ self.old }
         ensures has_pending { (HasExpired (times_at self.old) (instant_nanos now) (times_at self.old).started → ⊥)
@@ -153,9 +141,7 @@ impl<'c, S: Write, F: Settling, B: Observer> Connection<'c, S, F, B> {
         ensures spares { waiting_at self.old ≢ []
             → IsSilent (times_at self.old) (instant_nanos now) (times_at self.old).started → own_of (inputs_at self.new) ≡ own_of (inputs_at self.old) }
         ensures same_pieces { pieces_of (inputs_at self.new) ≡ pieces_of (inputs_at self.old) }
-        ensures unasked { asked_at (moments_at self.new) ≡ asked_at (moments_at self.old) }
-        ensures same_start { initial_of self.new ≡ initial_of self.old }
-        ensures same_flags { (aborted_at self.new ≡ aborted_at self.old) × (stopped_at self.new ≡ stopped_at self.old) }
+        ensures unasked { interventions_in self.new ≡ record (interventions_in self.old) { own = own_of (inputs_at self.new) } }
     {
         if self.is_over() || self.filing.has_pending() {
             return;

@@ -1,7 +1,8 @@
 //! What a connection does in a round of its server.
-ghost use Rattle.std.specs.Prelude.{◌≡◌, ◌≤◌, ◌<◌, ◌-◌, IsNone, IsSome, true, false};
+ghost use Rattle.std.specs.Prelude.{◌≡◌, ◌≢◌, ◌≤◌, ◌<◌, ◌-◌, IsNone, IsSome, Some, true, false};
 ghost use Rattle.std.specs.Duration.{as_nanos};
 ghost use Rattle.std.specs.Time.{instant_nanos};
+ghost use Rattle.acceptor.specs.declared.state.State.TheVariants as state;
 ghost use Rattle.engine.specs.Held.{is_ended};
 ghost use Rattle.serving.specs.Timed.{asked_at};
 ghost use Rattle.serving.specs.TimeLimits.{has_lasted};
@@ -23,7 +24,7 @@ const ROUND: usize = 65_536;
 const CLOSING_SECONDS: u64 = 2;
 
 impl<'c, S: Read + Write, F: Settling, B: Observer> Connection<'c, S, F, B> {
-    ghost use Rattle.serving.specs.Connections.{aborted_at, initial_of, drafting_at, moments_at, opening_of, settings_at, state_at, stopped_at};
+    ghost use Rattle.serving.specs.Connections.{aborted_at, drafting_at, filing_of, initial_of, is_to_close_at, moments_at, origin_of, state_at, stopped_at};
 
     /// Runs one round: takes a turn if the socket is ready, ends an association whose deadline has
     /// passed, and, with `stop`, one that may not continue. Returns whether the connection is to be
@@ -32,10 +33,9 @@ impl<'c, S: Read + Write, F: Settling, B: Observer> Connection<'c, S, F, B> {
     /// `unasked`: an abort is requested only if the connection has reached its maximum duration, or
     /// the server is stopping.
     pub fn round(&mut self, now: Instant, stop: Option<Stop>) -> bool
-        ensures settings { settings_at self.new ≡ settings_at self.old }
-        ensures opening { opening_of self.new ≡ opening_of self.old }
-        ensures same_start { initial_of self.new ≡ initial_of self.old }
+        ensures same_origin { origin_of self.new ≡ origin_of self.old }
         ensures over { is_ended (state_at self.new) ≡ true → result ≡ true }
+        ensures cause { result ≡ true → is_to_close_at F.has_pending self.new ≡ true }
         ensures unasked { IsNone stop → has_lasted (initial_of self.old).longest (initial_of self.old).opened (instant_nanos now) ≡ false
             → asked_at (moments_at self.new) ≡ asked_at (moments_at self.old) }
         ensures unstopped { IsNone stop → stopped_at self.new ≡ stopped_at self.old }
@@ -60,11 +60,13 @@ impl<'c, S: Read + Write, F: Settling, B: Observer> Connection<'c, S, F, B> {
     /// the A-ABORT, but not while a file waits to be settled.
     #[tactic(auto, unfolding(crate::specs::TimeLimits::had_reasons))]
     pub fn stop(&mut self, stop: Stop, now: Instant) -> bool
-        ensures settings { settings_at self.new ≡ settings_at self.old }
-        ensures opening { opening_of self.new ≡ opening_of self.old }
-        ensures same_start { initial_of self.new ≡ initial_of self.old }
+        ensures same_origin { origin_of self.new ≡ origin_of self.old }
         ensures continues { drafting_at self.old ≡ true → instant_nanos now - instant_nanos stop.asked < as_nanos stop.grace → self.new ≡ self.old }
         ensures aborted { as_nanos stop.grace ≤ instant_nanos now - instant_nanos stop.asked → is_ended (state_at self.old) ≡ false → IsSome (aborted_at self.new) }
+        ensures settled { result ≡ true → F.has_pending (filing_of self.new) ≡ false }
+        ensures stopped { result ≡ true → stopped_at self.new ≡ true }
+        ensures waits { (aborted : Instant) → aborted_at self.new ≡ Some aborted → state_at self.new ≢ state.Sta1 → state_at self.new ≢ state.Sta2 → result ≡ true
+            → 2000000000 ≤ instant_nanos now - instant_nanos aborted }
         ensures without_store { drafting_at self.old ≡ false → is_ended (state_at self.old) ≡ false → IsSome (aborted_at self.new) }
     {
         if self.association.drafting() && stop.leaves_time(now) {

@@ -1,7 +1,5 @@
 //! How a connection settles a file.
 ghost use Rattle.std.specs.Prelude.{◌≡◌, true, false};
-ghost use Rattle.serving.specs.Own.{own_of};
-ghost use Rattle.serving.specs.Timed.{asked_at};
 
 use super::Connection;
 use part10::Settling;
@@ -10,7 +8,7 @@ use std::io::Write;
 use std::time::Instant;
 
 impl<'c, S, F: Settling, B: Observer> Connection<'c, S, F, B> {
-    ghost use Rattle.serving.specs.Connections.{initial_of, filing_of, inputs_at, moments_at, opening_of, settings_at, socket_of, state_at, unconsumed_at, waiting_at};
+    ghost use Rattle.serving.specs.Connections.{filing_of, inputs_at, moments_at, origin_of, socket_of, state_at, unconsumed_at, waiting_at};
 
     /// Returns whether the last file of the filing waits to be settled, or was lost before that.
     /// Then nothing is read or sent.
@@ -27,8 +25,7 @@ impl<'c, S, F: Settling, B: Observer> Connection<'c, S, F, B> {
 
     /// Syncs the bytes of the waiting file to the disk, and gives the file its name.
     pub fn write_out(&mut self)
-        ensures settings { settings_at self.new ≡ settings_at self.old }
-        ensures opening { opening_of self.new ≡ opening_of self.old }
+        ensures same_origin { origin_of self.new ≡ origin_of self.old }
         ensures has_pending { F.has_pending (filing_of self.new) ≡ F.has_pending (filing_of self.old) }
         ensures quiet { socket_of self.new ≡ socket_of self.old }
         ensures same_state { state_at self.new ≡ state_at self.old }
@@ -36,31 +33,29 @@ impl<'c, S, F: Settling, B: Observer> Connection<'c, S, F, B> {
         ensures same_unconsumed { unconsumed_at self.new ≡ unconsumed_at self.old }
         ensures same_inputs { inputs_at self.new ≡ inputs_at self.old }
         ensures same_moments { moments_at self.new ≡ moments_at self.old }
-        ensures same_start { initial_of self.new ≡ initial_of self.old }
     {
         self.filing.write_out();
     }
 }
 
 impl<'c, S: Write, F: Settling, B: Observer> Connection<'c, S, F, B> {
-    ghost use Rattle.serving.specs.Connections.{initial_of, filing_of, inputs_at, moments_at, opening_of, settings_at, socket_of, stopped_at};
+    ghost use Rattle.serving.specs.Connections.{filing_of, interventions_in, is_to_close_at, lost_at, origin_of, socket_of};
 
     /// Settles the file that waits, if any, with this sync of names, and sends the reply to its
     /// store. The observer is notified of whether the file is durable. If it is lost, nothing is
     /// sent. Returns whether the connection is to be closed.
     ///
-    /// `lost`: it is if a file still waits afterwards. `closes`, `quiet`: if the sync does not
+    /// `lost`, `waits`: it is exactly if a file still waits afterwards. `closes`, `quiet`: if the sync does not
     /// cover the file, the connection is to be closed and nothing is sent.
     pub fn settle(&mut self, synced: &F::Synced, now: Instant) -> bool
-        ensures settings { settings_at self.new ≡ settings_at self.old }
-        ensures opening { opening_of self.new ≡ opening_of self.old }
+        ensures same_origin { origin_of self.new ≡ origin_of self.old }
         ensures lost { F.has_pending (filing_of self.new) ≡ true → result ≡ true }
         ensures quiet { F.has_pending (filing_of self.old) ≡ true → F.covers (filing_of self.old) synced.now ≡ false → socket_of self.new ≡ socket_of self.old }
-        ensures same_start { initial_of self.new ≡ initial_of self.old }
         ensures closes { F.has_pending (filing_of self.old) ≡ true → F.covers (filing_of self.old) synced.now ≡ false → result ≡ true }
-        ensures peers { own_of (inputs_at self.new) ≡ own_of (inputs_at self.old) }
-        ensures unasked { asked_at (moments_at self.new) ≡ asked_at (moments_at self.old) }
-        ensures unstopped { stopped_at self.new ≡ stopped_at self.old }
+        ensures cause { result ≡ true → is_to_close_at F.has_pending self.new ≡ true }
+        ensures noted { result ≡ true → lost_at self.new ≡ true }
+        ensures waits { result ≡ true → F.has_pending (filing_of self.new) ≡ true }
+        ensures peers { interventions_in self.new ≡ interventions_in self.old }
     {
         if !self.filing.has_pending() {
             return false;
@@ -68,9 +63,12 @@ impl<'c, S: Write, F: Settling, B: Observer> Connection<'c, S, F, B> {
         self.is_ready = true;
         let settled = self.filing.settle(synced);
         self.observer.settled(settled.is_ok());
-        if settled.is_ok() {
-            self.flush(now);
+        if settled.is_err() {
+            self.is_lost = true;
+            return true;
         }
-        self.has_pending()
+        self.flush(now);
+        self.is_lost = self.has_pending();
+        self.is_lost
     }
 }

@@ -1,5 +1,5 @@
 //! What a connection does in its turn.
-ghost use Rattle.std.specs.Prelude.{◌≡◌, ◌≢◌, ◌≤◌, ◌<◌, ◌+◌, ◌++◌, ◌||◌, ◌∷◌, ◌↔◌, [], length, IsSome, true, false};
+ghost use Rattle.std.specs.Prelude.{◌≡◌, ◌≢◌, ◌≤◌, ◌<◌, ◌+◌, ◌++◌, ◌||◌, ◌∷◌, ◌↔◌, [], length, IsSome, Some, true, false};
 ghost use Rattle.element.specs.Numbers.{IsBytes};
 ghost use Rattle.engine.specs.Devices.{devices};
 ghost use Rattle.engine.specs.Drafts.{IsThere};
@@ -109,7 +109,7 @@ fn take_portion<W: Wire, F: Filing>(
 
 impl<'c, S, F: Settling, B: Observer> Connection<'c, S, F, B> {
     ghost use Rattle.engine.specs.Held.{is_ended};
-    ghost use Rattle.serving.specs.Connections.{IsClosedAt, aborted_at, initial_of, inputs_at, moments_at, settings_at, opening_of, socket_of, state_at, stopped_at, times_at, waiting_at};
+    ghost use Rattle.serving.specs.Connections.{aborted_at, initial_of, inputs_at, IsClosedAt, moments_at, origin_of, socket_of, state_at, stopped_at, times_at, waiting_at};
 
     /// Passes an input without bytes to the association: the close of the transport connection
     /// after the socket was closed, the expiry of the ARTIM timer, or an abort, by request or
@@ -125,8 +125,7 @@ impl<'c, S, F: Settling, B: Observer> Connection<'c, S, F, B> {
         requires first { is_asked ≡ true → asked_at (moments_at self.old) ≡ [] }
         requires noted { is_asked ≡ true → IsSome (aborted_at self.old) }
         requires reason { is_asked ≡ true → (stopped_at self.old || has_lasted (initial_of self.old).longest (initial_of self.old).opened (instant_nanos now)) ≡ true }
-        ensures settings { settings_at self.new ≡ settings_at self.old }
-        ensures opening { opening_of self.new ≡ opening_of self.old }
+        ensures same_origin { origin_of self.new ≡ origin_of self.old }
         ensures quiet { socket_of self.new ≡ socket_of self.old }
         ensures given { inputs_at self.new ≡ inputs_at self.old ++ input_of input [] ∷ [] }
         ensures closes { input ≡ kind.Closed → own_of (inputs_at self.new) ≡ own_of (inputs_at self.old) }
@@ -135,7 +134,6 @@ impl<'c, S, F: Settling, B: Observer> Connection<'c, S, F, B> {
         ensures same_pieces { pieces_of (inputs_at self.new) ≡ pieces_of (inputs_at self.old) }
         ensures asked { asked_at (moments_at self.new) ≡ asked_at (moments_at self.old) ++ with_asked is_asked (instant_nanos now) [] }
         ensures unasked { is_asked ≡ false → asked_at (moments_at self.new) ≡ asked_at (moments_at self.old) }
-        ensures same_start { initial_of self.new ≡ initial_of self.old }
         ensures same_flags { (aborted_at self.new ≡ aborted_at self.old) × (stopped_at self.new ≡ stopped_at self.old) }
     {
         self.given.push(&input, &[]);
@@ -158,24 +156,26 @@ impl<'c, S, F: Settling, B: Observer> Connection<'c, S, F, B> {
 
 impl<'c, S: Write, F: Settling, B: Observer> Connection<'c, S, F, B> {
     ghost use Rattle.engine.specs.Held.{is_ended};
-    ghost use Rattle.serving.specs.Connections.{aborted_at, initial_of, filing_of, inputs_at, moments_at, settings_at, opening_of, refusals_at, state_at, stopped_at, waiting_at};
+    ghost use Rattle.serving.specs.Connections.{filing_of, inputs_at, interventions_in, origin_of, refusals_at, state_at, times_at, waiting_at};
 
     /// Writes the outbox, as far as the socket accepts it, unless the association has ended. If the
     /// socket fails, the association is passed the close of the transport connection. No file may
     /// wait to be settled.
+    ///
+    /// `consumed`, `same_times`: the silence of the peer begins anew exactly if the socket accepted
+    /// bytes.
     pub(super) fn flush(&mut self, now: Instant) -> Flush
         requires settled { F.has_pending (filing_of self.old) ≡ false }
-        ensures settings { settings_at self.new ≡ settings_at self.old }
-        ensures opening { opening_of self.new ≡ opening_of self.old }
+        ensures same_origin { origin_of self.new ≡ origin_of self.old }
         ensures open { result ≢ Flush.Over → is_ended (state_at self.new) ≡ false }
         ensures all { result ≡ Flush.All → waiting_at self.new ≡ [] }
         ensures blocked { result ≡ Flush.Blocked → waiting_at self.new ≢ [] }
         ensures refused { result ≡ Flush.Blocked → 0 < refusals_at self.new }
-        ensures peers { own_of (inputs_at self.new) ≡ own_of (inputs_at self.old) }
+        ensures consumed { result ≢ Flush.Over → length (waiting_at self.new) < length (waiting_at self.old) → (times_at self.old).heard ≤ instant_nanos now
+            → times_at self.new ≡ record (times_at self.old) { consumed = Some (instant_nanos now) } }
+        ensures same_times { result ≢ Flush.Over → length (waiting_at self.old) ≤ length (waiting_at self.new) → times_at self.new ≡ times_at self.old }
+        ensures peers { interventions_in self.new ≡ interventions_in self.old }
         ensures same_pieces { pieces_of (inputs_at self.new) ≡ pieces_of (inputs_at self.old) }
-        ensures unasked { asked_at (moments_at self.new) ≡ asked_at (moments_at self.old) }
-        ensures same_start { initial_of self.new ≡ initial_of self.old }
-        ensures same_flags { (aborted_at self.new ≡ aborted_at self.old) × (stopped_at self.new ≡ stopped_at self.old) }
     {
         if self.is_over() {
             return Flush::Over;
@@ -200,7 +200,7 @@ impl<'c, S: Write, F: Settling, B: Observer> Connection<'c, S, F, B> {
 
 impl<'c, S: Read + Write, F: Settling, B: Observer> Connection<'c, S, F, B> {
     ghost use Rattle.engine.specs.Held.{is_ended};
-    ghost use Rattle.serving.specs.Connections.{aborted_at, initial_of, filing_of, inputs_at, moments_at, settings_at, opening_of, state_at, stopped_at, unconsumed_at, waiting_at};
+    ghost use Rattle.serving.specs.Connections.{filing_of, interventions_in, origin_of, state_at, unconsumed_at, waiting_at};
 
     /// Reads from the socket if necessary, and passes a portion of the inbox to the association, at
     /// most `most` bytes.
@@ -208,13 +208,9 @@ impl<'c, S: Read + Write, F: Settling, B: Observer> Connection<'c, S, F, B> {
         requires open { is_ended (state_at self.old) ≡ false }
         requires flushed { waiting_at self.old ≡ [] }
         requires some { 0 < most }
-        ensures settings { settings_at self.new ≡ settings_at self.old }
-        ensures opening { opening_of self.new ≡ opening_of self.old }
+        ensures same_origin { origin_of self.new ≡ origin_of self.old }
         ensures nothing { result ≡ Arrival.Nothing → unconsumed_at self.new ≡ [] }
-        ensures peers { own_of (inputs_at self.new) ≡ own_of (inputs_at self.old) }
-        ensures unasked { asked_at (moments_at self.new) ≡ asked_at (moments_at self.old) }
-        ensures same_start { initial_of self.new ≡ initial_of self.old }
-        ensures same_flags { (aborted_at self.new ≡ aborted_at self.old) × (stopped_at self.new ≡ stopped_at self.old) }
+        ensures peers { interventions_in self.new ≡ interventions_in self.old }
     {
         let limit = self.association.input_limit();
         let arrival = self.socket.receive(limit.min(most));
@@ -262,13 +258,9 @@ impl<'c, S: Read + Write, F: Settling, B: Observer> Connection<'c, S, F, B> {
     /// file waits to be settled. Returns whether the connection waits for its socket.
     fn advance(&mut self, now: Instant, most: usize) -> bool
         requires settled { F.has_pending (filing_of self.old) ≡ false }
-        ensures settings { settings_at self.new ≡ settings_at self.old }
-        ensures opening { opening_of self.new ≡ opening_of self.old }
+        ensures same_origin { origin_of self.new ≡ origin_of self.old }
         ensures rests { result ≡ true → waiting_at self.new ≡ [] → unconsumed_at self.new ≡ [] }
-        ensures peers { own_of (inputs_at self.new) ≡ own_of (inputs_at self.old) }
-        ensures unasked { asked_at (moments_at self.new) ≡ asked_at (moments_at self.old) }
-        ensures same_start { initial_of self.new ≡ initial_of self.old }
-        ensures same_flags { (aborted_at self.new ≡ aborted_at self.old) × (stopped_at self.new ≡ stopped_at self.old) }
+        ensures peers { interventions_in self.new ≡ interventions_in self.old }
     {
         let mut remaining = most;
         let mut has_answered = false;
@@ -313,16 +305,12 @@ impl<'c, S: Read + Write, F: Settling, B: Observer> Connection<'c, S, F, B> {
     /// `peers`: the association is passed portions of input and the close of the transport
     /// connection, and no input of the server's own.
     pub fn turn(&mut self, now: Instant, most: usize) -> Turn
-        ensures settings { settings_at self.new ≡ settings_at self.old }
-        ensures opening { opening_of self.new ≡ opening_of self.old }
+        ensures same_origin { origin_of self.new ≡ origin_of self.old }
         ensures over { (result ≡ Turn.Over) ↔ (is_ended (state_at self.new) ≡ true) }
         ensures rests { result ≡ Turn.Socket → waiting_at self.new ≡ [] → unconsumed_at self.new ≡ [] }
         ensures has_pending { (result ≡ Turn.Filing) ↔ ((is_ended (state_at self.new) ≡ false) × (F.has_pending (filing_of self.new) ≡ true)) }
         ensures quiet { F.has_pending (filing_of self.old) ≡ true → self.new ≡ self.old }
-        ensures peers { own_of (inputs_at self.new) ≡ own_of (inputs_at self.old) }
-        ensures unasked { asked_at (moments_at self.new) ≡ asked_at (moments_at self.old) }
-        ensures same_start { initial_of self.new ≡ initial_of self.old }
-        ensures same_flags { (aborted_at self.new ≡ aborted_at self.old) × (stopped_at self.new ≡ stopped_at self.old) }
+        ensures peers { interventions_in self.new ≡ interventions_in self.old }
     {
         if self.is_over() {
             return Turn::Over;

@@ -4,4 +4,4 @@ use Rattle.arguments.proofs.transfers.transfers_of.Given as goal
 
 abbrev pub invariant-loop-syntax : goal.invariant-loop-syntax
 invariant-loop-syntax l = (length l.transfers.items ≡ l.syntax-index)
-    × (map (λ t. transfer_of t.now) (take l.syntax-index l.syntaxes.items) ≡ map Some l.transfers.items)
+    × (map (λ t. transfer_of t.now) (take l.syntax-index l.syntaxes) ≡ map Some l.transfers.items)

@@ -38,7 +38,7 @@ returns-in-BadPdv-clause-accepts g c = rw c.in-BadPdv.is (λ p h.
 pub returns-in-Leftover-clause-accepts : goal.returns-in-Leftover-clause-accepts
 returns-in-Leftover-clause-accepts g c = rw c.in-Leftover.is (λ p h.
     let x = c.on_invalid-due-in-Leftover.ensures.due _ p h in
-    let reported = ap (λ (v : ValueEnd). if accepts_pdvs p then invalid (deciding (decision.BytesRemaining v) p) else nothing p) (sym c.value_end.ensures) in
+    let reported = ap (λ (v : ValueEnd). if accepts_pdvs p then invalid (deciding (decision.Leftover v) p) else nothing p) (sym c.value_end.ensures) in
     does_judged _ _ p _ _ _ _ _ _ _ _ tt (record { shown = x.shown; pends = x.pends; gives = at_leftover (rooms_of g.row.A g.row.C g.row.V g.row.D) (settings_in c.args.self.now) p ∙ remaining_after p c.args.self.now.decided h.decided_is ∙ reported ∙ x.gives }) c.perform-in-Leftover.ensures.tries)
 
 pub returns-then-accepts_body-clause-accepts : goal.returns-then-accepts_body-clause-accepts

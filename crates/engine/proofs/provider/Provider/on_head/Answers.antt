@@ -1,5 +1,5 @@
 -- The judged head is what the entry gives.
-use Rattle.std.proofs.Common.{◌≡◌, ◌∙◌, ◌-◌, [], ap, sym, subst, false}
+use Rattle.std.proofs.Common.{◌≡◌, ℕ, ◌∙◌, ◌-◌, [], ap, sym, subst, false}
 use Rattle.acceptor.specs.declared.state.State.{State}
 use Rattle.acceptor.specs.declared.event.Event.TheVariants as event
 use Rattle.part10.specs.Store.{Store}
@@ -7,7 +7,7 @@ use Rattle.engine.specs.declared.sending.Answering.TheVariants as answering
 use Rattle.engine.specs.Heads.{head_event}
 use Rattle.engine.specs.Held.{is_ended}
 use Rattle.engine.specs.Phases.{state_in}
-use Rattle.engine.specs.Progress.{Progress}
+use Rattle.engine.specs.Progress.{Progress, done, refusing}
 use Rattle.engine.specs.Timeline.{At}
 use Rattle.pdu.specs.Marks.{Head}
 use Rattle.engine.specs.Kept.{Kept, Pends, kept_of, settings_in}
@@ -42,8 +42,9 @@ returns-in-Nothing-clause-due g c = λ store p h.
 
 pub returns-in-AtOnce-clause-due : goal.returns-in-AtOnce-clause-due
 returns-in-AtOnce-clause-due g c = λ store p h.
-    leaves_refused (headed p (decision.PduRefused (record { kind = c.args.kind; length = c.args.length }))) _ (answering.Abort c.in-AtOnce.reason) c.in-AtOnce.event (record (kept_of c.clear_body.new.self) { refused = false; decided = decision.PduRefused (record { kind = c.args.kind; length = c.args.length }) }) store _ _ (head_at_once (rooms_of g.row.A g.row.C g.row.V g.row.D) (settings_in c.args.self.now) p c.args.kind c.args.length c.in-AtOnce.event c.in-AtOnce.reason
-    (ap (λ (st : State). head_event (g.row.A - 12) (settings_in c.args.self.now).max_pdu st c.args.kind c.args.length) (sym h.state_is ∙ sym c.state-state.ensures) ∙ sym c.head_event-event.ensures.brings ∙ ap brings c.in-AtOnce.is))
+    leaves_refused (headed p (decision.PduRefused (record { kind = c.args.kind; length = c.args.length }) c.in-AtOnce.fault)) _ (answering.Abort c.abort_reason.result) c.in-AtOnce.event (record (kept_of c.clear_body.new.self) { refused = false; decided = decision.PduRefused (record { kind = c.args.kind; length = c.args.length }) c.in-AtOnce.fault }) store _ _ (head_at_once (rooms_of g.row.A g.row.C g.row.V g.row.D) (settings_in c.args.self.now) p c.args.kind c.args.length c.in-AtOnce.event c.in-AtOnce.fault
+    (ap (λ (st : State). head_event (g.row.A - 12) (settings_in c.args.self.now).max_pdu st c.args.kind c.args.length) (sym h.state_is ∙ sym c.state-state.ensures) ∙ sym c.head_event-event.ensures.brings ∙ ap brings c.in-AtOnce.is)
+    ∙ ap (λ (r : ℕ). refusing (done [] r (headed p (decision.PduRefused (record { kind = c.args.kind; length = c.args.length }) c.in-AtOnce.fault)) c.in-AtOnce.event)) (sym c.abort_reason.ensures))
     (started_pends _ _ store p _ (unended c.args.self.now.phase c.in_default.not-Ended) c.clear_body.ensures.kept h)
 
 pub returns-in-TooLong-clause-due : goal.returns-in-TooLong-clause-due
@@ -54,4 +55,4 @@ returns-in-TooLong-clause-due g c = λ store p h.
 
 pub returns-in-AtOnce-clause-stays : goal.returns-in-AtOnce-clause-stays
 returns-in-AtOnce-clause-stays g c =
-    subst (λ (st : State). Stays st c.in-AtOnce.event) (c.state-state.ensures ∙ sym (ap (λ (k : Kept). k.state) c.clear_body.ensures.kept)) (c.head_event-event.ensures.stays c.in-AtOnce.event c.in-AtOnce.reason c.in-AtOnce.is)
+    subst (λ (st : State). Stays st c.in-AtOnce.event) (c.state-state.ensures ∙ sym (ap (λ (k : Kept). k.state) c.clear_body.ensures.kept)) (c.head_event-event.ensures.stays c.in-AtOnce.event c.in-AtOnce.fault c.in-AtOnce.is)

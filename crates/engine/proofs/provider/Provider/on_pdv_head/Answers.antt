@@ -6,7 +6,8 @@ use Rattle.pdu.specs.Heads.{pdv_head_of}
 use Rattle.negotiate.specs.Contexts.{context_of}
 use Rattle.negotiate.specs.ContextRows.{context_in}
 use Rattle.dimse.specs.Messages.{head_refusal}
-use Rattle.dimse.specs.Joining.{Joining, ShowsMessage}
+use Rattle.dimse.specs.declared.unfinished.Unfinished.{Unfinished}
+use Rattle.dimse.specs.Joining.{Joining, ShowsMessage, unfinished_of}
 use Rattle.engine.specs.Requested.{request_record}
 use Rattle.engine.specs.declared.sending.Answering.TheVariants as answering
 use Rattle.decisions.specs.declared.decision.Decision.TheVariants as decision
@@ -19,7 +20,7 @@ use Rattle.engine.specs.Run.{rooms_of}
 use Rattle.engine.proofs.FieldsShow.NothingCounts.{accepts_shown}
 use Rattle.engine.proofs.FieldsShow.TriedIsDone.{stays_invalid, stays_aborts}
 use Rattle.engine.proofs.FieldsShow.ReactionIsPerformed.{leaves_due, leaves_refused}
-use Rattle.engine.proofs.MarksAreDone.PdvJoined.{head_consumed, head_dropped, head_unaccepted, head_accepted, pends_dropped, context_shown, join_between, judged_none, judged_some, pends_headed}
+use Rattle.engine.proofs.MarksAreDone.PdvJoined.{head_consumed, head_dropped, head_unaccepted, head_accepted, pends_dropped, context_shown, join_between, judged_none, judged_some, pends_headed, unfinished_kept}
 use Rattle.engine.proofs.MarksAreDone.StoreAsked.{not_accepting}
 use Rattle.engine.proofs.FieldsShow.KeptInPhases.{refused_pdvs, kept_by, unestablished}
 use Rattle.engine.proofs.provider.Provider.on_pdv_head.Goals as goal
@@ -70,10 +71,13 @@ returns-in-Err-clause-due g c = rw c.in-Established.is (λ store p started six h
     let wrong : head_refusal g.row.C p.message (pdv_head_of started) ≡ Some c.in-Err.fault =
     ap (head_refusal g.row.C p.message) (sym head) ∙ judged_some (head_refusal g.row.C p.message c.args.head) c.in-Err.fault (sym (c.head.ensures.judged p.message message) ∙ c.in-Err.is) in
     let pends : Pends (with_join c.head.new.self k) store p [] [] = subst (λ (j : Joining). Pends (with_join j k) store p [] []) (sym c.in-Err.ensures.refused) h in
-    let d = decision.FragmentRefused c.args.head c.in-Err.fault in
+    let same : c.unfinished-unfinished.result ≡ unfinished_of p.message =
+    c.unfinished-unfinished.ensures ∙ ap (λ (j : Joining). unfinished_of j.message) c.in-Err.ensures.refused ∙ ap unfinished_of message ∙ unfinished_kept p.message in
+    let d = decision.FragmentRefused c.args.head c.in-Err.fault c.unfinished-unfinished.result in
     leaves_refused (deciding d p) _ answering.Nothing event.UserAborts (record (with_join c.head.new.self k) { decided = d }) store _ _
     (head_consumed rooms (settings_in c.args.self.now) p _ _ _ consumed ∙ head_accepted g.row.C p _ (get_or started 4 0) _ c.in-Some.field-0 (Some c.in-Err.fault) some wrong
-    ∙ ap (λ (x : PdvHead). user_aborts (deciding (decision.FragmentRefused x c.in-Err.fault) p)) (sym head)) (pends_decided d (with_join c.head.new.self k) store p [] [] pends))
+    ∙ ap (λ (x : PdvHead). user_aborts (deciding (decision.FragmentRefused x c.in-Err.fault (unfinished_of p.message)) p)) (sym head)
+    ∙ ap (λ (u : Unfinished). user_aborts (deciding (decision.FragmentRefused c.args.head c.in-Err.fault u) p)) (sym same)) (pends_decided d (with_join c.head.new.self k) store p [] [] pends))
 
 pub returns-in-Ok-clause-due : goal.returns-in-Ok-clause-due
 returns-in-Ok-clause-due g c = rw c.in-Established.is (λ store p started six head h.

@@ -1,25 +1,10 @@
--- What is no file, or a draft, changes nothing.
-use Rattle.std.proofs.Common.{refl}
-use Rattle.keyed_files.proofs.VisitsContinue.{fails_nothing, fails_same, visited_file, visited_same}
+-- What could not be looked at is counted.
+use Rattle.keyed_files.specs.Visiting.{none, unopened}
+use Rattle.keyed_files.proofs.VisitsContinue.{fails_still, visited_counted}
 use Rattle.keyed_files.proofs.visiting.Visitor.visit.Goals as goal
 
-pub returns-in_err-from_str-in-Ok-clause-fails : goal.returns-in_err-from_str-in-Ok-clause-fails
-returns-in_err-from_str-in-Ok-clause-fails g c = fails_nothing g.T.Consumer.consumed _ _ _ c.from_residual.result refl
+pub returns-clause-visited : goal.returns-clause-visited
+returns-clause-visited g c = visited_counted g.T.Consumer.consumed _ c.report_unread.result none unopened c.report_unread.ensures.counted
 
-pub returns-in_err-push-in-Ok-clause-fails : goal.returns-in_err-push-in-Ok-clause-fails
-returns-in_err-push-in-Ok-clause-fails g c = fails_nothing g.T.Consumer.consumed _ _ _ c.from_residual-in_err-push-in-Ok.result refl
-
-pub returns-after-ne-clause-visited : goal.returns-after-ne-clause-visited
-returns-after-ne-clause-visited g c = visited_same g.T.Consumer.consumed refl
-
-pub returns-in-Ok-2-clause-visited : goal.returns-in-Ok-2-clause-visited
-returns-in-Ok-2-clause-visited g c = visited_same g.T.Consumer.consumed refl
-
-pub returns-in-Ok-3-clause-visited : goal.returns-in-Ok-3-clause-visited
-returns-in-Ok-3-clause-visited g c = visited_file g.T.Consumer.consumed _ _ _ _ c.args.path.now c.take.result c.take.ensures.done
-
-pub returns-in-Ok-4-clause-visited : goal.returns-in-Ok-4-clause-visited
-returns-in-Ok-4-clause-visited g c = visited_same g.T.Consumer.consumed c.report.ensures.same
-
-pub returns-in-Err-clause-fails : goal.returns-in-Err-clause-fails
-returns-in-Err-clause-fails g c = fails_same g.T.Consumer.consumed refl
+pub returns-clause-fails : goal.returns-clause-fails
+returns-clause-fails g c = fails_still g.T.Consumer.consumed _ _ _ _ _ c.report_unread.result unopened c.report_unread.ensures.same

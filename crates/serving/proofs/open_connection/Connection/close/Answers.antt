@@ -2,6 +2,7 @@
 use Rattle.std.proofs.Common.{refl}
 use Rattle.engine.specs.Inputs.{inputs_of}
 use Rattle.std.proofs.Math.Logic.{∥∥₁_elim, ∥∥₁_map, ∥∥₁_prop}
+use Rattle.serving.proofs.ClosesForACause.{is_caused}
 use Rattle.serving.proofs.EachPieceIsReported.{all_reported}
 use Rattle.serving.proofs.GivenAreTimed.{ends_timed}
 use Rattle.serving.proofs.SentIsSettledFirst.{ends_settled}
@@ -29,4 +30,5 @@ returns g c =
       stopped = refl;
       reasons = was.reasons;
       heard = was.heard;
+      cause = λ due. is_caused _ was.is_lost was.is_stopped c.has_pending-has_pending.result _ (rw c.has_pending-has_pending.ensures due) (ended_stands _ _ (c.report-report.ensures.reports (g.F.Filing.store was.filing)).standing);
     }

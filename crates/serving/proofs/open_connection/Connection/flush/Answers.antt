@@ -35,7 +35,7 @@ pub invariant_of-self-else-pending-before-clause-sent : goal.invariant_of-self-e
 invariant_of-self-else-pending-before-clause-sent g c = sent_at _ _ _ _ _ c.args.self.now.socket.traced.written.bytes c.args.self.now.socket.outbox.bytes.items _ _ _ c.flush.ensures.same_sent (ap g.F.Filing.store c.of.ensures) c.args.self.now.consumed
 
 pub invariant_of-self-clause-timed : goal.invariant_of-self-clause-timed
-invariant_of-self-clause-timed g c = ∥∥₁_map c.args.self.now.timed (λ h. still_timed _ _ _ _ _ (only_consumed _ _ _ c.note_consumed.ensures) h)
+invariant_of-self-clause-timed g c = ∥∥₁_map c.args.self.now.timed (λ h. still_timed _ _ _ _ _ (only_consumed _ _ _ c.note_consumed.ensures.only) h)
 
 pub invariant_of-self-in-Err-1 : goal.invariant_of-self-in-Err-1
 invariant_of-self-in-Err-1 g c =

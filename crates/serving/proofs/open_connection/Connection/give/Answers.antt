@@ -36,7 +36,7 @@ invariant_of-self g c =
       timed = ∥∥₁_map was.timed (λ h. rw (c.push.ensures, inputs_more was.given.named c.args.input [], c.push-2.ensures)
           (timed_more was.initial.value (inputs_of was.given.named) was.moments was.deadlines c.follow.new.self (input_of c.args.input []) moment c.of-remaining.ensures
           (due_now c.args.input was.deadlines c.follow.new.self moment c.requires.no_piece c.of-remaining.ensures c.follow.ensures.lasting.1 c.follow.ensures.same_peer c.requires.expired c.requires.silent)
-          (follows_state _ _ _ _ _ c.follow.ensures.stays c.follow.ensures.state c.follow.ensures.anew c.follow.ensures.lasting (hears_none c.args.input _ _ _ c.requires.no_piece c.follow.ensures.same_peer.0)) h));
+          (follows_state _ _ _ _ _ c.follow.ensures.stays c.follow.ensures.state c.follow.ensures.anew c.follow.ensures.lasting c.follow.ensures.since (hears_none c.args.input _ _ _ c.requires.no_piece c.follow.ensures.same_peer.0)) h));
       closed = keeps_closed _ _ _ _ _ _ _ _ _ _ _ _ _ _ _ _ _ c.take.ensures.settings c.push.ensures c.requires.open c.take.new.wire.full c.take.ensures.moved before _ _ _ c.requires.closed;
       begins = was.begins;
       lasts = (c.follow.ensures.bound.0 ∙ was.lasts.0, c.follow.ensures.bound.1 ∙ was.lasts.1);

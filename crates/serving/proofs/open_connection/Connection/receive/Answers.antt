@@ -41,7 +41,7 @@ invariant_of-self-in-Bytes g c =
       rested = rw lent.same_written was.rested;
       timed = ∥∥₁_map was.timed (λ h. rw (c.push.ensures, inputs_more was.given.named Piece _, c.push-in-Bytes.ensures)
           (timed_more was.initial.value (inputs_of was.given.named) was.moments was.deadlines c.follow.new.self _ moment c.of-remaining.ensures tt
-          (heard_then _ _ _ _ _ _ c.hear.ensures c.follow.ensures.stays c.follow.ensures.state c.follow.ensures.anew c.follow.ensures.lasting c.follow.ensures.same_peer) h));
+          (heard_then _ _ _ _ _ _ c.hear.ensures c.follow.ensures.stays c.follow.ensures.state c.follow.ensures.anew c.follow.ensures.lasting c.follow.ensures.same_peer c.follow.ensures.since) h));
       closed = one_more_closes _ _ _ _ _ _ _ _ c.push.ensures (λ e. absurd cc);
       begins = was.begins;
       lasts = (c.follow.ensures.bound.0 ∙ ap (λ (w : TimeLimits). w.longest) c.hear.ensures ∙ was.lasts.0, c.follow.ensures.bound.1 ∙ ap (λ (w : TimeLimits). w.opened) c.hear.ensures ∙ was.lasts.1);
@@ -71,12 +71,9 @@ pub take_portion-is_complete-requires-clause-ends : goal.take_portion-is_complet
 take_portion-is_complete-requires-clause-ends g c = rw (← c.deref.ensures) c.input_limit-limit.ensures.ends
 
 pub returns-in-Bytes-clause-peers : goal.returns-in-Bytes-clause-peers
-returns-in-Bytes-clause-peers g c = own_same _ _ _ _ c.push.ensures refl
-
-pub returns-in-Bytes-clause-unasked : goal.returns-in-Bytes-clause-unasked
-returns-in-Bytes-clause-unasked g c =
+returns-in-Bytes-clause-peers g c =
     let moment : Moment = record { is_asked = false; remaining = c.of-remaining.result; now = c.args.now } in
-    asked_same _ _ moment c.push-in-Bytes.ensures refl
+    rw (own_same _ _ _ _ c.push.ensures refl, asked_same _ _ moment c.push-in-Bytes.ensures refl) refl
 
 pub invariant_of-self-in-End-1 : goal.invariant_of-self-in-End-1
 invariant_of-self-in-End-1 g c =

@@ -1,0 +1,8 @@
+mod SetIsItsElements
+mod DataInFragments
+mod RoomIsFilled
+mod RequestIsItsParts
+mod BufferHasFragment
+mod StoreIsAnswered
+mod RequestIsRead
+mod ResponseIsRead

@@ -1,0 +1,4 @@
+pub mod Sending
+pub mod Handing
+pub mod Requesting
+pub mod ReadBack

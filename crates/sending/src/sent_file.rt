@@ -1,0 +1,72 @@
+//! A file while it is sent.
+ghost use Rattle.std.specs.Prelude.{◌≡◌, [], IfOk};
+
+use element::traced_stream::TracedStream;
+use std::fs::{self, Metadata, OpenFile};
+use std::io;
+use std::os::unix::fs::MetadataExt;
+use std::rt::Files;
+
+/// What distinguishes a file from others, and from itself with other contents.
+#[derive(Clone, Copy, PartialEq, Eq)]
+struct Identity {
+    device: u64,
+    inode: u64,
+    size: u64,
+    modified: i64,
+    nanoseconds: i64,
+}
+
+impl Identity {
+    fn of(found: &Metadata) -> Identity {
+        Identity {
+            device: found.dev(),
+            inode: found.ino(),
+            size: found.len(),
+            modified: found.mtime(),
+            nanoseconds: found.mtime_nsec(),
+        }
+    }
+}
+
+/// A file that was opened at a path, with a trace of the bytes that were read of it. Only `open`
+/// makes one.
+#[derive(Drop)]
+pub struct SentFile<'a, F> {
+    path: &'a str,
+    identity: Identity,
+    pub(crate) file: TracedStream<F>,
+}
+
+impl<'a, F: OpenFile + Drop> SentFile<'a, F> {
+    /// Opens the file at a path. Fails if a system call does.
+    pub fn open<R: Files<File = F>>(rt: &R, path: &'a str) -> io::Result<SentFile<'a, F>>
+        ensures path { IfOk result (λ f. f.path.now ≡ path.now) }
+        ensures unread { IfOk result (λ f. f.file.read.bytes ≡ []) }
+    {
+        let file = fs::open(rt, path)?;
+        let identity = Identity::of(&file.metadata()?);
+        Ok(SentFile {
+            path,
+            identity,
+            file: TracedStream::new(file),
+        })
+    }
+
+    /// Returns the path.
+    pub(crate) fn path(&self) -> &'a str
+        ensures { result.now ≡ self.now.path.now }
+    {
+        self.path
+    }
+
+    /// Returns whether an odd number of bytes follows the first `front` bytes of the file.
+    pub(crate) fn has_odd_rest(&self, front: usize) -> bool {
+        self.identity.size % 2 != front as u64 % 2
+    }
+
+    /// Returns whether the path still names this file, with the same size and time.
+    pub(crate) fn is_there<R: Files>(&self, rt: &R) -> io::Result<bool> {
+        Ok(Identity::of(&fs::symlink_metadata(rt, self.path)?) == self.identity)
+    }
+}
