@@ -238,6 +238,7 @@ class TestWholeValues:
         assert shown == f"           = {value}"
         found = json.loads(run("show", "--json", "--values", "long.dcm").stdout)["elements"][0]
         assert ("value" in found) is is_whole
+        assert (found["length"], found.get("cut", False)) == (size, not is_whole)
 
 
 class TestGroup2:

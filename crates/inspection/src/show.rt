@@ -168,10 +168,12 @@ impl<O: Write> Elements<'_, O> {
             return Ok(());
         }
         let (indent, value) = (Indent(self.value.levels()), self.value.text());
-        if self.options.form == OutputForm::Lines {
-            writeln!(self.out, "           {indent}= {value}")?;
-        } else if let ShownText::Value(value) = value {
-            write!(self.out, ",\"value\":\"{value}\"")?;
+        match (self.options.form, value) {
+            (OutputForm::Lines, value) => writeln!(self.out, "           {indent}= {value}")?,
+            (OutputForm::Json, ShownText::Value(value)) => {
+                write!(self.out, ",\"value\":\"{value}\"")?;
+            }
+            (OutputForm::Json, ShownText::Long(_)) => write!(self.out, ",\"cut\":true")?,
         }
         self.value.forget();
         Ok(())
@@ -215,7 +217,7 @@ impl<O: Write> Listing for Elements<'_, O> {
 ///
 /// With `tags`, only these elements are listed, and with `values` each value after its element. For
 /// a value of more than 64 bytes (65,536 if values are shown whole) a line has the length instead;
-/// JSON omits a value of more than 65,536 bytes.
+/// JSON has `"cut":true` in place of a value of more than 65,536 bytes.
 ///
 /// Fails if the file can't be read or the output can't be written.
 pub fn show_with<R: Read, O: Write>(

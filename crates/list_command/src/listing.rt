@@ -2,6 +2,7 @@
 use crate::columns::Column;
 use crate::conditions::{Condition, Selection, tags_of};
 use crate::grouping::{Grouping, LISTED};
+use crate::order::sort;
 use crate::studies::{ByUid, Study};
 use crate::texts::{ColumnTexts, Text};
 use crate::writing::Writer;
@@ -132,8 +133,9 @@ where
     let mut visitor = Visitor::new(rt, tags.as_slice(), ignores_others, (&mut err, counter));
     visitor.follow(options.follow);
     let tally = visitor.visit_all(dirs, &mut selection)?;
-    let grouping = selection.grouping;
-    report_several_patients(&grouping.studies, &mut err);
+    let mut studies = selection.grouping.studies;
+    sort(&mut studies)?;
+    report_several_patients(&studies, &mut err);
     let alloc = rt.alloc();
     let mut writer = Writer {
         alloc,
@@ -141,7 +143,7 @@ where
         out,
     };
     writer
-        .studies(&grouping.studies, tally.omitted)
+        .studies(&studies, tally.omitted)
         .map_err(ProgramError::of_output)?;
     tally.outcome()
 }
