@@ -3,7 +3,7 @@ _dcmbox() {
   local current=${COMP_WORDS[COMP_CWORD]} previous=${COMP_WORDS[COMP_CWORD - 1]} options
   COMPREPLY=()
   if [ "$COMP_CWORD" -eq 1 ]; then
-    mapfile -t COMPREPLY < <(compgen -W 'serve replay show check index checkdir list arrange send help --help --version' -- "$current")
+    mapfile -t COMPREPLY < <(compgen -W 'serve replay show check index checkdir list arrange send echo help --help --version' -- "$current")
     return
   fi
   case $previous in
@@ -34,7 +34,8 @@ _dcmbox() {
     list) options='--series --instances --where --columns --ignore-others --follow --json --help' ;;
     arrange) options='--to --pattern --copy --dry-run --ignore-others --follow --json --help' ;;
     send) options='--aec --aet --move --any-name --timeout --verbose --json --help' ;;
-    help) options='serve replay show check index checkdir list arrange send' ;;
+    echo) options='--aec --aet --timeout --help' ;;
+    help) options='serve replay show check index checkdir list arrange send echo' ;;
     *) return ;;
   esac
   if [[ $current == -* || ${COMP_WORDS[1]} == help ]]; then

@@ -11,7 +11,7 @@ from peer import ROOT
 
 MANUAL = ROOT / "man/dcmbox.1"
 TABLES = json.loads((ROOT / "docs/tables.json").read_text())
-COMMANDS = ["serve", "replay", "show", "check", "index", "checkdir", "list", "arrange", "send"]
+COMMANDS = ["serve", "replay", "show", "check", "index", "checkdir", "list", "arrange", "send", "echo"]
 OPTION = r"--[a-z-]+"
 COMPLETION = '. "$0"; COMP_WORDS=(dcmbox "$1" --); COMP_CWORD=2; _dcmbox; echo "${COMPREPLY[@]}"'
 

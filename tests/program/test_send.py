@@ -432,7 +432,7 @@ class TestLostArchives:
         with Answering(archive_port, store=lambda *_: pdu(7, bytes([0, 0, 2, 5]))):
             status, output, errors = send("--move")
         assert (status, output) == (1, counts(refused=3, remaining=1))
-        assert errors.count("association aborted by the peer: source 2 reason 5") == 3
+        assert errors.count("association aborted by the archive: unexpected PDU parameter") == 3
 
     @pytest.mark.parametrize(
         "store",

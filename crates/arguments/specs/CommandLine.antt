@@ -6,7 +6,7 @@ use Rattle.clap.specs.Simple.{App, new_app, new_rule, with_rule, with_subcommand
 use Rattle.clap.specs.declared.builder.action.ArgAction.TheVariants.{SetTrue, Append, Count}
 use Rattle.arguments.specs.declared.words.Job.{Job}
 use Rattle.arguments.specs.declared.words.CommandName.{CommandName}
-use Rattle.arguments.specs.declared.words.CommandName.TheVariants.{Serve, Replay, Show, Check, Index, CheckDir, List as ListStudies, Arrange, Send}
+use Rattle.arguments.specs.declared.words.CommandName.TheVariants.{Serve, Replay, Show, Check, Index, CheckDir, List as ListStudies, Arrange, Send, Echo}
 
 -- ---- the commands
 
@@ -135,13 +135,19 @@ send_app = with_rules (new_app (codes "send"))
     ∷ optional (codes "timeout") (codes "300") ∷ letter_rule (codes "verbose") 118
     ∷ flag_rule (codes "json") ∷ [])
 
+-- `echo`
+abbrev pub echo_app : App
+echo_app = with_rules (new_app (codes "echo"))
+    (positional (codes "HOST:PORT") ∷ needed (codes "aec") ∷ optional (codes "aet") (codes "DCMBOX")
+    ∷ optional (codes "timeout") (codes "30") ∷ [])
+
 -- the commands that receive data sets
 abbrev pub receiving_apps : List App
 receiving_apps = serve_app ∷ replay_app ∷ []
 
--- the commands that read or send files
+-- the commands that read files, or call an archive
 abbrev pub reading_apps : List App
-reading_apps = show_app ∷ check_app ∷ index_app ∷ checkdir_app ∷ list_app ∷ arrange_app ∷ send_app ∷ []
+reading_apps = show_app ∷ check_app ∷ index_app ∷ checkdir_app ∷ list_app ∷ arrange_app ∷ send_app ∷ echo_app ∷ []
 
 -- end
 
@@ -169,6 +175,7 @@ name_of CheckDir = codes "checkdir"
 name_of ListStudies = codes "list"
 name_of Arrange = codes "arrange"
 name_of Send = codes "send"
+name_of Echo = codes "echo"
 
 -- the job is the subcommand with its arguments
 abbrev pub Names : Job → Option (Text × List Row) → Type 0

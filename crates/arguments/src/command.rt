@@ -376,11 +376,28 @@ const SEND: Subcommand<'static> = Subcommand {
     ],
 };
 
+const ECHO: Subcommand<'static> = Subcommand {
+    name: "echo",
+    about: "Tests whether an archive answers",
+    example: "Example: dcmbox echo archive.example:104 --aec ARCHIVE",
+    arguments: &[
+        Argument::Positional("HOST:PORT", "The host and port of the archive"),
+        Argument::Needed("aec", "TITLE", "The AE title of the archive"),
+        Argument::Default("aet", "TITLE", "DCMBOX", "The AE title that calls it"),
+        Argument::Default(
+            "timeout",
+            "SECONDS",
+            "30",
+            "How long the archive may be silent, from 1 to 86400",
+        ),
+    ],
+};
+
 /// The commands that receive data sets.
 const RECEIVING: &[Subcommand<'static>] = &[SERVE, REPLAY];
 
-/// The commands that read or send files.
-const READING: &[Subcommand<'static>] = &[SHOW, CHECK, INDEX, CHECKDIR, LIST, ARRANGE, SEND];
+/// The commands that read files, or call an archive.
+const READING: &[Subcommand<'static>] = &[SHOW, CHECK, INDEX, CHECKDIR, LIST, ARRANGE, SEND, ECHO];
 
 // End.
 

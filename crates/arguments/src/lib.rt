@@ -19,6 +19,6 @@ pub use given::Given;
 pub use options::{
     Archive, FolderLayout, Index, LogForm, Per, QuarantineOption, Replay, Send, Serve,
 };
-pub use send_options::send_settings;
+pub use send_options::{archive_of, send_settings};
 pub use settings::{index_settings, replay_settings, serve_settings};
 pub use words::{CommandName, Job, read_words};

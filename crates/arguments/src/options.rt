@@ -105,7 +105,7 @@ pub struct Index<'a> {
     pub json: bool,
 }
 
-/// The peer that `dcmbox send` calls.
+/// The peer that `dcmbox send` and `dcmbox echo` call.
 #[derive(Clone, Copy)]
 pub struct Archive<'a> {
     /// Its host and port.

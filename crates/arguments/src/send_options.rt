@@ -1,4 +1,4 @@
-//! Reads the settings of `send`.
+//! Reads the settings of `send` and `echo`.
 ghost use Rattle.std.specs.Prelude.{◌≡◌, IfOk, IsSomeAnd, Some, codes};
 ghost use Rattle.clap.specs.Walk.{first_of};
 ghost use Rattle.element.specs.Title.{title_of_text};
@@ -37,7 +37,7 @@ fn title_of(alloc: Global, given: &Given, option: &str) -> Result<AeTitle, Words
 }
 
 /// Returns the archive that the arguments name.
-fn archive_of<'a>(alloc: Global, given: &Given<'a>) -> Result<Archive<'a>, WordsError>
+pub fn archive_of<'a>(alloc: Global, given: &Given<'a>) -> Result<Archive<'a>, WordsError>
     ensures { IfOk result (λ a. IsArchive a given.now) }
 {
     Ok(Archive {

@@ -32,6 +32,8 @@ pub enum CommandName {
     Arrange,
     /// Send the files of a folder to an archive.
     Send,
+    /// Test whether an archive answers.
+    Echo,
 }
 
 impl CommandName {
@@ -49,6 +51,7 @@ impl CommandName {
             "list" => CommandName::List,
             "arrange" => CommandName::Arrange,
             "send" => CommandName::Send,
+            "echo" => CommandName::Echo,
             _ => return None,
         })
     }

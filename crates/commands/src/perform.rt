@@ -4,7 +4,8 @@ use crate::options::{
     pattern_of, show_options, tags_of,
 };
 use arguments::{
-    CommandName, Given, Job, index_settings, replay_settings, send_settings, serve_settings,
+    CommandName, Given, Job, archive_of, index_settings, replay_settings, send_settings,
+    serve_settings,
 };
 use arrange_command::{BY_UIDS, Part, arrange};
 use element::{Uid, Vr, check_value};
@@ -14,7 +15,7 @@ use index_command::index;
 use inspection::Outcome;
 use list_command::list;
 use replay_command::replay;
-use send_command::send;
+use send_command::{echo, send};
 use serve_command::{callers_text, serve_into};
 use std::env::{self, VarError};
 use std::io::IsTerminal;
@@ -134,6 +135,7 @@ pub fn perform(rt: &HostRuntime, job: &Job) -> Result<Outcome, ProgramError> {
         CommandName::List => perform_list(rt, given),
         CommandName::Arrange => perform_arrange(rt, given),
         CommandName::Send => perform_send(rt, given),
+        CommandName::Echo => echo(rt, &archive_of(rt.alloc(), given)?),
         CommandName::CheckDir => {
             let file = given.text(rt.alloc(), "FILE")?;
             inspect(rt, file, Inspection::Directory(form_of(given)))

@@ -50,7 +50,7 @@ fn subject_argument(command: CommandName, failure: Option<Failure>) -> Option<&'
         (CommandName::Serve | CommandName::Replay, Some(failure)) if failure.is_of_folder() =>
             "out",
         (CommandName::Arrange, Some(failure)) if failure.is_of_tree() => "to",
-        (CommandName::Send, Some(Failure::Archive)) => "HOST:PORT",
+        (CommandName::Send | CommandName::Echo, Some(Failure::Archive)) => "HOST:PORT",
         (CommandName::List | CommandName::Arrange | CommandName::Send, Some(failure))
             if failure.is_of_folder() => "DIR",
         (CommandName::Index, _) => "DIR",

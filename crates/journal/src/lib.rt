@@ -37,3 +37,4 @@ pub use logger::{Logger, TARGET};
 pub use outcome::{Counts, Outcome};
 pub use output::Output;
 pub use text::Text;
+pub use words::{provider_words, rejection_words};

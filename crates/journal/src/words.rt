@@ -3,7 +3,7 @@
 
 /// Returns why an association was rejected, from the source and the reason of its A-ASSOCIATE-RJ
 /// (PS3.8 Table 9-21).
-pub(crate) fn rejection_words(source: u8, reason: u8) -> &'static str {
+pub fn rejection_words(source: u8, reason: u8) -> &'static str {
     match (source, reason) {
         (1, 1) => "no reason given",
         (1, 2) => "application context name not supported",
@@ -19,7 +19,7 @@ pub(crate) fn rejection_words(source: u8, reason: u8) -> &'static str {
 
 /// Returns why a service provider aborted an association, from the reason of its A-ABORT (PS3.8
 /// Table 9-26).
-pub(crate) fn provider_words(reason: u8) -> &'static str {
+pub fn provider_words(reason: u8) -> &'static str {
     match reason {
         0 => "reason not specified",
         1 => "unrecognized PDU",

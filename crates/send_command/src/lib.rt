@@ -1,7 +1,9 @@
-//! `dcmbox send`: sends the files of a folder to an archive, and removes what it has filed.
+//! `dcmbox send`: sends the files of a folder to an archive, and removes what it has filed; and
+//! `dcmbox echo`, which tests whether an archive answers.
 #![tactic(auto)]
 
 mod counts;
+mod echoing;
 mod listing;
 mod report;
 mod running;
@@ -9,4 +11,5 @@ mod sender;
 mod texts;
 
 pub use counts::SendCounts;
+pub use echoing::echo;
 pub use running::{send, send_folder};

@@ -32,7 +32,7 @@ pub(crate) struct Sender<'a, R: Files + Alloc, E: Write + Drop> {
 }
 
 /// Connects to the archive, at the first of its addresses that accepts.
-fn connect<R: Net>(rt: &R, archive: &Archive<'_>) -> io::Result<R::Stream> {
+pub(crate) fn connect<R: Net>(rt: &R, archive: &Archive<'_>) -> io::Result<R::Stream> {
     let mut failed = Error::from(ErrorKind::NotFound);
     for address in archive.address.to_socket_addrs(rt)? {
         match TcpStream::connect_timeout(rt, &address, archive.timeout) {
@@ -46,6 +46,14 @@ fn connect<R: Net>(rt: &R, archive: &Archive<'_>) -> io::Result<R::Stream> {
         }
     }
     Err(failed)
+}
+
+/// Returns the AE titles of an association with the archive.
+pub(crate) fn titles_of(archive: &Archive<'_>) -> Titles {
+    Titles {
+        called: archive.called,
+        calling: archive.calling,
+    }
 }
 
 impl<'a, R: Files + Net + Alloc, E: Write + Drop> Sender<'a, R, E>
@@ -145,11 +153,7 @@ where
             Ok(stream) => stream,
             Err(error) => return Err(ProgramError::of(Failure::Archive, error)),
         };
-        let titles = Titles {
-            called: archive.called,
-            calling: archive.calling,
-        };
-        match Association::open(self.rt.alloc(), stream, titles, self.contexts) {
+        match Association::open(self.rt.alloc(), stream, titles_of(archive), self.contexts) {
             Ok(mut association) => {
                 if self.hand_rest(&mut association) {
                     let _ = association.release();

@@ -1,5 +1,6 @@
 //! Prints what was done with files, and how associations ended.
 use inspection::Judgement;
+use journal::{provider_words, rejection_words};
 use negotiate::rejection::{
     CALLED_AE_TITLE_NOT_RECOGNIZED, CALLING_AE_TITLE_NOT_RECOGNIZED, SERVICE_USER,
 };
@@ -7,6 +8,12 @@ use sending::{Ending, Handed, is_filed};
 use std::fmt;
 use std::io::ErrorKind;
 use std::time::Duration;
+
+/// The result of an A-ASSOCIATE-RJ that is rejected-transient (PS3.8 section 9.3.4).
+const TRANSIENT: u8 = 2;
+
+/// The source of an A-ABORT that is the service provider (PS3.8 section 9.3.8).
+const PROVIDER: u8 = 2;
 
 /// Prints the status of a C-STORE-RSP.
 #[derive(Clone, Copy)]
@@ -74,6 +81,19 @@ impl fmt::Display for EndingText<'_> {
             Ending::Rejected(_, SERVICE_USER, CALLED_AE_TITLE_NOT_RECOGNIZED) => {
                 f.write_str("association rejected: the archive has another title than --aec")
             }
+            Ending::Rejected(TRANSIENT, source, reason) => {
+                let why = rejection_words(*source, *reason);
+                write!(f, "association rejected for now: {why}")
+            }
+            Ending::Rejected(_, source, reason) => {
+                let why = rejection_words(*source, *reason);
+                write!(f, "association rejected: {why}")
+            }
+            Ending::Aborted(PROVIDER, reason) => {
+                let why = provider_words(*reason);
+                write!(f, "association aborted by the archive: {why}")
+            }
+            Ending::Aborted(..) => f.write_str("association aborted by the archive"),
             _ => write!(f, "{ending}"),
         }
     }

@@ -22,7 +22,7 @@ four_again : (n : ℕ) → n < 2 ^ 32 → big_number 4 (be n 4) ≡ n
 four_again n lt = ap (big_number 4) (sym (append-nil (be n 4))) ∙ big_number-reads_back 4 n [] lt
 
 says : (text : List ℕ) (command : CommandRecord) (status : ℕ) (detail : Option Detail) → command_in text ≡ Ok command → command.field ≡ c_store
-    → command.message < 2 ^ 16 → status < 2 ^ 16 → IsResponseSet (reply_command command status detail) command.message status
+    → command.message < 2 ^ 16 → status < 2 ^ 16 → IsResponseSet (c_store + response) (reply_command command status detail) command.message status
 says text command status detail e store message number = record {
   elements = reply_elements command status detail;
   read = reply_again text command status detail e;

@@ -1,18 +1,21 @@
--- What was written and received for one C-STORE is its request and its response (`stored`), and the front of a file and
--- what was read after it are the file that was handed over (`filed`). Stands on the definitions alone.
+-- What was written and received for one C-STORE is its request and its response (`stored`), and so for one C-ECHO
+-- (`echoed_if`); the front of a file and what was read after it are the file that was handed over (`filed`). Stands on the
+-- definitions alone.
 use Rattle.std.proofs.Common.{◌≡◌, ◌+◌, ℕ, true, List, [], ◌++◌, length, Result, Ok, Err, IfOk, refl, sym, ◌∙◌, ap₂, subst, append_assoc}
 use Rattle.pdu.specs.declared.head.PduHead.{PduHead}
 use Rattle.part10.specs.MetaText.{MetaValues, SpellsMeta}
 use Rattle.pdu.specs.Texts.{data_text}
 use Rattle.pdu.specs.Heads.{pdu_head_of, pdv_head_of}
 use Rattle.pdu.specs.Types.{p_data_tf}
-use Rattle.sending.specs.Sending.{IsResponseSet, Receives, SendsData, Stores, store_set, is_filed}
+use Rattle.dimse.specs.Command.{c_echo, c_store}
+use Rattle.dimse.specs.Reply.{response}
+use Rattle.sending.specs.Sending.{Echoes, IsResponseSet, Receives, SendsData, Stores, echo_set, store_set, is_filed}
 use Rattle.sending.specs.Handing.{IsFiled}
 
 pub stored : (context message status : ℕ) (class instance first read0 read written0 written1 written2 received0 received : List ℕ)
     → written1 ≡ written0 ++ data_text context true true (store_set class instance message)
     → SendsData context first read0 read written1 written2
-    → Receives context message status received0 received
+    → Receives (c_store + response) context message status received0 received
     → Stores class instance first read0 read written0 written2 received0 received status
 stored context message status class instance first read0 read written0 written1 written2 received0 received w d r = record {
   more = d.more;
@@ -37,11 +40,19 @@ stored context message status class instance first read0 read written0 written1 
 pub stored_if : {E : Type 0} (r : Result ℕ E) (context message : ℕ) (class instance first read0 read written0 written1 written2 received0 received : List ℕ)
     → written1 ≡ written0 ++ data_text context true true (store_set class instance message)
     → SendsData context first read0 read written1 written2
-    → IfOk r (λ status. Receives context message status received0 received)
+    → IfOk r (λ status. Receives (c_store + response) context message status received0 received)
     → IfOk r (λ status. Stores class instance first read0 read written0 written2 received0 received status)
 stored_if (Err e) context message class instance first read0 read written0 written1 written2 received0 received w d h = h
 stored_if (Ok status) context message class instance first read0 read written0 written1 written2 received0 received w d h =
     stored context message status class instance first read0 read written0 written1 written2 received0 received w d h
+
+-- a C-ECHO was sent, and answered if a response was received
+pub echoed_if : {E : Type 0} (r : Result ℕ E) (context message : ℕ) (written0 written received0 received : List ℕ)
+    → written ≡ written0 ++ data_text context true true (echo_set message)
+    → IfOk r (λ status. Receives (c_echo + response) context message status received0 received)
+    → IfOk r (λ status. Echoes written0 written received0 received status)
+echoed_if (Err e) context message written0 written received0 received w h = h
+echoed_if (Ok status) context message written0 written received0 received w h = record { context = context; message = message; sent = w; answered = h }
 
 pub filed : (said : MetaValues) (header first read0 read written0 written received0 received : List ℕ) (status : ℕ) (removed0 removed : List (List ℕ))
     → SpellsMeta said header
@@ -67,15 +78,15 @@ filed said header first read0 read written0 written received0 received status re
 }
 
 -- a response that was received in three parts
-pub received_three : (context message status : ℕ) (r0 r1 r2 head pdv set r3 : List ℕ)
+pub received_three : (answer context message status : ℕ) (r0 r1 r2 head pdv set r3 : List ℕ)
     → r1 ≡ r0 ++ head
     → r2 ≡ r1 ++ pdv
     → r3 ≡ r2 ++ set
     → pdu_head_of head ≡ record { kind = p_data_tf; length = length set + 6 }
     → pdv_head_of pdv ≡ record { length = length set + 2; context = context; command = true; last = true }
-    → IsResponseSet set message status
-    → Receives context message status r0 r3
-received_three context message status r0 r1 r2 head pdv set r3 e1 e2 e3 a b s = record {
+    → IsResponseSet answer set message status
+    → Receives answer context message status r0 r3
+received_three answer context message status r0 r1 r2 head pdv set r3 e1 e2 e3 a b s = record {
   bytes = head ++ (pdv ++ set);
   got = rw (e3, e2, e1) (simp append_assoc);
   response = record { head = head; pdv = pdv; set = set; whole = refl; of_pdu = a; of_pdv = b; says = s };

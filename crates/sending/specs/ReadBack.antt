@@ -1,6 +1,6 @@
 -- What an acceptor reads of an A-ASSOCIATE-RQ (PS3.8 section 9.3.2), and what a requestor reads of the response to a C-STORE
 -- (PS3.7 section 9.3.1.2).
-use Rattle.std.specs.Prelude.{◌≡◌, ◌≤◌, ◌<◌, ◌^◌, ℕ, true, eqb, List, [], ◌∷◌, length, map, replicate, Option, Ok}
+use Rattle.std.specs.Prelude.{◌≡◌, ◌+◌, ◌≤◌, ◌<◌, ◌^◌, ℕ, true, eqb, List, [], ◌∷◌, length, map, replicate, Option, Ok}
 use Rattle.std.specs.List.{AllByRecursion, IsDistinct}
 use Rattle.element.specs.Uid.{is_uid}
 use Rattle.dictionary.specs.Syntaxes.{application_context}
@@ -10,7 +10,7 @@ use Rattle.pdu.specs.Request.{RequestText}
 use Rattle.pdu.specs.Sizes.{title_size}
 use Rattle.dimse.specs.Command.{CommandRecord, c_store}
 use Rattle.dimse.specs.Reading.{command_in}
-use Rattle.dimse.specs.Reply.{reply_bytes}
+use Rattle.dimse.specs.Reply.{reply_bytes, response}
 use Rattle.dimse.specs.declared.detail.Detail.{Detail}
 use Rattle.sending.specs.declared.context.StorageContext.{StorageContext}
 use Rattle.sending.specs.Requesting.{context_id, request_body}
@@ -47,4 +47,4 @@ RequestsAreRead = (called calling : List ℕ) (contexts : List StorageContext) �
 abbrev pub ResponsesAreRead : Type 0
 ResponsesAreRead = (text : List ℕ) (command : CommandRecord) (status : ℕ) (detail : Option Detail) (context : ℕ)
     → command_in text ≡ Ok command → command.field ≡ c_store → command.message < 2 ^ 16 → status < 2 ^ 16
-    → IsResponse context command.message status (reply_bytes command status detail context 16384)
+    → IsResponse (c_store + response) context command.message status (reply_bytes command status detail context 16384)

@@ -1,21 +1,20 @@
-//! An association for storage, from its request to its release.
-ghost use Rattle.std.specs.Prelude.{◌≡◌, ◌≤◌, ◌<◌, ◌++◌, slice_range, IfOk, OnOk, true};
+//! An association for storage or verification, from its request to its release.
+ghost use Rattle.std.specs.Prelude.{◌≡◌, ◌≤◌, ◌<◌, ◌++◌, length, slice_range, IfOk, OnOk, true};
 ghost use Rattle.std.specs.Io.KnownBytes.{IsAtEnd};
 ghost use Rattle.part10.specs.MetaText.{meta_values_of};
 ghost use Rattle.pdu.specs.Texts.{data_text};
-ghost use Rattle.sending.specs.Sending.{Stores, store_set};
+ghost use Rattle.sending.specs.Sending.{Echoes, Stores};
 
 use crate::acceptance::Acceptance;
 use crate::buffers::{Buffers, Front, Route};
 use crate::context::{MOST_CONTEXTS, StorageContext};
 use crate::ending::Ending;
 use crate::request::{Titles, request_pdu};
-use crate::response::receive_response;
-use crate::store_request::{SET, store_set};
+use crate::response::{ECHO_RESPONSE, STORE_RESPONSE, receive_response};
+use crate::store_request::{SET, echo_set, store_set};
 use crate::stream::{HEADS, LONGEST, receive, send_all, send_fragment};
 use arrayvec::ArrayVec;
 use element::traced_stream::TracedStream;
-use part10::Meta;
 use pdu::{PduHead, pdu_type, read_pdu_head};
 use std::alloc::Allocator;
 use std::io::{Error, Read, Write};
@@ -38,8 +37,8 @@ pub struct Association<S> {
     pub(crate) stream: TracedStream<S>,
     accepted: [bool; MOST_CONTEXTS],
     /// The greatest length of a P-DATA-TF PDU that the peer receives; 0 for no limit.
-    maximum: u32,
-    /// The Message ID of the last C-STORE-RQ.
+    pub maximum: u32,
+    /// The Message ID of the last request.
     message: u16,
     pub(crate) buffers: Buffers,
 }
@@ -56,21 +55,19 @@ fn fragment_size(maximum: u32) -> usize
     ((maximum as usize - 6) / 2 * 2).min(LONGEST)
 }
 
-/// Sends the command set of a C-STORE-RQ for the instance that this header names.
-fn send_request<S: Write>(
+/// Sends a command set.
+fn send_command<S: Write>(
     stream: &mut TracedStream<S>,
     context: u8,
-    message: u16,
-    meta: &Meta,
+    set: &[u8],
 ) -> Result<(), Ending>
-    ensures sent { OnOk result (stream.new.written.bytes ≡ stream.old.written.bytes
-        ++ data_text context true true (store_set (meta_values_of meta.now).class (meta_values_of meta.now).instance message)) }
+    requires { length set.now ≤ 196 }
+    ensures sent { OnOk result (stream.new.written.bytes ≡ stream.old.written.bytes ++ data_text context true true set.now) }
     ensures same { stream.new.read ≡ stream.old.read }
 {
-    let set = store_set(&meta.class, &meta.instance, message);
     let mut pdu = ArrayVec::<u8, REQUEST>::new();
     let _heads = pdu.try_extend_from_slice(&[0; HEADS]);
-    let _set = pdu.try_extend_from_slice(set.as_slice());
+    let _set = pdu.try_extend_from_slice(set);
     send_fragment(stream, context, true, true, pdu.as_mut_slice())
 }
 
@@ -150,10 +147,24 @@ impl<S: Read + Write + Drop> Association<S> {
     {
         self.message = self.message.wrapping_add(1);
         let message = self.message;
-        send_request(&mut self.stream, route.context, message, &front.meta)?;
+        let set = store_set(&front.meta.class, &front.meta.instance, message);
+        send_command(&mut self.stream, route.context, set.as_slice())?;
         self.buffers
             .send_data(&mut self.stream, route, front, file)?;
-        receive_response(&mut self.stream, route.context, message)
+        receive_response(&mut self.stream, route.context, STORE_RESPONSE, message)
+    }
+
+    /// Sends a C-ECHO in this presentation context, which the peer has accepted, and receives the
+    /// response. Returns its status. An error is the end of the association.
+    #[tactic(auto, using(crate::proofs::StoreIsAnswered::echoed_if))]
+    pub fn echo(&mut self, context: &StorageContext) -> Result<u16, Ending>
+        ensures { IfOk result (λ status. Echoes self.old.stream.written.bytes self.new.stream.written.bytes self.old.stream.read.bytes self.new.stream.read.bytes status) }
+    {
+        self.message = self.message.wrapping_add(1);
+        let message = self.message;
+        let (id, set) = (context.id(), echo_set(message));
+        send_command(&mut self.stream, id, set.as_slice())?;
+        receive_response(&mut self.stream, id, ECHO_RESPONSE, message)
     }
 
     /// Sends the instance that this header names, whose data set begins in the buffers and goes on

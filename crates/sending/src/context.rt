@@ -1,7 +1,10 @@
 //! Presentation contexts of an association for storage.
-ghost use Rattle.std.specs.Prelude.{◌≡◌, ◌+◌, ◌*◌, ◌<◌};
+ghost use Rattle.std.specs.Prelude.{◌≡◌, ◌+◌, ◌*◌, ◌<◌, true};
+ghost use Rattle.element.specs.Uid.{is_uid};
+ghost use Rattle.dictionary.specs.Classes.{class_uid};
+ghost use Rattle.dictionary.specs.declared.class.Class.TheVariants.{Verification};
 
-use dictionary::Transfer;
+use dictionary::{Class, Transfer};
 use element::Uid;
 
 /// The most presentation contexts of an association: their IDs are odd and below 256 (PS3.8 section
@@ -19,6 +22,17 @@ pub struct StorageContext {
     ghost few: { index < 128 },
 }
 
+/// Returns the UID of the Verification SOP Class.
+pub(crate) fn verification() -> Uid
+    ensures value { result ≡ class_uid Verification }
+    ensures valid { is_uid result ≡ true }
+{
+    match Uid::read(Class::Verification.uid()) {
+        Some(uid) => uid,
+        None => unreachable!(),
+    }
+}
+
 impl StorageContext {
     /// Creates the presentation context with this index.
     pub fn new(index: u8, class: Uid, syntax: Transfer) -> StorageContext
@@ -29,6 +43,11 @@ impl StorageContext {
             class,
             syntax,
         }
+    }
+
+    /// Creates the presentation context of the Verification SOP Class, in the default transfer syntax.
+    pub fn of_verification() -> StorageContext {
+        StorageContext::new(0, verification(), Transfer::Implicit)
     }
 
     /// Returns which of the proposed presentation contexts this is, from 0.

@@ -1,4 +1,4 @@
-//! Receives C-STORE-RSP.
+//! Receives responses: C-STORE-RSP and C-ECHO-RSP.
 ghost use Rattle.std.specs.Prelude.{◌≡◌, IfOk, IfSome};
 ghost use Rattle.sending.specs.Sending as spelling;
 ghost use Rattle.sending.specs.Sending.{IsResponseSet, Receives};
@@ -12,12 +12,15 @@ use pdu::{PduHead, PdvHead, pdu_type, read_pdu_head, read_pdv_head};
 use std::io::Read;
 
 /// The Command Field (0000,0100) of a C-STORE-RSP.
-const STORE_RESPONSE: u16 = 0x8001;
+pub(crate) const STORE_RESPONSE: u16 = 0x8001;
+
+/// The Command Field of a C-ECHO-RSP.
+pub(crate) const ECHO_RESPONSE: u16 = 0x8030;
 
 /// The greatest size in bytes of the command set of a response.
 const MOST: usize = 1024;
 
-/// A C-STORE-RSP.
+/// A response.
 #[derive(Clone, Copy)]
 struct Response {
     /// Message ID Being Responded To.
@@ -25,9 +28,9 @@ struct Response {
     status: u16,
 }
 
-/// Returns the C-STORE-RSP in a command set, or `None` if it is none.
-fn response_in(bytes: &[u8]) -> Option<Response>
-    ensures { IfSome result (λ r. IsResponseSet bytes.now r.message r.status) }
+/// Returns the response with this Command Field in a command set, or `None` if it is none.
+fn response_in(bytes: &[u8], answer: u16) -> Option<Response>
+    ensures { IfSome result (λ r. IsResponseSet answer bytes.now r.message r.status) }
 {
     let set = CommandSet::read(bytes)?;
     let (Ok(field), Ok(message), Ok(status)) = (
@@ -37,7 +40,7 @@ fn response_in(bytes: &[u8]) -> Option<Response>
     ) else {
         return None;
     };
-    if field != STORE_RESPONSE {
+    if field != answer {
         return None;
     }
     Some(Response { message, status })
@@ -54,16 +57,18 @@ fn ending_with<S: Read>(stream: &mut TracedStream<S>, head: PduHead) -> Ending
             Err(ending) => ending,
         };
     }
-    Ending::Invalid("no response to a C-STORE in one P-DATA-TF of at most 1,030 bytes")
+    Ending::Invalid("no response in one P-DATA-TF of at most 1,030 bytes")
 }
 
-/// Receives the response to a message in one P-DATA-TF PDU. Returns its status.
+/// Receives the response with this Command Field to a message, in one P-DATA-TF PDU. Returns its
+/// status.
 pub(crate) fn receive_response<S: Read>(
     stream: &mut TracedStream<S>,
     context: u8,
+    answer: u16,
     message: u16,
 ) -> Result<u16, Ending>
-    ensures response { IfOk result (λ status. Receives context message status stream.old.read.bytes stream.new.read.bytes) }
+    ensures response { IfOk result (λ status. Receives answer context message status stream.old.read.bytes stream.new.read.bytes) }
     ensures same { stream.new.written ≡ stream.old.written }
 {
     let mut bytes = [0; 6];
@@ -83,12 +88,12 @@ pub(crate) fn receive_response<S: Read>(
         last: true,
     };
     if read_pdv_head(&pdv) != expected {
-        return Err(Ending::Invalid("another message than a response to the C-STORE"));
+        return Err(Ending::Invalid("another message than a response"));
     }
     let mut room = [0; MOST];
     let set = &mut room[..size];
     receive(stream, set)?;
-    match response_in(set) {
+    match response_in(set, answer) {
         Some(response) if response.message == message => Ok(response.status),
         _ => Err(Ending::Invalid("a response to another message")),
     }
