@@ -112,8 +112,8 @@ fn seen(alloc: Global, asked: &Asked, name: &str) -> Result<String, Fail> {
         Ok(job) => job,
         Err(error) => return refusal(alloc, &error, name),
     };
-    let given = &job.given;
-    match job.command {
+    let (command, given) = (job.command, &job.given);
+    match command {
         CommandName::Serve => match serve_settings(alloc, given, asked.listed.as_str()) {
             Ok(serve) => of_serve(alloc, &serve, name),
             Err(error) => refusal(alloc, &error, name),
