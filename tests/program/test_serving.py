@@ -481,6 +481,18 @@ def test_a_folder_with_the_name_of_the_locked_one(serve, run, put, work):
     assert box.files() == ["I0000001", "I0000002"]
 
 
+def test_a_disk_that_is_mounted_over_the_locked_folder(serve, small_disk):
+    """The box stores nothing into it: its root has the same inode number, and is another folder."""
+    small_disk("received", "-t", "tmpfs", "tmpfs")
+    box = serve("--timeout", "30")
+    locked = os.stat(box.folder)
+    other = os.stat(small_disk("received", "-t", "tmpfs", "tmpfs"))
+    assert locked.st_ino == other.st_ino and locked.st_dev != other.st_dev
+    assert box.answers(STORES, REFUSED_ANSWER)
+    box.until_logged("a file could not be written: the folder was replaced by another one")
+    assert box.files() == []
+
+
 def test_closed_standard_descriptors_are_not_reused(serve):
     """The log is lost: connections and files get other numbers."""
     closed = ["sh", "-c", 'exec "$@" <&- >&- 2>&-', "sh"]
