@@ -347,10 +347,11 @@ class TestGroups:
             )
 
     def test_a_folder_that_cannot_be_synced_fails_its_group(self, group, calls):
-        """No reply is sent, no name remains, and the slots serve the next connections."""
+        """No reply is sent or counted, no name remains, and the slots serve the next connections."""
         with group("", "error=EIO:when=1") as (box, first, second):
             assert (first.rest(), second.rest()) == (b"", b"")
         box.until_logged("the folder could not be synced: Input/output error")
+        box.until_logged("a file was lost .* stored 0 refused 0 failed 0$", count=2)
         assert len(calls()) == 1 and box.files() == []
         assert self.stores_both(box)
         assert self.filed(box) == [f"I000000{n}" for n in (3, 4, 5, 6)]
