@@ -274,11 +274,24 @@ class TestMovedSubfolders:
     def test_the_file_is_named_once_more_where_its_folder_is_removed(self, named):
         assert named(shutil.rmtree) == ["S0000001/I0000002", "S0000001/I0000003"]
 
-    def test_without_hard_links_that_file_is_lost(self, named, work):
-        """The file has no other name than the moved one. The association continues."""
+    @pytest.mark.parametrize("replaced", [False, True], ids=["moved", "replaced"])
+    def test_without_hard_links_that_file_is_lost(self, named, work, replaced):
+        """The file has no other name than the moved one. The association continues.
+
+        The file of another program remains.
+        """
+
+        def change(folder):
+            folder.rename(work / "moved")
+            if replaced:
+                folder.mkdir()
+                (folder / "I0000001").write_bytes(b"of another")
+
         refused = "-e", "inject=link:error=EPERM"
-        names = named(lambda folder: folder.rename(work / "moved"), links=refused, first=REFUSED_REPLY)
-        assert names == ["S0000001/I0000002"]
+        names = ["I0000001"] * replaced + ["I0000002"]
+        assert named(change, links=refused, first=REFUSED_REPLY) == [f"S0000001/{name}" for name in names]
+        if replaced:
+            assert (work / "received/S0000001/I0000001").read_bytes() == b"of another"
 
     def test_a_folder_that_is_always_removed_fails_its_file(self, serve, trace):
         """The folder is made a hundred times, and then the store is refused."""
