@@ -7,7 +7,7 @@ import struct
 import subprocess
 
 import pytest
-from box import LITTLE, PATIENCE, listeners
+from box import LITTLE, PATIENCE, listeners, wait_for
 from peer import (
     ECHO,
     ECHO_ANSWER,
@@ -479,6 +479,22 @@ def test_a_folder_with_the_name_of_the_locked_one(serve, run, put, work):
     moved.rename(box.folder)
     assert box.answers(STORES, STORES_ANSWER)
     assert box.files() == ["I0000001", "I0000002"]
+
+
+def test_a_folder_that_is_replaced_during_a_store(serve, form, work):
+    """The store fails, and the draft of another program keeps its name alone."""
+    box = serve("--timeout", "30", *form)
+    with box.connect() as peer:
+        # (all but the last byte of the first store)
+        peer.send(STORES[:351])
+        wait_for((box.folder / "DRAFT").exists, "the draft is there")
+        box.folder.rename(work / "moved")
+        box.folder.mkdir()
+        (box.folder / "DRAFT").write_bytes(b"of another")
+        peer.send(STORES[351:])
+        assert SUCCESS not in peer.rest()
+    assert box.files() == ["DRAFT"]
+    assert (box.folder / "DRAFT").read_bytes() == b"of another"
 
 
 def test_a_disk_that_is_mounted_over_the_locked_folder(serve, small_disk):
