@@ -97,6 +97,20 @@ def test_a_connection_that_fails_is_logged(serve, trace):
     box.ended()
 
 
+@pytest.mark.parametrize("slots", [1, 2])
+def test_a_connection_that_fails_has_no_slot(serve, trace, slots):
+    """After it, as many connections are served at once as there are slots."""
+    failing = trace("-e", "trace=setsockopt", "-e", "inject=setsockopt:error=ENOBUFS:when=2")
+    box = serve("--at-once", slots, "--per-peer", slots, before=failing)
+    box.connect().close()
+    box.until_logged("the connection failed: No buffer space available")
+    peers = [box.connect() for _ in range(slots)]
+    for peer in peers:
+        assert peer.exchange(STORES_REQUEST, len(ACCEPTED)) == ACCEPTED
+    for peer in peers:
+        peer.close()
+
+
 def shown(call):
     """Returns the name of a call; for a sync with what is synced, a draft without its number."""
     name, synced = re.match(r"(\w+)\((?:\d+<(.*?)>)?", call).groups()
