@@ -115,12 +115,10 @@ class TestLinks:
             ("DICOMDIR", "in/DICOMDIR", "index in --uid 1.2.3 --replace"),
             ("draft of a copy", "tree/.DRAFT", "arrange in --to tree --copy"),
             ("copy", f"tree/{PATH}", "arrange in --to tree --copy"),
-            ("draft", "out/DRAFT", "replay stores.bin --out out"),
-            ("file", "out/I0000001", "replay stores.bin --out out"),
         ),
     )
-    def test_of_a_command(self, run, samples, put, plant, work, name, command):
-        put({"in/I0000001": image(), "out/other": b""})
+    def test_of_a_command(self, run, put, plant, work, name, command):
+        put({"in/I0000001": image()})
         plant(name)
         assert run(*command.split()).returncode == 0
         assert self.kept(work) == {"a file": b"kept"}
@@ -129,15 +127,12 @@ class TestLinks:
         "name, options",
         cases(
             ("draft", "received/DRAFT", ""),
-            ("file", "received/I0000001", ""),
             ("numbers", "numbers", "--numbers numbers"),
             ("draft of numbers", "numbers.new", "--numbers numbers"),
+            ("lock of numbers", ".numbers.lock", "--numbers numbers"),
             ("metrics", "box.prom", "--metrics box.prom"),
             ("draft of metrics", "box.prom.new", "--metrics box.prom"),
             ("lock of metrics", ".box.prom.lock", "--metrics box.prom"),
-            ("draft in the quarantine", "aside/000001.part", "--quarantine aside"),
-            ("file in the quarantine", "aside/000001.dcm", "--quarantine aside"),
-            ("text in the quarantine", "aside/000001.txt", "--quarantine aside"),
         ),
     )
     def test_of_a_box(self, serve, plant, work, name, options):
@@ -148,6 +143,22 @@ class TestLinks:
         if box.process.poll() is None:
             plant(name)
             assert [send(box, data) for data in (data_set(), data_set(more=BAD))] == ["0000", "C000"]
+        assert self.kept(work) == {"a file": b"kept"}
+
+    @pytest.mark.parametrize(
+        "name",
+        cases(
+            ("file", "received/I0000001"),
+            ("draft in the quarantine", "aside/000001.part"),
+            ("file in the quarantine", "aside/000001.dcm"),
+            ("text in the quarantine", "aside/000001.txt"),
+        ),
+    )
+    def test_with_the_next_number(self, serve, plant, work, name):
+        """Links come after the box has listed its folders: it gives their numbers next."""
+        box = serve("--quarantine", "aside")
+        plant(name)
+        assert [send(box, data) for data in (data_set(), data_set(more=BAD))] == ["0000", "C000"]
         assert self.kept(work) == {"a file": b"kept"}
 
 
