@@ -2,7 +2,6 @@
 use crate::columns::Column;
 use crate::conditions::{Condition, Selection, tags_of};
 use crate::grouping::{Grouping, LISTED};
-use crate::order::sort;
 use crate::studies::{ByUid, Study};
 use crate::texts::{ColumnTexts, Text};
 use crate::writing::Writer;
@@ -133,9 +132,8 @@ where
     let mut visitor = Visitor::new(rt, tags.as_slice(), ignores_others, (&mut err, counter));
     visitor.follow(options.follow);
     let tally = visitor.visit_all(dirs, &mut selection)?;
-    let mut studies = selection.grouping.studies;
-    sort(&mut studies)?;
-    report_several_patients(&studies, &mut err);
+    let grouping = selection.grouping;
+    report_several_patients(&grouping.studies, &mut err);
     let alloc = rt.alloc();
     let mut writer = Writer {
         alloc,
@@ -143,7 +141,7 @@ where
         out,
     };
     writer
-        .studies(&studies, tally.omitted)
+        .studies(&grouping.studies, tally.omitted)
         .map_err(ProgramError::of_output)?;
     tally.outcome()
 }

@@ -1,7 +1,24 @@
 //! The order in which studies, series and files are listed.
-use crate::studies::{ByUid, Study};
+use crate::studies::{ByUid, Instance, Series, Study};
 use std::alloc::{AllocError, Allocator};
 use std::str;
+
+/// The sort key, the UID and the index of an item.
+type Rank<'a, K> = (K, &'a [u8], usize);
+
+/// Returns the indices of the items, in order. Fails if memory runs out.
+fn indices_of<'a, A: Allocator + Copy, K: Ord + Drop>(
+    alloc: A,
+    ranks: Vec<Rank<'a, K>, A>,
+) -> Result<Vec<usize, A>, AllocError> {
+    let mut ranks = ranks;
+    ranks.sort()?;
+    let mut order = Vec::new(alloc);
+    for (_, _, index) in ranks {
+        order.push(index)?;
+    }
+    Ok(order)
+}
 
 /// Returns the integer in a decimal text, or `i64::MAX` if the text is no number.
 fn number_in(text: &[u8]) -> i64 {
@@ -11,30 +28,44 @@ fn number_in(text: &[u8]) -> i64 {
     }
 }
 
-/// Orders studies by date, series and files by number, and each then by UID. Fails if memory runs
-/// out.
-pub(crate) fn sort<A: Allocator + Copy>(
-    studies: &mut ByUid<Study<A>, A>,
-) -> Result<(), AllocError> {
-    studies.sort_by(|uid, study, other_uid, other| {
-        let dates = study.date.as_slice().cmp(other.date.as_slice());
-        dates.then(uid.as_slice().cmp(other_uid.as_slice()))
-    })?;
-    for study in studies.values_mut() {
-        study.series.sort_by(|uid, series, other_uid, other| {
-            let (number, other) = (series.number.as_slice(), other.number.as_slice());
-            let numbers = number_in(number).cmp(&number_in(other));
-            numbers.then(uid.as_slice().cmp(other_uid.as_slice()))
-        })?;
-        for series in study.series.values_mut() {
-            series.instances.sort_by(|instance, other| {
-                let (number, other_number) = (instance.number.as_slice(), other.number.as_slice());
-                let numbers = number_in(number).cmp(&number_in(other_number));
-                numbers.then(instance.uid.as_slice().cmp(other.uid.as_slice()))
-            })?;
-        }
+/// Returns the indices of the studies, ordered by date and then by UID. Fails if memory runs out.
+pub(crate) fn order_of_studies<A: Allocator + Copy>(
+    alloc: A,
+    studies: &ByUid<Study<A>, A>,
+) -> Result<Vec<usize, A>, AllocError> {
+    let mut ranks = Vec::new(alloc);
+    for (index, (uid, study)) in studies.iter().enumerate() {
+        ranks.push((study.date.as_slice(), uid.as_slice(), index))?;
     }
-    Ok(())
+    indices_of(alloc, ranks)
+}
+
+/// Returns the indices of the series of a study, ordered by number and then by UID. Fails if memory
+/// runs out.
+pub(crate) fn order_of_series<A: Allocator + Copy>(
+    alloc: A,
+    series: &ByUid<Series<A>, A>,
+) -> Result<Vec<usize, A>, AllocError> {
+    let mut ranks = Vec::new(alloc);
+    for (index, (uid, series)) in series.iter().enumerate() {
+        let number = number_in(series.number.as_slice());
+        ranks.push((number, uid.as_slice(), index))?;
+    }
+    indices_of(alloc, ranks)
+}
+
+/// Returns the indices of the files of a series, ordered by number and then by UID. Fails if memory
+/// runs out.
+pub(crate) fn order_of_instances<A: Allocator + Copy>(
+    alloc: A,
+    instances: &[Instance<A>],
+) -> Result<Vec<usize, A>, AllocError> {
+    let mut ranks = Vec::new(alloc);
+    for (index, instance) in instances.iter().enumerate() {
+        let number = number_in(instance.number.as_slice());
+        ranks.push((number, instance.uid.as_slice(), index))?;
+    }
+    indices_of(alloc, ranks)
 }
 
 /// Returns the modalities of the series of a study in ascending order, each once. Fails if memory

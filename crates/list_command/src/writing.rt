@@ -1,7 +1,7 @@
 //! Writes studies with their series and files: as lines of tab-separated fields, or as one JSON
 //! object.
 use crate::listing::ListOptions;
-use crate::order::modalities_of;
+use crate::order::{modalities_of, order_of_instances, order_of_series, order_of_studies};
 use crate::studies::{ByUid, Instance, Series, Study};
 use crate::texts::Texts;
 use inspection::{JsonPath, OutputForm, PathText};
@@ -27,8 +27,8 @@ impl<A: Allocator + Copy, O: Write> Writer<'_, A, O> {
     }
 
     /// Writes the comma before each element of a JSON array except the first.
-    fn separate(&mut self, index: usize) -> io::Result<()> {
-        self.punctuate(if index == 0 { "" } else { "," })
+    fn separate(&mut self, is_first: bool) -> io::Result<()> {
+        self.punctuate(if is_first { "" } else { "," })
     }
 
     /// Writes a study. Its line has date, Patient ID, patient's name, modalities, number of series,
@@ -110,10 +110,15 @@ impl<A: Allocator + Copy, O: Write> Writer<'_, A, O> {
         if !self.options.instances {
             return Ok(());
         }
+        let instances = series.instances.as_slice();
+        let mut is_first = true;
         self.punctuate(",\"instances\":[")?;
-        for (index, instance) in series.instances.iter().enumerate() {
-            self.separate(index)?;
-            self.instance(instance)?;
+        for index in order_of_instances(self.alloc, instances)? {
+            if let Some(instance) = instances.get(index) {
+                self.separate(is_first)?;
+                self.instance(instance)?;
+                is_first = false;
+            }
         }
         self.punctuate("]")
     }
@@ -123,12 +128,16 @@ impl<A: Allocator + Copy, O: Write> Writer<'_, A, O> {
         if !self.options.has_series() {
             return Ok(());
         }
+        let mut is_first = true;
         self.punctuate(",\"series\":[")?;
-        for (index, (uid, series)) in study.series.iter().enumerate() {
-            self.separate(index)?;
-            self.series(uid.as_slice(), series)?;
-            self.instances(series)?;
-            self.punctuate("}")?;
+        for index in order_of_series(self.alloc, &study.series)? {
+            if let Some((uid, series)) = study.series.get_index(index) {
+                self.separate(is_first)?;
+                self.series(uid.as_slice(), series)?;
+                self.instances(series)?;
+                self.punctuate("}")?;
+                is_first = false;
+            }
         }
         self.punctuate("]")
     }
@@ -137,13 +146,17 @@ impl<A: Allocator + Copy, O: Write> Writer<'_, A, O> {
     /// or the JSON object with the members `studies`, an array, and `left_out`, the number of files
     /// that were left out.
     pub fn studies(&mut self, studies: &ByUid<Study<A>, A>, omitted: u64) -> io::Result<()> {
+        let mut is_first = true;
         self.punctuate("{\"studies\":[")?;
-        for (index, (uid, study)) in studies.iter().enumerate() {
-            let modalities = modalities_of(self.alloc, study)?;
-            self.separate(index)?;
-            self.study(uid.as_slice(), study, modalities.as_slice())?;
-            self.all_series(study)?;
-            self.punctuate("}")?;
+        for index in order_of_studies(self.alloc, studies)? {
+            if let Some((uid, study)) = studies.get_index(index) {
+                let modalities = modalities_of(self.alloc, study)?;
+                self.separate(is_first)?;
+                self.study(uid.as_slice(), study, modalities.as_slice())?;
+                self.all_series(study)?;
+                self.punctuate("}")?;
+                is_first = false;
+            }
         }
         match self.options.form {
             OutputForm::Lines => Ok(()),
