@@ -15,22 +15,24 @@ use std::test::Fail;
 
 /// A connection that yields a receiver's replies and records what is sent.
 #[derive(Drop)]
-struct Scripted<'a> {
-    replies: &'a [u8],
+struct Scripted {
+    replies: Vec<u8>,
+    /// The number of bytes of the replies that were read.
+    at: usize,
     sent: Vec<u8>,
 }
 
-impl Read for Scripted<'_> {
+impl Read for Scripted {
     fn read(&mut self, room: &mut [u8]) -> io::Result<usize> {
-        let n = self.replies.len().min(room.len());
-        let (front, rest) = self.replies.split_at(n);
-        room[..n].copy_from_slice(front);
-        self.replies = rest;
+        let rest = self.replies.as_slice().get(self.at..).unwrap_or(&[]);
+        let n = rest.len().min(room.len());
+        room[..n].copy_from_slice(&rest[..n]);
+        self.at = self.at.saturating_add(n);
         Ok(n)
     }
 }
 
-impl Write for Scripted<'_> {
+impl Write for Scripted {
     fn write(&mut self, bytes: &[u8]) -> io::Result<usize> {
         self.sent.extend_from_slice(bytes)?;
         Ok(bytes.len())
@@ -70,7 +72,7 @@ fn image(alloc: Global, size: u32) -> Result<Vec<u8>, AllocError> {
 
 /// Returns whether the file at this path was removed after it was sent over this connection. An
 /// association that has not ended is released.
-fn is_moved(rt: &HostRuntime, stream: &mut Scripted<'_>, path: &str) -> Result<bool, Fail> {
+fn is_moved(rt: &HostRuntime, stream: &mut Scripted, path: &str) -> Result<bool, Fail> {
     let class = Uid::read(b"1.2.840.10008.5.1.4.1.1.2").ok_or("no class")?;
     let context = StorageContext::new(0, class, Transfer::Explicit);
     let titles = Titles {
@@ -97,13 +99,13 @@ fn is_moved(rt: &HostRuntime, stream: &mut Scripted<'_>, path: &str) -> Result<b
 fn what_a_sender_sends_is_filed(rt: HostRuntime) -> Result<(), Fail> {
     let dir = "what_a_sender_sends_is_filed";
     fresh(&rt, dir)?;
-    let replies = replies(rt.alloc(), 1, status::SUCCESS)?;
     for size in [0, 16_000, 200_000] {
         let set = image(rt.alloc(), size)?;
         let stored = file(rt.alloc(), EXPLICIT, INSTANCE, set.as_slice())?;
         put(&rt, dir, "I0000001", stored.as_slice())?;
         let mut stream = Scripted {
-            replies: replies.as_slice(),
+            replies: replies(rt.alloc(), 1, status::SUCCESS)?,
+            at: 0,
             sent: Vec::new(rt.alloc()),
         };
         assert!(rt; is_moved(&rt, &mut stream, "what_a_sender_sends_is_filed/I0000001")?);
@@ -123,9 +125,9 @@ fn a_file_that_is_not_filed_stays(rt: HostRuntime) -> Result<(), Fail> {
     let stored = file(rt.alloc(), EXPLICIT, INSTANCE, set.as_slice())?;
     put(&rt, dir, "I0000001", stored.as_slice())?;
     for (message, status) in [(1, status::OUT_OF_RESOURCES), (2, status::SUCCESS)] {
-        let replies = replies(rt.alloc(), message, status)?;
         let mut stream = Scripted {
-            replies: replies.as_slice(),
+            replies: replies(rt.alloc(), message, status)?,
+            at: 0,
             sent: Vec::new(rt.alloc()),
         };
         assert!(rt; !is_moved(&rt, &mut stream, "a_file_that_is_not_filed_stays/I0000001")?);
