@@ -1,8 +1,10 @@
-//! `dcmbox send`: sends the files of a folder to an archive, and removes what it has filed.
+//! `dcmbox send`: sends the files of a folder to an archive, removes what it has filed, and sets aside
+//! what it refuses for good.
 #![tactic(auto)]
 
 mod counts;
 mod listing;
+mod refused;
 mod report;
 mod running;
 mod sender;

@@ -1,13 +1,14 @@
 -- What was written and received for one C-STORE is its request and its response (`stored`), and the front of a file and
--- what was read after it are the file that was handed over (`filed`). Stands on the definitions alone.
-use Rattle.std.proofs.Common.{◌≡◌, ◌+◌, ℕ, true, List, [], ◌++◌, length, Result, Ok, Err, IfOk, refl, sym, ◌∙◌, ap₂, subst, append_assoc}
+-- what was read after it are the file that was handed over (`responds`). Stands on the definitions alone.
+use Rattle.std.proofs.Common.{◌≡◌, ◌+◌, ℕ, Bool, true, List, [], ◌++◌, length, Result, Ok, Err, IfOk, refl, sym, ◌∙◌, ap₂, subst, append_assoc}
 use Rattle.pdu.specs.declared.head.PduHead.{PduHead}
 use Rattle.part10.specs.MetaText.{MetaValues, SpellsMeta}
 use Rattle.pdu.specs.Texts.{data_text}
 use Rattle.pdu.specs.Heads.{pdu_head_of, pdv_head_of}
 use Rattle.pdu.specs.Types.{p_data_tf}
-use Rattle.sending.specs.Sending.{IsResponseSet, Receives, SendsData, Stores, store_set, is_filed}
-use Rattle.sending.specs.Handing.{IsFiled}
+use Rattle.sending.specs.Sending.{IsResponseSet, Receives, SendsData, Stores, store_set}
+use Rattle.sending.specs.Handing.{HandState, IsAnsweredBy}
+use Rattle.sending.specs.declared.removing.NameCall.{NameCall}
 
 pub stored : (context message status : ℕ) (class instance first read0 read written0 written1 written2 received0 received : List ℕ)
     → written1 ≡ written0 ++ data_text context true true (store_set class instance message)
@@ -43,19 +44,23 @@ stored_if (Err e) context message class instance first read0 read written0 writt
 stored_if (Ok status) context message class instance first read0 read written0 written1 written2 received0 received w d h =
     stored context message status class instance first read0 read written0 written1 written2 received0 received w d h
 
-pub filed : (said : MetaValues) (header first read0 read written0 written received0 received : List ℕ) (status : ℕ) (removed0 removed : List (List ℕ))
+abbrev state : List NameCall → (written read : List ℕ) → List Bool → HandState
+state calls written read accepted = record { calls = calls; written = written; read = read; accepted = accepted }
+
+pub responds : (statuses : ℕ → Bool) (said : MetaValues) (header first read0 read written0 written received0 received : List ℕ) (status : ℕ)
+    (calls0 calls : List NameCall) (accepted0 accepted : List Bool)
     → SpellsMeta said header
     → read0 ≡ header ++ first
     → Stores said.class said.instance first read0 read written0 written received0 received status
-    → is_filed status ≡ true
-    → IsFiled read (record { removed = removed0; written = written0; read = received0 }) (record { removed = removed; written = written; read = received })
-filed said header first read0 read written0 written received0 received status removed0 removed spelled begun s f = record {
+    → statuses status ≡ true
+    → IsAnsweredBy statuses read (state calls0 written0 received0 accepted0) (state calls written received accepted)
+responds statuses said header first read0 read written0 written received0 received status calls0 calls accepted0 accepted spelled begun s f = record {
   sent = s.sent;
   received = s.bytes;
   status = status;
   written = s.wrote;
   read = s.got;
-  filed = f;
+  answered = f;
   over = record {
     said = said;
     header = header;
