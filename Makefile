@@ -143,7 +143,8 @@ release:
 uninstall:
 	rm -f $(DESTDIR)$(PREFIX)/bin/dcmbox $(DESTDIR)$(PREFIX)/share/man/man1/dcmbox.1 \
 		$(DESTDIR)$(PREFIX)/share/bash-completion/completions/dcmbox $(DESTDIR)$(PREFIX)/share/doc/dcmbox/dcmbox.rules.yml \
-		$(DESTDIR)$(PREFIX)/lib/systemd/system/dcmbox.service $(DESTDIR)$(PREFIX)/lib/systemd/system/dcmbox@.service
+		$(DESTDIR)$(PREFIX)/lib/systemd/system/dcmbox.service $(DESTDIR)$(PREFIX)/lib/systemd/system/dcmbox@.service \
+		$(DESTDIR)$(PREFIX)/lib/systemd/system/dcmbox-send@.service $(DESTDIR)$(PREFIX)/lib/systemd/system/dcmbox-send@.timer
 
 clean:
 	rm -rf dcmbox dcmbox-unproved dcmbox.proved dcmbox_*.deb release docs/out crates/*/out

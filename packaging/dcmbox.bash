@@ -7,7 +7,7 @@ _dcmbox() {
     return
   fi
   case $previous in
-    --out | --quarantine | --to)
+    --out | --quarantine | --to | --refused)
       compopt -o filenames
       mapfile -t COMPREPLY < <(compgen -d -- "$current")
       return
@@ -33,7 +33,7 @@ _dcmbox() {
     checkdir) options='--json --help' ;;
     list) options='--series --instances --where --columns --ignore-others --follow --json --help' ;;
     arrange) options='--to --pattern --copy --dry-run --ignore-others --follow --json --help' ;;
-    send) options='--aec --aet --move --any-name --timeout --verbose --json --help' ;;
+    send) options='--aec --aet --move --refused --any-name --timeout --verbose --json --help' ;;
     echo) options='--aec --aet --timeout --help' ;;
     help) options='serve replay show check index checkdir list arrange send echo' ;;
     *) return ;;

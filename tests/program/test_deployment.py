@@ -1,6 +1,6 @@
 """The texts of docs/DEPLOY.md and the start in README work as printed.
 
-The systemd units' commands, HAProxy in front of several boxes, the importer of an archive, and TLS
+The systemd units' commands, HAProxy in front of several boxes, the sender to an archive, and TLS
 by stunnel. Only ports, names of hosts and folders are replaced in the texts.
 """
 import contextlib
@@ -25,7 +25,6 @@ from images import (
     need,
     pixels,
     study,
-    syntax_of,
 )
 from orthanc import Orthanc
 from peer import (
@@ -74,7 +73,9 @@ DROP_INS = {
     "port": "^AmbientCapabilities=CAP_NET_BIND_SERVICE$",
     "metrics": "^RuntimeDirectory=dcmbox dcmbox-metrics$",
 }
-TARGETS = ["multi-user", "network-online", "sysinit", "basic", "shutdown"]
+TARGETS = ["multi-user", "network-online", "sysinit", "basic", "shutdown", "timers"]
+# Settings of a box's unit that restrict it.
+RESTRICTIONS = ["MemoryMax", "LimitCORE", "TasksMax", "CapabilityBoundingSet", "SystemCallFilter", *sorted(PROTECTED)]
 
 
 def block(pattern, document="docs/DEPLOY.md"):
@@ -172,7 +173,10 @@ def verified(root, unit):
 class TestUnits:
     """The units: systemd accepts them, and each starts a box."""
 
-    @pytest.mark.parametrize("unit", ["dcmbox.service", "dcmbox@11201.service"])
+    @pytest.mark.parametrize(
+        "unit",
+        ["dcmbox.service", "dcmbox@11201.service", "dcmbox-send@pacs.service", "dcmbox-send@pacs.timer"],
+    )
     def test_systemd_accepts(self, root, unit):
         """systemd-analyze reports nothing about the unit."""
         assert verified(root, unit) == ""
@@ -195,8 +199,10 @@ class TestUnits:
         call(ROOT, "make", "-s", "uninstall", f"DESTDIR={root.root}")
         assert verified(root, "dcmbox.service") == ""
 
-    @pytest.mark.parametrize("unit", ["dcmbox.service", "dcmbox@11201.service"])
-    def test_restrictions_of_a_box(self, root, unit):
+    @pytest.mark.parametrize(
+        "unit", ["dcmbox.service", "dcmbox@11201.service", "dcmbox-send@pacs.service"]
+    )
+    def test_restrictions_of_a_unit(self, root, unit):
         """systemd's review does not include the limit of core dumps, which have patients' data."""
         folder = root.root / "lib/systemd/system"
         verified(root, unit)
@@ -441,38 +447,46 @@ def users(work):
     }
 
 
+def images_in(box):
+    """Returns the received files in the folder of a box."""
+    return [path for path in filed(box) if path.parent.name != "refused"]
+
+
 class TestImporter:
-    """The importer runs as another user than the box, and removes what the archive accepted."""
+    """The unit of a sender removes what the archive accepted, and sets aside what it refuses for good."""
 
     @pytest.fixture
     def archive_port(self):
         return free_port()
 
     @pytest.fixture
-    def box(self, root, users, port, work):
-        """The folder of a box with the user and the group of the drop-in."""
+    def dropped_in(self, users):
+        """The drop-in for the user and the group of the box."""
+        text = block(DROP_INS["user"])
+        named = {users[name][0] for name in settings(text, "User")}
+        assert named == {users["dcmbox"][0]} and settings(text, "Group") == ["dicom"]
+        return text
+
+    @pytest.fixture
+    def box(self, root, users, port, work, dropped_in):
+        """The folder of a box with the drop-in."""
         work.chmod(0o755)
-        dropped_in = block(DROP_INS["user"])
-        named = {users[name][0] for name in settings(dropped_in, "User")}
-        assert named == {users["dcmbox"][0]} and settings(dropped_in, "Group") == ["dicom"]
         root.use_port(port)
         root.run("dcmbox.service", port, dropped_in=dropped_in, owner=users["dcmbox"][:2])
         return root.root / "var/lib/dcmbox"
 
     @pytest.fixture
-    def imports(self, users, box, archive_port, work):
-        """Runs the importer, and returns its output and the number of images in the folder."""
-        need("dcmsend", "flock")
-        script = work / "import.sh"
-        names = {"/var/lib/dcmbox": box, "archive.example 104": f"127.0.0.1 {archive_port}"}
-        text = replaced(block("import.sh: sends"), names)
-        user, group, *further = users["importer"]
+    def imports(self, root, users, box, archive_port, dropped_in):
+        """Runs the unit, and returns its status, its output and the number of images in the folder."""
+        options = replaced(block("^DCMBOX_ARCHIVE="), {"archive.example:104": f"127.0.0.1:{archive_port}"})
+        (root.root / "etc/default/dcmbox-send-pacs").write_text(options.strip().partition("\n")[0])
+        name, log = "dcmbox-send@.service", root.log("dcmbox-send@.service", "pacs")
 
-        def imported(option=""):
-            script.write_text(replaced(text, {"dcmsend ": f"dcmsend {option} "}))
-            arguments = [*as_user((user, group), *further), "sh", script]
-            done = call("/", *arguments, check=False)
-            return done.stdout + done.stderr, len(filed(box))
+        def imported():
+            before = len(log.read_text()) if log.exists() else 0
+            keywords = {"dropped_in": dropped_in, "owner": users["dcmbox"][:2]}
+            status = root.start(name, "pacs", **keywords).wait(PATIENCE)
+            return status, log.read_text()[before:], len(images_in(box))
 
         return imported
 
@@ -483,6 +497,12 @@ class TestImporter:
         assert (box / "S0000001").stat().st_mode & 0o777 == 0o770
         assert {path.stat().st_mode & 0o777 for path in filed(box)} == {0o660}
 
+    def test_the_unit_has_the_user_and_the_folder_of_the_box(self, root):
+        box, sender = (root.unit(f"dcmbox{name}.service") for name in ("", "-send@"))
+        for name in ("DynamicUser", "UMask", "StateDirectoryMode", "Environment", *RESTRICTIONS):
+            assert settings(sender, name) == settings(box, name)
+        assert settings(sender, "User") == ["dcmbox"] == settings(sender, "StateDirectory")
+
     def test_images_that_the_archive_accepts(
         self, tool, to_box, box, received, imports, images, spawn, work, archive_port
     ):
@@ -492,87 +512,89 @@ class TestImporter:
         archive = work / "archive"
         archive.mkdir()
         need("storescp")
-        spawn("storescp", "-aet", "ARCHIVE", archive_port, cwd=archive)
+        spawn("storescp", "-aet", "ARCHIVE", "+xa", archive_port, cwd=archive)
         until_listened(archive_port)
-        assert imports() == ("", 0)
+        assert imports() == (0, "", 0)
         assert len(list(archive.iterdir())) == 11
-        assert imports() == ("", 0)
+        assert imports() == (0, "", 0)
 
     def test_one_association_has_all(self, received, imports, archive_port):
         with Archive(archive_port) as archive:
-            assert imports() == ("", 0)
+            assert imports() == (0, "", 0)
         assert archive.callers == ["DCMBOX"]
 
     @pytest.mark.parametrize("is_there", [False, True], ids=["down", "rejecting"])
     def test_images_remain_without_an_association(
         self, box, received, imports, spawn, archive_port, is_there
     ):
-        """Without an association no image counts as refused."""
         if is_there:
             spawn("storescp", "--refuse", archive_port)
             until_listened(archive_port)
-        for _ in range(4):
-            output, count = imports()
-            assert count == 8 and ("Rejected" if is_there else "Connection refused") in output
-        assert list((box / "failed").iterdir()) == []
+        for _ in range(2):
+            status, output, count = imports()
+            assert (status, count) == (1 if is_there else 3, 8)
+            assert ("rejected" if is_there else "Connection refused") in output
+        assert list((box / "refused").iterdir()) == []
 
-    @pytest.mark.parametrize("status", [0xA700, 0xC000, 0x0122, None])
-    def test_an_image_refused_three_times(self, box, received, imports, archive_port, status):
-        """The image is moved away, with the reasons in a text; accepted images are removed."""
+    @pytest.mark.parametrize("status", [0xC000, 0x0122])
+    def test_an_image_refused_for_good(self, box, received, imports, archive_port, status):
+        """The image is moved away, with the reason in a text; accepted images are removed."""
         names = {element_of("0008,0018", path): path.relative_to(box) for path in filed(box)}
         name = names["2.25.1.3"]
-        reason = f"0x{status:04x}" if status else "<not sent>"
         with Archive(archive_port, others={"2.25.1.3": status}):
-            for _ in range(3):
-                output, _ = imports()
-                assert f" {name}: {reason}" in output
-            assert imports() == ("", 0)
-        failed = box / "failed"
-        assert sorted(path.name for path in failed.iterdir()) == [
-            f"{str(name).replace('/', '-')}.{kind}" for kind in ("dcm", "txt")
-        ]
-        assert element_of("0008,0018", next(failed.glob("*.dcm"))) == "2.25.1.3"
-        assert next(failed.glob("*.txt")).read_text().count(reason) == 3
+            ended, output, count = imports()
+            assert (ended, count) == (1, 0) and f"/{name}: refused with status {status:04X}" in output
+            assert imports() == (0, "", 0)
+        refused = box / "refused"
+        assert element_of("0008,0018", refused / name.name) == "2.25.1.3"
+        assert f"status: {status:04X}, " in (refused / f"{name.name}.txt").read_text()
+        assert refused.stat().st_mode & 0o777 == 0o770
 
-    def test_an_image_refused_once(self, box, received, imports, archive_port):
-        """The image remains, and nothing of it remains once it is accepted."""
-        with Archive(archive_port, 0xA700):
-            assert imports()[1] == 8
+    @pytest.mark.parametrize("status", [0xA700, None])
+    def test_an_image_refused_once(self, box, received, imports, archive_port, status):
+        """The image remains until it is accepted."""
+        with Archive(archive_port, others={"2.25.1.3": status}):
+            assert imports()[::2] == (1, 1)
         with Archive(archive_port, 0xB007):
-            assert imports() == ("", 0)
-        assert list((box / "failed").iterdir()) == []
+            assert imports()[::2] == (0, 0)
+        assert list((box / "refused").iterdir()) == []
 
-
-    def test_send_in_place_of_the_script(self, users, box, received, archive_port, work, program):
-        """What the archive refuses stays, and has a line; the next run sends it again."""
+    def test_without_systemd(self, users, box, received, archive_port, work, program, root):
+        """What the archive refuses for good has a line, and is not sent again."""
         need("flock", "setpriv")
         (work / "lock").touch()
         (work / "lock").chmod(0o666)
+        refused = root.root / "srv/refused"
+        refused.mkdir(parents=True)
+        os.chown(refused, *users["dcmbox"][:2])
+        refused.chmod(0o770)
         names = {
             "* * * * * ": "",
             "/run/lock/dcmbox-send": work / "lock",
             "/var/lib/dcmbox": box,
+            "/srv/refused": refused,
             "archive.example:104": f"127.0.0.1:{archive_port}",
             "dcmbox send ": f"{program} send ",
         }
-        command = replaced(block("dcmbox send "), names)
+        command = replaced(block("dcmbox send /var"), names)
         user, group, *further = users["importer"]
 
         def sent():
             done = call("/", *as_user((user, group), *further), "sh", "-c", command, check=False)
             return done.stdout + done.stderr, len(filed(box))
 
-        with Archive(archive_port, others={"2.25.1.3": 0xA700}):
+        with Archive(archive_port, others={"2.25.1.3": 0xA700, "2.25.1.4": 0xC000}):
             output, count = sent()
-            assert count == 1 and output.endswith(": refused with status A700\n")
+            assert count == 1 and output.count("\n") == 2
+            assert ": refused with status A700\n" in output and "; set aside\n" in output
         with Archive(archive_port):
             assert sent() == ("", 0)
+        assert len(list(refused.iterdir())) == 2
 
-    @pytest.mark.parametrize("option", ["", "-dn"], ids=["as_it_stands", "with_dn"])
     def test_compressed_images_in_orthanc(
-        self, tool, to_box, box, imports, spawn, port, archive_port, work, option
+        self, tool, to_box, box, imports, spawn, port, archive_port, work
     ):
-        """By default Orthanc gets native transfer syntaxes; with the option it gets the images bit for bit."""
+        """Orthanc gets the images bit for bit."""
         need("Orthanc", "dcmcjpeg", "dcmcjpls", "dcmcrle")
         (work / "pixels").write_bytes(bytes(range(256)))
         for number, (by, proposal) in enumerate(
@@ -584,13 +606,9 @@ class TestImporter:
             tool("storescu", proposal, *to_box, "encoded.dcm")
         sent = [shutil.copy(path, work / path.name) for path in filed(box)]
         archive = Orthanc(work, port, spawn, archive_port)
-        assert imports(option) == ("", 0)
+        assert imports() == (0, "", 0)
         downloaded = archive.download(work)
-        assert len(downloaded) == 3
-        if option:
-            assert digests(downloaded) == digests(sent)
-        else:
-            assert {syntax_of(path) for path in downloaded} == {EXPLICIT}
+        assert len(downloaded) == 3 and digests(downloaded) == digests(sent)
 
 
 class TestTree:

@@ -18,6 +18,8 @@ FILES = [
     "usr/share/bash-completion/completions/dcmbox",
     "lib/systemd/system/dcmbox.service",
     "lib/systemd/system/dcmbox@.service",
+    "lib/systemd/system/dcmbox-send@.service",
+    "lib/systemd/system/dcmbox-send@.timer",
     "etc/default/dcmbox",
     "usr/share/doc/dcmbox/copyright",
     "usr/share/doc/dcmbox/changelog.gz",
@@ -210,6 +212,7 @@ def asks(package, work):
 
 RELOAD = "systemctl --system daemon-reload"
 BOXES = "dcmbox.service dcmbox@*.service"
+SENDERS = "dcmbox-send@*.timer dcmbox-send@*.service"
 
 
 @pytest.mark.parametrize(
@@ -217,7 +220,7 @@ BOXES = "dcmbox.service dcmbox@*.service"
     cases(
         ("once installed it has its units read", "postinst configure", [RELOAD]),
         ("an upgrade lets boxes run", "prerm upgrade 9.9.9", []),
-        ("a removal stops boxes", "prerm remove", [f"deb-systemd-invoke stop {BOXES}"]),
+        ("a removal stops all", "prerm remove", [f"deb-systemd-invoke stop {SENDERS} {BOXES}"]),
         ("a removal has the units forgotten", "postrm remove", [RELOAD]),
         (
             "a purge forgets that they were enabled",

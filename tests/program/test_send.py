@@ -5,6 +5,7 @@ import re
 import shutil
 import socket
 import struct
+import tempfile
 import time
 
 import pytest
@@ -55,11 +56,11 @@ def pixels(size):
     return b"\340\177\20\0OB\0\0" + struct.pack("<L", size) + data
 
 
-def counts(sent=0, warned=0, refused=0, left_out=0, removed=0, remaining=0):
+def counts(sent=0, warned=0, refused=0, left_out=0, removed=0, set_aside=0, remaining=0):
     """Returns the last line of `send`."""
     return (
-        f"sent {sent} warned {warned} refused {refused} "
-        f"left out {left_out} removed {removed} remaining {remaining}\n"
+        f"sent {sent} warned {warned} refused {refused} left out {left_out} "
+        f"removed {removed} set aside {set_aside} remaining {remaining}\n"
     )
 
 
@@ -157,7 +158,7 @@ class TestArchives:
         """Returns the files that are filed; each other one that is a DICOM file has a line."""
         status, output, errors = done
         lines = dict(re.findall(r"^dcmbox: (in/[^:]+): (.*)$", errors, re.M))
-        sent, _, refused, left_out, removed, remaining = map(int, re.findall(r"\d+", output))
+        sent, _, refused, left_out, removed, _, remaining = map(int, re.findall(r"\d+", output))
         found = [path for path, what in lines.items() if what.startswith("filed")]
         assert len(found) == sent and status == 1 and remaining == 0
         assert len(lines) == sent + refused + left_out == len(errors.splitlines())
@@ -325,7 +326,8 @@ class TestStatuses:
             status, output, _ = send("--json", "--move")
         assert status == 1 and output.count("\n") == 1
         assert json.loads(output) == {
-            "sent": 4, "warned": 3, "refused": 6, "left_out": 0, "removed": 4, "remaining": 0,
+            "sent": 4, "warned": 3, "refused": 6, "left_out": 0, "removed": 4, "set_aside": 0,
+            "remaining": 0,
         }  # fmt: skip
 
     def test_an_odd_data_set_is_left_out(self, put, send, archive_port, work):
@@ -361,6 +363,262 @@ class TestStatuses:
             status, output, errors = send()
         assert (status, output) == (1, counts(sent=128, left_out=2))
         assert errors.count("follow after 128 others") == 2
+
+
+class TestRefused:
+    """What is refused for good goes to a folder of its own, with a text beside it."""
+
+    REFUSED = {
+        1: (0xA900, "A900, data set does not match SOP class"),
+        2: (0xA9FF, "A9FF, data set does not match SOP class"),
+        3: (0xC000, "C000, cannot understand"),
+        4: (0xCFFF, "CFFF, cannot understand"),
+        5: (0x0100, "0100, processing failure"),
+        6: (0x0111, "0111, duplicate SOP instance"),
+        7: (0x0117, "0117, invalid SOP instance"),
+        8: (0x0122, "0122, SOP class not supported"),
+        9: (0x01FF, "01FF, processing failure"),
+    }
+    KEPT = (0xA700, 0xA7FF, 0xA8FF, 0xAA00, 0xB001, 0xBFFF, 0xD000, 0x00FF, 0x0200, 0x0211, 0xFE00)
+
+    @pytest.fixture
+    def aside(self, work):
+        """The folder of refused files."""
+        (work / "aside").mkdir()
+        return work / "aside"
+
+    @pytest.fixture
+    def moved(self, send):
+        """Runs `send`, which moves what is refused for good."""
+        return lambda *options, **keywords: send("--move", "--refused", "aside", *options, **keywords)
+
+    @staticmethod
+    def one(archive_port, status=0xC000):
+        """Returns an archive that refuses the instance 1.2.1 with this status."""
+        return Archive(archive_port, others={"1.2.1": status})
+
+    def test_statuses_for_good(self, numbered, moved, archive_port, aside, work):
+        before = {path.name: path.read_bytes() for path in numbered(10).iterdir()}
+        others = {f"1.2.{n}": status for n, (status, _) in self.REFUSED.items()}
+        with Archive(archive_port, others=others):
+            status, output, errors = moved()
+        assert (status, output) == (1, counts(sent=1, refused=9, removed=1, set_aside=9))
+        assert errors.splitlines() == [
+            f"dcmbox: in/I{n:07}: refused with status {what}; set aside"
+            for n, (_, what) in self.REFUSED.items()
+        ]
+        assert names(work / "in") == []
+        assert names(aside) == sorted(
+            f"I{n:07}{end}" for n in self.REFUSED for end in ("", ".txt")
+        )
+        for n, (_, what) in self.REFUSED.items():
+            file = aside / f"I{n:07}"
+            assert file.read_bytes() == before[file.name] and file.stat().st_nlink == 1
+            time_line, *rest = file.with_suffix(".txt").read_text().splitlines()
+            assert re.fullmatch(r"time: 20\d\d-\d\d-\d\dT\d\d:\d\d:\d\d\.\d{3}Z", time_line)
+            assert rest == [
+                f"archive: ARCHIVE at 127.0.0.1:{archive_port}",
+                f"file: in/I{n:07}",
+                f"class: {CT}",
+                f"instance: 1.2.{n}",
+                "syntax: ExplicitVRLittleEndian",
+                f"status: {what}",
+            ]
+
+    def test_other_statuses(self, numbered, moved, archive_port, aside):
+        """They stay, and are sent again."""
+        folder = numbered(len(self.KEPT))
+        others = {f"1.2.{n}": status for n, status in enumerate(self.KEPT, 1)}
+        with Archive(archive_port, others=others):
+            done = [moved() for _ in range(2)]
+        assert {(status, output) for status, output, _ in done} == {(1, counts(refused=len(self.KEPT)))}
+        assert len(names(folder)) == len(self.KEPT) and names(aside) == []
+
+    def test_no_accepted_context(self, put, serve, run, work, aside):
+        put({"in/I0000001": part10("1.2.1", b"", CT, RLE), "in/I0000002": part10("1.2.2")})
+        box = serve("--any-called")
+        address = f"127.0.0.1:{box.port}"
+        done = run("send", "in", address, "--aec", "ARCHIVE", "--move", "--refused", "aside")
+        assert (done.returncode, done.stdout) == (1, counts(sent=1, left_out=1, removed=1, set_aside=1))
+        what = "left out: the archive does not accept CTImageStorage in RLELossless; set aside"
+        assert done.stderr == f"dcmbox: in/I0000001: {what}\n"
+        assert names(work / "in") == [] and names(aside) == ["I0000001", "I0000001.txt"]
+        text = (aside / "I0000001.txt").read_text()
+        assert text.endswith("syntax: RLELossless\nstatus: none, no accepted presentation context\n")
+
+    def test_files_that_are_lost_or_left_out(self, put, numbered, moved, archive_port, aside, work):
+        """An abort, an end of the connection and a fault of a file set nothing aside."""
+        numbered(2)
+        with Answering(archive_port, store=lambda *_: pdu(7, bytes([0, 0, 2, 5]))):
+            moved()
+        put({"in/I0000009": part10("1.2.9") + b"\0"})
+        with Archive(archive_port, others={"1.2.1": None, "1.2.2": None}):
+            moved()
+        assert len(names(work / "in")) == 3 and names(aside) == []
+
+    def test_a_name_that_is_taken(self, put, moved, archive_port, aside, work):
+        """Nothing there is overwritten, followed, or given a text of another file."""
+        put({"in/S0000001/I0000001": part10("1.2.1"), "in/S0000002/I0000001": part10("1.2.1", sop_class="1.2.3")})
+        put({"aside/I0000001": b"another", "aside/I0000001.2.txt": b"a text"})
+        (aside / "I0000001.3").symlink_to("../in/S0000001/I0000001")
+        with self.one(archive_port):
+            status, output, _ = moved()
+        assert (status, output) == (1, counts(refused=2, set_aside=2))
+        assert names(work / "in") == []
+        assert (aside / "I0000001").read_bytes() == b"another"
+        assert (aside / "I0000001.2.txt").read_bytes() == b"a text" and (aside / "I0000001.3").is_symlink()
+        assert (aside / "I0000001.4").read_bytes() == part10("1.2.1")
+        assert "file: in/S0000001/I0000001\n" in (aside / "I0000001.4.txt").read_text()
+        assert (aside / "I0000001.5").read_bytes() == part10("1.2.1", sop_class="1.2.3")
+
+    @pytest.mark.parametrize("has_text", [False, True])
+    def test_a_run_that_was_killed_before_the_removal(
+        self, numbered, moved, archive_port, aside, has_text
+    ):
+        """Its second name is kept, and no third one is made."""
+        folder = numbered(1)
+        (aside / "I0000001").hardlink_to(folder / "I0000001")
+        if has_text:
+            (aside / "I0000001.txt").write_text("of the run before")
+        with self.one(archive_port):
+            status, output, _ = moved()
+        assert (status, output) == (1, counts(refused=1, set_aside=1))
+        assert names(folder) == [] and names(aside) == ["I0000001", "I0000001.txt"]
+        assert ((aside / "I0000001.txt").read_text() == "of the run before") == has_text
+
+    def test_a_run_that_was_killed_and_an_archive_that_files_it_then(
+        self, numbered, moved, archive_port, aside
+    ):
+        folder = numbered(1)
+        (aside / "I0000001").hardlink_to(folder / "I0000001")
+        with Archive(archive_port):
+            assert moved() == (0, counts(sent=1, removed=1), "")
+        assert names(folder) == [] and names(aside) == ["I0000001"]
+
+    def test_a_folder_that_names_the_same_files(self, numbered, send, archive_port, work):
+        """The only name of a file is not taken for a second one: the archive puts the link there late."""
+        folder = numbered(1)
+        (work / "aside").mkdir()
+
+        class Late(Archive):
+            def serve(self, stream):
+                (work / "aside").rmdir()
+                (work / "aside").symlink_to("in")
+                super().serve(stream)
+
+        with Late(archive_port, others={"1.2.1": 0xC000}):
+            status, output, errors = send("--move", "--refused", "aside")
+        assert (status, output) == (1, counts(refused=1))
+        assert errors.endswith("; it can't be set aside: its folder is that of refused files\n")
+        assert names(folder) == ["I0000001"]
+
+    def test_a_folder_that_is_gone(self, numbered, moved, archive_port, aside):
+        folder = numbered(1)
+
+        class Late(Archive):
+            def serve(self, stream):
+                aside.rmdir()
+                super().serve(stream)
+
+        with Late(archive_port, others={"1.2.1": 0xC000}):
+            status, output, errors = moved()
+        assert (status, output) == (1, counts(refused=1)) and names(folder) == ["I0000001"]
+        why = "it can't be set aside: No such file or directory (os error 2)"
+        assert errors == f"dcmbox: in/I0000001: refused with status C000, cannot understand; {why}\n"
+
+    def test_another_file_system(self, numbered, send):
+        """It is refused before anything is sent."""
+        folder = numbered(1)
+        other = pathlib.Path("/dev/shm")
+        if not other.is_dir() or other.stat().st_dev == folder.stat().st_dev:
+            pytest.skip("/dev/shm is no other file system")
+        status, output, errors = send("--move", "--refused", str(other))
+        assert (status, output) == (3, "") and names(folder) == ["I0000001"]
+        why = "the folder can't be used: it is on another file system than the files; --refused takes a folder"
+        assert errors.startswith(f"dcmbox: {other}: {why} ")
+
+    def test_files_of_another_file_system(self, send, aside, work):
+        """Their folder is a link that leads there."""
+        other = pathlib.Path("/dev/shm")
+        if not other.is_dir() or other.stat().st_dev == work.stat().st_dev:
+            pytest.skip("/dev/shm is no other file system")
+        with tempfile.TemporaryDirectory(dir=other) as folder:
+            file = pathlib.Path(folder, "I0000001")
+            file.write_bytes(part10("1.2.1"))
+            (work / "in").symlink_to(folder)
+            status, _, errors = send("--move", "--refused", "aside")
+            assert file.exists() and status == 3 and "on another file system" in errors
+
+    @pytest.mark.parametrize(
+        "aside, options, status",
+        cases(
+            ("the folder itself", "in", "", 3),
+            ("the folder by another path", "in/../in/.", "", 3),
+            ("a folder of received files", "in/S0000001", "", 3),
+            ("a folder in which any name is sent", "in/aside", "--any-name", 3),
+            ("a folder in which no file is sent", "in/aside", "", 1),
+            ("a hidden folder", "in/.aside", "--any-name", 1),
+            ("the folder above", ".", "", 1),
+            ("a missing folder", "missing", "", 3),
+            ("a file", "in/I0000001", "", 3),
+        ),
+    )
+    def test_which_folders_it_may_be(self, numbered, send, archive_port, work, aside, options, status):
+        folder = numbered(1)
+        for name in ("in/S0000001", "in/aside", "in/.aside"):
+            (work / name).mkdir()
+        with self.one(archive_port):
+            done = send("--move", "--refused", aside, *options.split())
+        if status == 1:
+            assert done[:2] == (1, counts(refused=1, set_aside=1))
+            assert (work / aside / "I0000001").exists() and not (folder / "I0000001").exists()
+        else:
+            assert done[:2] == (3, "") and names(folder) == ["I0000001"]
+            assert done[2].startswith(f"dcmbox: {aside}: the folder can't be used: ")
+
+    def test_links_to_a_file_elsewhere(self, numbered, moved, archive_port, aside, work):
+        """A file that `arrange` has linked is set aside as well."""
+        folder = numbered(1)
+        (work / "tree").mkdir()
+        (work / "tree/a.dcm").hardlink_to(folder / "I0000001")
+        with self.one(archive_port):
+            assert moved()[:2] == (1, counts(refused=1, set_aside=1))
+        assert names(aside) == ["I0000001", "I0000001.txt"] and names(folder) == []
+
+    def test_json(self, numbered, moved, archive_port, aside):
+        numbered(2)
+        with self.one(archive_port):
+            status, output, _ = moved("--json")
+        assert status == 1 and json.loads(output) == {
+            "sent": 1, "warned": 0, "refused": 1, "left_out": 0, "removed": 1, "set_aside": 1,
+            "remaining": 0,
+        }  # fmt: skip
+
+    def test_kills(self, put, spawn, program, archive_port, aside, work):
+        """Whenever a run is killed, each refused file has a name, and the next run sets all aside."""
+        count = 40
+        put({f"in/I{n:07}": part10(f"1.2.{n}") for n in range(1, count + 1)})
+        sets = {path.name: path.read_bytes() for path in (work / "in").iterdir()}
+        arguments = ("in", f"127.0.0.1:{archive_port}", "--aec", "ARCHIVE", "--move", "--refused", "aside")
+
+        def started(log):
+            return spawn(program, "send", *arguments, log=log)
+
+        with Archive(archive_port, 0xC000):
+            for round in range(6):
+                run = started(f"{round}.txt")
+                wait_for(
+                    lambda: len(names(aside)) > 12 * round or run.poll() is not None, "files are set aside"
+                )
+                run.kill()
+                run.wait(PATIENCE)
+                for name, data in sets.items():
+                    found = [path for path in (work / "in" / name, aside / name) if path.exists()]
+                    assert found and all(path.read_bytes() == data for path in found)
+            is_due = names(work / "in") != []
+            assert started("last.txt").wait(PATIENCE) == int(is_due)
+        assert names(work / "in") == []
+        assert names(aside) == sorted(f"{name}{end}" for name in sets for end in ("", ".txt"))
 
 
 class TestLostArchives:
@@ -533,7 +791,7 @@ class TestSeveral:
         assert run.wait(PATIENCE) in (0, 1, 3)
         assert self.lost(many, box.folder) == []
         (line,) = re.findall(r"^sent .*$", (work / "send.txt").read_text(), re.M)
-        sent, _, refused, _, removed, remaining = map(int, re.findall(r"\d+", line))
+        sent, _, refused, _, removed, _, remaining = map(int, re.findall(r"\d+", line))
         assert sent == removed == self.COUNT - refused - remaining
         assert len(filed(work / "in")) == self.COUNT - removed
 
@@ -558,6 +816,7 @@ class TestSeveral:
         ("no host", "error: HOST:PORT takes .*, not ':104'", "in :104 --aec A"),
         ("port 0", "error: HOST:PORT takes .*, not 'localhost:0'", "in localhost:0 --aec A"),
         ("a long title", "error: --aec takes an AE title .*", "in localhost:104 --aec SEVENTEENLETTERSX"),
+        ("refused files that stay", "error: --refused goes with --move", "in h:1 --aec A --refused aside"),
         ("no time", "error: --timeout takes a number .*", "in localhost:104 --aec A --timeout 0"),
         ("a day and more", "error: --timeout .*", "in localhost:104 --aec A --timeout 86401"),
     ),

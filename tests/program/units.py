@@ -88,7 +88,7 @@ class Units:
         return self.root / f"{name}.{instance}.log"
 
     def start(self, name, instance="", dropped_in="", owner=None, before=()):
-        """Runs a unit's command line with the root's options.
+        """Runs a unit's command line with the root's options, after those of ExecStartPre.
 
         `dropped_in` is the text of a drop-in, `owner` the numbers of a user and a group, and
         `before` a command that runs it.
@@ -111,6 +111,7 @@ class Units:
             *files,
             'case $DCMBOX_FOLDER in /var/lib/*) DCMBOX_FOLDER=$root$DCMBOX_FOLDER ;; esac',
             f'umask {settings(unit, "UMask")[-1]}',
+            *(in_root(self.root, first) for first in settings(unit, "ExecStartPre")),
             f"exec {command}",
         ]
         with open(self.log(name, instance), "ab") as lines:

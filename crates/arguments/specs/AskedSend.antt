@@ -1,5 +1,5 @@
 -- The settings of `send` that its arguments determine (this product's own profile).
-use Rattle.std.specs.Prelude.{◌≡◌, List, Some, IsSomeAnd, codes}
+use Rattle.std.specs.Prelude.{◌≡◌, List, Some, IsSomeAnd, IfSome, true, codes, option_map}
 use Rattle.clap.specs.Walk.{Row, first_of}
 use Rattle.element.specs.Title.{title_of_text}
 use Rattle.arguments.specs.AskedService.{SpellsTime}
@@ -19,6 +19,8 @@ pub record IsSend (send : Send) (rows : List Row) : Type 0 where
   pub dir : first_of (codes "DIR") rows ≡ Some send.dir.now
   pub archive : IsArchive send.archive rows
   pub remove : send.remove ≡ is_given rows (codes "move")
+  pub refused : first_of (codes "refused") rows ≡ option_map (λ t. t.now) send.refused
+  pub moved : IfSome send.refused (λ t. send.remove ≡ true)
   pub any_name : send.any_name ≡ is_given rows (codes "any-name")
   pub verbose : send.verbose ≡ is_given rows (codes "verbose")
   pub json : send.json ≡ is_given rows (codes "json")

@@ -131,9 +131,9 @@ arrange_app = with_rules (new_app (codes "arrange"))
 abbrev pub send_app : App
 send_app = with_rules (new_app (codes "send"))
     (positional (codes "DIR") ∷ positional (codes "HOST:PORT") ∷ needed (codes "aec")
-    ∷ optional (codes "aet") (codes "DCMBOX") ∷ flag_rule (codes "move") ∷ flag_rule (codes "any-name")
-    ∷ optional (codes "timeout") (codes "300") ∷ letter_rule (codes "verbose") 118
-    ∷ flag_rule (codes "json") ∷ [])
+    ∷ optional (codes "aet") (codes "DCMBOX") ∷ flag_rule (codes "move") ∷ free (codes "refused")
+    ∷ flag_rule (codes "any-name") ∷ optional (codes "timeout") (codes "300")
+    ∷ letter_rule (codes "verbose") 118 ∷ flag_rule (codes "json") ∷ [])
 
 -- `echo`
 abbrev pub echo_app : App

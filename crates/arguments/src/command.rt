@@ -361,6 +361,11 @@ const SEND: Subcommand<'static> = Subcommand {
         Argument::Needed("aec", "TITLE", "The AE title of the archive"),
         Argument::Default("aet", "TITLE", "DCMBOX", "The AE title that calls it"),
         Argument::Flag("move", "Removes each file that the archive has filed"),
+        Argument::Free(
+            "refused",
+            "DIR",
+            "A folder that files go to which the archive refuses for good",
+        ),
         Argument::Flag(
             "any-name",
             "Takes each DICOM file, not those named I and seven digits alone",

@@ -125,6 +125,8 @@ pub struct Send<'a> {
     pub archive: Archive<'a>,
     /// Whether files that the archive has filed are removed.
     pub remove: bool,
+    /// The folder that files go to which the archive refuses for good, if any.
+    pub refused: Option<&'a str>,
     /// Whether each DICOM file is sent, not only files named like received files.
     pub any_name: bool,
     /// Whether files that are filed are reported, too.

@@ -1,8 +1,9 @@
 //! Reads the settings of `send` and `echo`.
-ghost use Rattle.std.specs.Prelude.{◌≡◌, IfOk, IsSomeAnd, Some, codes};
+ghost use Rattle.std.specs.Prelude.{◌≡◌, IfOk, IfSome, IsSomeAnd, Some, true, codes, option_map};
 ghost use Rattle.clap.specs.Walk.{first_of};
 ghost use Rattle.element.specs.Title.{title_of_text};
 ghost use Rattle.arguments.specs.AskedSend.{IsArchive, IsSend};
+ghost use Rattle.arguments.specs.CommandLine.{is_given};
 
 use crate::given::Given;
 use crate::options::{Archive, Send};
@@ -48,6 +49,19 @@ pub fn archive_of<'a>(alloc: Global, given: &Given<'a>) -> Result<Archive<'a>, W
     })
 }
 
+/// Returns the folder of refused files, if any. Fails if filed files are not removed.
+fn refused_of<'a>(alloc: Global, given: &Given<'a>) -> Result<Option<&'a str>, WordsError>
+    ensures refused { IfOk result (λ r. first_of (codes "refused") given.now ≡ option_map (λ t. t.now) r) }
+    ensures moved { IfOk result (λ r. IfSome r (λ t. is_given given.now (codes "move") ≡ true)) }
+{
+    match given.get("refused") {
+        Some(_) if !given.flag("move") => {
+            Err(WordsError::refused(alloc, "--refused goes with --move"))
+        }
+        refused => Ok(refused),
+    }
+}
+
 /// Returns the settings of `send` from its arguments.
 pub fn send_settings<'a>(alloc: Global, given: &Given<'a>) -> Result<Send<'a>, WordsError>
     ensures send { IfOk result (λ s. IsSend s given.now) }
@@ -56,6 +70,7 @@ pub fn send_settings<'a>(alloc: Global, given: &Given<'a>) -> Result<Send<'a>, W
         dir: given.text(alloc, "DIR")?,
         archive: archive_of(alloc, given)?,
         remove: given.flag("move"),
+        refused: refused_of(alloc, given)?,
         any_name: given.flag("any-name"),
         verbose: given.flag("verbose"),
         json: given.flag("json"),

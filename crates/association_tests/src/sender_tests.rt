@@ -88,7 +88,7 @@ fn is_moved(rt: &HostRuntime, stream: &mut Scripted, path: &str) -> Result<bool,
         return Ok(false);
     }
     let mut sent_file = SentFile::open(rt, path)?;
-    let mut removals = Removals::new(true);
+    let mut removals = Removals::new(true, None);
     match hand_over(rt, &mut association, context, &mut sent_file, &mut removals) {
         Ok(Handed::Removed(_)) => Ok(association.release().is_ok()),
         _ => Ok(false),

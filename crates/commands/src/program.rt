@@ -51,6 +51,7 @@ fn subject_argument(command: CommandName, failure: Option<Failure>) -> Option<&'
             "out",
         (CommandName::Arrange, Some(failure)) if failure.is_of_tree() => "to",
         (CommandName::Send | CommandName::Echo, Some(Failure::Archive)) => "HOST:PORT",
+        (CommandName::Send, Some(Failure::Refused)) => "refused",
         (CommandName::List | CommandName::Arrange | CommandName::Send, Some(failure))
             if failure.is_of_folder() => "DIR",
         (CommandName::Index, _) => "DIR",

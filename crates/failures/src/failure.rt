@@ -63,6 +63,8 @@ pub enum Failure {
     InTheWay,
     /// No connection to the archive can be opened, by `send`.
     Archive,
+    /// The folder of refused files (option `--refused`) cannot be used, by `send`.
+    Refused,
 }
 
 impl Failure {
@@ -98,6 +100,7 @@ impl Failure {
             Failure::Tree => "it can't be written into",
             Failure::InTheWay => "its path in the tree needs a folder where a file is",
             Failure::Archive => "can't be reached",
+            Failure::Refused => "the folder can't be used",
         }
     }
 
@@ -141,6 +144,8 @@ impl Failure {
             Failure::Tree => "check that you may, and that its disk has room",
             Failure::InTheWay => "move that file away, or give another tree with --to",
             Failure::Archive => "check the host and the port, and that the archive runs",
+            Failure::Refused =>
+                "--refused takes a folder on the file system of the files, from which none are sent; create it, or check its name",
         }
     }
 

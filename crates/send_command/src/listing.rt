@@ -54,15 +54,15 @@ fn is_set_aside<R: Files + Alloc>(rt: &R, path: &str) -> Result<bool, AllocError
     Ok(fs::symlink_metadata(rt, text.as_str()).is_ok())
 }
 
-impl<A: Allocator + Copy> Listing<A> {
-    /// Returns whether a file at this path below the folder is listed, for its name.
-    fn has_name(&self, below: &str) -> bool {
-        if self.any_name {
-            return !below.starts_with('.') && !below.contains("/.") && !is_draft(last_name(below));
-        }
-        is_received_file(below)
+/// Returns whether a file at this path below the folder is sent, for its name.
+pub(crate) fn is_taken(below: &str, any_name: bool) -> bool {
+    if any_name {
+        return !below.starts_with('.') && !below.contains("/.") && !is_draft(last_name(below));
     }
+    is_received_file(below)
+}
 
+impl<A: Allocator + Copy> Listing<A> {
     /// Returns the index of the presentation context for the instance of this header, or `None` if
     /// there are 128 others.
     fn context_of(&mut self, meta: Meta) -> Result<Option<usize>, AllocError> {
@@ -115,7 +115,7 @@ impl<A: Allocator + Copy> Listing<A> {
     ) -> Result<(), ProgramError> {
         let WalkEntry { path, found } = entry;
         let below = path.as_str().get(above..).unwrap_or("");
-        let is_named = self.has_name(below);
+        let is_named = is_taken(below, self.any_name);
         match found {
             Ok(found) if !found.is_file() || !is_named => {}
             Ok(_) => {

@@ -5,7 +5,7 @@ ghost use Rattle.send_command.specs.Counting.{after_handed, no_counts, with_left
 use crate::counts::SendCounts;
 use crate::texts::{EndingText, HandedText};
 use inspection::Printable;
-use sending::Handed;
+use sending::{Handed, StorageContext};
 use std::fmt::Display;
 use std::io::Write;
 
@@ -42,18 +42,18 @@ impl<E: Write + Drop> SendReport<E> {
     pub(crate) fn leave_out<D: Display>(&mut self, path: &str, why: &D)
         ensures { self.new.counts ≡ with_left_out self.old.counts }
     {
-        self.counts.left_out = self.counts.left_out.saturating_add(1);
+        self.counts.add_left_out();
         self.tell(path, &format_args!("left out: {why}"));
     }
 
-    /// Counts a file by what was done with it, and reports it if it stays, or was filed with a
-    /// warning.
-    pub(crate) fn add(&mut self, path: &str, handed: &Handed)
+    /// Counts a file by what was done with it in this presentation context, and reports it unless it
+    /// was filed without a warning.
+    pub(crate) fn add(&mut self, path: &str, context: &StorageContext, handed: &Handed)
         ensures { self.new.counts ≡ after_handed handed.now self.old.counts }
     {
         self.counts.add(handed);
         if self.verbose || !matches!(handed, Handed::Answered(0) | Handed::Removed(0)) {
-            self.tell(path, &HandedText(handed));
+            self.tell(path, &HandedText(handed, context));
         }
     }
 
@@ -61,7 +61,7 @@ impl<E: Write + Drop> SendReport<E> {
     pub(crate) fn refuse(&mut self, path: &str, ending: EndingText<'_>)
         ensures { self.new.counts ≡ with_refused self.old.counts }
     {
-        self.counts.refused = self.counts.refused.saturating_add(1);
+        self.counts.add_refused();
         self.tell(path, &ending);
     }
 }

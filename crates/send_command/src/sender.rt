@@ -1,17 +1,18 @@
 //! Sends the listed files, in one association after the other.
-ghost use Rattle.send_command.specs.Running.{HandsAll, HandsOver, state_of};
+ghost use Rattle.sending.specs.Handing.{state_of};
+ghost use Rattle.send_command.specs.Running.{HandsAll, HandsOver};
 
 use crate::listing::{ListedFile, Listing};
 use crate::report::SendReport;
 use crate::texts::EndingText;
 use arguments::{Archive, Send};
 use failures::{Failure, ProgramError};
-use keywords::class_keyword;
-use sending::{Association, Removals, SentFile, StorageContext, Titles, hand_over};
+use sending::{Association, RefusedFolder, Removals, SentFile, StorageContext, Titles, hand_over};
 use std::alloc::Allocator;
 use std::io::{self, Error, ErrorKind, Read, Write};
 use std::net::{Net, OpenStream, TcpStream, ToSocketAddrs};
 use std::rt::Files;
+use std::time::Clock;
 
 /// How many associations in a row may end with a file before the rest is given up.
 const MOST_LOST: u32 = 3;
@@ -27,7 +28,7 @@ pub(crate) struct Sender<'a, R: Files + Alloc, E: Write + Drop> {
     next: usize,
     /// How many associations in a row have ended with a file, without a response since.
     lost: u32,
-    removals: Removals,
+    removals: Removals<'a>,
     pub report: SendReport<E>,
 }
 
@@ -56,7 +57,7 @@ pub(crate) fn titles_of(archive: &Archive<'_>) -> Titles {
     }
 }
 
-impl<'a, R: Files + Net + Alloc, E: Write + Drop> Sender<'a, R, E>
+impl<'a, R: Files + Net + Alloc + Clock, E: Write + Drop> Sender<'a, R, E>
 where
     R::A: Copy,
 {
@@ -67,14 +68,23 @@ where
         listing: &'a Listing<R::A>,
         report: SendReport<E>,
     ) -> Sender<'a, R, E> {
+        let archive = &settings.archive;
+        let refused = match settings.refused {
+            Some(dir) => Some(RefusedFolder {
+                dir,
+                called: archive.called,
+                address: archive.address,
+            }),
+            None => None,
+        };
         Sender {
             rt,
-            archive: &settings.archive,
+            archive,
             files: listing.files.as_slice(),
             contexts: listing.contexts.as_slice(),
             next: 0,
             lost: 0,
-            removals: Removals::new(settings.remove),
+            removals: Removals::new(settings.remove, refused),
             report,
         }
     }
@@ -91,13 +101,6 @@ where
         let Some(context) = self.contexts.get(file.context) else {
             return true;
         };
-        if !association.accepts(context) {
-            let class = class_keyword(context.class.as_bytes()).unwrap_or("its SOP class");
-            let syntax = context.syntax.keyword();
-            let why = format_args!("the archive does not accept {class} in {syntax}");
-            self.report.leave_out(path, &why);
-            return true;
-        }
         let mut opened = match SentFile::open(self.rt, path) {
             Ok(opened) => opened,
             Err(error) => {
@@ -118,7 +121,7 @@ where
         ) {
             Ok(handed) => {
                 self.lost = 0;
-                self.report.add(path, &handed);
+                self.report.add(path, context, &handed);
                 true
             }
             Err(ending) => {

@@ -1,10 +1,11 @@
 //! Prints what was done with files, and how associations ended.
 use inspection::Judgement;
 use journal::{provider_words, rejection_words};
+use keywords::class_keyword;
 use negotiate::rejection::{
     CALLED_AE_TITLE_NOT_RECOGNIZED, CALLING_AE_TITLE_NOT_RECOGNIZED, SERVICE_USER,
 };
-use sending::{Ending, Handed, is_filed};
+use sending::{Ending, Handed, Refusal, StorageContext, is_filed};
 use std::fmt;
 use std::io::ErrorKind;
 use std::time::Duration;
@@ -32,13 +33,35 @@ impl fmt::Display for StatusText {
     }
 }
 
-/// Prints what was done with a file.
+/// Prints why a file of this presentation context is refused for good.
 #[derive(Clone, Copy)]
-pub(crate) struct HandedText<'a>(pub(crate) &'a Handed);
+struct RefusalText<'a>(Refusal, &'a StorageContext);
+
+impl fmt::Display for RefusalText<'_> {
+    fn fmt<W: fmt::Write>(&self, f: &mut fmt::Formatter<W>) -> fmt::Result {
+        let RefusalText(refusal, context) = *self;
+        match refusal {
+            Refusal::Status(_) => write!(f, "refused with status {refusal}"),
+            Refusal::NoContext => {
+                let class = class_keyword(context.class.as_bytes()).unwrap_or("its SOP class");
+                let syntax = context.syntax.keyword();
+                write!(
+                    f,
+                    "left out: the archive does not accept {class} in {syntax}"
+                )
+            }
+        }
+    }
+}
+
+/// Prints what was done with a file of this presentation context.
+#[derive(Clone, Copy)]
+pub(crate) struct HandedText<'a>(pub(crate) &'a Handed, pub(crate) &'a StorageContext);
 
 impl fmt::Display for HandedText<'_> {
     fn fmt<W: fmt::Write>(&self, f: &mut fmt::Formatter<W>) -> fmt::Result {
-        match self.0 {
+        let HandedText(handed, context) = *self;
+        match handed {
             Handed::Faulty(fault) => {
                 let fault = Judgement::BadHeader(*fault);
                 write!(f, "left out: {fault}")
@@ -46,6 +69,18 @@ impl fmt::Display for HandedText<'_> {
             Handed::Odd => f.write_str("left out: its data set has an odd number of bytes"),
             Handed::Unread(error) => write!(f, "left out: the file can't be read: {error}"),
             Handed::Changed => f.write_str("left out: it has changed"),
+            Handed::Unaccepted => {
+                let why = RefusalText(Refusal::NoContext, context);
+                write!(f, "{why}")
+            }
+            Handed::SetAside(refusal) => {
+                let why = RefusalText(*refusal, context);
+                write!(f, "{why}; set aside")
+            }
+            Handed::NotSetAside(refusal, error) => {
+                let why = RefusalText(*refusal, context);
+                write!(f, "{why}; it can't be set aside: {error}")
+            }
             Handed::Answered(status) | Handed::Removed(status) => {
                 let status = StatusText(*status);
                 write!(f, "{status}")

@@ -1,7 +1,7 @@
 -- What was written and received for one C-STORE is its request and its response (`stored`), and so for one C-ECHO
--- (`echoed_if`); the front of a file and what was read after it are the file that was handed over (`filed`). Stands on the
--- definitions alone.
-use Rattle.std.proofs.Common.{◌≡◌, ◌+◌, ℕ, true, List, [], ◌++◌, length, Result, Ok, Err, IfOk, refl, sym, ◌∙◌, ap₂, subst, append_assoc}
+-- (`echoed_if`); the front of a file and what was read after it are the file that was handed over (`responds`). Stands on
+-- the definitions alone.
+use Rattle.std.proofs.Common.{◌≡◌, ◌+◌, ℕ, Bool, true, List, [], ◌++◌, length, Result, Ok, Err, IfOk, refl, sym, ◌∙◌, ap₂, subst, append_assoc}
 use Rattle.pdu.specs.declared.head.PduHead.{PduHead}
 use Rattle.part10.specs.MetaText.{MetaValues, SpellsMeta}
 use Rattle.pdu.specs.Texts.{data_text}
@@ -9,8 +9,9 @@ use Rattle.pdu.specs.Heads.{pdu_head_of, pdv_head_of}
 use Rattle.pdu.specs.Types.{p_data_tf}
 use Rattle.dimse.specs.Command.{c_echo, c_store}
 use Rattle.dimse.specs.Reply.{response}
-use Rattle.sending.specs.Sending.{Echoes, IsResponseSet, Receives, SendsData, Stores, echo_set, store_set, is_filed}
-use Rattle.sending.specs.Handing.{IsFiled}
+use Rattle.sending.specs.Sending.{Echoes, IsResponseSet, Receives, SendsData, Stores, echo_set, store_set}
+use Rattle.sending.specs.Handing.{HandState, IsAnsweredBy}
+use Rattle.sending.specs.declared.removing.NameCall.{NameCall}
 
 pub stored : (context message status : ℕ) (class instance first read0 read written0 written1 written2 received0 received : List ℕ)
     → written1 ≡ written0 ++ data_text context true true (store_set class instance message)
@@ -54,19 +55,23 @@ pub echoed_if : {E : Type 0} (r : Result ℕ E) (context message : ℕ) (written
 echoed_if (Err e) context message written0 written received0 received w h = h
 echoed_if (Ok status) context message written0 written received0 received w h = record { context = context; message = message; sent = w; answered = h }
 
-pub filed : (said : MetaValues) (header first read0 read written0 written received0 received : List ℕ) (status : ℕ) (removed0 removed : List (List ℕ))
+abbrev state : List NameCall → (written read : List ℕ) → List Bool → HandState
+state calls written read accepted = record { calls = calls; written = written; read = read; accepted = accepted }
+
+pub responds : (statuses : ℕ → Bool) (said : MetaValues) (header first read0 read written0 written received0 received : List ℕ) (status : ℕ)
+    (calls0 calls : List NameCall) (accepted0 accepted : List Bool)
     → SpellsMeta said header
     → read0 ≡ header ++ first
     → Stores said.class said.instance first read0 read written0 written received0 received status
-    → is_filed status ≡ true
-    → IsFiled read (record { removed = removed0; written = written0; read = received0 }) (record { removed = removed; written = written; read = received })
-filed said header first read0 read written0 written received0 received status removed0 removed spelled begun s f = record {
+    → statuses status ≡ true
+    → IsAnsweredBy statuses read (state calls0 written0 received0 accepted0) (state calls written received accepted)
+responds statuses said header first read0 read written0 written received0 received status calls0 calls accepted0 accepted spelled begun s f = record {
   sent = s.sent;
   received = s.bytes;
   status = status;
   written = s.wrote;
   read = s.got;
-  filed = f;
+  answered = f;
   over = record {
     said = said;
     header = header;

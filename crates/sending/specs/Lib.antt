@@ -1,4 +1,5 @@
 pub mod Sending
+pub mod Names
 pub mod Handing
 pub mod Requesting
 pub mod ReadBack

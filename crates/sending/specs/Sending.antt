@@ -1,6 +1,6 @@
 -- What a C-STORE and a C-ECHO send, and what answers them (PS3.7 sections 9.1.1, 9.1.5, 9.3.1 and 9.3.5; PS3.8 section
 -- 9.3.5 and annex E).
-use Rattle.std.specs.Prelude.{◌≡◌, ◌+◌, ℕ, Bool, true, false, ◌||◌, List, [], ◌∷◌, ◌++◌, length, Some, Ok, nat_eq}
+use Rattle.std.specs.Prelude.{◌≡◌, ◌+◌, ◌/◌, ℕ, Bool, true, false, ◌||◌, List, [], ◌∷◌, ◌++◌, length, Some, Ok, nat_eq}
 use Rattle.std.specs.List.{flat_map}
 use Rattle.element.specs.Numbers.{le}
 use Rattle.element.specs.Uid.{even_uid}
@@ -121,3 +121,7 @@ pub record IsHandedOver (file sent received : List ℕ) (status : ℕ) : Type 0 
 -- the statuses with which a peer has filed the instance: success, and the warnings of PS3.4 table B.2-1
 abbrev pub is_filed : ℕ → Bool
 is_filed status = nat_eq status 0 || (nat_eq status 0xb000 || (nat_eq status 0xb006 || nat_eq status 0xb007))
+
+-- The statuses with which a peer refuses the instance for good: A9xx and Cxxx (PS3.4 table B.2-1), and 01xx (PS3.7 annex C).
+abbrev pub is_refused : ℕ → Bool
+is_refused status = (nat_eq (status / 256) 0xa9 || nat_eq (status / 256) 0x01) || nat_eq (status / 4096) 0xc

@@ -1,5 +1,5 @@
 //! An association for storage or verification, from its request to its release.
-ghost use Rattle.std.specs.Prelude.{◌≡◌, ◌≤◌, ◌<◌, ◌++◌, length, slice_range, IfOk, OnOk, true};
+ghost use Rattle.std.specs.Prelude.{◌≡◌, ◌≤◌, ◌<◌, ◌++◌, length, slice_range, get_or, IfOk, OnOk, true, false};
 ghost use Rattle.std.specs.Io.KnownBytes.{IsAtEnd};
 ghost use Rattle.part10.specs.MetaText.{meta_values_of};
 ghost use Rattle.pdu.specs.Texts.{data_text};
@@ -119,7 +119,9 @@ impl<S: Read + Write + Drop> Association<S> {
     }
 
     /// Returns whether the peer has accepted this presentation context, which the request had.
-    pub fn accepts(&self, context: &StorageContext) -> bool {
+    pub fn accepts(&self, context: &StorageContext) -> bool
+        ensures { result ≡ get_or self.now.accepted context.now.index false }
+    {
         self.accepted[context.index()]
     }
 

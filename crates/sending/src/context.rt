@@ -52,7 +52,8 @@ impl StorageContext {
 
     /// Returns which of the proposed presentation contexts this is, from 0.
     pub(crate) fn index(&self) -> usize
-        ensures { result < 128 }
+        ensures same { result ≡ self.now.index }
+        ensures few { result < 128 }
     {
         usize::from(self.index)
     }

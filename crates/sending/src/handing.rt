@@ -1,17 +1,20 @@
 //! Hands a file over.
 ghost use Rattle.std.specs.Prelude.{◌≡◌, ◌⊎◌, []};
 ghost use Rattle.std.specs.Io.KnownBytes.{IsAtEnd};
-ghost use Rattle.sending.specs.Handing.{RemovesOnlyFiled, HandState};
+ghost use Rattle.sending.specs.Names.{MovesName};
+ghost use Rattle.sending.specs.Handing.{IsUnaccepted, RemovesOnlyAnswered, state_of};
 
 use crate::association::Association;
 use crate::context::StorageContext;
 use crate::ending::Ending;
+use crate::refusal::{Refusal, is_refused};
 use crate::removing::Removals;
 use crate::response::is_filed;
 use crate::sent_file::SentFile;
-use part10::MetaFault;
+use part10::{Meta, MetaFault};
 use std::io::{Error, Read, Write};
 use std::rt::Files;
+use std::time::Clock;
 
 /// What was done with a file.
 #[derive(Drop)]
@@ -24,31 +27,64 @@ pub enum Handed {
     Unread(Error),
     /// It was not sent: it has another SOP class or transfer syntax than its presentation context.
     Changed,
-    /// The archive responded with this status, and the file was not removed.
+    /// It was not sent, and stays: the archive accepts no presentation context for it.
+    Unaccepted,
+    /// The archive responded with this status, and the file stays.
     Answered(u16),
     /// The archive has filed it with this status, and it was removed.
     Removed(u16),
     /// The archive has filed it with this status. It was not removed, as something else is at its
     /// path, or by this error.
     Kept(u16, Option<Error>),
+    /// The archive refuses it for good, and it was moved to the folder of refused files.
+    SetAside(Refusal),
+    /// The archive refuses it for good, and it stays, since it could not be moved.
+    NotSetAside(Refusal, Error),
 }
 
-/// Sends a file in this presentation context, which the peer has accepted, and removes it if
-/// `removals` asks for that and the response says that the archive has filed it. An error is the end
-/// of the association.
-#[tactic(auto, using(crate::proofs::StoreIsAnswered::filed))]
-pub fn hand_over<S: Read + Write + Drop, R: Files>(
+/// Moves a file that the archive refuses for good to the folder of refused files, if there is one.
+fn refuse<R: Files + Alloc + Clock>(
+    rt: &R,
+    file: &SentFile<'_, R::File>,
+    meta: &Meta,
+    refusal: Refusal,
+    removals: &mut Removals<'_>,
+) -> Handed
+    ensures { MovesName file.now.path.now removals.old.calls removals.new.calls }
+{
+    let Some(folder) = removals.refused() else {
+        return match refusal {
+            Refusal::Status(status) => Handed::Answered(status),
+            Refusal::NoContext => Handed::Unaccepted,
+        };
+    };
+    let moved = match folder.take_in(rt, file, meta, refusal) {
+        Ok(path) => removals.leave_at(rt, file, path.as_str()),
+        Err(error) => Err(error),
+    };
+    match moved {
+        Ok(()) => Handed::SetAside(refusal),
+        Err(error) => Handed::NotSetAside(refusal, error),
+    }
+}
+
+/// Sends a file in this presentation context, if the peer has accepted it. As `removals` asks for
+/// it, removes the file if the response says that the archive has filed it, and moves it to the
+/// folder of refused files if the archive refuses it for good. An error is the end of the
+/// association.
+#[tactic(auto, using(crate::proofs::StoreIsAnswered::responds))]
+pub fn hand_over<S: Read + Write + Drop, R: Files + Alloc + Clock>(
     rt: &R,
     association: &mut Association<S>,
     context: &StorageContext,
     file: &mut SentFile<'_, R::File>,
-    removals: &mut Removals,
+    removals: &mut Removals<'_>,
 ) -> Result<Handed, Ending>
     requires { file.old.file.read.bytes ≡ [] }
-    ensures removes { RemovesOnlyFiled file.new.path.now file.new.file.read.bytes
-        (record { removed = removals.old.paths; written = association.old.stream.written.bytes; read = association.old.stream.read.bytes })
-        (record { removed = removals.new.paths; written = association.new.stream.written.bytes; read = association.new.stream.read.bytes }) }
-    ensures end { (removals.new.paths ≡ removals.old.paths) ⊎ IsAtEnd (R.File.remaining file.new.file.device) }
+    ensures removes { RemovesOnlyAnswered file.new.path.now file.new.file.read.bytes context.now.index
+        (state_of removals.old association.old) (state_of removals.new association.new) }
+    ensures end { (removals.new.calls ≡ removals.old.calls)
+        ⊎ (IsAtEnd (R.File.remaining file.new.file.device) ⊎ IsUnaccepted context.now.index association.old.accepted) }
 {
     let route = association.route(context);
     let front = match association.buffers.read_front(&mut file.file, route.size) {
@@ -62,7 +98,13 @@ pub fn hand_over<S: Read + Write + Drop, R: Files>(
     if file.has_odd_rest(front.meta_size()) {
         return Ok(Handed::Odd);
     }
+    if !association.accepts(context) {
+        return Ok(refuse(rt, file, &front.meta, Refusal::NoContext, removals));
+    }
     let status = association.store(route, &front, &mut file.file)?;
+    if is_refused(status) {
+        return Ok(refuse(rt, file, &front.meta, Refusal::Status(status), removals));
+    }
     if !removals.are_wanted() || !is_filed(status) {
         return Ok(Handed::Answered(status));
     }

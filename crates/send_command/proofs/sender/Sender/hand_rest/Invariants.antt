@@ -1,5 +1,6 @@
 -- The files so far were handed over or left out, one after the other.
-use Rattle.send_command.specs.Running.{HandsAll, state_of}
+use Rattle.sending.specs.Handing.{state_of}
+use Rattle.send_command.specs.Running.{HandsAll}
 use Rattle.send_command.proofs.sender.Sender.hand_rest.Given as goal
 
 abbrev pub invariant-loop-index : goal.invariant-loop-index
