@@ -500,7 +500,7 @@ class TestImporter:
     def test_the_unit_has_the_user_and_the_folder_of_the_box(self, root):
         box, sender = (root.unit(f"dcmbox{name}.service") for name in ("", "-send@"))
         for name in ("DynamicUser", "UMask", "StateDirectoryMode", "Environment", *RESTRICTIONS):
-            assert settings(sender, name) == settings(box, name)
+            assert settings(sender, name) == (["256M"] if name == "MemoryMax" else settings(box, name))
         assert settings(sender, "User") == ["dcmbox"] == settings(sender, "StateDirectory")
 
     def test_images_that_the_archive_accepts(
