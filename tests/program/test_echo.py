@@ -4,7 +4,7 @@ import socket
 import struct
 
 import pytest
-from box import PATIENCE, listeners, wait_for
+from box import listeners, wait_for
 from images import need
 from peer import (
     ASSOCIATE_RQ,
@@ -15,6 +15,7 @@ from peer import (
     acceptance,
     fields_of,
     item,
+    items,
     pdu,
     store_reply,
 )
@@ -108,8 +109,9 @@ def test_what_is_sent(echo, port):
     assert (status, errors) == (0, "") and LINE.fullmatch(output)
     [body], [asked] = bodies, archive.asked
     assert body[4:36].decode() == "ARCHIVE".ljust(16) + "SCANNER1".ljust(16)
-    assert body.count(item(0x30, b"1.2.840.10008.1.1")) == 1
-    assert body.count(b"\x40\0") == body.count(item(0x40, b"1.2.840.10008.1.2")) == 1
+    [proposed] = [content for kind, content in items(body[68:]) if kind == 0x20]
+    syntaxes = item(0x30, b"1.2.840.10008.1.1") + item(0x40, b"1.2.840.10008.1.2")
+    assert proposed == b"\1\0\0\0" + syntaxes
     assert asked[0x0002] == b"1.2.840.10008.1.1\0" and asked[0x0100] == b"\x30\0"
     assert asked[0x0800] == b"\1\1" and set(asked) == {0, 0x0002, 0x0100, 0x0110, 0x0800}
     assert archive.released == 1
@@ -126,15 +128,47 @@ def test_another_status(echo, port, status):
 @pytest.mark.parametrize(
     "text, answer",
     cases(
-        ("association rejected: the archive has another title than --aec", pdu(3, bytes([0, 1, 1, 7]))),
-        ("association rejected: the archive does not know the title of --aet", pdu(3, bytes([0, 1, 1, 3]))),
-        ("association rejected: application context name not supported", pdu(3, bytes([0, 1, 1, 2]))),
-        ("association rejected: protocol version not supported", pdu(3, bytes([0, 1, 2, 2]))),
-        ("association rejected for now: temporary congestion", pdu(3, bytes([0, 2, 3, 1]))),
-        ("association rejected for now: local limit exceeded", pdu(3, bytes([0, 2, 3, 2]))),
-        ("association aborted by the archive", pdu(7, bytes(4))),
-        ("association aborted by the archive: unexpected PDU", pdu(7, bytes([0, 0, 2, 2]))),
-        ("association aborted: the peer sent no answer to the request", pdu(6, bytes(4))),
+        (
+            "another called title",
+            "association rejected: the archive has another title than --aec",
+            pdu(3, bytes([0, 1, 1, 7])),
+        ),
+        (
+            "another calling title",
+            "association rejected: the archive does not know the title of --aet",
+            pdu(3, bytes([0, 1, 1, 3])),
+        ),
+        (
+            "another application context",
+            "association rejected: application context name not supported",
+            pdu(3, bytes([0, 1, 1, 2])),
+        ),
+        (
+            "another protocol version",
+            "association rejected: protocol version not supported",
+            pdu(3, bytes([0, 1, 2, 2])),
+        ),
+        (
+            "a congestion",
+            "association rejected for now: temporary congestion",
+            pdu(3, bytes([0, 2, 3, 1])),
+        ),
+        (
+            "a limit",
+            "association rejected for now: local limit exceeded",
+            pdu(3, bytes([0, 2, 3, 2])),
+        ),
+        ("an abort by the user", "association aborted by the archive", pdu(7, bytes(4))),
+        (
+            "an abort by the provider",
+            "association aborted by the archive: unexpected PDU",
+            pdu(7, bytes([0, 0, 2, 2])),
+        ),
+        (
+            "another PDU",
+            "association aborted: the peer sent no answer to the request",
+            pdu(6, bytes(4)),
+        ),
     ),
 )
 def test_an_association_that_is_not_accepted(echo, port, text, answer):
@@ -187,5 +221,5 @@ def test_silence(echo, port):
 
 
 def test_no_archive_is_named(run):
-    done = run("echo", "127.0.0.1:104", timeout=PATIENCE)
+    done = run("echo", "127.0.0.1:104")
     assert done.returncode == 2 and "--aec" in done.stderr
